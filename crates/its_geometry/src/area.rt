@@ -1,0 +1,163 @@
+//! Areas round a centre.
+
+ghost use Rattle.std.specs.Prelude.{◌≡◌, ◌<◌, ◌≤◌, ◌^◌, ◌⊎◌, MatchResult};
+ghost use Rattle.its_geometry.specs.Area.{HasMeasures, IsMade};
+ghost use Rattle.its_geometry.specs.Refusals.{IsRefused};
+ghost use Rattle.its_geometry.specs.declared.area.Shape.TheVariants as shapes;
+
+use its_gnvalue::Place;
+use std::error::Error;
+use std::fmt;
+use std::marker::Model;
+
+/// The shapes of EN 302 931.
+#[derive(Clone, Copy, Debug, PartialEq, Eq)]
+pub enum Shape {
+    Circle,
+    Rectangle,
+    Ellipse,
+}
+
+/// Why numbers are no area.
+#[derive(Clone, Copy, Debug, PartialEq, Eq)]
+pub enum AreaFault {
+    /// A1: a distance is 0.
+    ZeroDistance,
+    /// A2: the angle is over 359 degrees.
+    AngleRange,
+}
+
+impl fmt::Display for AreaFault {
+    fn fmt<W: fmt::Write>(&self, f: &mut fmt::Formatter<W>) -> fmt::Result {
+        match self {
+            AreaFault::ZeroDistance => write!(f, "A1"),
+            AreaFault::AngleRange => write!(f, "A2"),
+        }
+    }
+}
+
+impl Error for AreaFault {}
+
+/// An area of one of the three shapes, in range by its type.
+#[derive(Clone, Copy, Debug, PartialEq, Eq)]
+pub struct Area {
+    shape: Shape,
+    centre: Place,
+    a: u16,
+    b: u16,
+    angle: u16,
+}
+
+impl Model for Area {
+    ghost use Rattle.its_geometry.specs.Area.{GeoArea, HasMeasures};
+
+    ghost Value = { GeoArea };
+
+    ghost view = { λ area. record { shape = area.shape; centre = area.centre; a = area.a; b = area.b; angle = area.angle } };
+
+    ghost invariant = { λ area. HasMeasures area.shape area.a area.b area.angle };
+
+    ghost inverse = { λ area. record { shape = area.shape; centre = area.centre; a = area.a; b = area.b; angle = area.angle } };
+}
+
+impl Area {
+    /// The circle of this radius in metres, or A1 where it is 0.
+    pub fn circle(centre: Place, r: u16) -> Result<Area, AreaFault>
+        ensures { MatchResult result
+            (λ area. (area ≡ record { shape = shapes.Circle; centre = centre; a = r; b = 0; angle = 0 }) × (0 < r))
+            (λ f. (f ≡ AreaFault.ZeroDistance) × (r ≡ 0)) }
+    {
+        if r == 0 {
+            return Err(AreaFault::ZeroDistance);
+        }
+        Ok(Area {
+            shape: Shape::Circle,
+            centre,
+            a: r,
+            b: 0,
+            angle: 0,
+        })
+    }
+
+    /// The rectangle of these half lengths in metres, the first along the angle: in degrees, clockwise
+    /// from north. A1 where a half length is 0, else A2 where the angle is over 359.
+    pub fn rectangle(centre: Place, a: u16, b: u16, angle: u16) -> Result<Area, AreaFault>
+        ensures { MatchResult result (IsMade shapes.Rectangle centre a b angle) (IsRefused a b angle) }
+    {
+        refuse(a, b, angle)?;
+        Ok(Area {
+            shape: Shape::Rectangle,
+            centre,
+            a,
+            b,
+            angle,
+        })
+    }
+
+    /// The ellipse of these half axes in metres, under the rules of a rectangle.
+    pub fn ellipse(centre: Place, a: u16, b: u16, angle: u16) -> Result<Area, AreaFault>
+        ensures { MatchResult result (IsMade shapes.Ellipse centre a b angle) (IsRefused a b angle) }
+    {
+        refuse(a, b, angle)?;
+        Ok(Area {
+            shape: Shape::Ellipse,
+            centre,
+            a,
+            b,
+            angle,
+        })
+    }
+
+    /// The shape.
+    pub fn shape(self) -> Shape
+        ensures { result ≡ self.shape }
+    {
+        self.shape
+    }
+
+    /// The centre.
+    pub fn centre(self) -> Place
+        ensures { result ≡ self.centre }
+    {
+        self.centre
+    }
+
+    /// The radius of a circle, else the half length along the angle: 1 to 65535 m.
+    pub fn a(self) -> u16
+        ensures value { result ≡ self.a }
+        ensures range { HasMeasures self.shape self.a self.b self.angle }
+        ensures fits { self.a < 2 ^ 16 }
+    {
+        self.a
+    }
+
+    /// The half length across the angle, 1 to 65535 m, or 0 for a circle.
+    pub fn b(self) -> u16
+        ensures value { result ≡ self.b }
+        ensures range { HasMeasures self.shape self.a self.b self.angle }
+        ensures fits { self.b < 2 ^ 16 }
+    {
+        self.b
+    }
+
+    /// The angle from north to the axis of `a`, clockwise: 0 to 359 degrees, or 0 for a circle.
+    pub fn angle(self) -> u16
+        ensures value { result ≡ self.angle }
+        ensures range { HasMeasures self.shape self.a self.b self.angle }
+    {
+        self.angle
+    }
+}
+
+/// The faults of a rectangle and of an ellipse: A1 goes before A2.
+fn refuse(a: u16, b: u16, angle: u16) -> Result<(), AreaFault>
+    ensures { MatchResult result (λ _. (0 < a) × (0 < b) × (angle < 360)) (IsRefused a b angle) }
+{
+    if a == 0 || b == 0 {
+        return Err(AreaFault::ZeroDistance);
+    }
+    if angle > 359 {
+        return Err(AreaFault::AngleRange);
+    }
+    Ok(())
+}

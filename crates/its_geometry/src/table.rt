@@ -1,0 +1,57 @@
+//! Sines and cosines of whole degrees, in ten-thousandths (profile).
+ghost use Rattle.std.specs.Prelude.{◌≡◌, ◌<◌, ◌≤◌, unsigned_abs};
+ghost use Rattle.its_geometry.specs.Table.{quarter_sine, half_sine, sine, cosine};
+
+/// The sines of 0 to 90 degrees.
+const SINE: [u16; 91] = [
+    0, 175, 349, 523, 698, 872, 1045, 1219, 1392, 1564, 1736, 1908, 2079, 2250, 2419, 2588, 2756,
+    2924, 3090, 3256, 3420, 3584, 3746, 3907, 4067, 4226, 4384, 4540, 4695, 4848, 5000, 5150, 5299,
+    5446, 5592, 5736, 5878, 6018, 6157, 6293, 6428, 6561, 6691, 6820, 6947, 7071, 7193, 7314, 7431,
+    7547, 7660, 7771, 7880, 7986, 8090, 8192, 8290, 8387, 8480, 8572, 8660, 8746, 8829, 8910, 8988,
+    9063, 9135, 9205, 9272, 9336, 9397, 9455, 9511, 9563, 9613, 9659, 9703, 9744, 9781, 9816, 9848,
+    9877, 9903, 9925, 9945, 9962, 9976, 9986, 9994, 9998, 10000,
+];
+
+/// The sine of 0 to 90 degrees.
+pub(crate) fn quarter_sine(degrees: u64) -> u64
+    requires { degrees ≤ 90 }
+    ensures value { result ≡ quarter_sine degrees }
+    ensures bound { result ≤ 10000 }
+{
+    SINE[degrees as usize] as u64
+}
+
+/// The sine of 0 to 180 degrees.
+fn half_sine(degrees: u64) -> u64
+    requires { degrees ≤ 180 }
+    ensures value { result ≡ half_sine degrees }
+    ensures bound { result ≤ 10000 }
+{
+    if degrees <= 90 {
+        quarter_sine(degrees)
+    } else {
+        quarter_sine(180 - degrees)
+    }
+}
+
+/// The sine of 0 to 359 degrees.
+pub(crate) fn sine(degrees: u64) -> i64
+    requires { degrees < 360 }
+    ensures value { result ≡ sine degrees }
+    ensures bound { unsigned_abs result ≤ 10000 }
+{
+    if degrees <= 180 {
+        half_sine(degrees) as i64
+    } else {
+        -(half_sine(degrees - 180) as i64)
+    }
+}
+
+/// The cosine of 0 to 359 degrees.
+pub(crate) fn cosine(degrees: u64) -> i64
+    requires { degrees < 360 }
+    ensures value { result ≡ cosine degrees }
+    ensures bound { unsigned_abs result ≤ 10000 }
+{
+    sine((degrees + 90) % 360)
+}
