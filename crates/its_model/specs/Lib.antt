@@ -1,0 +1,12 @@
+pub mod Packet
+pub mod History
+pub mod Stations
+pub mod Decision
+pub mod Calls
+pub mod Station
+pub mod World
+pub mod Log
+pub mod Schedules
+pub mod Isolation
+pub use Rattle.its_gnvalue.specs.Values
+pub use Rattle.its_geometry.specs.Area

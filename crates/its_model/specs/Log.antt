@@ -1,0 +1,113 @@
+-- What can be read off a log. All logs have the newest line first, so what stands behind a line came before it, and how
+-- many lines stand behind it is its place.
+use Rattle.std.specs.Prelude.{◌⊎◌, ℕ, ◌+◌, ◌%◌, ◌≤◌, List, [], ◌∷◌, length, filter, Bool, true, false, not, ◌&&◌}
+use Rattle.std.specs.Prelude.{Option, Some, None, if◌then◌else◌, ◌==◌, slice_get}
+use Rattle.std.specs.List.{count_by}
+use Rattle.its_gnvalue.specs.Values.{Position}
+use Rattle.its_model.specs.Packet.{Transmission}
+use Rattle.its_model.specs.History.{Reception, entry_life, remembered_count, of_source, numbers_of}
+use Rattle.its_model.specs.Calls.{Answer}
+use Rattle.its_model.specs.Calls.OwnCall.{Move, SendGbc}
+use Rattle.its_model.specs.Calls.Answer.{Moved, Sent, Accepted}
+use Rattle.its_model.specs.Station.{reception}
+use Rattle.its_model.specs.World.{What, Event, LogLine, frame_of, with_one_more}
+use Rattle.its_model.specs.World.What.{Calls, Deliver}
+
+-- ---- how a frame came about
+
+-- where the packet of a frame comes from
+pub record Origin : Type 0 where
+  pub event : Event  -- the call by which a station sent the packet
+  pub before : List LogLine  -- what had happened before that call
+  pub depth : ℕ  -- how often the packet was relayed since
+
+-- the place of that call in the log
+abbrev pub place_of : Origin → ℕ
+place_of o = length o.before
+
+-- the origin of a frame that was relayed once more
+abbrev pub deeper : Option Origin → Option Origin
+deeper None = None
+deeper (Some o) = Some (record { event = o.event; before = o.before; depth = o.depth + 1 })
+
+-- of a frame that an event gave: a call is its own origin, and a relayed frame has that of the frame that was delivered
+abbrev pub origin_by : What → Event → List LogLine → List Origin → Option Origin
+origin_by (Calls call) e before earlier = Some (record { event = e; before = before; depth = 0 })
+origin_by (Deliver k) e before earlier = deeper (slice_get earlier k)
+
+-- the origins of the frames so far, and that of the frame that a line gives, if it gives one
+abbrev pub with_origin : Option ℕ → Event → List LogLine → List Origin → List Origin
+with_origin None e before earlier = earlier
+with_origin (Some k) e before earlier = with_one_more earlier (origin_by e.what e before earlier)
+
+-- the origin of each frame, at its number
+unfoldable pub origins : List LogLine → List Origin
+origins [] = []
+origins (line ∷ before) = with_origin (frame_of line.entry) line.event before (origins before)
+
+-- ---- where a station stands, and the number of its next geobroadcast
+
+-- by a move that wasn't refused to another place
+abbrev pub moved_by : Answer ℕ → What → Position → Position
+moved_by Moved (Calls (Move place accurate speed heading)) old = place
+moved_by entry what old = old
+
+-- the place of station j after one more line
+abbrev pub position_after : ℕ → LogLine → Position → Position
+position_after j line old = if line.event.station == j then moved_by line.entry line.event.what old else old
+
+-- where station j stands after these lines: where its last move took it that wasn't refused, else where it began
+abbrev pub position_at : Position → ℕ → List LogLine → Position
+position_at start j [] = start
+position_at start j (line ∷ before) = position_after j line (position_at start j before)
+
+-- a call for a geobroadcast that wasn't refused
+abbrev pub is_gbc_sent : Answer ℕ → What → Bool
+is_gbc_sent (Sent k) (Calls (SendGbc request)) = true
+is_gbc_sent entry what = false
+
+-- one of station j
+abbrev pub is_gbc_of : ℕ → LogLine → Bool
+is_gbc_of j line = (line.event.station == j) && is_gbc_sent line.entry line.event.what
+
+-- how many geobroadcasts station j sent by these lines, modulo 65536: the number of its next one (profile)
+abbrev pub sequence_number_at : ℕ → List LogLine → ℕ
+sequence_number_at j log = count_by (is_gbc_of j) log % 65536
+
+-- ---- what a station accepted, and whether it forgot it
+
+-- a packet that was accepted is put before the older ones
+abbrev pub heard_in : Answer ℕ → Option Transmission → ℕ → List Reception → List Reception
+heard_in (Accepted handed relayed) (Some t) moment older = reception moment t ∷ older
+heard_in entry delivered moment older = older
+
+-- what station j accepted, after one more line
+abbrev pub heard_at : ℕ → LogLine → List Reception → List Reception
+heard_at j line older = if line.event.station == j then heard_in line.entry line.delivered line.event.moment older else older
+
+-- the packets that station j accepted by these lines, the newest first
+abbrev pub receptions_at : ℕ → List LogLine → List Reception
+receptions_at j [] = []
+receptions_at j (line ∷ before) = heard_at j line (receptions_at j before)
+
+-- Of a first moment, those of receptions after it, and a last one, two that follow each other are an entry's life or more
+-- apart.
+abbrev pub IsBroken : ℕ → List Reception → ℕ → Type 0
+IsBroken last [] first = first + entry_life ≤ last
+IsBroken last (r ∷ older) first = (r.moment + entry_life ≤ last) ⊎ IsBroken r.moment older first
+
+-- each number once
+abbrev pub distinct : List ℕ → List ℕ
+distinct [] = []
+distinct (n ∷ ns) = n ∷ filter (λ m. not (m == n)) (distinct ns)
+
+-- Among the numbers of these, at least so many differ from this one and from each other.
+abbrev pub HasOthers : ℕ → ℕ → List Reception → Type 0
+HasOthers count number receptions = count ≤ length (filter (λ n. not (n == number)) (distinct (numbers_of receptions)))
+
+-- Station j accepted a geobroadcast of this source with this number by the first line. By the later line it has forgotten it:
+-- from the one to the other the source's session broke, or as many others of it were accepted between as are remembered.
+abbrev pub Forgotten : ℕ → ℕ → ℕ → LogLine → List LogLine → LogLine → Type 0
+Forgotten j source number first between later =
+    let receptions = of_source source (receptions_at j between) in
+    IsBroken later.event.moment receptions first.event.moment ⊎ HasOthers remembered_count number receptions
