@@ -1,0 +1,85 @@
+-- The first fault of octets that no packet begins: at the first field that no packet's encoding has after the fields
+-- before it, with the kind of that field, or at the end of the octets where they end before or in a field.
+use Rattle.std.specs.Prelude.{◌≡◌, ◌≤◌, ◌<◌, ℕ, ◌+◌, ◌*◌, ◌/◌, ◌%◌, List, [], ◌∷◌, ◌++◌, length, take, drop, ◌⊎◌, ◌==◌, if◌then◌else◌}
+use Rattle.byteorder.specs.Endian.{big_number}
+use Rattle.its_model.specs.declared.fault.Fault.{Fault}
+use Rattle.its_model.specs.declared.fault.FaultKind.{FaultKind}
+use Rattle.its_model.specs.declared.fault.FaultKind.TheVariants.{Truncated, Version, BasicNext, Reserved, HopZero, CommonNext, HeaderType, SubType, HopAboveMax, PayloadLength, Position, Area}
+use Rattle.its_model.specs.Packet.{Pdu}
+use Rattle.its_headers.specs.Encoding.{Encodes}
+
+-- a field: how many half octets it takes, and which fault it is where it is wrong (a field that is never wrong has Truncated)
+pub record Row : Type 0 where
+  pub halves : ℕ
+  pub kind : FaultKind
+
+-- a field of half an octet
+abbrev pub half : FaultKind → Row
+half kind = record { halves = 1; kind = kind }
+
+-- a field of so many octets
+abbrev pub whole : ℕ → FaultKind → Row
+whole octets kind = record { halves = 2 * octets; kind = kind }
+
+-- Basic Header: version, next header, reserved, lifetime, hops left. Common Header: next header, reserved, header type,
+-- sub-type, traffic class, flags, payload length, greatest hops, reserved.
+abbrev pub common_rows : List Row
+common_rows =
+    half Version ∷ half BasicNext ∷ whole 1 Reserved ∷ whole 1 Truncated ∷ whole 1 HopZero
+    ∷ half CommonNext ∷ half Reserved ∷ half HeaderType ∷ half SubType ∷ whole 1 Truncated ∷ whole 1 Reserved ∷ whole 2 PayloadLength ∷ whole 1 HopAboveMax ∷ whole 1 Reserved ∷ []
+
+-- a position vector: address, timestamp, latitude, longitude, accuracy with speed, heading
+abbrev pub vector_rows : List Row
+vector_rows = whole 8 Position ∷ whole 4 Truncated ∷ whole 4 Position ∷ whole 4 Position ∷ whole 2 Truncated ∷ whole 2 Truncated ∷ []
+
+-- an area: latitude, longitude, distances a and b, angle
+abbrev pub area_rows : List Row
+area_rows = whole 4 Area ∷ whole 4 Area ∷ whole 2 Area ∷ whole 2 Area ∷ whole 2 Area ∷ []
+
+-- a single-hop broadcast: vector, media-dependent data, payload
+abbrev pub shb_rows : ℕ → List Row
+shb_rows payload = vector_rows ++ whole 4 Truncated ∷ whole payload Truncated ∷ []
+
+-- a geobroadcast: sequence number, reserved, vector, area, reserved, payload
+abbrev pub gbc_rows : ℕ → List Row
+gbc_rows payload = whole 2 Truncated ∷ whole 2 Reserved ∷ (vector_rows ++ area_rows ++ whole 2 Reserved ∷ whole payload Truncated ∷ [])
+
+-- the fields of a packet with the type and the payload length that the octets name
+abbrev pub rows_of : List ℕ → List Row
+rows_of w =
+    let type = big_number 1 (drop 5 w) / 16 in
+    let payload = big_number 2 (drop 8 w) in
+    common_rows ++ (if type == 1 then vector_rows else if type == 5 then shb_rows payload else gbc_rows payload)
+
+-- each octet as two halves, the high one first
+abbrev pub half_octets : List ℕ → List ℕ
+half_octets [] = []
+half_octets (b ∷ w) = b / 16 ∷ b % 16 ∷ half_octets w
+
+-- A sound front: the encoding of some packet begins with these half octets.
+pub record IsSound (front : List ℕ) : Type 0 where
+  pub pdu : Pdu
+  pub left : ℕ
+  pub encoded : List ℕ
+  pub rest : List ℕ
+  pub encodes : Encodes pdu left encoded
+  pub begins : half_octets encoded ≡ front ++ rest
+
+-- the front of the octets up to this half octet
+abbrev pub front_to : ℕ → List ℕ → List ℕ
+front_to end w = take end (half_octets w)
+
+-- the fault among these fields, the first of which starts at this half octet, where the front before it is sound
+abbrev pub FaultAmong : List Row → ℕ → List ℕ → Fault → Type 0
+FaultAmong [] start w f = ⊥
+FaultAmong (row ∷ rows) start w f =
+    -- the field is not wholly there
+    ((2 * length w < start + row.halves) × (f ≡ record { at = length w; kind = Truncated }))
+    -- with it the front is not sound any more
+    ⊎ ((start + row.halves ≤ 2 * length w) × (¬ IsSound (front_to (start + row.halves) w)) × (f ≡ record { at = start / 2; kind = row.kind }))
+    -- with it the front is sound, and the fault comes later
+    ⊎ ((start + row.halves ≤ 2 * length w) × IsSound (front_to (start + row.halves) w) × FaultAmong rows (start + row.halves) w f)
+
+-- the fault among all fields
+unfoldable pub FirstFault : List ℕ → Fault → Type 0
+FirstFault w f = FaultAmong (rows_of w) 0 w f

@@ -1,0 +1,170 @@
+-- The formats of packets: each field with its width, its fault and its test, in the order of the wire. Contracts of private
+-- functions cite them; public clauses cite Encoding and FirstFault.
+use Rattle.std.specs.Prelude.{ℕ, ◌-◌, ◌/◌, ◌%◌, ◌^◌, ℤ, pos, negsuc, suc, int_lt, Bool, true, ◌&&◌, nat_lt, nat_le, ◌==◌, ◌||◌, if◌then◌else◌}
+use Rattle.std.specs.Int.{w32, cast_signed}
+use Rattle.its_gnvalue.specs.Values.{PositionVector}
+use Rattle.its_model.specs.declared.fault.FaultKind.TheVariants.{Truncated, Version, BasicNext, Reserved, HopZero, CommonNext, HeaderType, SubType, HopAboveMax, PayloadLength, Position as BadPosition, Area as BadArea}
+use Rattle.its_headers.specs.Format.{Format, ends, number, halves, octets, after}
+use Rattle.its_geometry.specs.declared.area.Shape.{Shape}
+use Rattle.its_geometry.specs.declared.area.Shape.TheVariants.{Circle, Rectangle, Ellipse}
+use Rattle.its_geometry.specs.Area.{GeoArea}
+use Rattle.its_model.specs.Packet.{Pdu, Body, beacon, shb, gbc}
+use Rattle.its_headers.specs.Fields.{message_of}
+use Rattle.its_headers.specs.declared.kind.Kind.{Kind}
+use Rattle.its_headers.specs.declared.kind.Kind.TheVariants.{Beacon, Shb, Gbc}
+
+-- a field that is never wrong
+abbrev pub any : ℕ → Bool
+any _ = true
+
+-- a reserved field
+abbrev pub is_zero : ℕ → Bool
+is_zero n = n == 0
+
+-- the Basic Header says lifetime and hops left
+unfoldable pub basic_format : Format (ℕ × ℕ)
+basic_format =
+    halves Version (λ v. v == 1) BasicNext (λ _ n. n == 1) λ _ _.
+    number 1 Reserved is_zero λ _.
+    number 1 Truncated any λ lifetime.
+    number 1 HopZero (λ left. nat_lt 0 left) λ left.
+    ends (lifetime, left)
+
+-- what stands in the common header
+pub record Common : Type 0 where
+  pub kind : Kind
+  pub shape : Shape
+  pub class : ℕ
+  pub mobile : Bool
+  pub length : ℕ
+  pub max_hops : ℕ
+
+-- the next headers: nothing, or BTP-B
+abbrev pub is_next : ℕ → Bool
+is_next n = n == 0 || n == 2
+
+-- the header types that may stand after a next header
+abbrev pub is_type : ℕ → ℕ → Bool
+is_type next t = if next == 0 then t == 1 else t == 4 || t == 5
+
+-- the sub-types of a header type: the shapes of a geobroadcast, else 0
+abbrev pub is_subtype : ℕ → ℕ → Bool
+is_subtype type s = if type == 4 then nat_le s 2 else s == 0
+
+-- the payload lengths of a header type
+abbrev pub is_length : ℕ → ℕ → Bool
+is_length type n = if type == 1 then n == 0 else nat_le 4 n && nat_le n 1398
+
+-- the kind that a header type names
+abbrev pub kind_of : ℕ → Kind
+kind_of type = if type == 1 then Beacon else if type == 5 then Shb else Gbc
+
+-- the shape that a sub-type names
+abbrev pub shape_of : ℕ → Shape
+shape_of s = if s == 0 then Circle else if s == 1 then Rectangle else Ellipse
+
+-- the Common Header of a packet with so many hops left
+unfoldable pub common_format : ℕ → Format Common
+common_format left =
+    halves CommonNext is_next Reserved (λ _ r. r == 0) λ next _.
+    halves HeaderType (is_type next) SubType is_subtype λ type s.
+    number 1 Truncated any λ class.
+    number 1 Reserved (λ flags. flags % 128 == 0) λ flags.
+    number 2 PayloadLength (is_length type) λ length.
+    number 1 HopAboveMax (λ max. nat_le left max) λ max.
+    number 1 Reserved is_zero λ _.
+    ends (record { kind = kind_of type; shape = shape_of s; class = class; mobile = nat_le 128 flags; length = length; max_hops = max })
+
+-- tenths of a microdegree
+abbrev pub latitude_test : ℤ → Bool
+latitude_test z = int_lt (negsuc 900000000) z && int_lt z (pos 900000001)
+
+-- tenths of a microdegree
+abbrev pub longitude_test : ℤ → Bool
+longitude_test z = int_lt (negsuc 1800000000) z && int_lt z (pos 1800000001)
+
+-- an address whose MID is no group
+abbrev pub is_individual : ℕ → Bool
+is_individual address = address / 2 ^ 40 % 2 == 0
+
+-- four octets that are a latitude, in two's complement
+abbrev pub is_latitude : ℕ → Bool
+is_latitude n = latitude_test (cast_signed w32 n)
+
+-- four octets that are a longitude, in two's complement
+abbrev pub is_longitude : ℕ → Bool
+is_longitude n = longitude_test (cast_signed w32 n)
+
+-- the speed of which 15 bits are the two's complement
+abbrev pub speed_of : ℕ → ℤ
+speed_of n = if nat_lt n (2 ^ 14) then pos n else negsuc (2 ^ 15 - suc n)
+
+-- a long position vector
+unfoldable pub vector_format : Format PositionVector
+vector_format =
+    number 8 BadPosition is_individual λ address.
+    number 4 Truncated any λ timestamp.
+    number 4 BadPosition is_latitude λ latitude.
+    number 4 BadPosition is_longitude λ longitude.
+    number 2 Truncated any λ motion.
+    number 2 Truncated any λ heading.
+    ends (record { address = address; timestamp = timestamp; place = record { latitude = cast_signed w32 latitude; longitude = cast_signed w32 longitude }; accurate = nat_le (2 ^ 15) motion; speed = speed_of (motion % 2 ^ 15); heading = heading })
+
+-- a circle has b 0, and the other shapes have another
+abbrev pub is_second : Shape → ℕ → Bool
+is_second Circle b = is_zero b
+is_second Rectangle b = nat_lt 0 b
+is_second Ellipse b = nat_lt 0 b
+
+-- a circle has angle 0, and the other shapes one below 360 degrees
+abbrev pub is_angle : Shape → ℕ → Bool
+is_angle Circle angle = is_zero angle
+is_angle Rectangle angle = nat_lt angle 360
+is_angle Ellipse angle = nat_lt angle 360
+
+-- the area of a geobroadcast
+unfoldable pub area_format : Shape → Format GeoArea
+area_format shape =
+    number 4 BadArea is_latitude λ latitude.
+    number 4 BadArea is_longitude λ longitude.
+    number 2 BadArea (λ a. nat_lt 0 a) λ a.
+    number 2 BadArea (is_second shape) λ b.
+    number 2 BadArea (is_angle shape) λ angle.
+    ends (record { shape = shape; centre = record { latitude = cast_signed w32 latitude; longitude = cast_signed w32 longitude }; a = a; b = b; angle = angle })
+
+-- what follows the Common Header: a vector and what the kind has beside it
+abbrev pub beacon_format : Format (PositionVector × Body)
+beacon_format = after vector_format λ vector. ends (vector, beacon)
+
+-- a payload of so many octets
+abbrev pub shb_format : ℕ → Format (PositionVector × Body)
+shb_format length =
+    after vector_format λ vector.
+    octets 4 λ media.
+    octets length λ payload.
+    ends (vector, shb media (message_of payload))
+
+-- an area of this shape, and a payload of so many octets
+abbrev pub gbc_format : Shape → ℕ → Format (PositionVector × Body)
+gbc_format shape length =
+    number 2 Truncated any λ sequence.
+    number 2 Reserved is_zero λ _.
+    after vector_format λ vector.
+    after (area_format shape) λ area.
+    number 2 Reserved is_zero λ _.
+    octets length λ payload.
+    ends (vector, gbc sequence area (message_of payload))
+
+-- what follows the Common Header, by the kind that it names
+abbrev pub body_format : Kind → Shape → ℕ → Format (PositionVector × Body)
+body_format Beacon shape length = beacon_format
+body_format Shb shape length = shb_format length
+body_format Gbc shape length = gbc_format shape length
+
+-- a packet, and how many hops it has left
+abbrev pub packet_format : Format (Pdu × ℕ)
+packet_format =
+    after basic_format λ basic.
+    after (common_format basic.1) λ common.
+    after (body_format common.kind common.shape common.length) λ x.
+    ends (record { vector = x.0; lifetime = basic.0; class = common.class; mobile = common.mobile; max_hops = common.max_hops; body = x.1 }, basic.1)

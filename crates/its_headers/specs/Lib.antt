@@ -1,0 +1,14 @@
+pub mod Encoding
+pub mod Format
+pub mod Layout
+pub mod FirstFault
+pub mod Fields
+pub mod Seen
+pub mod Puts
+pub mod Packets
+pub mod Written
+pub mod Bytes
+pub mod Decoding
+pub use Rattle.its_model.specs.Packet
+pub use Rattle.its_gnvalue.specs.Values
+pub use Rattle.its_geometry.specs.Area

@@ -1,0 +1,66 @@
+//! Judging a whole packet, field by field in the order of the wire.
+
+ghost use Rattle.std.specs.Prelude.{◌≡◌, ◌≤◌};
+ghost use Rattle.its_headers.specs.Format.{walk, end_of};
+ghost use Rattle.its_headers.specs.Layout.{beacon_format, shb_format, gbc_format, packet_format};
+
+use crate::basic::basic_header;
+use crate::common::common_header;
+use crate::fields::{fault, slice_at, u16_at};
+use crate::kind::Kind;
+use crate::position::vector;
+use crate::region::area;
+use its_geometry::Shape;
+use its_model::{Fault, FaultKind};
+
+/// Where the beacon at the front of the octets ends.
+#[tactic(auto, using(crate::proofs::Walks::walk_after))]
+fn beacon_end(octets: &[u8]) -> Result<usize, Fault>
+    ensures { result ≡ end_of (walk beacon_format 12 octets.now) }
+{
+    vector(octets, 12)?;
+    Ok(36)
+}
+
+/// Where the single-hop broadcast with a payload of this size ends.
+#[tactic(auto, using(crate::proofs::Walks::walk_after))]
+fn shb_end(octets: &[u8], size: u16) -> Result<usize, Fault>
+    ensures { result ≡ end_of (walk (shb_format size) 12 octets.now) }
+{
+    vector(octets, 12)?;
+    slice_at(octets, 36, 4)?;
+    slice_at(octets, 40, size as usize)?;
+    Ok(40 + size as usize)
+}
+
+/// Where the geobroadcast with a payload of this size, for an area of this shape, ends.
+#[tactic(auto, using(crate::proofs::Walks::walk_after))]
+fn gbc_end(octets: &[u8], shape: Shape, size: u16) -> Result<usize, Fault>
+    ensures { result ≡ end_of (walk (gbc_format shape size) 12 octets.now) }
+{
+    u16_at(octets, 12)?;
+    if u16_at(octets, 14)? != 0 {
+        return Err(fault(14, FaultKind::Reserved));
+    }
+    vector(octets, 16)?;
+    area(octets, shape)?;
+    if u16_at(octets, 54)? != 0 {
+        return Err(fault(54, FaultKind::Reserved));
+    }
+    slice_at(octets, 56, size as usize)?;
+    Ok(56 + size as usize)
+}
+
+/// Where the packet at the front of the octets ends, or the first fault.
+#[tactic(auto, using(crate::proofs::Walks::walk_after))]
+pub fn packet_end(octets: &[u8]) -> Result<usize, Fault>
+    ensures { result ≡ end_of (walk packet_format 0 octets.now) }
+{
+    let (_, left) = basic_header(octets)?;
+    let common = common_header(octets, left)?;
+    match common.kind {
+        Kind::Beacon => beacon_end(octets),
+        Kind::Shb => shb_end(octets, common.length),
+        Kind::Gbc => gbc_end(octets, common.shape, common.length),
+    }
+}

@@ -1,0 +1,12 @@
+//! The kinds of packet.
+
+/// The kinds of packet that are read and written.
+#[derive(Clone, Copy, Debug, PartialEq, Eq)]
+pub enum Kind {
+    /// Tells the neighbours of a station, and nothing more.
+    Beacon,
+    /// A single-hop broadcast, for all neighbours.
+    Shb,
+    /// A geobroadcast, for all stations in an area.
+    Gbc,
+}

@@ -1,0 +1,44 @@
+//! The payload of a packet.
+
+ghost use Rattle.std.specs.Prelude.{◌≡◌, ◌≤◌, ◌<◌, ◌⊎◌, length, MatchResult};
+
+use std::marker::Model;
+
+/// The payload of a packet: 4 to 1398 octets, which begin with the BTP-B header.
+#[derive(Debug, Drop)]
+pub struct Payload {
+    octets: Vec<u8>,
+}
+
+impl Model for Payload {
+    ghost use Rattle.std.specs.Prelude.{◌≤◌, ℕ, List, length};
+
+    ghost Value = { List ℕ };
+
+    ghost view = { λ p. p.octets.items };
+
+    ghost invariant = { λ p. (4 ≤ length p.octets.items) × (length p.octets.items ≤ 1398) };
+}
+
+impl Payload {
+    /// The payload of these octets, or the vector back exactly where they are under 4 or over 1398.
+    pub fn new(octets: Vec<u8>) -> Result<Payload, Vec<u8>>
+        ensures { MatchResult result
+            (λ p. (p ≡ octets.items) × (4 ≤ length octets.items) × (length octets.items ≤ 1398))
+            (λ v. (v ≡ octets) × ((length octets.items < 4) ⊎ (1398 < length octets.items))) }
+    {
+        if octets.len() < 4 || octets.len() > 1398 {
+            return Err(octets);
+        }
+        Ok(Payload { octets })
+    }
+
+    /// The octets, 4 to 1398: the BTP-B header first.
+    pub fn octets(&self) -> &[u8]
+        ensures value { result.now ≡ self.now }
+        ensures low { 4 ≤ length self.now }
+        ensures high { length self.now ≤ 1398 }
+    {
+        &self.octets
+    }
+}

@@ -1,0 +1,273 @@
+//! A packet read in place.
+
+ghost use Rattle.std.specs.Prelude.{◌≡◌, ◌≤◌, ◌<◌, ◌-◌, ◌++◌, ℕ, List, length, take, IfOk, IfErr, IsOk, IsOkAnd, OnErr};
+ghost use Rattle.its_model.specs.Packet.{Pdu, number_in};
+ghost use Rattle.its_headers.specs.Encoding.{Encodes, encoding, payload_of};
+ghost use Rattle.its_headers.specs.Fields.{kind_of_body, shape_of_body, vector_place, IsLength, media_in, area_in, SaysMessage};
+ghost use Rattle.its_headers.specs.Packets.{pdu_of_packet, hops_left, IsHeaderOf};
+ghost use Rattle.its_headers.specs.Decoding.{HasPayload};
+ghost use Rattle.its_headers.specs.Written.{WritesEncoding};
+ghost use Rattle.its_headers.specs.FirstFault.{FirstFault};
+
+use crate::judging::packet_end;
+use crate::kind::Kind;
+use crate::packet::{Geobroadcast, Header, Packet, SingleHopBroadcast};
+use crate::payload::Payload;
+use crate::position::vector;
+use crate::putting::put_slice;
+use crate::region::area;
+use byteorder::{BigEndian, ByteOrder};
+use its_geometry::{Area, Shape};
+use its_gnvalue::{Hops, Lifetime, LongPv, NoMemory, NoRoom, TrafficClass};
+use its_model::Fault;
+use std::alloc::Global;
+use std::marker::Model;
+
+/// A packet in the octets that it was read from: a slice that is an encoding by its type. Contracts
+/// see the packet and the hops that it has left.
+#[derive(Drop)]
+pub struct PacketView<'a> {
+    octets: &'a [u8],
+}
+
+impl<'a> Model for PacketView<'a> {
+    ghost use Rattle.its_headers.specs.Seen.{Seen, seen_of, IsEncoding};
+
+    ghost Value = { Seen };
+
+    ghost view = { λ v. seen_of v.octets.now };
+
+    ghost invariant = { λ v. IsEncoding v.octets.now };
+}
+
+impl<'a> PacketView<'a> {
+    /// The packet at the front of the octets, and its length, or the first fault: fields are judged in
+    /// the order of the wire, each together with those before it. What follows the packet is not judged.
+    pub fn read(octets: &'a [u8]) -> Result<(PacketView<'a>, usize), Fault>
+        ensures found { IfOk result (λ x. (x.1 ≤ length octets.now) × Encodes x.0.pdu x.0.left (take x.1 octets.now)) }
+
+        // Each packet is read, whatever follows it.
+        ensures only { (p : Pdu) (left : ℕ) (w rest : List ℕ) → Encodes p left w → octets.now ≡ w ++ rest
+            → IsOkAnd result (λ x. (x.0 ≡ record { pdu = p; left = left }) × (x.1 ≡ length w)) }
+        ensures fault { IfErr result (λ f. FirstFault octets.now f) }
+    {
+        let length = packet_end(octets)?;
+        let view = PacketView {
+            octets: &octets[..length],
+        };
+        Ok((view, length))
+    }
+
+    /// The octets of the packet, and nothing else.
+    pub fn octets(&self) -> &'a [u8]
+        ensures { Encodes self.now.pdu self.now.left result.now }
+    {
+        self.octets
+    }
+
+    /// The kind of the packet.
+    pub fn kind(&self) -> Kind
+        ensures { result ≡ kind_of_body self.now.pdu.body }
+    {
+        match self.octets[5] / 16 {
+            1 => Kind::Beacon,
+            5 => Kind::Shb,
+            _ => Kind::Gbc,
+        }
+    }
+
+    /// The hops that are left (RHL, from 1), and how many there were at most (MHL).
+    pub fn hops(&self) -> Hops
+        ensures { result ≡ record { left = self.now.left; max = self.now.pdu.max_hops } }
+    {
+        let Some(hops) = Hops::new(self.octets[3], self.octets[10]) else {
+            unreachable!()
+        };
+        hops
+    }
+
+    /// How long the packet lives (LT).
+    pub fn lifetime(&self) -> Lifetime
+        ensures { result ≡ self.now.pdu.lifetime }
+    {
+        Lifetime::from_octet(self.octets[2])
+    }
+
+    /// The traffic class (TC).
+    pub fn class(&self) -> TrafficClass
+        ensures { result ≡ self.now.pdu.class }
+    {
+        TrafficClass::from_octet(self.octets[6])
+    }
+
+    /// Whether the source is mobile.
+    pub fn mobile(&self) -> bool
+        ensures { result ≡ self.now.pdu.mobile }
+    {
+        self.octets[7] >= 128
+    }
+
+    /// The source's address, place and movement: the long position vector.
+    pub fn vector(&self) -> LongPv
+        ensures { result ≡ self.now.pdu.vector }
+    {
+        let Ok(vector) = vector(self.octets, self.vector_at()) else {
+            unreachable!()
+        };
+        vector
+    }
+
+    // Where the vector begins.
+    fn vector_at(&self) -> usize
+        ensures { result ≡ vector_place self.now.pdu.body }
+    {
+        match self.kind() {
+            Kind::Beacon | Kind::Shb => 12,
+            Kind::Gbc => 16,
+        }
+    }
+
+    /// The media-dependent data of a single-hop broadcast; the other kinds have none.
+    pub fn media(&self) -> Option<[u8; 4]>
+        ensures { result ≡ media_in self.now.pdu.body }
+    {
+        match self.kind() {
+            Kind::Shb => Some([
+                self.octets[36],
+                self.octets[37],
+                self.octets[38],
+                self.octets[39],
+            ]),
+            Kind::Beacon | Kind::Gbc => None,
+        }
+    }
+
+    /// The sequence number of a geobroadcast; the other kinds have none.
+    pub fn number(&self) -> Option<u16>
+        ensures { result ≡ number_in self.now.pdu.body }
+    {
+        match self.kind() {
+            Kind::Gbc => Some(BigEndian::read_u16(&self.octets[12..])),
+            Kind::Beacon | Kind::Shb => None,
+        }
+    }
+
+    /// The area of a geobroadcast; the other kinds have none.
+    pub fn area(&self) -> Option<Area>
+        ensures { result ≡ area_in self.now.pdu.body }
+    {
+        match self.kind() {
+            Kind::Gbc => {
+                let Ok(area) = area(self.octets, self.shape()) else {
+                    unreachable!()
+                };
+                Some(area)
+            }
+            Kind::Beacon | Kind::Shb => None,
+        }
+    }
+
+    // The shape that the sub-type names.
+    fn shape(&self) -> Shape
+        ensures { result ≡ shape_of_body self.now.pdu.body }
+    {
+        match self.octets[5] % 16 {
+            0 => Shape::Circle,
+            1 => Shape::Rectangle,
+            _ => Shape::Ellipse,
+        }
+    }
+
+    /// The payload, which lies in the octets that were read: a BTP-B header and what is sent to the
+    /// port. A beacon has none.
+    pub fn payload(&self) -> &'a [u8]
+        ensures octets { result.now ≡ payload_of self.now.pdu.body }
+        ensures message { SaysMessage self.now.pdu.body result.now }
+        ensures size { IsLength (kind_of_body self.now.pdu.body) (length result.now) }
+    {
+        match self.kind() {
+            Kind::Beacon => &[],
+            Kind::Shb => &self.octets[40..],
+            Kind::Gbc => &self.octets[56..],
+        }
+    }
+
+    // What each packet has.
+    fn header(&self) -> Header
+        ensures { IsHeaderOf result self.now }
+    {
+        Header {
+            hops: self.hops(),
+            lifetime: self.lifetime(),
+            class: self.class(),
+            mobile: self.mobile(),
+            vector: self.vector(),
+        }
+    }
+
+    // A payload of its own.
+    fn to_payload(&self, alloc: Global) -> Result<Payload, NoMemory>
+        requires { HasPayload self.now.pdu.body }
+        ensures { IfOk result (SaysMessage self.now.pdu.body) }
+    {
+        let octets = Vec::from_slice(alloc, self.payload())?;
+        let Ok(payload) = Payload::new(octets) else {
+            unreachable!()
+        };
+        Ok(payload)
+    }
+
+    /// The packet, with a payload of its own. A beacon takes no memory; else `NoMemory` says that the one
+    /// growth, for the payload, was refused.
+    pub fn to_packet(&self, alloc: Global) -> Result<Packet, NoMemory>
+        ensures packet { IfOk result (λ p. (pdu_of_packet p ≡ self.now.pdu) × (hops_left p ≡ self.now.left)) }
+        ensures memory { OnErr result (HasPayload self.now.pdu.body) }
+    {
+        let header = self.header();
+        match self.kind() {
+            Kind::Beacon => Ok(Packet::Beacon(header)),
+            Kind::Shb => {
+                let Some(media) = self.media() else {
+                    unreachable!()
+                };
+                let payload = self.to_payload(alloc)?;
+                Ok(Packet::Shb(SingleHopBroadcast {
+                    header,
+                    media,
+                    payload,
+                }))
+            }
+            Kind::Gbc => {
+                let (Some(number), Some(area)) = (self.number(), self.area()) else {
+                    unreachable!()
+                };
+                let payload = self.to_payload(alloc)?;
+                Ok(Packet::Gbc(Geobroadcast {
+                    header,
+                    number,
+                    area,
+                    payload,
+                }))
+            }
+        }
+    }
+}
+
+/// Writes the packet that was read, with one hop fewer left, at the front of the slice, and says how
+/// long it is. Nothing else of the packet changes. The rest of the slice stays; on `NoRoom`, exactly
+/// where the slice is too short, all of it does.
+pub fn relay_into(view: &PacketView<'_>, out: &mut [u8]) -> Result<usize, NoRoom>
+    requires { 2 ≤ view.now.left }
+    ensures written { IfOk result (λ n. WritesEncoding view.now.pdu (view.now.left - 1) out.old out.new n) }
+    ensures room { length (encoding view.now.pdu view.now.left) ≤ length out.old → IsOk result }
+    ensures no_room { OnErr result ((out.new ≡ out.old)
+        × (length out.old < length (encoding view.now.pdu view.now.left))) }
+{
+    let octets = view.octets;
+    if out.len() < octets.len() {
+        return Err(NoRoom);
+    }
+    put_slice(out, 0, octets);
+    out[3] = octets[3] - 1;
+    Ok(octets.len())
+}

@@ -1,0 +1,94 @@
+//! Want of memory, for tests: a process with no memory left but the budget that a test leaves it.
+//!
+//! `Shortage::new` takes all memory that the process can get, and `leave` gives a budget of it back.
+//! From then on the heap itself refuses what goes past the budget: in the code under test, in std and
+//! in the libraries below.
+//!
+//! **What a budget stands for.** Code that stops at the first growth that is refused is tried with
+//! budgets of 0, 16, 32, .. octets until it answers as with ample memory. Each of its growths is then,
+//! under some of these budgets, the first that is refused: the budgets stand for 'the Nth growth is
+//! refused', for N = 1, 2, .. . A call that answers under the budget 0 takes no memory. Where the lowest
+//! budget at which a call succeeds is that of a single piece as large as its result, it has one growth
+//! and no second.
+//!
+//! - A piece costs more than its octets (on glibc 8 more, rounded up to 16), so compare budgets, and
+//!   do not take them for lengths.
+//! - Make all that a test needs before `Shortage::new`, and let go what a call gave before the next
+//!   `leave`.
+//! - One `Shortage` in a test. Each test runs in a process of its own, so no other sees it.
+//! - It acts on the heap of a built test. An allocator that only watches for errors, as that of a run
+//!   without proof, has memory elsewhere.
+#![tactic(auto)]
+
+use std::alloc::{AllocError, Global};
+
+#[cfg(test)]
+mod tests;
+
+/// The largest budget, in octets.
+pub const MOST: usize = 100_000;
+
+/// From one budget to the next, in octets: the least by which the heap tells sizes apart.
+pub const STEP: usize = 16;
+
+/// The most pieces that are held.
+const PIECES: usize = 200_000;
+
+/// The largest piece that is asked for: as much as a process can address.
+const LARGEST: usize = 1 << 46;
+
+/// All memory of the process but for a budget.
+#[derive(Drop)]
+pub struct Shortage {
+    alloc: Global,
+    held: Vec<Vec<u8>>,
+    plug: Option<Vec<u8>>,
+}
+
+impl Shortage {
+    /// Takes all memory that is left but for about `MOST` octets at most, which the first `leave` judges.
+    /// An error says that there was not even room to note what is held.
+    pub fn new(alloc: Global) -> Result<Shortage, AllocError> {
+        let held = Vec::with_capacity(alloc, PIECES)?;
+        let plug = Some(Vec::with_capacity(alloc, MOST)?);
+        let mut shortage = Shortage { alloc, held, plug };
+        let mut size = LARGEST;
+        for _ in 0..37 {
+            shortage.take(size);
+            size /= 2;
+        }
+        shortage.take_small();
+        Ok(shortage)
+    }
+
+    /// Leaves a budget of about that many octets, `MOST` at most, in one piece; no octet at 0.
+    pub fn leave(&mut self, octets: usize) {
+        self.plug = None;
+        self.plug = Vec::with_capacity(self.alloc, MOST.saturating_sub(octets)).ok();
+        if octets == 0 {
+            self.take_small();
+        }
+    }
+
+    /// Takes pieces of that many octets until there is none.
+    fn take(&mut self, size: usize) {
+        for _ in 0..PIECES {
+            match Vec::with_capacity(self.alloc, size) {
+                Ok(piece) => {
+                    if self.held.len() >= self.held.capacity() || self.held.push(piece).is_err() {
+                        break;
+                    }
+                }
+                Err(_) => break,
+            }
+        }
+    }
+
+    /// Takes what is left in small pieces, of each size that the heap keeps apart.
+    fn take_small(&mut self) {
+        for step in 0..128 {
+            self.take(2048 - STEP * step);
+        }
+        self.take(8);
+    }
+}
