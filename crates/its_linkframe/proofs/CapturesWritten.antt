@@ -1,0 +1,45 @@
+-- A capture that grows by a record.
+use Rattle.std.proofs.Common.{◌≡◌, ℕ, List, [], ◌∷◌, ◌++◌, Option, None, Some, sym, ap, ◌∙◌, arith, append_assoc, length-append, append-nil}
+use Rattle.std.proofs.lemmas.List.Elements.{All-push}
+use Rattle.std.specs.Io.KnownBytes.{Appends}
+use Rattle.its_linkframe.specs.Captures.{Captured, IsCaptured, record_octets, capture_octets, EncodesCapture}
+use Rattle.its_linkframe.specs.Devices.{AppendsFront}
+use Rattle.its_linkframe.specs.Writing.{HoldsCapture, HoldsFront}
+
+capture_octets-push : (rs : List Captured) (r : Captured) → capture_octets (rs ++ r ∷ []) ≡ capture_octets rs ++ record_octets r
+capture_octets-push [] r = append-nil (record_octets r)
+capture_octets-push (s ∷ rs) r = ap (λ (t : List ℕ). record_octets s ++ t) (capture_octets-push rs r) ∙ sym (append_assoc (record_octets s) (capture_octets rs) (record_octets r))
+
+-- behind the octets of a capture those of a record
+EncodesCapture-push : (rs : List Captured) (r : Captured) (w : List ℕ) → EncodesCapture rs w → IsCaptured r → EncodesCapture (rs ++ r ∷ []) (w ++ record_octets r)
+EncodesCapture-push rs r w enc is = record {
+  fields = All-push IsCaptured rs r enc.fields is;
+  octets = ap (λ (t : List ℕ). t ++ record_octets r) enc.octets ∙ sym (capture_octets-push rs r);
+}
+
+pub HoldsCapture-push : (before : List ℕ) (rs : List Captured) (r : Captured) (old new : Option (List ℕ)) → IsCaptured r → Appends old new (record_octets r) → HoldsCapture before rs old → HoldsCapture before (rs ++ r ∷ []) new
+HoldsCapture-push before rs r None new is put holds = absurd holds
+HoldsCapture-push before rs r (Some x) None is put holds = absurd put
+HoldsCapture-push before rs r (Some x) (Some y) is put holds =
+    (holds.0 ++ record_octets r, put ∙ ap (λ (t : List ℕ). t ++ record_octets r) holds.1 ∙ append_assoc before holds.0 (record_octets r), EncodesCapture-push rs r holds.0 holds.2 is)
+
+pub HoldsFront-push : (before : List ℕ) (rs : List Captured) (r : Captured) (old new : Option (List ℕ)) → IsCaptured r → AppendsFront old new (record_octets r) → HoldsCapture before rs old → HoldsFront before (rs ++ r ∷ []) new
+HoldsFront-push before rs r None new is put holds = absurd holds
+HoldsFront-push before rs r (Some x) None is put holds = absurd put.appends
+HoldsFront-push before rs r (Some x) (Some y) is put holds =
+    let whole = EncodesCapture-push rs r holds.0 holds.2 is in (
+      holds.0 ++ put.front,
+      put.rest,
+      put.appends ∙ ap (λ (t : List ℕ). t ++ put.front) holds.1 ∙ append_assoc before holds.0 put.front,
+      record { fields = whole.fields; octets = append_assoc holds.0 put.front put.rest ∙ ap (λ (t : List ℕ). holds.0 ++ t) (sym put.parts) ∙ whole.octets },
+    )
+
+-- a front of a text is a front of a longer one
+pub AppendsFront-longer : (old new : Option (List ℕ)) (a b : List ℕ) → AppendsFront old new a → AppendsFront old new (a ++ b)
+AppendsFront-longer old new a b p = record {
+  front = p.front;
+  rest = p.rest ++ b;
+  parts = ap (λ (t : List ℕ). t ++ b) p.parts ∙ append_assoc p.front p.rest b;
+  missing = omega (arith, p.missing, length-append p.rest b);
+  appends = p.appends;
+}

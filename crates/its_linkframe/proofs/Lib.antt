@@ -1,0 +1,8 @@
+pub mod CapturesRead
+pub mod CapturesWritten
+pub mod FrameLaws
+pub mod Fronts
+pub mod Heads
+pub mod Makings
+pub mod Pieces
+pub mod Stages

@@ -1,0 +1,10 @@
+pub mod Captures
+pub mod Devices
+pub mod FrameFaults
+pub mod Frames
+pub mod Reading
+pub mod Writing
+pub use Rattle.its_headers.specs.Encoding
+pub use Rattle.its_headers.specs.FirstFault
+pub use Rattle.its_headers.specs.Seen
+pub use Rattle.its_model.specs.Packet

@@ -1,0 +1,39 @@
+//! What a capture holds, and why one cannot be read or written on.
+
+use std::error::Error;
+use std::fmt;
+
+/// The longest frame, in octets (profile).
+pub const LONGEST_FRAME: usize = 1468;
+
+/// A frame, and the moment at which it was taken.
+#[derive(Debug, Drop, PartialEq, Eq)]
+pub struct Record {
+    /// In milliseconds.
+    pub moment: u64,
+    /// The octets of the frame, 1 to 1468 of them where the record was read; they are not judged.
+    pub frame: Vec<u8>,
+}
+
+/// Why a capture cannot be read or written on.
+#[derive(Clone, Copy, Debug, PartialEq, Eq)]
+pub enum CaptureFault {
+    /// C1: the input ends inside a record.
+    CutRecord,
+    /// C2: the length of a frame is 0 or over 1468.
+    Length,
+    /// C3: a call of the device failed.
+    Io,
+    /// C4: a growth for a frame was refused. Only a reader answers it.
+    NoMemory,
+    /// C5: an earlier call answered C1, C3 or C4, or was a reader's that answered C2.
+    Failed,
+}
+
+impl fmt::Display for CaptureFault {
+    fn fmt<W: fmt::Write>(&self, f: &mut fmt::Formatter<W>) -> fmt::Result {
+        write!(f, "C{}", *self as u8 + 1)
+    }
+}
+
+impl Error for CaptureFault {}
