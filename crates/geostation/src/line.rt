@@ -1,0 +1,120 @@
+//! The line that `show` prints of a frame.
+
+use its_geometry::{Area, Shape};
+use its_gnvalue::LongPv;
+use its_headers::{Kind, PacketView};
+use its_linkframe::FrameView;
+use std::{fmt, str};
+
+/// Octets as hexadecimal digits in lower case, or `-` where there are none.
+#[derive(Drop)]
+struct Hex<'a>(&'a [u8]);
+
+/// How many octets become digits at a time.
+const PIECE: usize = 64;
+
+impl fmt::Display for Hex<'_> {
+    fn fmt<W: fmt::Write>(&self, f: &mut fmt::Formatter<W>) -> fmt::Result {
+        if self.0.is_empty() {
+            return f.write_str("-");
+        }
+        let mut digits = [0u8; 128];
+        for piece in self.0.chunks(PIECE) {
+            let Some(written) = digits.get_mut(..2 * piece.len()) else {
+                return Err(fmt::Error);
+            };
+            if hex::encode_to_slice(piece, written).is_err() {
+                return Err(fmt::Error);
+            }
+            match str::from_utf8(written) {
+                Ok(text) => f.write_str(text)?,
+                Err(_) => return Err(fmt::Error),
+            }
+        }
+        Ok(())
+    }
+}
+
+/// A frame that was read, as a line.
+#[derive(Drop)]
+pub struct FrameLine<'a> {
+    pub moment: u64,
+    pub frame: FrameView<'a>,
+}
+
+impl fmt::Display for FrameLine<'_> {
+    fn fmt<W: fmt::Write>(&self, f: &mut fmt::Formatter<W>) -> fmt::Result {
+        let packet = &self.frame.packet;
+        let kind = word(packet.kind());
+        write!(
+            f,
+            "{} {} {} {kind} ",
+            self.moment, self.frame.from, self.frame.to
+        )?;
+        write_vector(f, packet.vector())?;
+        write_header(f, packet)?;
+        if let Some(number) = packet.number() {
+            write!(f, " number {number}")?;
+        }
+        if let Some(area) = packet.area() {
+            write_area(f, area)?;
+        }
+        write_message(f, packet.payload())
+    }
+}
+
+fn word(kind: Kind) -> &'static str {
+    match kind {
+        Kind::Beacon => "beacon",
+        Kind::Shb => "shb",
+        Kind::Gbc => "gbc",
+    }
+}
+
+fn write_vector<W: fmt::Write>(f: &mut fmt::Formatter<W>, vector: LongPv) -> fmt::Result {
+    let (address, tst, place) = (vector.address(), vector.tst(), vector.place());
+    let (pai, speed, heading) = (vector.pai() as u8, vector.speed(), vector.heading());
+    let (lat, lon) = (place.lat(), place.lon());
+    write!(
+        f,
+        "{address} tst {tst} lat {lat} lon {lon} pai {pai} speed {speed} heading {heading}"
+    )
+}
+
+fn write_header<W: fmt::Write>(f: &mut fmt::Formatter<W>, packet: &PacketView<'_>) -> fmt::Result {
+    let (lifetime, class) = (packet.lifetime().octet(), packet.class().octet());
+    let (mobile, hops) = (packet.mobile() as u8, packet.hops());
+    let (left, max) = (hops.left(), hops.max());
+    write!(
+        f,
+        " lt {lifetime:02x} tc {class:02x} mobile {mobile} hops {left}/{max}"
+    )
+}
+
+fn write_area<W: fmt::Write>(f: &mut fmt::Formatter<W>, area: Area) -> fmt::Result {
+    let shape = match area.shape() {
+        Shape::Circle => "circle",
+        Shape::Rectangle => "rectangle",
+        Shape::Ellipse => "ellipse",
+    };
+    let centre = area.centre();
+    let (lat, lon) = (centre.lat(), centre.lon());
+    write!(
+        f,
+        " {shape} {lat} {lon} {} {} {}",
+        area.a(),
+        area.b(),
+        area.angle()
+    )
+}
+
+/// Port, info and payload, where there are any.
+fn write_message<W: fmt::Write>(f: &mut fmt::Formatter<W>, payload: &[u8]) -> fmt::Result {
+    match payload {
+        [p, q, i, j, rest @ ..] => {
+            let (port, info) = (u16::from_be_bytes([*p, *q]), u16::from_be_bytes([*i, *j]));
+            write!(f, " port {port} info {info} {}", Hex(rest))
+        }
+        _ => Ok(()),
+    }
+}
