@@ -9,7 +9,7 @@ use Rattle.byteorder.specs.Numbers.{big_number-reads_back}
 use Rattle.its_linkframe.specs.declared.record.Record.{Record}
 use Rattle.its_linkframe.specs.declared.record.CaptureFault.{CaptureFault}
 use Rattle.its_linkframe.specs.declared.record.CaptureFault.TheVariants as faults
-use Rattle.its_linkframe.specs.Captures.{Captured, IsCaptured, head_octets, record_octets, capture_octets, EncodesCapture, captured, announced_length, AnnouncesNoFrame, EndsInRecord, IsFrameLength}
+use Rattle.its_linkframe.specs.Captures.{Captured, IsCaptured, head_octets, record_octets, capture_octets, EncodesCapture, captured, captured_at, announced_length, AnnouncesNoFrame, EndsInRecord, IsFrameLength}
 use Rattle.its_linkframe.specs.Reading.{MeetsEnd, IsReadFault, ReadsFirst}
 use Rattle.its_linkframe.proofs.Heads.{length-head_octets, announced_length-head_octets}
 
@@ -30,8 +30,11 @@ one_record r s v w ir is e =
     let rest : r.frame ++ v ≡ s.frame ++ w = sym (drop-head_octets r.moment (length r.frame) (r.frame ++ v)) ∙ ap (drop 10) f ∙ drop-head_octets s.moment (length s.frame) (s.frame ++ w) in
     let taken : take (length r.frame) (r.frame ++ v) ≡ take (length s.frame) (s.frame ++ w) = ap (λ (t : ℕ). take t (r.frame ++ v)) size ∙ ap (take (length s.frame)) rest in
     let left : drop (length r.frame) (r.frame ++ v) ≡ drop (length s.frame) (s.frame ++ w) = ap (λ (t : ℕ). drop t (r.frame ++ v)) size ∙ ap (drop (length s.frame)) rest in
-    let frame : r.frame ≡ s.frame = sym (take-append_seam r.frame v) ∙ taken ∙ take-append_seam s.frame w in
-    (ap (λ (t : ℕ). record { moment = t; frame = r.frame }) moment ∙ ap (λ (t : List ℕ). record { moment = s.moment; frame = t }) frame, sym (drop-append_seam r.frame v) ∙ left ∙ drop-append_seam s.frame w)
+    let mine : take (length r.frame) (r.frame ++ v) ≡ r.frame = take-append_seam r.frame v in
+    let theirs : take (length s.frame) (s.frame ++ w) ≡ s.frame = take-append_seam s.frame w in
+    let frame : r.frame ≡ s.frame = cc (taken, mine, theirs) in
+    let same : captured_at r.moment r.frame ≡ captured_at s.moment s.frame = ap (λ (t : ℕ). captured_at t r.frame) moment ∙ ap (captured_at s.moment) frame in
+    (same, sym (drop-append_seam r.frame v) ∙ left ∙ drop-append_seam s.frame w)
 
 length-record_octets : (r : Captured) (w : List ℕ) → length (record_octets r ++ w) ≡ 10 + length r.frame + length w
 length-record_octets r w = omega (arith, length-append (record_octets r) w, length-append (head_octets r.moment (length r.frame)) r.frame, length-head_octets r.moment (length r.frame))

@@ -94,6 +94,9 @@ impl Write for Slot {
     }
 
     fn flush(&mut self) -> io::Result<()> {
+        if self.errs {
+            return Err(io::Error::from(io::ErrorKind::Other));
+        }
         Ok(())
     }
 }
