@@ -1,0 +1,256 @@
+-- Slots in ascending order: where a search ends, what an edit there does, and what is found among them.
+use Rattle.std.proofs.Common.{◌≡◌, ◌⊎◌, ℕ, suc, zero, ◌+◌, ◌<◌, ◌≤◌, Bool, true, false, cond, List, [], ◌∷◌, Option, Some, None, Result, Ok, Err, IfOk, IfErr, refl, sym, ap, subst, ◌∙◌, eqb, ltb, filter, set, drop, length, get_or, find, map, count_by, ◌&&◌, ◌||◌, ◌^◌, arith, is_some, true≢false, unwrap_or, inl, inr}
+use Rattle.std.specs.Prelude.{insert}
+use Rattle.std.specs.Option.{option_map}
+use Rattle.std.specs.List.Sorted.{IsSearchInRange, IsBinarySearchResult, IsNonDecreasingBy}
+use Rattle.std.specs.Ordering.{nat_cmp, ordering_index}
+use Rattle.std.proofs.lemmas.Cmp.{ranked}
+use Rattle.std.proofs.lemmas.Bool.{cond-true, cond-false, lt-ltb, le-ltb, eq-eqb, ne_eqb, ltb-true, ltb-false}
+use Rattle.std.proofs.lemmas.Bool.Decides.{nat_tests}
+use Rattle.std.proofs.lemmas.List.Sums.{sum_by-cons}
+use Rattle.its_loctable.specs.declared.sorted_slot.SortedSlot.{SortedSlot}
+use Rattle.its_model.specs.History.{Reception, Known}
+use Rattle.its_model.specs.Stations.{stations_at, is_above, is_next_neighbour, AllAbove}
+use Rattle.its_loctable.specs.Content.{Entry, live_part, entry_at, Represents}
+use Rattle.its_loctable.specs.Sorted.{slot_known, slot_entry, held, IsFoundAt, IsGapFor, IsStartAbove}
+use Rattle.its_loctable.specs.Eager.{swept, upsert}
+use Rattle.its_model.proofs.StationLemmas.{addr}
+use Rattle.its_loctable.proofs.ContentLemmas.{place, ordered, ordered-stations_at}
+use Rattle.its_loctable.proofs.EagerLemmas.{IsBelowAll, IsRising, apart-rising}
+
+abbrev pub key : SortedSlot → ℕ
+key s = s.vector.address
+
+pub held-filter : (now : ℕ) (xs : List SortedSlot) → held (filter (λ (s : SortedSlot). ltb now s.until) xs) ≡ swept now (held xs)
+held-filter now [] = refl
+held-filter now (x ∷ xs) = by (ltb now x.until) (held-filter now xs)
+  where
+    by : (b : Bool) → held (filter (λ (s : SortedSlot). ltb now s.until) xs) ≡ swept now (held xs) → held (cond b (x ∷ filter (λ (s : SortedSlot). ltb now s.until) xs) (filter (λ (s : SortedSlot). ltb now s.until) xs)) ≡ cond b (slot_entry x ∷ swept now (held xs)) (swept now (held xs))
+    by true e = ap (λ l. slot_entry x ∷ l) e
+    by false e = e
+
+-- ---- where a search ends
+below_all : (n : ℕ) (xs : List SortedSlot) (i : ℕ) (d : SortedSlot) → IsBelowAll n (held xs) → i < length xs → n < key (get_or xs i d)
+below_all n [] i d h lt = absurd (omega arith)
+below_all n (x ∷ xs) zero d h lt = h.0
+below_all n (x ∷ xs) (suc i) d h lt = below_all n xs i d h.1 (omega arith)
+
+rises : (xs : List SortedSlot) (i j : ℕ) (d : SortedSlot) → IsRising (held xs) → i ≤ j → j < length xs → key (get_or xs i d) ≤ key (get_or xs j d)
+rises [] i j d h le lt = absurd (omega arith)
+rises (x ∷ xs) zero zero d h le lt = omega arith
+rises (x ∷ xs) zero (suc j) d h le lt = omega (arith, below_all (key x) xs j d h.0 (omega arith))
+rises (x ∷ xs) (suc i) zero d h le lt = absurd (omega arith)
+rises (x ∷ xs) (suc i) (suc j) d h le lt = rises xs i j d h.1 (omega arith) (omega arith)
+
+comparisons_rise : (xs : List SortedSlot) (a : ℕ) → IsRising (held xs) → IsNonDecreasingBy (λ (s : SortedSlot). ordering_index (nat_cmp (key s) a)) xs
+comparisons_rise xs a h i j d le lt = let up = rises xs i j d h le lt in higher (key (get_or xs i d)) (key (get_or xs j d)) up
+  where
+    higher : (m n : ℕ) → m ≤ n → ordering_index (nat_cmp m a) ≤ ordering_index (nat_cmp n a)
+    higher m n le = grind (arith, nat_tests)
+
+found_at : (xs : List SortedSlot) (a i : ℕ) → i < length xs → ((d : SortedSlot) → key (get_or xs i d) ≡ a) → IsFoundAt xs a i
+found_at [] a i lt h = absurd (omega arith)
+found_at (x ∷ xs) a zero lt h = h x
+found_at (x ∷ xs) a (suc i) lt h = found_at xs a i (omega arith) h
+
+gap_for : (xs : List SortedSlot) (a i : ℕ) → i ≤ length xs → ((k : ℕ) (d : SortedSlot) → k < i → key (get_or xs k d) < a)
+    → ((k : ℕ) (d : SortedSlot) → i ≤ k → k < length xs → a < key (get_or xs k d)) → IsGapFor xs a i
+gap_for [] a zero le below above = tt
+gap_for [] a (suc i) le below above = absurd (omega arith)
+gap_for (x ∷ xs) a zero le below above = above 0 x (omega arith) (omega arith)
+gap_for (x ∷ xs) a (suc i) le below above =
+    (below 0 x (omega arith), gap_for xs a i (omega arith) (λ k d lt. below (suc k) d (omega arith)) (λ k d from lt. above (suc k) d (omega arith) (omega arith)))
+
+-- a binary search by address ends at the slot of the address, or at the gap for it
+pub searched : (xs : List SortedSlot) (a : ℕ) (r : Result ℕ ℕ) → IsRising (held xs) → IsSearchInRange r (length xs) → IsBinarySearchResult (λ (s : SortedSlot). nat_cmp (key s) a) xs r
+    → IfOk r (λ i. IsFoundAt xs a i × (i < length xs)) × IfErr r (λ i. IsGapFor xs a i × (i ≤ length xs))
+searched xs a (Ok i) rising within equal = ((found_at xs a i within (λ d. ranked _ a _ (sym (equal d))), within), tt)
+searched xs a (Err i) rising within parted =
+    let parts = parted (comparisons_rise xs a rising) in
+    (tt, (gap_for xs a i within (λ k d lt. ranked _ a _ (sym (parts.0 k d (omega arith) lt))) (λ k d from lt. ranked _ a _ (sym (parts.1 k d from lt))), within))
+
+-- ---- what a look-up finds there
+found_above : (n : ℕ) (xs : List SortedSlot) (a i : ℕ) → IsBelowAll n (held xs) → IsFoundAt xs a i → n < a
+found_above n [] a i h f = absurd f
+found_above n (x ∷ xs) a zero h f = (let lt : n < key x = h.0 in omega (arith, f))
+found_above n (x ∷ xs) a (suc i) h f = found_above n xs a i h.1 f
+
+pub found-entry_at : (xs : List SortedSlot) (a i t : ℕ) (d : SortedSlot) → IsRising (held xs) → IsFoundAt xs a i → entry_at (held xs) a t ≡ live_part t (slot_entry (get_or xs i d))
+found-entry_at [] a i t d h f = absurd f
+found-entry_at (x ∷ xs) a zero t d h f = cond-true (eqb a (key x)) _ _ (eq-eqb a (key x) (sym f))
+found-entry_at (x ∷ xs) a (suc i) t d h f =
+    let lt : key x < a = found_above (key x) xs a i h.0 f in
+    cond-false (eqb a (key x)) _ _ (ne_eqb a (key x) (λ e. let e' : a ≡ key x = e in absurd (omega arith))) ∙ found-entry_at xs a i t d h.1 f
+
+pub found_key : (xs : List SortedSlot) (a i : ℕ) (d : SortedSlot) → IsFoundAt xs a i → key (get_or xs i d) ≡ a
+found_key [] a i d f = absurd f
+found_key (x ∷ xs) a zero d f = f
+found_key (x ∷ xs) a (suc i) d f = found_key xs a i d f
+
+below-entry_at : (xs : List SortedSlot) (a t : ℕ) → IsBelowAll a (held xs) → entry_at (held xs) a t ≡ None
+below-entry_at [] a t h = refl
+below-entry_at (x ∷ xs) a t h =
+    let lt : a < key x = h.0 in
+    cond-false (eqb a (key x)) _ _ (ne_eqb a (key x) (λ e. let e' : a ≡ key x = e in absurd (omega arith))) ∙ below-entry_at xs a t h.1
+
+IsBelowAll-weaker : (m n : ℕ) (xs : List SortedSlot) → m ≤ n → IsBelowAll n (held xs) → IsBelowAll m (held xs)
+IsBelowAll-weaker m n [] le h = tt
+IsBelowAll-weaker m n (x ∷ xs) le h = (let lt : n < key x = h.0 in (omega arith, IsBelowAll-weaker m n xs le h.1))
+
+pub gap-entry_at : (xs : List SortedSlot) (a i t : ℕ) → IsRising (held xs) → IsGapFor xs a i → entry_at (held xs) a t ≡ None
+gap-entry_at [] a i t h g = refl
+gap-entry_at (x ∷ xs) a zero t h g =
+    let lt : a < key x = g in
+    cond-false (eqb a (key x)) _ _ (ne_eqb a (key x) (λ e. let e' : a ≡ key x = e in absurd (omega arith))) ∙ below-entry_at xs a t (IsBelowAll-weaker a (key x) xs (omega arith) h.0)
+gap-entry_at (x ∷ xs) a (suc i) t h g =
+    let lt : key x < a = g.0 in
+    cond-false (eqb a (key x)) _ _ (ne_eqb a (key x) (λ e. let e' : a ≡ key x = e in absurd (omega arith))) ∙ gap-entry_at xs a i t h.1 g.1
+
+-- ---- an edit there puts the slot into its place
+past : (x s : SortedSlot) (xs : List SortedSlot) (l : List Entry) → key x < key s → l ≡ upsert (held xs) (slot_entry s) → slot_entry x ∷ l ≡ upsert (held (x ∷ xs)) (slot_entry s)
+past x s xs l lt rest = ap (λ m. slot_entry x ∷ m) rest
+    ∙ sym (cond-false (ltb (key s) (key x)) _ _ (le-ltb _ _ (omega arith)) ∙ cond-false (eqb (key s) (key x)) _ _ (ne_eqb _ _ (λ e. let e' : key s ≡ key x = e in absurd (omega arith))))
+
+pub held-set : (xs : List SortedSlot) (s : SortedSlot) (i : ℕ) → IsRising (held xs) → IsFoundAt xs (key s) i → held (set xs i s) ≡ upsert (held xs) (slot_entry s)
+held-set [] s i h f = absurd f
+held-set (x ∷ xs) s zero h f =
+    sym (cond-false (ltb (key s) (key x)) _ _ (le-ltb _ _ (let e : key x ≡ key s = f in omega (arith, e))) ∙ cond-true (eqb (key s) (key x)) _ _ (eq-eqb _ _ (sym f)))
+held-set (x ∷ xs) s (suc i) h f = past x s xs _ (found_above (key x) xs (key s) i h.0 f) (held-set xs s i h.1 f)
+
+pub held-insert : (xs : List SortedSlot) (s : SortedSlot) (i : ℕ) → IsGapFor xs (key s) i → held (insert xs i s) ≡ upsert (held xs) (slot_entry s)
+held-insert [] s zero g = refl
+held-insert [] s (suc i) g = absurd g
+held-insert (x ∷ xs) s zero g = sym (cond-true (ltb (key s) (key x)) _ _ (lt-ltb _ _ g))
+held-insert (x ∷ xs) s (suc i) g = past x s xs _ g.0 (held-insert xs s i g.1)
+
+-- a slot that is new makes the list longer, so that there is room for it
+pub room-insert : (xs : List SortedSlot) (s : SortedSlot) (i room : ℕ) → IsGapFor xs (key s) i → length (upsert (held xs) (slot_entry s)) ≤ room → length xs < room
+room-insert xs s i room g le = omega (arith, le, ap length (sym (held-insert xs s i g)), longer xs i)
+  where
+    longer : (ys : List SortedSlot) (k : ℕ) → length ys < length (held (insert ys k s))
+    longer [] zero = omega arith
+    longer [] (suc k) = omega arith
+    longer (y ∷ ys) zero = omega (arith, same ys)
+      where
+        same : (zs : List SortedSlot) → length zs ≤ length (held zs)
+        same [] = omega arith
+        same (z ∷ zs) = omega (arith, same zs)
+    longer (y ∷ ys) (suc k) = omega (arith, longer ys k)
+
+pub count-held : (xs : List SortedSlot) (t : ℕ) → count_by (λ (s : SortedSlot). ltb t s.until) xs ≡ count_by (λ (e : Entry). ltb t e.until) (held xs)
+count-held [] t = refl
+count-held (x ∷ xs) t = sum_by-cons (λ (s : SortedSlot). cond (ltb t s.until) 1 0) x xs ∙ ap (λ n. cond (ltb t x.until) 1 0 + n) (count-held xs t) ∙ sym (sum_by-cons (λ (e : Entry). cond (ltb t e.until) 1 0) (slot_entry x) (held xs))
+
+-- the live slots stand in the order of the stations
+AllAbove-ordered : (n t : ℕ) (xs : List SortedSlot) → IsBelowAll n (held xs) → AllAbove n (map slot_known (filter (λ (s : SortedSlot). ltb t s.until) xs))
+AllAbove-ordered n t [] h = tt
+AllAbove-ordered n t (x ∷ xs) h = elim (ltb t x.until) as (λ b. AllAbove n (map slot_known (cond b (x ∷ filter (λ (s : SortedSlot). ltb t s.until) xs) (filter (λ (s : SortedSlot). ltb t s.until) xs)))) [
+  | true ↦ (h.0, AllAbove-ordered n t xs h.1)
+  | false ↦ AllAbove-ordered n t xs h.1
+]
+
+place-first : (k : Known) (xs : List Known) → AllAbove (addr k) xs → place k xs ≡ k ∷ xs
+place-first k [] h = refl
+place-first k (x ∷ xs) h = cond-true (ltb (addr k) (addr x)) (k ∷ x ∷ xs) (x ∷ place k xs) (lt-ltb _ _ h.0)
+
+ordered-held : (t : ℕ) (xs : List SortedSlot) → IsRising (held xs) → ordered t (held xs) ≡ map slot_known (filter (λ (s : SortedSlot). ltb t s.until) xs)
+ordered-held t [] h = refl
+ordered-held t (x ∷ xs) h = by (ltb t x.until) (ordered-held t xs h.1)
+  where
+    by : (b : Bool) → ordered t (held xs) ≡ map slot_known (filter (λ (s : SortedSlot). ltb t s.until) xs)
+        → cond b (place (slot_known x) (ordered t (held xs))) (ordered t (held xs)) ≡ map slot_known (cond b (x ∷ filter (λ (s : SortedSlot). ltb t s.until) xs) (filter (λ (s : SortedSlot). ltb t s.until) xs))
+    by true e = ap (place (slot_known x)) e ∙ place-first (slot_known x) _ (AllAbove-ordered (key x) t xs h.0)
+    by false e = e
+
+find-live : (p : Known → Bool) (t : ℕ) (xs : List SortedSlot) → option_map slot_known (find (λ (s : SortedSlot). ltb t s.until && p (slot_known s)) xs) ≡ find p (map slot_known (filter (λ (s : SortedSlot). ltb t s.until) xs))
+find-live p t [] = refl
+find-live p t (x ∷ xs) = by (ltb t x.until) (p (slot_known x)) refl (find-live p t xs)
+  where
+    by : (a b : Bool) → p (slot_known x) ≡ b → option_map slot_known (find (λ (s : SortedSlot). ltb t s.until && p (slot_known s)) xs) ≡ find p (map slot_known (filter (λ (s : SortedSlot). ltb t s.until) xs))
+        → option_map slot_known (cond (a && b) (Some x) (find (λ (s : SortedSlot). ltb t s.until && p (slot_known s)) xs)) ≡ find p (map slot_known (cond a (x ∷ filter (λ (s : SortedSlot). ltb t s.until) xs) (filter (λ (s : SortedSlot). ltb t s.until) xs)))
+    by true true e rest = sym (cond-true (p (slot_known x)) (Some (slot_known x)) _ e)
+    by true false e rest = rest ∙ sym (cond-false (p (slot_known x)) (Some (slot_known x)) _ e)
+    by false b e rest = rest
+
+-- the first slot that is live and passes is the first station that passes
+pub find-stations_at : (remember : ℕ) (p : Known → Bool) (xs : List SortedSlot) (history : List Reception) (t : ℕ) → t ≤ 2 ^ 62 → IsRising (held xs) → Represents remember (held xs) history t
+    → option_map slot_known (find (λ (s : SortedSlot). ltb t s.until && p (slot_known s)) xs) ≡ find p (stations_at remember t history)
+find-stations_at remember p xs history t small rising rep = find-live p t xs ∙ ap (find p) (sym (ordered-held t xs rising) ∙ ordered-stations_at remember (held xs) history t small (apart-rising (held xs) rising) rep)
+
+pub find_passes : {X : Type 0} (p : X → Bool) (xs : List X) (x : X) → Some x ≡ find p xs → p x ≡ true
+find_passes p [] x e = absurd (true≢false (ap is_some e))
+find_passes p (y ∷ ys) x e = by (p y) refl e (find_passes p ys x)
+  where
+    by : (b : Bool) → p y ≡ b → Some x ≡ cond b (Some y) (find p ys) → (Some x ≡ find p ys → p x ≡ true) → p x ≡ true
+    by true q e rest = ap p (ap (λ o. unwrap_or o x) e) ∙ q
+    by false q e rest = rest e
+
+-- ---- the neighbours above an address begin where the slots above it do
+above_more : (after : Option ℕ) (m n : ℕ) → m < n → is_above after m ≡ true → is_above after n ≡ true
+above_more None m n lt h = refl
+above_more (Some low) m n lt h = (let l : low < m = ltb-true low m h in lt-ltb low n (omega arith))
+
+pub start-none : (xs : List SortedSlot) → IsStartAbove xs None 0
+start-none [] = tt
+start-none (x ∷ xs) = refl
+
+next_start : (a : ℕ) (xs : List SortedSlot) → IsBelowAll a (held xs) → IsStartAbove xs (Some a) 0
+next_start a [] h = tt
+next_start a (x ∷ xs) h = lt-ltb a (key x) h.0
+
+pub start-found : (xs : List SortedSlot) (a i : ℕ) → IsRising (held xs) → IsFoundAt xs a i → IsStartAbove xs (Some a) (suc i)
+start-found [] a i h f = absurd f
+start-found (x ∷ xs) a zero h f = (le-ltb a (key x) (let e : key x ≡ a = f in omega (arith, e)), next_start a xs (subst (λ n. IsBelowAll n (held xs)) f h.0))
+start-found (x ∷ xs) a (suc i) h f = (le-ltb a (key x) (let lt : key x < a = found_above (key x) xs a i h.0 f in omega arith), start-found xs a i h.1 f)
+
+pub start-gap : (xs : List SortedSlot) (a i : ℕ) → IsGapFor xs a i → IsStartAbove xs (Some a) i
+start-gap [] a zero g = tt
+start-gap [] a (suc i) g = absurd g
+start-gap (x ∷ xs) a zero g = lt-ltb a (key x) g
+start-gap (x ∷ xs) a (suc i) g = (le-ltb a (key x) (let lt : key x < a = g.0 in omega arith), start-gap xs a i g.1)
+
+AllAreAbove : Option ℕ → List SortedSlot → Type 0
+AllAreAbove after [] = Unit {0}
+AllAreAbove after (x ∷ xs) = (is_above after (key x) ≡ true) × AllAreAbove after xs
+
+all_above : (after : Option ℕ) (n : ℕ) (xs : List SortedSlot) → is_above after n ≡ true → IsBelowAll n (held xs) → AllAreAbove after xs
+unfolding AllAreAbove
+all_above after n [] h below = tt
+all_above after n (x ∷ xs) h below = (above_more after n (key x) below.0 h, all_above after n xs h below.1)
+
+same_above : (now : ℕ) (after : Option ℕ) (xs : List SortedSlot) → AllAreAbove after xs
+    → find (λ (s : SortedSlot). ltb now s.until && s.neighbour) xs ≡ find (λ (s : SortedSlot). ltb now s.until && is_next_neighbour after (slot_known s)) xs
+unfolding AllAreAbove
+same_above now after [] h = refl
+same_above now after (x ∷ xs) h = one (ltb now x.until) x.neighbour (is_above after (key x)) h.0 (same_above now after xs h.1)
+  where
+    one : (a b c : Bool) → c ≡ true → find (λ (s : SortedSlot). ltb now s.until && s.neighbour) xs ≡ find (λ (s : SortedSlot). ltb now s.until && is_next_neighbour after (slot_known s)) xs
+        → cond (a && b) (Some x) (find (λ (s : SortedSlot). ltb now s.until && s.neighbour) xs) ≡ cond (a && (b && c)) (Some x) (find (λ (s : SortedSlot). ltb now s.until && is_next_neighbour after (slot_known s)) xs)
+    one true true true e rest = refl
+    one true true false e rest = absurd (true≢false (sym e))
+    one true false c e rest = rest
+    one false b c e rest = rest
+
+pub find-start : (now : ℕ) (after : Option ℕ) (xs : List SortedSlot) (i : ℕ) → IsRising (held xs) → IsStartAbove xs after i
+    → find (λ (s : SortedSlot). ltb now s.until && s.neighbour) (drop i xs) ≡ find (λ (s : SortedSlot). ltb now s.until && is_next_neighbour after (slot_known s)) xs
+unfolding AllAreAbove
+find-start now after [] zero h g = refl
+find-start now after [] (suc i) h g = absurd g
+find-start now after (x ∷ xs) zero h g = same_above now after (x ∷ xs) (g, all_above after (key x) xs g h.0)
+find-start now after (x ∷ xs) (suc i) h g = find-start now after xs i h.1 g.1 ∙ sym (one (ltb now x.until) x.neighbour (is_above after (key x)) g.0)
+  where
+    one : (a b c : Bool) → c ≡ false → cond (a && (b && c)) (Some x) (find (λ (s : SortedSlot). ltb now s.until && is_next_neighbour after (slot_known s)) xs)
+        ≡ find (λ (s : SortedSlot). ltb now s.until && is_next_neighbour after (slot_known s)) xs
+    one true true true e = absurd (true≢false e)
+    one true true false e = refl
+    one true false c e = refl
+    one false b c e = refl
+
+-- ---- room for a packet's source: it is live, or there is a place for another
+pub room-some : (o : Option Known) (n capacity : ℕ) → true ≡ (is_some o || ltb n capacity) → (is_some o ≡ true) ⊎ ((o ≡ None) × (n < capacity))
+room-some None n capacity e = inr (refl, ltb-true n capacity (sym e))
+room-some (Some k) n capacity e = inl refl
+
+pub room-none : (o : Option Known) (n capacity : ℕ) → false ≡ (is_some o || ltb n capacity) → (o ≡ None) × (capacity ≤ n)
+room-none None n capacity e = (refl, ltb-false n capacity (sym e))
+room-none (Some k) n capacity e = absurd (true≢false (sym e))

@@ -1,0 +1,6 @@
+pub mod Content
+pub mod Heard
+pub mod Ordered
+pub mod Wanted
+pub mod Sorted
+pub mod Eager

@@ -1,0 +1,86 @@
+//! Searches in slots that stand in ascending order of their addresses.
+ghost use Rattle.std.specs.Prelude.{◌≡◌, ◌<◌, ◌≤◌, ◌&&◌, nat_lt, find, length, count_by, IsTrue, IfOk, IfErr, IfSome};
+ghost use Rattle.std.specs.Option.{option_map, option_copied};
+ghost use Rattle.its_model.specs.Stations.{is_next_neighbour, has_mid};
+ghost use Rattle.its_loctable.specs.Content.{entry_at};
+ghost use Rattle.its_loctable.specs.Sorted.{held, slot_known, IsFoundAt, IsGapFor, IsStartAbove};
+ghost use Rattle.its_loctable.specs.Eager.{is_rising};
+
+use crate::sorted_slot::SortedSlot;
+use its_gnvalue::{GnAddress, Mac};
+
+/// Where the slot of an address is, or else where it would go.
+pub fn search(slots: &[SortedSlot], address: GnAddress) -> Result<usize, usize>
+    requires { IsTrue (is_rising (held slots.now)) }
+    ensures found { IfOk result (λ i. IsFoundAt slots.now address i × (i < length slots.now)) }
+    ensures absent { IfErr result (λ i. IsGapFor slots.now address i × (i ≤ length slots.now)) }
+{
+    slots.binary_search_by_key(&address, |slot| slot.address())
+}
+
+/// The slot of a live source.
+pub fn live_slot(slots: &[SortedSlot], now: u64, address: GnAddress) -> Option<&SortedSlot>
+    requires { IsTrue (is_rising (held slots.now)) }
+    ensures known { option_map (λ slot. slot_known slot.now) result ≡ entry_at (held slots.now) address now }
+    ensures address { IfSome result (λ slot. slot.now.vector.address ≡ address) }
+{
+    match search(slots, address) {
+        Ok(i) => {
+            let slot = &slots[i];
+            if now < slot.until { Some(slot) } else { None }
+        }
+        Err(_) => None,
+    }
+}
+
+/// How many slots are live.
+pub fn live_count(slots: &[SortedSlot], now: u64) -> usize
+    ensures { result ≡ count_by (λ s. nat_lt now s.until) slots.now }
+{
+    slots.iter().filter(|slot| now < slot.until).count()
+}
+
+/// Where the slots above an address begin.
+fn start_above(slots: &[SortedSlot], after: Option<GnAddress>) -> usize
+    requires { IsTrue (is_rising (held slots.now)) }
+    ensures start { IsStartAbove slots.now after result }
+    ensures within { result ≤ length slots.now }
+{
+    match after {
+        None => 0,
+        Some(address) => match search(slots, address) {
+            Ok(i) => i + 1,
+            Err(i) => i,
+        },
+    }
+}
+
+/// The first live neighbour.
+fn first_neighbour(slots: &[SortedSlot], now: u64) -> Option<&SortedSlot>
+    ensures { option_copied result ≡ find (λ s. nat_lt now s.until && s.neighbour) slots.now }
+{
+    slots.iter().find(|slot| now < slot.until && slot.neighbour)
+}
+
+/// The live neighbour of least address above one.
+pub fn neighbour_above(
+    slots: &[SortedSlot],
+    now: u64,
+    after: Option<GnAddress>,
+) -> Option<&SortedSlot>
+    requires { IsTrue (is_rising (held slots.now)) }
+    ensures { option_copied result
+        ≡ find (λ s. nat_lt now s.until && is_next_neighbour after (slot_known s)) slots.now }
+{
+    let start = start_above(slots, after);
+    first_neighbour(&slots[start..], now)
+}
+
+/// The live source of least address that has a MID.
+pub fn live_with_mid(slots: &[SortedSlot], now: u64, mid: Mac) -> Option<&SortedSlot>
+    ensures { option_copied result ≡ find (λ s. nat_lt now s.until && has_mid mid (slot_known s)) slots.now }
+{
+    slots
+        .iter()
+        .find(|slot| now < slot.until && slot.address().mid() == mid)
+}
