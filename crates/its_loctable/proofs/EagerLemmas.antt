@@ -1,5 +1,5 @@
 -- A store that keeps its entries in ascending order of their addresses, and sweeps the dead ones at each accept.
-use Rattle.std.proofs.Common.{◌≡◌, ℕ, suc, ◌+◌, ◌≤◌, ◌<◌, Bool, true, false, cond, ◌||◌, ◌≢◌, List, [], ◌∷◌, Option, Some, None, refl, sym, ap, ◌∙◌, eqb, ltb, length, arith, true≢false, inl, inr, ◌⊎◌, ⊎_elim, count_by, is_some}
+use Rattle.std.proofs.Common.{◌≡◌, ℕ, ◌+◌, ◌≤◌, ◌<◌, Bool, true, false, cond, ◌≢◌, List, [], ◌∷◌, Option, Some, None, refl, sym, ap, ◌∙◌, eqb, ltb, length, arith, inl, inr, ◌⊎◌, ⊎_elim, count_by}
 use Rattle.std.specs.List.{list_any, list_all}
 use Rattle.std.proofs.lemmas.Bool.{cases_order, cases_eq, eqb-true, eqb-false, eq-eqb, ne_eqb, ltb-true, ltb-false, le-ltb, cond-true, cond-false, or_from, and_parts, and_from, lt-ltb}
 use Rattle.std.proofs.lemmas.List.Sums.{sum_by-cons}
@@ -76,7 +76,7 @@ IsBelowAll-weaker : (m n : ℕ) (es : List Entry) → m ≤ n → IsBelowAll n e
 IsBelowAll-weaker m n [] le h = tt
 IsBelowAll-weaker m n (e ∷ es) le h = let lt : n < e.address = h.0 in (omega arith, IsBelowAll-weaker m n es le h.1)
 
-IsBelowAll-swept : (n now : ℕ) (es : List Entry) → IsBelowAll n es → IsBelowAll n (swept now es)
+pub IsBelowAll-swept : (n now : ℕ) (es : List Entry) → IsBelowAll n es → IsBelowAll n (swept now es)
 IsBelowAll-swept n now [] h = tt
 IsBelowAll-swept n now (e ∷ es) h = elim (ltb now e.until) as (λ b. IsBelowAll n (cond b (e ∷ swept now es) (swept now es))) [ true ↦ (h.0, IsBelowAll-swept n now es h.1) | false ↦ IsBelowAll-swept n now es h.1 ]
 
@@ -121,13 +121,6 @@ length-swept now (e ∷ es) = by (ltb now e.until) (length-swept now es) ∙ sym
     by true rest = omega (arith, rest)
     by false rest = omega (arith, rest)
 
-pub length-upsert-le : (es : List Entry) (e : Entry) → length (upsert es e) ≤ suc (length es)
-length-upsert-le [] e = omega arith
-length-upsert-le (x ∷ xs) e = elim (ltb e.address x.address) as (λ b. length (cond b (e ∷ x ∷ xs) (cond (eqb e.address x.address) (e ∷ xs) (x ∷ upsert xs e))) ≤ suc (suc (length xs))) [
-  | true ↦ omega arith
-  | false ↦ elim (eqb e.address x.address) as (λ b. length (cond b (e ∷ xs) (x ∷ upsert xs e)) ≤ suc (suc (length xs))) [ true ↦ omega arith | false ↦ let le = length-upsert-le xs e in omega (arith, le) ]
-]
-
 below_all-true : (n : ℕ) (es : List Entry) → list_all (λ (d : Entry). ltb n d.address) es ≡ true → IsBelowAll n es
 below_all-true n [] h = tt
 below_all-true n (e ∷ es) h = let p = and_parts (ltb n e.address) (list_all (λ (d : Entry). ltb n d.address) es) h in (ltb-true _ _ p.0, below_all-true n es p.1)
@@ -144,43 +137,33 @@ pub true-rising : (es : List Entry) → IsRising es → is_rising es ≡ true
 true-rising [] h = refl
 true-rising (e ∷ es) h = and_from (list_all (λ (d : Entry). ltb e.address d.address) es) (is_rising es) (true-below_all e.address es h.0) (true-rising es h.1)
 
--- an entry that is there is replaced
-pub length-upsert-present : (es : List Entry) (e : Entry) → IsRising es → list_any (λ (d : Entry). eqb e.address d.address) es ≡ true → length (upsert es e) ≡ length es
-length-upsert-present [] e h there = absurd (true≢false (sym there))
-length-upsert-present (x ∷ xs) e h there = by (ltb e.address x.address) (eqb e.address x.address) refl refl there (length-upsert-present xs e h.1)
+-- ---- an entry that is live may go to its place before or after the sweep
+pub upsert-first : (es : List Entry) (e : Entry) → IsBelowAll e.address es → upsert es e ≡ e ∷ es
+upsert-first [] e h = refl
+upsert-first (x ∷ xs) e h = cond-true (ltb e.address x.address) _ _ (lt-ltb _ _ h.0)
+
+pub swept-upsert : (now : ℕ) (es : List Entry) (e : Entry) → now < e.until → IsRising es → swept now (upsert es e) ≡ upsert (swept now es) e
+swept-upsert now [] e live h = cond-true (ltb now e.until) _ _ (lt-ltb _ _ live)
+swept-upsert now (x ∷ xs) e live h = by (ltb e.address x.address) (eqb e.address x.address) (ltb now x.until) refl refl refl (swept-upsert now xs e live h.1)
   where
-    by : (a b : Bool) → ltb e.address x.address ≡ a → eqb e.address x.address ≡ b → (b || list_any (λ (d : Entry). eqb e.address d.address) xs) ≡ true
-        → (list_any (λ (d : Entry). eqb e.address d.address) xs ≡ true → length (upsert xs e) ≡ length xs)
-        → length (cond a (e ∷ x ∷ xs) (cond b (e ∷ xs) (x ∷ upsert xs e))) ≡ suc (length xs)
-    by true true p r q rest = let lt : e.address < x.address = ltb-true _ _ p in let same : e.address ≡ x.address = eqb-true _ _ r in absurd (omega arith)
-    by true false p r q rest = let lt : e.address < x.address = ltb-true _ _ p in absurd (true≢false (sym q ∙ none_below e.address xs (IsBelowAll-weaker e.address x.address xs (omega arith) h.0)))
-    by false true p r q rest = refl
-    by false false p r q rest = ap suc (rest q)
+    stays : (l : List Entry) → cond (ltb now e.until) (e ∷ l) l ≡ e ∷ l
+    stays l = cond-true (ltb now e.until) _ _ (lt-ltb _ _ live)
 
-present_from_entry : (es : List Entry) (a t : ℕ) → is_some (entry_at es a t) ≡ true → list_any (λ (d : Entry). eqb a d.address) es ≡ true
-present_from_entry es a t there = by (list_any (λ (d : Entry). eqb a d.address) es) refl
-  where
-    by : (b : Bool) → list_any (λ (d : Entry). eqb a d.address) es ≡ b → b ≡ true
-    by true e = refl
-    by false e = absurd (true≢false (sym there ∙ ap is_some (entry_at-absent es a t e)))
+    by : (a b d : Bool) → ltb e.address x.address ≡ a → eqb e.address x.address ≡ b → ltb now x.until ≡ d → swept now (upsert xs e) ≡ upsert (swept now xs) e
+        → swept now (cond a (e ∷ x ∷ xs) (cond b (e ∷ xs) (x ∷ upsert xs e))) ≡ upsert (cond d (x ∷ swept now xs) (swept now xs)) e
+    by true b d p q r rest =
+        let lt : e.address < x.address = ltb-true _ _ p in
+        stays (cond (ltb now x.until) (x ∷ swept now xs) (swept now xs))
+        ∙ sym (upsert-first (swept now (x ∷ xs)) e (IsBelowAll-swept e.address now (x ∷ xs) (lt, IsBelowAll-weaker e.address x.address xs (omega arith) h.0)))
+        ∙ ap (λ f. upsert (cond f (x ∷ swept now xs) (swept now xs)) e) r
+    by false true true p q r rest = stays (swept now xs) ∙ sym (cond-false (ltb e.address x.address) _ _ p ∙ cond-true (eqb e.address x.address) _ _ q)
+    by false true false p q r rest =
+        let same : e.address ≡ x.address = eqb-true _ _ q in
+        stays (swept now xs) ∙ sym (upsert-first (swept now xs) e (IsBelowAll-swept e.address now xs (IsBelowAll-weaker e.address x.address xs (omega arith) h.0)))
+    by false false true p q r rest =
+        cond-true (ltb now x.until) _ _ r ∙ ap (λ l. x ∷ l) rest ∙ sym (cond-false (ltb e.address x.address) _ _ p ∙ cond-false (eqb e.address x.address) _ _ q)
+    by false false false p q r rest = cond-false (ltb now x.until) _ _ r ∙ rest
 
-length-swept-le : (now : ℕ) (es : List Entry) → length (swept now es) ≤ length es
-length-swept-le now [] = omega arith
-length-swept-le now (e ∷ es) = elim (ltb now e.until) as (λ b. length (cond b (e ∷ swept now es) (swept now es)) ≤ suc (length es)) [
-  | true ↦ let le = length-swept-le now es in omega (arith, le)
-  | false ↦ let le = length-swept-le now es in omega (arith, le)
-]
-
--- a live source keeps its place, and another one has room below the capacity
-pub room_for : (es : List Entry) (e : Entry) (now capacity : ℕ) → IsRising es → length es ≤ capacity
-    → (is_some (entry_at es e.address now) ≡ true) ⊎ ((entry_at es e.address now ≡ None) × (count_by (λ (d : Entry). ltb now d.until) es < capacity)) → length (upsert (swept now es) e) ≤ capacity
-room_for es e now capacity rising le (inl live) =
-    let there = present_from_entry (swept now es) e.address now (ap is_some (entry_at-swept es now now e.address (omega arith) (apart-rising es rising)) ∙ live) in
-    let same : length (upsert (swept now es) e) ≡ length (swept now es) = length-upsert-present (swept now es) e (IsRising-swept now es rising) there in
-    let fewer = length-swept-le now es in
-    omega (arith, same, fewer)
-room_for es e now capacity rising le (inr room) =
-    let more = length-upsert-le (swept now es) e in
-    let count = length-swept now es in
-    let lt : count_by (λ (d : Entry). ltb now d.until) es < capacity = room.1 in
-    omega (arith, more, count)
+-- ---- the order is kept by an accept
+pub rising-accept : (now : ℕ) (es new : List Entry) (e : Entry) → is_rising es ≡ true → new ≡ upsert (swept now es) e → is_rising new ≡ true
+rising-accept now es new e rising is = ap is_rising is ∙ true-rising (upsert (swept now es) e) (IsRising-upsert (swept now es) e (IsRising-swept now es (rising-true es rising)))

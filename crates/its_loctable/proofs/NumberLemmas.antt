@@ -1,5 +1,5 @@
 -- Lists of recent numbers, with the newest last and with the newest first.
-use Rattle.std.proofs.Common.{◌≡◌, ℕ, zero, suc, ◌-◌, ◌≤◌, List, [], ◌∷◌, ◌++◌, length, take, drop, min, set, reverse, Some, None, refl, sym, ap, ◌∙◌, inl, inr, arith}
+use Rattle.std.proofs.Common.{◌≡◌, ℕ, zero, suc, ◌-◌, ◌≤◌, List, [], ◌∷◌, ◌++◌, length, take, drop, min, set, reverse, Some, refl, sym, ap, ◌∙◌, inl, inr, arith}
 use Rattle.std.proofs.lemmas.List.{reverse-append, length-reverse, length-drop, take-append-drop, take_all, take-take, take_at}
 use Rattle.std.proofs.lemmas.List.Sorted.{list_any-IsPermutation, IsPermutation-reverse}
 use Rattle.its_duplicates.specs.Numbers.{keep_last}
@@ -23,14 +23,8 @@ reverse-keep_last k xs =
 noted_one : (k n : ℕ) (xs : List ℕ) → reverse (keep_last k (xs ++ n ∷ [])) ≡ take k (n ∷ reverse xs)
 noted_one k n xs = reverse-keep_last k (xs ++ n ∷ []) ∙ ap (take k) (reverse-append xs (n ∷ []))
 
-pub length-keep_last : (k : ℕ) (xs : List ℕ) → length (keep_last k xs) ≤ k
-length-keep_last k xs = omega (arith, length-drop (length xs - k) xs)
-
 pub noted-some : (k n : ℕ) (old new : List ℕ) → new ≡ keep_last k (old ++ n ∷ []) → reverse new ≡ take k (with_number (Some n) (reverse old))
 noted-some k n old new is = ap reverse is ∙ noted_one k n old
-
-pub noted-none : (k : ℕ) (xs : List ℕ) → length xs ≤ k → reverse xs ≡ take k (with_number None (reverse xs))
-noted-none k xs few = sym (take_all k (reverse xs) (omega (arith, length-reverse xs)))
 
 -- eight places turned by one, with a number in the first
 turned : (xs ys : List ℕ) (n : ℕ) → length xs ≡ 1 → set (xs ++ ys) 0 n ≡ n ∷ ys

@@ -1,5 +1,5 @@
 -- Slots in ascending order: where a search ends, what an edit there does, and what is found among them.
-use Rattle.std.proofs.Common.{◌≡◌, ◌⊎◌, ℕ, suc, zero, ◌+◌, ◌<◌, ◌≤◌, Bool, true, false, cond, List, [], ◌∷◌, Option, Some, None, Result, Ok, Err, IfOk, IfErr, refl, sym, ap, subst, ◌∙◌, eqb, ltb, filter, set, drop, length, get_or, find, map, count_by, ◌&&◌, ◌||◌, ◌^◌, arith, is_some, true≢false, unwrap_or, inl, inr}
+use Rattle.std.proofs.Common.{◌≡◌, ℕ, suc, zero, ◌+◌, ◌<◌, ◌≤◌, Bool, true, false, cond, List, [], ◌∷◌, Option, Some, None, Result, Ok, Err, IfOk, IfErr, refl, sym, ap, subst, ◌∙◌, eqb, ltb, filter, set, take, drop, ◌++◌, length, All, get_or, find, map, count_by, ◌&&◌, ◌||◌, ◌^◌, arith, is_some, true≢false, unwrap_or}
 use Rattle.std.specs.Prelude.{insert}
 use Rattle.std.specs.Option.{option_map}
 use Rattle.std.specs.List.Sorted.{IsSearchInRange, IsBinarySearchResult, IsNonDecreasingBy}
@@ -7,16 +7,19 @@ use Rattle.std.specs.Ordering.{nat_cmp, ordering_index}
 use Rattle.std.proofs.lemmas.Cmp.{ranked}
 use Rattle.std.proofs.lemmas.Bool.{cond-true, cond-false, lt-ltb, le-ltb, eq-eqb, ne_eqb, ltb-true, ltb-false}
 use Rattle.std.proofs.lemmas.Bool.Decides.{nat_tests}
-use Rattle.std.proofs.lemmas.List.Sums.{sum_by-cons}
+use Rattle.std.proofs.lemmas.List.Elements.{All-append, All-take, All-drop, All-cons}
+use Rattle.std.proofs.lemmas.List.Sums.{sum_by-cons, count_by-le-length}
 use Rattle.its_loctable.specs.declared.sorted_slot.SortedSlot.{SortedSlot}
-use Rattle.its_model.specs.History.{Reception, Known}
+use Rattle.its_model.specs.History.{Reception, Known, entry_life, remembered_count, renewed}
 use Rattle.its_model.specs.Stations.{stations_at, is_above, is_next_neighbour, AllAbove}
 use Rattle.its_loctable.specs.Content.{Entry, live_part, entry_at, Represents}
 use Rattle.its_loctable.specs.Sorted.{slot_known, slot_entry, held, IsFoundAt, IsGapFor, IsStartAbove}
-use Rattle.its_loctable.specs.Eager.{swept, upsert}
+use Rattle.its_loctable.specs.Eager.{swept, upsert, is_rising, entry_after}
+use Rattle.its_loctable.specs.Heard.{reception}
+use Rattle.its_loctable.specs.declared.store.Heard.{Heard}
 use Rattle.its_model.proofs.StationLemmas.{addr}
 use Rattle.its_loctable.proofs.ContentLemmas.{place, ordered, ordered-stations_at}
-use Rattle.its_loctable.proofs.EagerLemmas.{IsBelowAll, IsRising, apart-rising}
+use Rattle.its_loctable.proofs.EagerLemmas.{IsBelowAll, IsBelowAll-swept, IsRising, apart-rising, rising-true, upsert-first, swept-upsert}
 
 abbrev pub key : SortedSlot → ℕ
 key s = s.vector.address
@@ -48,7 +51,7 @@ comparisons_rise xs a h i j d le lt = let up = rises xs i j d h le lt in higher 
     higher : (m n : ℕ) → m ≤ n → ordering_index (nat_cmp m a) ≤ ordering_index (nat_cmp n a)
     higher m n le = grind (arith, nat_tests)
 
-found_at : (xs : List SortedSlot) (a i : ℕ) → i < length xs → ((d : SortedSlot) → key (get_or xs i d) ≡ a) → IsFoundAt xs a i
+pub found_at : (xs : List SortedSlot) (a i : ℕ) → i < length xs → ((d : SortedSlot) → key (get_or xs i d) ≡ a) → IsFoundAt xs a i
 found_at [] a i lt h = absurd (omega arith)
 found_at (x ∷ xs) a zero lt h = h x
 found_at (x ∷ xs) a (suc i) lt h = found_at xs a i (omega arith) h
@@ -81,6 +84,9 @@ found-entry_at (x ∷ xs) a zero t d h f = cond-true (eqb a (key x)) _ _ (eq-eqb
 found-entry_at (x ∷ xs) a (suc i) t d h f =
     let lt : key x < a = found_above (key x) xs a i h.0 f in
     cond-false (eqb a (key x)) _ _ (ne_eqb a (key x) (λ e. let e' : a ≡ key x = e in absurd (omega arith))) ∙ found-entry_at xs a i t d h.1 f
+
+pub found-part : (xs : List SortedSlot) (a i t : ℕ) (s : SortedSlot) → s ≡ get_or xs i s → IsRising (held xs) → IsFoundAt xs a i → entry_at (held xs) a t ≡ live_part t (slot_entry s)
+found-part xs a i t s is h f = found-entry_at xs a i t s h f ∙ ap (λ (x : SortedSlot). live_part t (slot_entry x)) (sym is)
 
 pub found_key : (xs : List SortedSlot) (a i : ℕ) (d : SortedSlot) → IsFoundAt xs a i → key (get_or xs i d) ≡ a
 found_key [] a i d f = absurd f
@@ -122,20 +128,6 @@ held-insert [] s zero g = refl
 held-insert [] s (suc i) g = absurd g
 held-insert (x ∷ xs) s zero g = sym (cond-true (ltb (key s) (key x)) _ _ (lt-ltb _ _ g))
 held-insert (x ∷ xs) s (suc i) g = past x s xs _ g.0 (held-insert xs s i g.1)
-
--- a slot that is new makes the list longer, so that there is room for it
-pub room-insert : (xs : List SortedSlot) (s : SortedSlot) (i room : ℕ) → IsGapFor xs (key s) i → length (upsert (held xs) (slot_entry s)) ≤ room → length xs < room
-room-insert xs s i room g le = omega (arith, le, ap length (sym (held-insert xs s i g)), longer xs i)
-  where
-    longer : (ys : List SortedSlot) (k : ℕ) → length ys < length (held (insert ys k s))
-    longer [] zero = omega arith
-    longer [] (suc k) = omega arith
-    longer (y ∷ ys) zero = omega (arith, same ys)
-      where
-        same : (zs : List SortedSlot) → length zs ≤ length (held zs)
-        same [] = omega arith
-        same (z ∷ zs) = omega (arith, same zs)
-    longer (y ∷ ys) (suc k) = omega (arith, longer ys k)
 
 pub count-held : (xs : List SortedSlot) (t : ℕ) → count_by (λ (s : SortedSlot). ltb t s.until) xs ≡ count_by (λ (e : Entry). ltb t e.until) (held xs)
 count-held [] t = refl
@@ -246,11 +238,89 @@ find-start now after (x ∷ xs) (suc i) h g = find-start now after xs i h.1 g.1 
     one true false c e = refl
     one false b c e = refl
 
--- ---- room for a packet's source: it is live, or there is a place for another
-pub room-some : (o : Option Known) (n capacity : ℕ) → true ≡ (is_some o || ltb n capacity) → (is_some o ≡ true) ⊎ ((o ≡ None) × (n < capacity))
-room-some None n capacity e = inr (refl, ltb-true n capacity (sym e))
-room-some (Some k) n capacity e = inl refl
+-- ---- where nothing has ended
+pub filter-lasting : (now end : ℕ) (xs : List SortedSlot) → now < end → All (λ (s : SortedSlot). end ≤ s.until) xs → filter (λ (s : SortedSlot). ltb now s.until) xs ≡ xs
+filter-lasting now end [] lt h = refl
+filter-lasting now end (x ∷ xs) lt h =
+    let le : end ≤ x.until = h 0 x (omega arith) in
+    cond-true (ltb now x.until) _ _ (lt-ltb _ _ (omega arith)) ∙ ap (λ l. x ∷ l) (filter-lasting now end xs lt (λ k d within. h (suc k) d (omega arith)))
 
-pub room-none : (o : Option Known) (n capacity : ℕ) → false ≡ (is_some o || ltb n capacity) → (o ≡ None) × (capacity ≤ n)
-room-none None n capacity e = (refl, ltb-false n capacity (sym e))
-room-none (Some k) n capacity e = absurd (true≢false (sym e))
+pub swept-lasting : (now end : ℕ) (xs : List SortedSlot) → now < end → All (λ (s : SortedSlot). end ≤ s.until) xs → swept now (held xs) ≡ held xs
+swept-lasting now end xs lt h = sym (held-filter now xs) ∙ ap held (filter-lasting now end xs lt h)
+
+-- ---- what is put between the swept ones below and above its place is put into its place
+pub held-between : (now : ℕ) (xs : List SortedSlot) (s : SortedSlot) (i : ℕ) → IsRising (held xs) → IsGapFor xs (key s) i
+    → held (filter (λ (x : SortedSlot). ltb now x.until) (take i xs) ++ s ∷ filter (λ (x : SortedSlot). ltb now x.until) (drop i xs)) ≡ upsert (swept now (held xs)) (slot_entry s)
+held-between now [] s zero h g = refl
+held-between now [] s (suc i) h g = absurd g
+held-between now (x ∷ xs) s zero h g =
+    ap (λ l. slot_entry s ∷ l) (held-filter now (x ∷ xs))
+    ∙ sym (upsert-first (swept now (held (x ∷ xs))) (slot_entry s) (IsBelowAll-swept (key s) now (held (x ∷ xs)) (g, IsBelowAll-weaker (key s) (key x) xs (let lt : key s < key x = g in omega arith) h.0)))
+held-between now (x ∷ xs) s (suc i) h g = by (ltb now x.until) (held-between now xs s i h.1 g.1)
+  where
+    by : (b : Bool)
+        → held (filter (λ (y : SortedSlot). ltb now y.until) (take i xs) ++ s ∷ filter (λ (y : SortedSlot). ltb now y.until) (drop i xs)) ≡ upsert (swept now (held xs)) (slot_entry s)
+        → held (cond b (x ∷ filter (λ (y : SortedSlot). ltb now y.until) (take i xs)) (filter (λ (y : SortedSlot). ltb now y.until) (take i xs)) ++ s ∷ filter (λ (y : SortedSlot). ltb now y.until) (drop i xs))
+        ≡ upsert (cond b (slot_entry x ∷ swept now (held xs)) (swept now (held xs))) (slot_entry s)
+    by true rest = ap (λ l. slot_entry x ∷ l) rest
+        ∙ sym (cond-false (ltb (key s) (key x)) _ _ (le-ltb _ _ (let lt : key x < key s = g.0 in omega arith)) ∙ cond-false (eqb (key s) (key x)) _ _ (ne_eqb _ _ (λ e. let lt : key x < key s = g.0 in let e' : key s ≡ key x = e in absurd (omega arith))))
+    by false rest = rest
+
+-- ---- a slot that has ended isn't counted
+pub count-ended : (now : ℕ) (xs : List SortedSlot) (i : ℕ) (d : SortedSlot) → i < length xs → (get_or xs i d).until ≤ now → count_by (λ (s : SortedSlot). ltb now s.until) xs < length xs
+count-ended now [] i d lt ended = absurd (omega arith)
+count-ended now (x ∷ xs) zero d lt ended =
+    let few = count_by-le-length (λ (s : SortedSlot). ltb now s.until) xs in
+    omega (arith, sum_by-cons (λ (s : SortedSlot). cond (ltb now s.until) 1 0) x xs, none (ltb now x.until) (le-ltb _ _ ended), few)
+  where
+    none : (b : Bool) → b ≡ false → 0 + cond b 1 0 ≡ 0
+    none true e = absurd (true≢false e)
+    none false e = refl
+count-ended now (x ∷ xs) (suc i) d lt ended =
+    let less = count-ended now xs i d (omega arith) ended in
+    omega (arith, sum_by-cons (λ (s : SortedSlot). cond (ltb now s.until) 1 0) x xs, at_most (ltb now x.until), less)
+  where
+    at_most : (b : Bool) → 0 + cond b 1 0 ≤ 1
+    at_most true = omega arith
+    at_most false = omega arith
+
+-- ---- a packet makes an entry, and is answered
+pub entry-after : (es : List Entry) (s : SortedSlot) (now : ℕ) (heard : Heard) → key s ≡ heard.vector.address
+    → slot_known s ≡ renewed remembered_count (entry_at es heard.vector.address now) (reception now heard) → s.until ≡ now + entry_life → slot_entry s ≡ entry_after es now heard
+entry-after es s now heard own is until = λ i. record { address = own i; known = is i; until = until i }
+
+-- there is room for a source that has a slot: it is live, or its slot isn't counted
+pub found-room : (xs : List SortedSlot) (a i now capacity : ℕ) (d : SortedSlot) → IsRising (held xs) → IsFoundAt xs a i → i < length xs → length xs ≤ capacity
+    → (is_some (entry_at (held xs) a now) || ltb (count_by (λ (e : Entry). ltb now e.until) (held xs)) capacity) ≡ true
+found-room xs a i now capacity d rising found within few =
+    ap (λ o. is_some o || ltb (count_by (λ (e : Entry). ltb now e.until) (held xs)) capacity) (found-entry_at xs a i now d rising found) ∙ by (ltb now (get_or xs i d).until) refl
+  where
+    by : (b : Bool) → ltb now (get_or xs i d).until ≡ b → (is_some (cond b (Some (slot_known (get_or xs i d))) None) || ltb (count_by (λ (e : Entry). ltb now e.until) (held xs)) capacity) ≡ true
+    by true e = refl
+    by false e = let less = count-ended now xs i d within (ltb-false _ _ e) in lt-ltb _ _ (omega (arith, less, count-held xs now))
+
+pub gap-room : (xs : List SortedSlot) (a i now capacity : ℕ) → IsRising (held xs) → IsGapFor xs a i
+    → (is_some (entry_at (held xs) a now) || ltb (count_by (λ (e : Entry). ltb now e.until) (held xs)) capacity) ≡ ltb (count_by (λ (s : SortedSlot). ltb now s.until) xs) capacity
+gap-room xs a i now capacity rising gap =
+    ap (λ o. is_some o || ltb (count_by (λ (e : Entry). ltb now e.until) (held xs)) capacity) (gap-entry_at xs a i now rising gap) ∙ ap (λ n. ltb n capacity) (sym (count-held xs now))
+
+-- ---- what a table contains after an accept: with a slot in place of another, or put into its gap, and swept or not
+module _ (now : ℕ) (xs new : List SortedSlot) (s : SortedSlot) (i : ℕ) (h : is_rising (held xs) ≡ true) where
+  rising : IsRising (held xs)
+  rising = rising-true (held xs) h
+
+  pub replaced-swept : IsFoundAt xs (key s) i → now < s.until → new ≡ filter (λ (x : SortedSlot). ltb now x.until) (set xs i s) → held new ≡ upsert (swept now (held xs)) (slot_entry s)
+  replaced-swept found live is = ap held is ∙ held-filter now (set xs i s) ∙ ap (swept now) (held-set xs s i rising found) ∙ swept-upsert now (held xs) (slot_entry s) live rising
+
+  pub replaced-lasting : (end : ℕ) → IsFoundAt xs (key s) i → now < end → All (λ (x : SortedSlot). end ≤ x.until) xs → held (set xs i s) ≡ upsert (swept now (held xs)) (slot_entry s)
+  replaced-lasting end found lt lasting = held-set xs s i rising found ∙ ap (λ es. upsert es (slot_entry s)) (sym (swept-lasting now end xs lt lasting))
+
+  pub inserted-swept : IsGapFor xs (key s) i → new ≡ filter (λ (x : SortedSlot). ltb now x.until) (take i xs) ++ s ∷ filter (λ (x : SortedSlot). ltb now x.until) (drop i xs)
+      → held new ≡ upsert (swept now (held xs)) (slot_entry s)
+  inserted-swept gap is = ap held is ∙ held-between now xs s i rising gap
+
+  pub inserted-lasting : (end : ℕ) → IsGapFor xs (key s) i → now < end → All (λ (x : SortedSlot). end ≤ x.until) xs → new ≡ insert xs i s → held new ≡ upsert (swept now (held xs)) (slot_entry s)
+  inserted-lasting end gap lt lasting is = ap held is ∙ held-insert xs s i gap ∙ ap (λ es. upsert es (slot_entry s)) (sym (swept-lasting now end xs lt lasting))
+
+pub All-insert : (P : SortedSlot → Type 0) (xs : List SortedSlot) (i : ℕ) (s : SortedSlot) → P s → All P xs → All P (insert xs i s)
+All-insert P xs i s one all = All-append P (take i xs) (s ∷ drop i xs) (All-take P i xs all) (All-cons P s (drop i xs) one (All-drop P i xs all))

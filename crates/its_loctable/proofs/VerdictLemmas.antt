@@ -1,14 +1,15 @@
 -- The answer that is owed, by what a store finds.
-use Rattle.std.proofs.Common.{◌≡◌, ℕ, ◌^◌, ◌≤◌, zero, suc, Bool, true, false, not, cond, List, [], ◌∷◌, take, Option, Some, None, Ok, Err, refl, sym, ap, ◌∙◌, ltb, arith, is_some, count_by}
+use Rattle.std.proofs.Common.{◌≡◌, ℕ, ◌^◌, ◌≤◌, zero, suc, Bool, true, false, not, ◌||◌, cond, List, [], ◌∷◌, take, Option, Some, None, Ok, Err, refl, sym, ap, ◌∙◌, ltb, arith, is_some, count_by}
 use Rattle.its_loctable.specs.declared.store.Heard.{Heard}
 use Rattle.its_loctable.specs.declared.store.Verdict.TheVariants.{Accepted, Duplicate}
 use Rattle.its_loctable.specs.declared.store.StoreRefused.TheVariants.{Full}
-use Rattle.its_model.specs.History.{Reception, remembered_count, session, is_live, is_remembered, is_among, numbers_of, known_after, known}
+use Rattle.its_model.specs.History.{Reception, remembered_count, session, is_live, is_remembered, is_among, numbers_of, known_after, known, Known}
 use Rattle.its_model.specs.Stations.{stations_at, is_full}
 use Rattle.its_model.specs.Station.{is_repeated}
 use Rattle.its_model.proofs.Renewal.{is_some-known}
 use Rattle.its_loctable.specs.Content.{Entry, entry_at, Represents}
 use Rattle.its_loctable.specs.Heard.{has_number, is_noted, verdict_at}
+use Rattle.its_loctable.specs.Eager.{judged}
 use Rattle.its_loctable.proofs.ContentLemmas.{AreApart, room-is_full, live-is_full}
 
 take_nothing : (k : ℕ) → take {A = ℕ} k [] ≡ []
@@ -62,3 +63,24 @@ module _ (es : List Entry) (history : List Reception) (now capacity : ℕ) (hear
 
     pub verdict-room : ltb (count_by (λ (e : Entry). ltb now e.until) es) capacity ≡ true → verdict_at capacity now heard history ≡ Ok Accepted
     verdict-room q = by_tests false false p (full_is ∙ ap not q)
+
+-- ---- the answer by the entries alone
+pub is_noted-none : (o : Option Known) (number : Option ℕ) → o ≡ None → is_noted o number ≡ false
+is_noted-none o None e = refl
+is_noted-none o (Some n) e = ap (λ k. has_number k n) e
+
+module _ (capacity : ℕ) (es : List Entry) (now : ℕ) (heard : Heard) where
+  pub judged-by : (d f : Bool) → is_noted (entry_at es heard.vector.address now) heard.number ≡ d
+      → (is_some (entry_at es heard.vector.address now) || ltb (count_by (λ (e : Entry). ltb now e.until) es) capacity) ≡ f → judged capacity es now heard ≡ cond d (Ok Duplicate) (cond f (Ok Accepted) (Err Full))
+  judged-by d f p q = λ i. cond (p i) (Ok Duplicate) (cond (q i) (Ok Accepted) (Err Full))
+
+  -- it is the one that is owed
+  pub judged-verdict : (history : List Reception) → now ≤ 2 ^ 62 → Represents remembered_count es history now → AreApart es → judged capacity es now heard ≡ verdict_at capacity now heard history
+  judged-verdict history small rep apart = by (is_noted (entry_at es heard.vector.address now) heard.number) (entry_at es heard.vector.address now) (ltb (count_by (λ (e : Entry). ltb now e.until) es) capacity) refl refl refl
+    where
+      by : (d : Bool) (o : Option Known) (f : Bool) → is_noted (entry_at es heard.vector.address now) heard.number ≡ d → entry_at es heard.vector.address now ≡ o
+          → ltb (count_by (λ (e : Entry). ltb now e.until) es) capacity ≡ f → judged capacity es now heard ≡ verdict_at capacity now heard history
+      by true o f p q r = judged-by true (is_some o || f) p (λ i. is_some (q i) || r i) ∙ sym (verdict-duplicate es history now capacity heard small rep p)
+      by false (Some k) f p q r = judged-by false true p (λ i. is_some (q i) || r i) ∙ sym (verdict-live es history now capacity heard small rep p (ap is_some q))
+      by false None true p q r = judged-by false true p (λ i. is_some (q i) || r i) ∙ sym (verdict-room es history now capacity heard small rep apart p q r)
+      by false None false p q r = judged-by false false p (λ i. is_some (q i) || r i) ∙ sym (verdict-full es history now capacity heard small rep apart p q r)

@@ -1,7 +1,14 @@
--- What a table does at an accept that is swept at each.
-use Rattle.std.specs.Prelude.{ℕ, Bool, true, ◌&&◌, ◌==◌, nat_lt, if◌then◌else◌, List, [], ◌∷◌, filter}
+-- What a table that is swept at each accept answers, and what it contains then.
+use Rattle.std.specs.Prelude.{ℕ, ◌+◌, Bool, true, ◌&&◌, ◌||◌, ◌==◌, nat_lt, if◌then◌else◌, List, [], ◌∷◌, filter, count_by, is_some, Result, Ok, Err}
 use Rattle.std.specs.List.{list_all}
-use Rattle.its_loctable.specs.Content.{Entry}
+use Rattle.its_loctable.specs.declared.store.Heard.{Heard}
+use Rattle.its_loctable.specs.declared.store.Verdict.{Verdict}
+use Rattle.its_loctable.specs.declared.store.Verdict.TheVariants.{Accepted, Duplicate}
+use Rattle.its_loctable.specs.declared.store.StoreRefused.{StoreRefused}
+use Rattle.its_loctable.specs.declared.store.StoreRefused.TheVariants.{Full}
+use Rattle.its_model.specs.History.{entry_life, remembered_count, renewed}
+use Rattle.its_loctable.specs.Content.{Entry, entry_at}
+use Rattle.its_loctable.specs.Heard.{reception, is_noted}
 
 -- without the entries that have ended
 abbrev pub swept : ℕ → List Entry → List Entry
@@ -16,3 +23,22 @@ upsert (x ∷ xs) e = if nat_lt e.address x.address then e ∷ x ∷ xs else if 
 abbrev pub is_rising : List Entry → Bool
 is_rising [] = true
 is_rising (e ∷ es) = list_all (λ d. nat_lt e.address d.address) es && is_rising es
+
+-- the answer to a packet, by the entries alone
+abbrev pub judged : ℕ → List Entry → ℕ → Heard → Result Verdict StoreRefused
+judged capacity es now heard =
+    if is_noted (entry_at es heard.vector.address now) heard.number then Ok Duplicate
+    else if is_some (entry_at es heard.vector.address now) || nat_lt (count_by (λ e. nat_lt now e.until) es) capacity then Ok Accepted
+    else Err Full
+
+-- the entry that a packet makes of its source, from what was found of it
+abbrev pub entry_after : List Entry → ℕ → Heard → Entry
+entry_after es now heard = record {
+  address = heard.vector.address;
+  known = renewed remembered_count (entry_at es heard.vector.address now) (reception now heard);
+  until = now + entry_life;
+}
+
+-- the entries after a packet that is accepted
+abbrev pub after_accept : List Entry → ℕ → Heard → List Entry
+after_accept es now heard = upsert (swept now es) (entry_after es now heard)

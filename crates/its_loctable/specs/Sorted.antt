@@ -1,13 +1,18 @@
 -- The content of a table in ascending order of addresses, and places in it.
-use Rattle.std.specs.Prelude.{◌≡◌, ℕ, zero, suc, ◌<◌, true, false, List, [], ◌∷◌, map, Option}
+use Rattle.std.specs.Prelude.{◌≡◌, ℕ, zero, suc, ◌<◌, true, false, List, [], ◌∷◌, map, take, Option}
+use Rattle.its_loctable.specs.declared.numbers.Numbers.{Numbers}
 use Rattle.its_loctable.specs.declared.sorted_slot.SortedSlot.{SortedSlot}
 use Rattle.its_model.specs.History.{Known}
 use Rattle.its_model.specs.Stations.{is_above}
 use Rattle.its_loctable.specs.Content.{Entry}
 
+-- the numbers that are kept, the newest first
+abbrev pub listed : Numbers → List ℕ
+listed n = take n.count n.values
+
 -- what a slot says of its source
 abbrev pub slot_known : SortedSlot → Known
-slot_known s = record { vector = s.vector; neighbour = s.neighbour; numbers = s.numbers }
+slot_known s = record { vector = s.vector; neighbour = s.neighbour; numbers = listed s.numbers }
 
 abbrev pub slot_entry : SortedSlot → Entry
 slot_entry s = record { address = s.vector.address; known = slot_known s; until = s.until }

@@ -9,6 +9,7 @@ mod search;
 mod sorted;
 mod sorted_slot;
 mod store;
+mod sweep;
 mod wanted;
 
 pub use ordered::OrderedTable;

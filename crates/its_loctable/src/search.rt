@@ -1,5 +1,5 @@
 //! Searches in slots that stand in ascending order of their addresses.
-ghost use Rattle.std.specs.Prelude.{◌≡◌, ◌<◌, ◌≤◌, ◌&&◌, nat_lt, find, length, count_by, IsTrue, IfOk, IfErr, IfSome};
+ghost use Rattle.std.specs.Prelude.{◌≡◌, ◌<◌, ◌≤◌, ◌&&◌, nat_lt, find, drop, length, count_by, IsTrue, IfOk, IfErr, IfSome};
 ghost use Rattle.std.specs.Option.{option_map, option_copied};
 ghost use Rattle.its_model.specs.Stations.{is_next_neighbour, has_mid};
 ghost use Rattle.its_loctable.specs.Content.{entry_at};
@@ -40,40 +40,59 @@ pub fn live_count(slots: &[SortedSlot], now: u64) -> usize
     slots.iter().filter(|slot| now < slot.until).count()
 }
 
+/// The same, where it is told at once if the slot of the address is at a place.
+fn search_from(slots: &[SortedSlot], place: usize, address: GnAddress) -> Result<usize, usize>
+    requires { IsTrue (is_rising (held slots.now)) }
+    ensures found { IfOk result (λ i. IsFoundAt slots.now address i × (i < length slots.now)) }
+    ensures absent { IfErr result (λ i. IsGapFor slots.now address i × (i ≤ length slots.now)) }
+{
+    match slots.get(place) {
+        Some(slot) if slot.address() == address => Ok(place),
+        _ => search(slots, address),
+    }
+}
+
 /// Where the slots above an address begin.
-fn start_above(slots: &[SortedSlot], after: Option<GnAddress>) -> usize
+fn start_above(slots: &[SortedSlot], place: usize, after: Option<GnAddress>) -> usize
     requires { IsTrue (is_rising (held slots.now)) }
     ensures start { IsStartAbove slots.now after result }
     ensures within { result ≤ length slots.now }
 {
     match after {
         None => 0,
-        Some(address) => match search(slots, address) {
+        Some(address) => match search_from(slots, place, address) {
             Ok(i) => i + 1,
             Err(i) => i,
         },
     }
 }
 
-/// The first live neighbour.
-fn first_neighbour(slots: &[SortedSlot], now: u64) -> Option<&SortedSlot>
-    ensures { option_copied result ≡ find (λ s. nat_lt now s.until && s.neighbour) slots.now }
+/// The first live neighbour from a place on, and its own place.
+fn first_neighbour(slots: &[SortedSlot], now: u64, start: usize) -> Option<(usize, &SortedSlot)>
+    ensures { option_map (λ found. found.1.now) result
+        ≡ find (λ s. nat_lt now s.until && s.neighbour) (drop start slots.now) }
 {
-    slots.iter().find(|slot| now < slot.until && slot.neighbour)
+    for place in start..slots.len() {
+        let slot = &slots[place];
+        if now < slot.until && slot.neighbour {
+            return Some((place, slot));
+        }
+    }
+    None
 }
 
-/// The live neighbour of least address above one.
+/// The live neighbour of least address above one, and its place. That of the one is tried before a search.
 pub fn neighbour_above(
     slots: &[SortedSlot],
     now: u64,
+    place: usize,
     after: Option<GnAddress>,
-) -> Option<&SortedSlot>
+) -> Option<(usize, &SortedSlot)>
     requires { IsTrue (is_rising (held slots.now)) }
-    ensures { option_copied result
+    ensures { option_map (λ found. found.1.now) result
         ≡ find (λ s. nat_lt now s.until && is_next_neighbour after (slot_known s)) slots.now }
 {
-    let start = start_above(slots, after);
-    first_neighbour(&slots[start..], now)
+    first_neighbour(slots, now, start_above(slots, place, after))
 }
 
 /// The live source of least address that has a MID.

@@ -1,18 +1,18 @@
 //! The table in ascending order of addresses. Ended slots are swept by each packet that is accepted.
-ghost use Rattle.std.specs.Prelude.{◌≡◌, ◌+◌, ◌^◌, ◌≤◌, ◌||◌};
-ghost use Rattle.std.specs.Prelude.{IsTrue, IfSome, is_none, is_some, nat_lt, length, vec_len, vec_capacity, count_by};
+ghost use Rattle.std.specs.Prelude.{◌≡◌, ◌≢◌, ◌+◌, ◌^◌, ◌≤◌, ◌<◌};
+ghost use Rattle.std.specs.Prelude.{All, IsTrue, is_none, is_some, nat_lt, vec_len, vec_capacity, count_by};
 ghost use Rattle.std.specs.Option.{option_map};
-ghost use Rattle.its_model.specs.History.{remembered_count, entry_life, renewed};
-ghost use Rattle.its_loctable.specs.Heard.{reception, is_noted};
 ghost use Rattle.its_loctable.specs.Content.{entry_at};
-ghost use Rattle.its_loctable.specs.Sorted.{slot_known, slot_entry, held};
-ghost use Rattle.its_loctable.specs.Eager.{swept, upsert, is_rising};
+ghost use Rattle.its_loctable.specs.Sorted.{slot_known, slot_entry, held, IsFoundAt, IsGapFor};
+ghost use Rattle.its_loctable.specs.Eager.{swept, upsert, is_rising, judged, after_accept};
 
 use crate::search::{live_count, live_slot, live_with_mid, neighbour_above, search};
 use crate::sorted_slot::SortedSlot;
 use crate::store::{Heard, Known, LocationStore, StoreRefused, Verdict};
+use crate::sweep::{first_end, sweep, sweep_and_insert};
 use its_gnvalue::{GnAddress, LongPv, Mac, NoMemory};
 use std::alloc::Global;
+use std::cell::Cell;
 
 /// A location table in one vector, found by binary search. `empty` takes all of its memory, and
 /// `accept` none.
@@ -20,42 +20,21 @@ use std::alloc::Global;
 pub struct SortedTable {
     capacity: u16,
     slots: Vec<SortedSlot>,
+    /// No slot ends before this moment: until then there is nothing to sweep, and nothing to count.
+    first_end: u64,
+    /// Where the last walk over the neighbours came to, for its next step: each use checks it.
+    walked_to: Cell<usize>,
     ghost rising: { IsTrue (is_rising (held slots.items)) },
     ghost within: { vec_len slots ≤ capacity },
     ghost room: { capacity ≤ vec_capacity slots },
-}
-
-/// Removes the slots that have ended.
-fn sweep(slots: &mut Vec<SortedSlot>, now: u64)
-    ensures content { held slots.new.items ≡ swept now (held slots.old.items) }
-    ensures capacity { vec_capacity slots.new ≡ vec_capacity slots.old }
-{
-    slots.retain(|slot| now < slot.until);
-}
-
-/// Puts a slot into its place, in place of one with its address.
-fn put(slots: &mut Vec<SortedSlot>, slot: SortedSlot)
-    requires rising { IsTrue (is_rising (held slots.old.items)) }
-    requires room { length (upsert (held slots.old.items) (slot_entry slot)) ≤ vec_capacity slots.old }
-    ensures content { held slots.new.items ≡ upsert (held slots.old.items) (slot_entry slot) }
-    ensures capacity { vec_capacity slots.old ≤ vec_capacity slots.new }
-    ensures len { vec_len slots.new ≡ length slots.new.items }
-{
-    match search(slots, slot.address()) {
-        Ok(i) => slots[i] = slot,
-        Err(i) => {
-            // There is room, so it takes no memory and succeeds.
-            let _ = slots.insert(i, slot);
-        }
-    }
+    ghost ends: { All (λ s. first_end ≤ s.until) slots.items },
 }
 
 impl SortedTable {
     /// The slot of a live source.
     fn live_slot(&self, now: u64, address: GnAddress) -> Option<&SortedSlot>
-        ensures known { option_map (λ slot. slot_known slot.now) result
+        ensures { option_map (λ slot. slot_known slot.now) result
             ≡ entry_at (held self.now.slots.items) address now }
-        ensures address { IfSome result (λ slot. slot.now.vector.address ≡ address) }
     {
         live_slot(&self.slots, now, address)
     }
@@ -67,53 +46,98 @@ impl SortedTable {
         self.live_slot(now, address).is_some()
     }
 
+    /// How many slots are live.
+    fn live_count(&self, now: u64) -> usize
+        ensures { result ≡ count_by (λ s. nat_lt now s.until) self.now.slots.items }
+    {
+        if now < self.first_end {
+            self.slots.len()
+        } else {
+            live_count(&self.slots, now)
+        }
+    }
+
     /// Whether fewer slots are live than the capacity.
     fn has_place(&self, now: u64) -> bool
         ensures place { result ≡ nat_lt (count_by (λ s. nat_lt now s.until) self.now.slots.items) self.now.capacity }
         ensures rising { IsTrue (is_rising (held self.now.slots.items)) }
     {
-        live_count(&self.slots, now) < self.capacity as usize
+        self.live_count(now) < self.capacity as usize
     }
 
-    /// The slot that the packet makes, or nothing where there is no room for it.
-    fn next_slot(&self, now: u64, heard: &Heard) -> Option<SortedSlot>
-        requires moment { now ≤ 2 ^ 62 }
-        requires direct { heard.now.neighbour ≡ is_none heard.now.number }
-        ensures known { IfSome result (λ s. slot_known s ≡ renewed remembered_count
-            (entry_at (held self.now.slots.items) heard.now.vector.address now) (reception now heard.now)) }
-        ensures until { IfSome result (λ s. s.until ≡ now + entry_life) }
-        ensures address { IfSome result (λ s. s.vector.address ≡ heard.now.vector.address) }
-        ensures room { is_some result ≡ (is_some (entry_at (held self.now.slots.items) heard.now.vector.address now)
-            || nat_lt (count_by (λ s. nat_lt now s.until) self.now.slots.items) self.now.capacity) }
-        ensures rising { IsTrue (is_rising (held self.now.slots.items)) }
-        ensures within { length self.now.slots.items ≤ self.now.capacity }
-    {
-        match self.live_slot(now, heard.vector.address()) {
-            Some(slot) => Some(slot.next(now, heard)),
-            None if self.has_place(now) => Some(SortedSlot::first(now, heard)),
-            None => None,
-        }
-    }
-
-    /// Whether the packet's number is remembered of its source.
-    fn is_repeated(&self, now: u64, heard: &Heard) -> bool
-        ensures { result
-            ≡ is_noted (entry_at (held self.now.slots.items) heard.now.vector.address now) heard.now.number }
-    {
-        match self.live_slot(now, heard.vector.address()) {
-            Some(slot) => slot.repeats(heard),
-            None => false,
-        }
-    }
-
-    /// Sweeps the table, and puts a slot into its place.
-    fn take(&mut self, now: u64, slot: SortedSlot)
-        requires { length (upsert (swept now (held self.old.slots.items)) (slot_entry slot)) ≤ self.old.capacity }
+    /// Puts a slot in place of the one with its address, and sweeps the others.
+    fn replace(&mut self, now: u64, place: usize, slot: SortedSlot)
+        requires found { IsFoundAt self.old.slots.items slot.vector.address place }
+        requires within { place < vec_len self.old.slots }
+        requires live { now < slot.until }
         ensures content { held self.new.slots.items ≡ upsert (swept now (held self.old.slots.items)) (slot_entry slot) }
         ensures capacity { self.new.capacity ≡ self.old.capacity }
     {
-        sweep(&mut self.slots, now);
-        put(&mut self.slots, slot);
+        let end = slot.until;
+        self.slots[place] = slot;
+        if self.first_end <= now {
+            sweep(&mut self.slots, now);
+            self.first_end = first_end(&self.slots);
+        } else {
+            self.first_end = self.first_end.min(end);
+        }
+    }
+
+    /// Puts a slot into the gap for it, and sweeps the others. There is room, so it takes no memory.
+    fn insert(&mut self, now: u64, place: usize, slot: SortedSlot)
+        requires gap { IsGapFor self.old.slots.items slot.vector.address place }
+        requires within { place ≤ vec_len self.old.slots }
+        requires room { count_by (λ s. nat_lt now s.until) self.old.slots.items < self.old.capacity }
+        ensures content { held self.new.slots.items ≡ upsert (swept now (held self.old.slots.items)) (slot_entry slot) }
+        ensures capacity { self.new.capacity ≡ self.old.capacity }
+    {
+        if self.first_end <= now {
+            sweep_and_insert(&mut self.slots, now, place, slot);
+            self.first_end = first_end(&self.slots);
+        } else {
+            self.first_end = self.first_end.min(slot.until);
+            let _ = self.slots.insert(place, slot);
+        }
+    }
+
+    /// A packet of a source that has a slot. If the slot has ended, there is room for the source.
+    fn hear_again(&mut self, now: u64, place: usize, heard: &Heard) -> Verdict
+        requires moment { now ≤ 2 ^ 62 }
+        requires direct { heard.now.neighbour ≡ is_none heard.now.number }
+        requires found { IsFoundAt self.old.slots.items heard.now.vector.address place }
+        requires within { place < vec_len self.old.slots }
+        ensures answer { Ok result ≡ judged self.old.capacity (held self.old.slots.items) now heard.now }
+        ensures accepted { result ≡ Verdict.Accepted →
+            held self.new.slots.items ≡ after_accept (held self.old.slots.items) now heard.now }
+        ensures unchanged { result ≢ Verdict.Accepted → held self.new.slots.items ≡ held self.old.slots.items }
+        ensures capacity { self.new.capacity ≡ self.old.capacity }
+    {
+        let slot = &self.slots[place];
+        if slot.repeats(now, heard) {
+            return Verdict::Duplicate;
+        }
+        let next = slot.after(now, heard);
+        self.replace(now, place, next);
+        Verdict::Accepted
+    }
+
+    /// A packet of a source that has no slot.
+    fn hear_first(&mut self, now: u64, place: usize, heard: &Heard) -> Result<Verdict, StoreRefused>
+        requires moment { now ≤ 2 ^ 62 }
+        requires direct { heard.now.neighbour ≡ is_none heard.now.number }
+        requires gap { IsGapFor self.old.slots.items heard.now.vector.address place }
+        requires within { place ≤ vec_len self.old.slots }
+        ensures answer { result ≡ judged self.old.capacity (held self.old.slots.items) now heard.now }
+        ensures accepted { result ≡ Ok Verdict.Accepted →
+            held self.new.slots.items ≡ after_accept (held self.old.slots.items) now heard.now }
+        ensures unchanged { result ≢ Ok Verdict.Accepted → held self.new.slots.items ≡ held self.old.slots.items }
+        ensures capacity { self.new.capacity ≡ self.old.capacity }
+    {
+        if !self.has_place(now) {
+            return Err(StoreRefused::Full);
+        }
+        self.insert(now, place, SortedSlot::first(now, heard));
+        Ok(Verdict::Accepted)
     }
 }
 
@@ -126,7 +150,12 @@ impl LocationStore for SortedTable {
 
     fn empty(alloc: Global, capacity: u16) -> Result<Self, NoMemory> {
         let slots = Vec::with_capacity(alloc, capacity as usize)?;
-        Ok(SortedTable { capacity, slots })
+        Ok(SortedTable {
+            capacity,
+            slots,
+            first_end: u64::MAX,
+            walked_to: Cell::new(0),
+        })
     }
 
     fn capacity(&self) -> u16 {
@@ -152,21 +181,18 @@ impl LocationStore for SortedTable {
     }
 
     fn accept(&mut self, now: u64, h: &Heard) -> Result<Verdict, StoreRefused> {
-        if self.is_repeated(now, h) {
-            return Ok(Verdict::Duplicate);
-        }
-        match self.next_slot(now, h) {
-            Some(slot) => {
-                self.take(now, slot);
-                Ok(Verdict::Accepted)
-            }
-            None => Err(StoreRefused::Full),
+        match search(&self.slots, h.vector.address()) {
+            Ok(place) => Ok(self.hear_again(now, place, h)),
+            Err(place) => self.hear_first(now, place, h),
         }
     }
 
     fn next_neighbour(&self, now: u64, after: Option<GnAddress>) -> Option<LongPv> {
-        match neighbour_above(&self.slots, now, after) {
-            Some(slot) => Some(slot.vector),
+        match neighbour_above(&self.slots, now, self.walked_to.get(), after) {
+            Some((place, slot)) => {
+                self.walked_to.set(place);
+                Some(slot.vector)
+            }
             None => None,
         }
     }

@@ -9,7 +9,7 @@ use crate::store::{Heard, Known};
 use its_gnvalue::{GnAddress, LongPv};
 
 /// What is kept of a source.
-#[derive(Drop)]
+#[derive(Clone, Copy)]
 pub struct SortedSlot {
     pub vector: LongPv,
     pub neighbour: bool,
@@ -19,13 +19,15 @@ pub struct SortedSlot {
 }
 
 impl SortedSlot {
-    ghost use Rattle.its_loctable.specs.Sorted.{slot_known};
+    ghost use Rattle.its_loctable.specs.Sorted.{slot_known, slot_entry};
+    ghost use Rattle.its_loctable.specs.Content.{live_part};
 
     /// The slot of a source that wasn't live, by a packet of it.
     pub fn first(now: u64, heard: &Heard) -> SortedSlot
         requires moment { now ≤ 2 ^ 62 }
         requires direct { heard.now.neighbour ≡ is_none heard.now.number }
         ensures known { slot_known result ≡ renewed remembered_count None (reception now heard.now) }
+        ensures address { result.vector.address ≡ heard.now.vector.address }
         ensures until { result.until ≡ now + entry_life }
     {
         SortedSlot {
@@ -37,7 +39,7 @@ impl SortedSlot {
     }
 
     /// The slot of a live source after one more packet of it.
-    pub fn next(&self, now: u64, heard: &Heard) -> SortedSlot
+    fn next(&self, now: u64, heard: &Heard) -> SortedSlot
         requires moment { now ≤ 2 ^ 62 }
         requires direct { heard.now.neighbour ≡ is_none heard.now.number }
         requires same { self.now.vector.address ≡ heard.now.vector.address }
@@ -51,6 +53,23 @@ impl SortedSlot {
             neighbour: heard.neighbour || self.neighbour,
             until: end_after(now),
             numbers: self.numbers.and(heard.number),
+        }
+    }
+
+    /// The slot after one more packet of its source, whether the source is live or not.
+    pub fn after(&self, now: u64, heard: &Heard) -> SortedSlot
+        requires moment { now ≤ 2 ^ 62 }
+        requires direct { heard.now.neighbour ≡ is_none heard.now.number }
+        requires same { self.now.vector.address ≡ heard.now.vector.address }
+        ensures known { slot_known result
+            ≡ renewed remembered_count (live_part now (slot_entry self.now)) (reception now heard.now) }
+        ensures address { result.vector.address ≡ heard.now.vector.address }
+        ensures until { result.until ≡ now + entry_life }
+    {
+        if now < self.until {
+            self.next(now, heard)
+        } else {
+            SortedSlot::first(now, heard)
         }
     }
 
@@ -78,12 +97,12 @@ impl SortedSlot {
         self.numbers.holds(number)
     }
 
-    /// Whether a packet's number is kept of the source.
-    pub fn repeats(&self, heard: &Heard) -> bool
-        ensures { result ≡ is_noted (Some (slot_known self.now)) heard.now.number }
+    /// Whether the source is live, and a packet's number is kept of it.
+    pub fn repeats(&self, now: u64, heard: &Heard) -> bool
+        ensures { result ≡ is_noted (live_part now (slot_entry self.now)) heard.now.number }
     {
         match heard.number {
-            Some(number) => self.remembers(number),
+            Some(number) => now < self.until && self.remembers(number),
             None => false,
         }
     }

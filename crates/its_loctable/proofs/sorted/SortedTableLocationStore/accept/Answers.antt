@@ -1,53 +1,43 @@
-use Rattle.std.proofs.Common.{◌≤◌, List, length, sym, ap, subst, ◌∙◌, ltb, is_some, inl, inr, arith}
-use Rattle.std.proofs.lemmas.Bool.{le-ltb, lt-ltb}
-use Rattle.std.proofs.lemmas.List.{length-map}
-use Rattle.its_model.specs.History.{remembered_count}
-use Rattle.its_loctable.specs.Content.{Entry, entry_at, Hears}
+use Rattle.std.proofs.Common.{◌≡◌, ℕ, ◌≤◌, ◌^◌, ◌∷◌, true, List, subst, sym, ◌∙◌, refl}
+use Rattle.its_model.specs.History.{Reception, remembered_count}
+use Rattle.its_loctable.specs.declared.store.Heard.{Heard}
+use Rattle.its_loctable.specs.declared.store.Verdict.TheVariants.{Accepted}
+use Rattle.its_loctable.specs.Content.{Entry, Represents, Hears}
 use Rattle.its_loctable.specs.Heard.{reception}
-use Rattle.its_loctable.specs.Sorted.{slot_entry, held}
+use Rattle.its_loctable.specs.Sorted.{held}
+use Rattle.its_loctable.specs.Eager.{is_rising, entry_after, after_accept}
 use Rattle.its_loctable.proofs.Accepted.{Represents-cons}
-use Rattle.its_loctable.proofs.VerdictLemmas.{verdict-duplicate, verdict-live, verdict-full, verdict-room}
-use Rattle.its_loctable.proofs.EagerLemmas.{rising-true, apart-rising, room_for, Hears-eager}
-use Rattle.its_loctable.proofs.SortedLemmas.{count-held, room-some, room-none}
+use Rattle.its_loctable.proofs.VerdictLemmas.{judged-verdict}
+use Rattle.its_loctable.proofs.EagerLemmas.{rising-true, apart-rising, Hears-eager}
 use Rattle.its_loctable.proofs.sorted.SortedTableLocationStore.accept.Goals as goal
 
-pub returns-then-is_repeated-clause-answer : goal.returns-then-is_repeated-clause-answer
-returns-then-is_repeated-clause-answer c = λ history rep _.
-    sym (verdict-duplicate (held c.args.self.now.slots.items) history c.args.now c.args.self.now.capacity c.args.h.now c.requires.moment rep (sym c.is_repeated.ensures ∙ c.if-is_repeated.true))
+-- a table with the entries after an accept represents the history with the packet
+accepted : (es new : List Entry) (history : List Reception) (now : ℕ) (heard : Heard) → now ≤ 2 ^ 62 → is_rising es ≡ true → Represents remembered_count es history now
+    → new ≡ after_accept es now heard → Represents remembered_count new (reception now heard ∷ history) now
+accepted es new history now heard small rising rep is =
+    Represents-cons remembered_count es new history (reception now heard) small rep
+    (subst (λ (l : List Entry). Hears remembered_count es l (reception now heard)) (sym is)
+    (Hears-eager remembered_count es (reception now heard) (entry_after es now heard) (apart-rising es (rising-true es rising)) refl refl refl))
 
-pub take-requires : goal.take-requires
-take-requires c =
-    let xs = c.args.self.now.slots.items in
-    let es = held xs in
-    let within : length es ≤ c.args.self.now.capacity = omega (arith, length-map xs slot_entry, c.next_slot.ensures.within) in
-    room_for es (slot_entry c.in-Some.slot) c.args.now c.args.self.now.capacity (rising-true es c.next_slot.ensures.rising) within
-    (elim (room-some (entry_at es c.args.h.now.vector.address c.args.now) _ _ c.in-Some.ensures.room) [
-      | inl live ↦ inl (ap (λ n. is_some (entry_at es n c.args.now)) c.in-Some.ensures.address ∙ live)
-      | inr room ↦ inr (ap (λ n. entry_at es n c.args.now) c.in-Some.ensures.address ∙ room.0, omega (arith, count-held xs c.args.now, room.1))
-    ])
+pub returns-in-Ok-clause-answer : goal.returns-in-Ok-clause-answer
+returns-in-Ok-clause-answer c = λ history rep _.
+    let table = c.args.self.now in
+    let es = held table.slots.items in
+    c.hear_again.ensures.answer ∙ judged-verdict table.capacity es c.args.now c.args.h.now history c.requires.moment rep (apart-rising es (rising-true es table.rising))
 
-pub returns-in-Some-clause-answer : goal.returns-in-Some-clause-answer
-returns-in-Some-clause-answer c = λ history rep _.
-    let es = held c.args.self.now.slots.items in
-    let fresh = sym c.is_repeated.ensures ∙ c.if-is_repeated.false in
-    elim (room-some (entry_at es c.args.h.now.vector.address c.args.now) _ _ c.in-Some.ensures.room) [
-      | inl live ↦ sym (verdict-live es history c.args.now c.args.self.now.capacity c.args.h.now c.requires.moment rep fresh live)
-      | inr room ↦ sym (verdict-room es history c.args.now c.args.self.now.capacity c.args.h.now c.requires.moment rep (apart-rising es (rising-true es c.next_slot.ensures.rising)) fresh room.0
-          (ap (λ n. ltb n c.args.self.now.capacity) (sym (count-held c.args.self.now.slots.items c.args.now)) ∙ lt-ltb _ _ room.1))
-    ]
+pub returns-in-Ok-clause-accepted : goal.returns-in-Ok-clause-accepted
+returns-in-Ok-clause-accepted c = λ history rep is.
+    let table = c.args.self.now in
+    let same : c.hear_again.result ≡ Accepted = cc is in
+    accepted (held table.slots.items) _ history c.args.now c.args.h.now c.requires.moment table.rising rep (c.hear_again.ensures.accepted same)
 
-pub returns-in-Some-clause-accepted : goal.returns-in-Some-clause-accepted
-returns-in-Some-clause-accepted c = λ history rep _.
-    let es = held c.args.self.now.slots.items in
-    let r = reception c.args.now c.args.h.now in
-    Represents-cons remembered_count es (held c.take.new.self.slots.items) history r c.requires.moment rep
-    (subst (λ (l : List Entry). Hears remembered_count es l r) (sym c.take.ensures.content)
-    (Hears-eager remembered_count es r (slot_entry c.in-Some.slot) (apart-rising es (rising-true es c.next_slot.ensures.rising)) c.in-Some.ensures.address c.in-Some.ensures.known c.in-Some.ensures.until))
+pub returns-in-Err-clause-answer : goal.returns-in-Err-clause-answer
+returns-in-Err-clause-answer c = λ history rep _.
+    let table = c.args.self.now in
+    let es = held table.slots.items in
+    c.hear_first.ensures.answer ∙ judged-verdict table.capacity es c.args.now c.args.h.now history c.requires.moment rep (apart-rising es (rising-true es table.rising))
 
-pub returns-in-None-clause-answer : goal.returns-in-None-clause-answer
-returns-in-None-clause-answer c = λ history rep _.
-    let es = held c.args.self.now.slots.items in
-    let fresh = sym c.is_repeated.ensures ∙ c.if-is_repeated.false in
-    let full = room-none (entry_at es c.args.h.now.vector.address c.args.now) _ _ c.in-None.ensures.room in
-    sym (verdict-full es history c.args.now c.args.self.now.capacity c.args.h.now c.requires.moment rep (apart-rising es (rising-true es c.next_slot.ensures.rising)) fresh full.0
-    (ap (λ n. ltb n c.args.self.now.capacity) (sym (count-held c.args.self.now.slots.items c.args.now)) ∙ le-ltb _ _ full.1))
+pub returns-in-Err-clause-accepted : goal.returns-in-Err-clause-accepted
+returns-in-Err-clause-accepted c = λ history rep is.
+    let table = c.args.self.now in
+    accepted (held table.slots.items) _ history c.args.now c.args.h.now c.requires.moment table.rising rep (c.hear_first.ensures.accepted is)

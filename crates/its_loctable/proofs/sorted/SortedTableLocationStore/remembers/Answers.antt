@@ -6,10 +6,10 @@ use Rattle.its_loctable.proofs.sorted.SortedTableLocationStore.remembers.Goals a
 
 pub returns-in-Some : goal.returns-in-Some
 returns-in-Some c = λ history rep.
-    c.remembers.ensures ∙ ap (λ o. has_number o c.args.number) (c.in-Some.ensures.known ∙ rep.live c.args.now c.args.a (omega arith) c.requires)
+    c.remembers.ensures ∙ ap (λ o. has_number o c.args.number) (c.in-Some.ensures ∙ rep.live c.args.now c.args.a (omega arith) c.requires)
     ∙ has_number-known remembered_count c.args.a c.args.number c.args.now history
 
 pub returns-in-None : goal.returns-in-None
 returns-in-None c = λ history rep.
-    ap (λ o. has_number o c.args.number) (c.in-None.ensures.known ∙ rep.live c.args.now c.args.a (omega arith) c.requires)
+    ap (λ o. has_number o c.args.number) (c.in-None.ensures ∙ rep.live c.args.now c.args.a (omega arith) c.requires)
     ∙ has_number-known remembered_count c.args.a c.args.number c.args.now history
