@@ -13,6 +13,7 @@ pub mod Counts
 pub mod OneEach
 pub mod StationLemmas
 pub mod Renewal
+pub mod LongestRun
 pub mod StationLaws
 pub mod Nearest
 pub mod Isolated

@@ -1,7 +1,7 @@
 -- What a station knows of another one, as a function of the packets that it accepted (EN 302 636-4-1 clauses 8 and 10,
 -- in this profile). All lists here have the newest first.
 use Rattle.std.specs.Prelude.{ℕ, ◌+◌, List, [], ◌∷◌, filter, take, Bool, true, false, not, ◌||◌, Option, Some, None, is_none}
-use Rattle.std.specs.Prelude.{if◌then◌else◌, ◌==◌, nat_lt}
+use Rattle.std.specs.Prelude.{if◌then◌else◌, ◌==◌, nat_lt, ◌≡◌, ◌<◌, ◌≤◌, ◌++◌, map}
 use Rattle.std.specs.Option.{option_map}
 use Rattle.std.specs.List.{list_any}
 use Rattle.its_gnvalue.specs.Values.{PositionVector, is_newer}
@@ -117,3 +117,33 @@ renewed remember (Some k) r =
       neighbour = is_none r.number || k.neighbour;
       numbers = take remember (with_number r.number k.numbers);
     }
+
+-- ---- words of the law on sessions
+
+-- a moment, and before it those of a run of packets: the newest first
+abbrev pub moments_to : ℕ → List Reception → List ℕ
+moments_to moment run = moment ∷ map (λ r. r.moment) run
+
+-- Of these moments, the newest first, each two neighbours are less than an entry's life apart. This is one-sided: where a moment
+-- fell, the two are near however far apart.
+abbrev pub AreNear : List ℕ → Type 0
+AreNear moments =
+    (newer older : List ℕ) (later earlier : ℕ) → moments ≡ newer ++ later ∷ earlier ∷ older → later < earlier + entry_life
+
+-- when the oldest of a run of packets up to a moment came; where the run is empty, the moment
+abbrev pub oldest_moment : ℕ → List Reception → ℕ
+oldest_moment moment [] = moment
+oldest_moment moment (r ∷ older) = oldest_moment r.moment older
+
+-- Of these packets the run is the longest tail (a front here, as the newest stand first) in which each two neighbouring moments,
+-- and the last one and this moment, are near: the packet before it came an entry's life or more before what followed.
+pub record IsLongestRun (receptions : List Reception) (moment : ℕ) (run : List Reception) : Type 0 where
+  pub rest : List Reception
+  pub front : receptions ≡ run ++ rest
+  pub near : AreNear (moments_to moment run)
+  pub longest : (r : Reception) (older : List Reception) → rest ≡ r ∷ older → r.moment + entry_life ≤ oldest_moment moment run
+
+-- The moments of these packets, and this one after them, never fell.
+abbrev pub NeverFell : ℕ → List Reception → Type 0
+NeverFell moment [] = Unit {0}
+NeverFell moment (r ∷ older) = (r.moment ≤ moment) × NeverFell r.moment older

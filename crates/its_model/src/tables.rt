@@ -1,13 +1,33 @@
 //! What a table of the stations that were heard has to keep, and what its look-ups are to find.
 ghost use Rattle.std.specs.Prelude.{◌≡◌, ◌≢◌, ℕ, ◌+◌, ◌≤◌, ◌<◌, List, [], ◌∷◌, length, Option, Some, None};
 ghost use Rattle.std.specs.Prelude.{is_some, find, Bool, IsTrue, true, false, nat_lt, if◌then◌else◌};
-ghost use Rattle.std.specs.Prelude.{not, nat_le, ◌&&◌};
+ghost use Rattle.std.specs.Prelude.{not, nat_le, ◌&&◌, ◌++◌, ◌↔◌};
+ghost use Rattle.std.specs.Int.{abs_diff};
 ghost use Rattle.std.specs.Option.{option_map, option_map_or};
 ghost use Rattle.its_gnvalue.specs.Values.{Position};
 ghost use Rattle.its_model.specs.History.{Reception, Known, entry_life, session, is_live, is_among, known, renewed};
-ghost use Rattle.its_model.specs.History.{current_vector, is_neighbour, recent_numbers};
+ghost use Rattle.its_model.specs.History.{current_vector, is_neighbour, recent_numbers, of_source, moments_to};
+ghost use Rattle.its_model.specs.History.{AreNear, IsLongestRun, NeverFell};
 ghost use Rattle.its_model.specs.Stations.{stations_at, by_address, is_full, Rises, AreDistinct};
 ghost use Rattle.its_model.specs.Decision.{distance_of, next_hop, Precedes};
+
+/// The session of a source at a moment is the longest tail of its packets in which each two
+/// neighbouring moments, and the last one and that moment, are less than an entry's life apart: the
+/// later from the earlier, and either way where no moment fell. A source is live where its session
+/// isn't empty.
+pub fn a_session_is_the_longest_run()
+    ensures run { (source moment : ℕ) (history : List Reception) →
+        IsLongestRun (of_source source history) moment (session source moment history) }
+    ensures none_longer { (source moment : ℕ) (history run rest : List Reception) →
+        of_source source history ≡ run ++ rest → AreNear (moments_to moment run) →
+        length run ≤ length (session source moment history) }
+    ensures apart { (source moment : ℕ) (history : List Reception)
+        (newer older : List ℕ) (later earlier : ℕ) → NeverFell moment history →
+        moments_to moment (session source moment history) ≡ newer ++ later ∷ earlier ∷ older →
+        abs_diff later earlier < entry_life }
+    ensures live { (source moment : ℕ) (history : List Reception) →
+        IsTrue (is_live source moment history) ↔ (session source moment history ≢ []) }
+{}
 
 /// A packet goes on with its source's session or begins it anew, and leaves the others'; between
 /// packets a session stays as it is until it ends.
