@@ -3,19 +3,18 @@ use Rattle.std.proofs.Common.{◌≡◌, ℕ, zero, suc, ◌-◌, ◌<◌, ◌�
 use Rattle.std.specs.Prelude.{pos, neg_ℤ, unsigned_abs}
 use Rattle.std.specs.List.{list_all}
 use Rattle.std.proofs.lemmas.Bool.{leb-true, le-leb, lt-leb, and_parts}
-use Rattle.its_geometry.specs.declared.table.TheConstants.{SINE}
-use Rattle.its_geometry.specs.Table.{quarter_sine, half_sine, sine, IsMirrored, IsOpposite, IsAtMostOne}
+use Rattle.its_geometry.specs.Table.{quarter_sines, quarter_sine, half_sine, sine, IsMirrored, IsOpposite, IsAtMostOne}
 
 get_or-le : (m : ℕ) (xs : List ℕ) (i : ℕ) → list_all (λ n. leb n m) xs ≡ true → get_or xs i 0 ≤ m
 get_or-le m [] i h = omega arith
 get_or-le m (x ∷ xs) zero h = leb-true x m (and_parts _ _ h).0
 get_or-le m (x ∷ xs) (suc i) h = get_or-le m xs i (and_parts _ _ h).1
 
-in_range : list_all (λ n. leb n 10000) SINE ≡ true
+in_range : list_all (λ n. leb n 10000) quarter_sines ≡ true
 in_range = refl
 
-pub SINE-le : (t : ℕ) → get_or SINE t 0 ≤ 10000
-SINE-le t = get_or-le 10000 SINE t in_range
+pub quarter_sine-le : (t : ℕ) → quarter_sine t ≤ 10000
+quarter_sine-le t = get_or-le 10000 quarter_sines t in_range
 
 cond_on : {A : Type 0} (b : Bool) (x y : A) → b ≡ true → cond b x y ≡ x
 cond_on b x y e = ap (λ c. cond c x y) e
@@ -39,8 +38,8 @@ half_sine-le : (t : ℕ) → half_sine t ≤ 10000
 half_sine-le t = by (leb t 90)
   where
     by : (b : Bool) → cond b (quarter_sine t) (quarter_sine (180 - t)) ≤ 10000
-    by true = SINE-le t
-    by false = SINE-le (180 - t)
+    by true = quarter_sine-le t
+    by false = quarter_sine-le (180 - t)
 
 pub sine-mirrored : IsMirrored
 sine-mirrored t from to =

@@ -10,11 +10,14 @@ use std::error::Error;
 use std::fmt;
 use std::marker::Model;
 
-/// The shapes of EN 302 931.
+/// A shape of EN 302 931, which says how an area's lengths and angle are meant.
 #[derive(Clone, Copy, Debug, PartialEq, Eq)]
 pub enum Shape {
+    /// The radius `a` in metres round the centre, at no angle.
     Circle,
+    /// Half lengths in metres: `a` along the angle, in degrees clockwise from north, `b` across it.
     Rectangle,
+    /// Half axes in metres: `a` along the angle, in degrees clockwise from north, `b` across it.
     Ellipse,
 }
 
@@ -108,14 +111,14 @@ impl Area {
         })
     }
 
-    /// The shape.
+    /// The shape, which says whether `a`, in metres, is a radius, a half length or a half axis.
     pub fn shape(self) -> Shape
         ensures { result ≡ self.shape }
     {
         self.shape
     }
 
-    /// The centre.
+    /// The centre: latitude and longitude in tenths of a microdegree.
     pub fn centre(self) -> Place
         ensures { result ≡ self.centre }
     {
