@@ -2,10 +2,29 @@
 
 use crate::fault::{Fault, status_of};
 use crate::status::Status;
-use crate::walk::refused_capture;
-use its_linkframe::{CaptureReader, Counted, read_frame};
+use crate::walk::{RecordLines, each_record};
+use its_linkframe::{FrameFault, FrameView};
 use std::alloc::Global;
+use std::io;
 use std::io::{Read, Write};
+
+/// A line for each refused record.
+struct RefusedRecords;
+
+impl RecordLines for RefusedRecords {
+    fn print<W: Write>(
+        &self,
+        place: u64,
+        _moment: u64,
+        frame: Result<FrameView<'_>, FrameFault>,
+        out: &mut W,
+    ) -> io::Result<()> {
+        match frame {
+            Ok(_) => Ok(()),
+            Err(fault) => writeln!(out, "record {place}: {fault}"),
+        }
+    }
+}
 
 /// Prints a line for each refused record of the capture that the reader gives, and how many records
 /// there were. `file` is its name.
@@ -26,27 +45,8 @@ fn check_capture<'a, R: Read + Drop, W: Write>(
     reader: R,
     out: &mut W,
 ) -> Result<Status, Fault<'a>> {
-    let mut capture = CaptureReader::new(alloc, Counted::new(reader));
-    let (mut records, mut refused) = (0u64, 0u64);
-    let mut status = Status::Done;
-    for count in 0..u64::MAX {
-        records = count;
-        match capture.next() {
-            Ok(Some(record)) => {
-                if let Err(fault) = read_frame(record.frame.as_slice()) {
-                    writeln!(out, "record {count}: {fault}")?;
-                    refused = refused.saturating_add(1);
-                    status = Status::Refused;
-                }
-            }
-            Ok(None) => break,
-            Err(fault) => {
-                refused_capture(fault, file, count, out)?;
-                status = Status::Refused;
-                break;
-            }
-        }
-    }
+    let walked = each_record(alloc, file, reader, &RefusedRecords, out)?;
+    let (records, refused) = (walked.records, walked.refused);
     writeln!(out, "{records} records, {refused} refused")?;
-    Ok(status)
+    Ok(walked.status())
 }

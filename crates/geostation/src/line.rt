@@ -18,7 +18,7 @@ impl fmt::Display for Hex<'_> {
         if self.0.is_empty() {
             return f.write_str("-");
         }
-        let mut digits = [0u8; 128];
+        let mut digits = [0u8; 2 * PIECE];
         for piece in self.0.chunks(PIECE) {
             let Some(written) = digits.get_mut(..2 * piece.len()) else {
                 return Err(fmt::Error);
@@ -111,8 +111,9 @@ fn write_area<W: fmt::Write>(f: &mut fmt::Formatter<W>, area: Area) -> fmt::Resu
 /// Port, info and payload, where there are any.
 fn write_message<W: fmt::Write>(f: &mut fmt::Formatter<W>, payload: &[u8]) -> fmt::Result {
     match payload {
-        [p, q, i, j, rest @ ..] => {
-            let (port, info) = (u16::from_be_bytes([*p, *q]), u16::from_be_bytes([*i, *j]));
+        [port_high, port_low, info_high, info_low, rest @ ..] => {
+            let port = u16::from_be_bytes([*port_high, *port_low]);
+            let info = u16::from_be_bytes([*info_high, *info_low]);
             write!(f, " port {port} info {info} {}", Hex(rest))
         }
         _ => Ok(()),

@@ -9,9 +9,11 @@ use std::io::{BufReader, BufWriter, ErrorKind, Read, Write};
 use std::rt::{Env, Files};
 use std::{env, fs};
 
-/// Says what a command line that gave no command was answered: help on standard output, a fault on
-/// standard error.
+/// Answers words that gave no command: help on standard output, a fault on standard error.
 fn refuse_words<W: Write, E: Write>(error: &clap::Error, out: &mut W, err: &mut E) -> Status {
+    if error.kind() == clap::error::ErrorKind::OutOfMemory {
+        return Fault::OutOfMemory(AllocError).report(err);
+    }
     if error.use_stderr() {
         let _ = write!(err, "{error}");
         return Status::BadWords;
@@ -78,7 +80,7 @@ where
 }
 
 /// Runs the command that the words ask for. The program's own name is the first word.
-pub fn answer<R: Files + AllocGlobal, W: Write, E: Write>(
+fn obey<R: Files + AllocGlobal, W: Write, E: Write>(
     rt: &R,
     words: &[String],
     out: &mut W,
@@ -104,6 +106,27 @@ where
     }
 }
 
+/// Runs the command that the words ask for, and writes out all that it prints. The program's own name
+/// is the first word.
+pub fn answer<R: Files + AllocGlobal, W: Write + Drop, E: Write>(
+    rt: &R,
+    words: &[String],
+    out: W,
+    err: &mut E,
+) -> Status
+where
+    R::File: Read + Write + Drop,
+{
+    let Ok(mut out) = BufWriter::new(rt.alloc(), out) else {
+        return Fault::OutOfMemory(AllocError).report(err);
+    };
+    let status = obey(rt, words, &mut out, err);
+    match out.flush() {
+        Ok(()) => status,
+        Err(_) => Status::Failed,
+    }
+}
+
 /// Runs the program on its arguments.
 pub fn run<R: Files + Env + AllocGlobal, W: Write + Drop, E: Write>(
     rt: &R,
@@ -113,18 +136,9 @@ pub fn run<R: Files + Env + AllocGlobal, W: Write + Drop, E: Write>(
 where
     R::File: Read + Write + Drop,
 {
-    let words: Result<Vec<String>, Status> = arguments(rt, err);
-    let words = match words {
-        Ok(words) => words,
-        Err(status) => return status,
-    };
-    let Ok(mut out) = BufWriter::new(rt.alloc(), out) else {
-        return Fault::OutOfMemory(AllocError).report(err);
-    };
-    let status = answer(rt, words.as_slice(), &mut out, err);
-    match out.flush() {
-        Ok(()) => status,
-        Err(_) => Status::Failed,
+    match arguments(rt, err) {
+        Ok(words) => answer(rt, words.as_slice(), out, err),
+        Err(status) => status,
     }
 }
 

@@ -1,13 +1,31 @@
 //! The command `show`.
 
-use crate::fault::{Fault, status_of};
+use crate::fault::status_of;
 use crate::line::FrameLine;
 use crate::status::Status;
-use crate::walk::refused_capture;
-use its_linkframe::{CaptureReader, Counted, Record, read_frame};
+use crate::walk::{RecordLines, each_record};
+use its_linkframe::{FrameFault, FrameView};
 use std::alloc::Global;
 use std::io;
 use std::io::{Read, Write};
+
+/// A line for each record.
+struct AllRecords;
+
+impl RecordLines for AllRecords {
+    fn print<W: Write>(
+        &self,
+        _place: u64,
+        moment: u64,
+        frame: Result<FrameView<'_>, FrameFault>,
+        out: &mut W,
+    ) -> io::Result<()> {
+        match frame {
+            Ok(frame) => writeln!(out, "{}", FrameLine { moment, frame }),
+            Err(fault) => writeln!(out, "{moment} refused {fault}"),
+        }
+    }
+}
 
 /// Prints a line for each record of the capture that the reader gives. `file` is its name.
 pub fn show<R: Read + Drop, W: Write, E: Write>(
@@ -17,47 +35,9 @@ pub fn show<R: Read + Drop, W: Write, E: Write>(
     out: &mut W,
     err: &mut E,
 ) -> Status {
-    let ended = show_capture(alloc, file, reader, out);
+    let ended = match each_record(alloc, file, reader, &AllRecords, out) {
+        Ok(walked) => Ok(walked.status()),
+        Err(fault) => Err(fault),
+    };
     status_of(ended, err)
-}
-
-fn show_capture<'a, R: Read + Drop, W: Write>(
-    alloc: Global,
-    file: &'a str,
-    reader: R,
-    out: &mut W,
-) -> Result<Status, Fault<'a>> {
-    let mut capture = CaptureReader::new(alloc, Counted::new(reader));
-    let mut status = Status::Done;
-    for count in 0..u64::MAX {
-        match capture.next() {
-            Ok(Some(record)) => {
-                if !show_record(&record, out)? {
-                    status = Status::Refused;
-                }
-            }
-            Ok(None) => break,
-            Err(fault) => {
-                refused_capture(fault, file, count, out)?;
-                status = Status::Refused;
-                break;
-            }
-        }
-    }
-    Ok(status)
-}
-
-/// Prints the line of a record, and says whether its frame was read.
-fn show_record<W: Write>(record: &Record, out: &mut W) -> io::Result<bool> {
-    let moment = record.moment;
-    match read_frame(record.frame.as_slice()) {
-        Ok(frame) => {
-            writeln!(out, "{}", FrameLine { moment, frame })?;
-            Ok(true)
-        }
-        Err(fault) => {
-            writeln!(out, "{moment} refused {fault}")?;
-            Ok(false)
-        }
-    }
 }

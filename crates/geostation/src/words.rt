@@ -1,5 +1,6 @@
 //! The command line.
 
+use clap::error::ErrorKind;
 use clap::{Arg, ArgMatches, Command, Error};
 use std::alloc::Global;
 
@@ -36,26 +37,27 @@ fn command<'a>(alloc: Global) -> Result<Command<'a>, Error> {
     )
 }
 
-fn text<'a>(matches: &ArgMatches<'a>, name: &str) -> &'a str {
-    matches.get_str(name).unwrap_or("")
+/// What the matches ask for. A command is required, as are its words, so there is an answer.
+fn command_of<'a>(matches: &ArgMatches<'a>) -> Option<Asked<'a>> {
+    let (name, inner) = matches.subcommand()?;
+    let file = inner.get_str("FILE")?;
+    match name {
+        "show" => Some(Asked::Show { file }),
+        "check" => Some(Asked::Check { file }),
+        "import" => Some(Asked::Import {
+            file,
+            out: inner.get_str("OUT")?,
+        }),
+        _ => None,
+    }
 }
 
 /// Reads the words, the program's own name first.
 pub fn read<'a>(alloc: Global, words: &'a [String]) -> Result<Asked<'a>, Error> {
-    let matches = command(alloc)?.try_get_matches_from(words)?;
-    let asked = match matches.subcommand() {
-        Some(("show", inner)) => Asked::Show {
-            file: text(inner, "FILE"),
-        },
-        Some(("check", inner)) => Asked::Check {
-            file: text(inner, "FILE"),
-        },
-        Some((_, inner)) => Asked::Import {
-            file: text(inner, "FILE"),
-            out: text(inner, "OUT"),
-        },
-        // A command is required, so there is one.
-        None => Asked::Show { file: "" },
-    };
-    Ok(asked)
+    let mut command = command(alloc)?;
+    let matches = command.try_get_matches_from_mut(words)?;
+    match command_of(&matches) {
+        Some(asked) => Ok(asked),
+        None => Err(command.error(ErrorKind::MissingSubcommand, "no command was given")?),
+    }
 }

@@ -9,6 +9,34 @@ use byteorder::{BigEndian, ByteOrder};
 use std::fmt;
 use std::marker::Model;
 
+/// How far up the group bit lies in a link address: the lowest bit of the first octet.
+const GROUP_SHIFT: u32 = 40;
+
+/// How far up the reserved bits begin in an address, above the MID.
+const RESERVED_SHIFT: u32 = 48;
+
+/// How far up the station type begins.
+const STATION_TYPE_SHIFT: u32 = 58;
+
+/// How far up M lies.
+const MANUAL_SHIFT: u32 = 63;
+
+/// The 48 bits of a MID.
+const MID_MASK: u64 = 0xffff_ffff_ffff;
+
+/// The 10 reserved bits, shifted down.
+const RESERVED_MASK: u64 = 0x3ff;
+
+/// The 5 bits of a station type, shifted down.
+const STATION_TYPE_MASK: u64 = 0x1f;
+
+/// Whether a link address, or the MID of a station's address, names a group.
+fn has_group_bit(bits: u64) -> bool
+    ensures { IsTrue result ↔ IsGroup bits }
+{
+    (bits >> GROUP_SHIFT) & 1 == 1
+}
+
 /// A link address of six octets. Contracts see it as the number that they spell, the highest first.
 #[derive(Clone, Copy, Debug, PartialEq, Eq, PartialOrd, Ord, Hash)]
 pub struct Mac {
@@ -57,7 +85,7 @@ impl Mac {
     pub fn is_group(self) -> bool
         ensures { IsTrue result ↔ IsGroup self }
     {
-        self.bits / 0x100_0000_0000 % 2 == 1
+        has_group_bit(self.bits)
     }
 }
 
@@ -95,7 +123,7 @@ impl GnAddress {
             (λ a. (a ≡ bits) × IsIndividual bits)
             (λ f. (f ≡ ValueFault.GroupMid) × IsGroup bits) }
     {
-        if bits / 0x100_0000_0000 % 2 == 1 {
+        if has_group_bit(bits) {
             return Err(ValueFault::GroupMid);
         }
         Ok(GnAddress { bits })
@@ -114,7 +142,7 @@ impl GnAddress {
     pub fn manual(self) -> bool
         ensures { IsTrue result ↔ (manual_of self ≡ 1) }
     {
-        self.bits >> 63 == 1
+        (self.bits >> MANUAL_SHIFT) & 1 == 1
     }
 
     /// The type of the station (ST, 5 bits).
@@ -122,7 +150,7 @@ impl GnAddress {
         ensures value { result ≡ station_type_of self }
         ensures range { result < 32 }
     {
-        (self.bits / 0x400_0000_0000_0000 % 32) as u8
+        ((self.bits >> STATION_TYPE_SHIFT) & STATION_TYPE_MASK) as u8
     }
 
     /// The reserved bits (10), which are carried as they are.
@@ -130,7 +158,7 @@ impl GnAddress {
         ensures value { result ≡ reserved_of self }
         ensures range { result < 1024 }
     {
-        (self.bits / 0x1_0000_0000_0000 % 1024) as u16
+        ((self.bits >> RESERVED_SHIFT) & RESERVED_MASK) as u16
     }
 
     /// The link address of the station (MID, 48 bits), which is no group.
@@ -139,7 +167,7 @@ impl GnAddress {
         ensures individual { IsIndividual result }
     {
         Mac {
-            bits: self.bits % 0x1_0000_0000_0000,
+            bits: self.bits & MID_MASK,
         }
     }
 }

@@ -1,4 +1,4 @@
-ghost use Rattle.std.specs.Prelude.{◌≡◌, ◌<◌};
+ghost use Rattle.std.specs.Prelude.{◌≡◌, ◌<◌, ◌≤◌};
 ghost use Rattle.its_gnvalue.specs.Values.{lifetime_millis};
 
 use std::marker::Model;
@@ -38,7 +38,8 @@ impl Lifetime {
 
     /// The lifetime in milliseconds, from 0 to 6300000.
     pub fn millis(self) -> u64
-        ensures { result ≡ lifetime_millis self }
+        ensures value { result ≡ lifetime_millis self }
+        ensures bound { result ≤ 6300000 }
     {
         let base = match self.octet % 4 {
             0 => 50,

@@ -11,7 +11,7 @@ use Rattle.its_headers.specs.declared.kind.Kind.TheVariants.{Beacon, Shb, Gbc}
 use Rattle.its_model.specs.Packet.{Pdu, Body}
 use Rattle.its_headers.specs.Encoding.{IsBytes, Encodes}
 use Rattle.its_headers.specs.Format.{Format, ends, number, halves, octets, after, walk}
-use Rattle.its_headers.specs.Layout.{basic_format, common_format, vector_format, area_format, body_format, packet_format, is_type, is_subtype, is_length, is_next, is_second, is_angle}
+use Rattle.its_headers.specs.Layout.{basic_format, type_format, common_format, vector_format, area_format, body_format, packet_format, is_type, is_subtype, is_length, is_next, is_second, is_angle}
 use Rattle.its_headers.specs.FirstFault.{Row, common_rows, vector_rows, shb_rows, gbc_rows, rows_of, FaultAmong, FirstFault}
 use Rattle.its_headers.proofs.Spells.{Spells}
 use Rattle.its_headers.proofs.Packets.{basic_spelled}
@@ -42,7 +42,7 @@ a_length : (t : ℕ) → (n : ℕ) × (n < 256 ^ 2) × (is_length t n ≡ true)
 a_length t = (cond (eqb t 1) 0 4, grind arith, grind arith)
 
 common_inhabited : (left : ℕ) → left < 256 → IsInhabited (common_format left)
-unfolding common_format
+unfolding type_format common_format
 common_inhabited left lt = (
   (0, omega arith, refl),
   λ n _ rn. (
@@ -94,7 +94,7 @@ rows_of_kind false true shape n g w = refl
 rows_of_kind false false shape n g w = refl
 
 rows_are : (w : List ℕ) → rows_in packet_format 0 w ≡ rows_of w
-unfolding basic_format common_format
+unfolding basic_format type_format common_format
 rows_are w = ap (λ (t : List Row). common_rows ++ t) (rows_of_kind (eqb (big_number 1 (drop 5 w) / 16) 1) (eqb (big_number 1 (drop 5 w) / 16) 5) _ (big_number 2 (drop 8 w)) _ w)
 
 from_start : (w : List ℕ) → Path packet_format packet_format 0 w

@@ -15,7 +15,7 @@ use Rattle.its_geometry.specs.Area.{GeoArea}
 use Rattle.its_model.specs.Packet.{Pdu, Body, beacon, shb, gbc, Message}
 use Rattle.its_headers.specs.Encoding.{IsVector, IsBody, IsMessage, IsBytes, IsPacket, Encodes, vector_octets, area_octets, message_octets, basic_header, common_header, extended_header, encoding, common_next, header_type, payload_length, shape_code}
 use Rattle.its_headers.specs.Format.{Format, after, ends, number, octets}
-use Rattle.its_headers.specs.Layout.{Common, basic_format, common_format, vector_format, area_format, beacon_format, body_format, packet_format, is_next, is_type, is_subtype, is_length, kind_of, shape_of, is_zero, shb_format}
+use Rattle.its_headers.specs.Layout.{Common, basic_format, type_format, common_format, vector_format, area_format, beacon_format, body_format, packet_format, is_next, is_type, is_subtype, is_length, kind_of, shape_of, is_zero, shb_format}
 use Rattle.its_headers.specs.Fields.{message_of, IsLength, kind_of_body, shape_of_body}
 use Rattle.its_headers.proofs.Spells.{Spells, Spells-after, after-Spells}
 use Rattle.its_headers.proofs.Spelled.{vector_spelled, spells_vector, area_spelled, spells_area}
@@ -175,7 +175,7 @@ common_text : (n n' t t' class f f' size max : ℕ) → 16 * n + 0 ≡ n' → t 
 common_text n n' t t' class f f' size max e0 e1 e2 = rw (e0, e1, e2) refl
 
 pub common_spelled : (left : ℕ) (c : Common) (s : List ℕ) → Spells (common_format left) c s → IsCommon left c s
-unfolding common_format
+unfolding type_format common_format
 common_spelled left c s (n, r, t0, fn, fr, rn, rr, e0, (t, u, t1, ft, fu, rt, ru, e1, (class, t2, fc, rc, e2, (flags, t3, ff, rf, e3, (size, t4, fs, rs, e4, (max, t5, fm, rm, e5, (z, t6, fz, rz, e6, (is, nil)))))))) =
     let r0 : r ≡ 0 = eqb-true _ _ rr in
     let z0 : z ≡ 0 = eqb-true _ _ rz in
@@ -210,7 +210,7 @@ flags_of false = record { fits = omega arith; reserved = refl; says = refl }
 spells_common_with : (left f class size max : ℕ) (kind : Kind) (shape : Shape) (mobile : Bool) → IsSubtype kind shape → IsFlags f mobile
     → class < 256 → max < 256 → left ≤ max → size < 2 ^ 16 → IsLength kind size
     → Spells (common_format left) (record { kind = kind; shape = shape; class = class; mobile = mobile; length = size; max_hops = max }) ((16 * next_of kind + 0) ∷ (16 * type_of kind + shape_code shape) ∷ class ∷ f ∷ (big_bytes 2 size ++ max ∷ 0 ∷ []))
-unfolding common_format
+unfolding type_format common_format
 spells_common_with left f class size max kind shape mobile sub flags fc fm le fs fits =
     let k = type_test kind in (
       next_of kind,
@@ -280,7 +280,7 @@ length-lt Shb n h = omega arith
 length-lt Gbc n h = omega arith
 
 pub spells_common : (left : ℕ) (c : Common) → c.class < 256 → c.max_hops < 256 → left ≤ c.max_hops → IsSubtype c.kind c.shape → IsLength c.kind c.length → Spells (common_format left) c (common_octets c)
-unfolding common_format
+unfolding type_format common_format
 spells_common left c fc fm le sub size =
     let e : 16 * next_of c.kind + 0 ≡ 16 * next_of c.kind = omega arith in
     subst (λ (n : ℕ). Spells (common_format left) c (n ∷ type_octet c.kind c.shape ∷ c.class ∷ cond c.mobile 128 0 ∷ (big_bytes 2 c.length ++ c.max_hops ∷ 0 ∷ []))) e

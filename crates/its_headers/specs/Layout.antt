@@ -63,17 +63,26 @@ kind_of type = if type == 1 then Beacon else if type == 5 then Shb else Gbc
 abbrev pub shape_of : ℕ → Shape
 shape_of s = if s == 0 then Circle else if s == 1 then Rectangle else Ellipse
 
--- the Common Header of a packet with so many hops left
-unfoldable pub common_format : ℕ → Format Common
-common_format left =
+-- the next header of the Common Header, and then header type and sub-type
+unfoldable pub type_format : Format (ℕ × ℕ)
+type_format =
     halves CommonNext is_next Reserved (λ _ r. r == 0) λ next _.
     halves HeaderType (is_type next) SubType is_subtype λ type s.
+    ends (type, s)
+
+-- what follows header type and sub-type in the Common Header
+abbrev pub rest_format : ℕ → ℕ × ℕ → Format Common
+rest_format left types =
     number 1 Truncated any λ class.
     number 1 Reserved (λ flags. flags % 128 == 0) λ flags.
-    number 2 PayloadLength (is_length type) λ length.
+    number 2 PayloadLength (is_length types.0) λ length.
     number 1 HopAboveMax (λ max. nat_le left max) λ max.
     number 1 Reserved is_zero λ _.
-    ends (record { kind = kind_of type; shape = shape_of s; class = class; mobile = nat_le 128 flags; length = length; max_hops = max })
+    ends (record { kind = kind_of types.0; shape = shape_of types.1; class = class; mobile = nat_le 128 flags; length = length; max_hops = max })
+
+-- the Common Header of a packet with so many hops left
+unfoldable pub common_format : ℕ → Format Common
+common_format left = after type_format (rest_format left)
 
 -- tenths of a microdegree
 abbrev pub latitude_test : ℤ → Bool

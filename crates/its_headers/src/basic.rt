@@ -4,6 +4,7 @@ ghost use Rattle.std.specs.Prelude.{◌<◌, IfOk};
 ghost use Rattle.its_headers.specs.Format.{Gives, walk};
 ghost use Rattle.its_headers.specs.Layout.{basic_format};
 
+use crate::codes::{NEXT_COMMON, VERSION};
 use crate::fields::{fault, octet_at};
 use its_gnvalue::Lifetime;
 use its_model::{Fault, FaultKind};
@@ -15,10 +16,10 @@ pub fn basic_header(octets: &[u8]) -> Result<(Lifetime, u8), Fault>
     ensures reading { Gives (λ x. ((x.0, x.1), 4)) result (walk basic_format 0 octets.now) }
 {
     let first = octet_at(octets, 0)?;
-    if first / 16 != 1 {
+    if first / 16 != VERSION {
         return Err(fault(0, FaultKind::Version));
     }
-    if first % 16 != 1 {
+    if first % 16 != NEXT_COMMON {
         return Err(fault(0, FaultKind::BasicNext));
     }
     if octet_at(octets, 1)? != 0 {

@@ -8,6 +8,10 @@ use crate::basic::basic_header;
 use crate::common::common_header;
 use crate::fields::{fault, slice_at, u16_at};
 use crate::kind::Kind;
+use crate::offsets::{
+    AREA_RESERVED, BEACON_END, GBC_PAYLOAD, GBC_VECTOR, MEDIA, NUMBER, NUMBER_RESERVED,
+    SHB_PAYLOAD, VECTOR,
+};
 use crate::position::vector;
 use crate::region::area;
 use its_geometry::Shape;
@@ -18,8 +22,8 @@ use its_model::{Fault, FaultKind};
 fn beacon_end(octets: &[u8]) -> Result<usize, Fault>
     ensures { result ≡ end_of (walk beacon_format 12 octets.now) }
 {
-    vector(octets, 12)?;
-    Ok(36)
+    vector(octets, VECTOR)?;
+    Ok(BEACON_END)
 }
 
 /// Where the single-hop broadcast with a payload of this size ends.
@@ -27,10 +31,10 @@ fn beacon_end(octets: &[u8]) -> Result<usize, Fault>
 fn shb_end(octets: &[u8], size: u16) -> Result<usize, Fault>
     ensures { result ≡ end_of (walk (shb_format size) 12 octets.now) }
 {
-    vector(octets, 12)?;
-    slice_at(octets, 36, 4)?;
-    slice_at(octets, 40, size as usize)?;
-    Ok(40 + size as usize)
+    vector(octets, VECTOR)?;
+    slice_at(octets, MEDIA, 4)?;
+    slice_at(octets, SHB_PAYLOAD, size as usize)?;
+    Ok(SHB_PAYLOAD + size as usize)
 }
 
 /// Where the geobroadcast with a payload of this size, for an area of this shape, ends.
@@ -38,17 +42,17 @@ fn shb_end(octets: &[u8], size: u16) -> Result<usize, Fault>
 fn gbc_end(octets: &[u8], shape: Shape, size: u16) -> Result<usize, Fault>
     ensures { result ≡ end_of (walk (gbc_format shape size) 12 octets.now) }
 {
-    u16_at(octets, 12)?;
-    if u16_at(octets, 14)? != 0 {
-        return Err(fault(14, FaultKind::Reserved));
+    u16_at(octets, NUMBER)?;
+    if u16_at(octets, NUMBER_RESERVED)? != 0 {
+        return Err(fault(NUMBER_RESERVED, FaultKind::Reserved));
     }
-    vector(octets, 16)?;
+    vector(octets, GBC_VECTOR)?;
     area(octets, shape)?;
-    if u16_at(octets, 54)? != 0 {
-        return Err(fault(54, FaultKind::Reserved));
+    if u16_at(octets, AREA_RESERVED)? != 0 {
+        return Err(fault(AREA_RESERVED, FaultKind::Reserved));
     }
-    slice_at(octets, 56, size as usize)?;
-    Ok(56 + size as usize)
+    slice_at(octets, GBC_PAYLOAD, size as usize)?;
+    Ok(GBC_PAYLOAD + size as usize)
 }
 
 /// Where the packet at the front of the octets ends, or the first fault.

@@ -1,6 +1,6 @@
 //! The kinds of packet.
 
-/// The kinds of packet that are read and written.
+/// The kinds of packet that are read and written (EN 302 636-4-1 clause 9).
 #[derive(Clone, Copy, Debug, PartialEq, Eq)]
 pub enum Kind {
     /// Tells the neighbours of a station, and nothing more.

@@ -6,6 +6,7 @@
 #![tactic(auto)]
 
 mod basic;
+mod codes;
 mod common;
 mod decoding;
 mod encoding;
@@ -13,6 +14,7 @@ mod fields;
 mod judging;
 mod kind;
 mod laws;
+mod offsets;
 mod packet;
 mod payload;
 mod position;

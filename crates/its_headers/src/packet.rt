@@ -1,5 +1,10 @@
 //! Packets that own what they say.
 
+ghost use Rattle.std.specs.Prelude.{◌≡◌, ◌≤◌, ◌+◌, length};
+ghost use Rattle.its_headers.specs.Encoding.{encoding};
+ghost use Rattle.its_headers.specs.Packets.{pdu_of_packet, hops_left};
+
+use crate::offsets::{BEACON_END, GBC_PAYLOAD, MEDIA};
 use crate::payload::Payload;
 use its_geometry::Area;
 use its_gnvalue::{Hops, Lifetime, LongPv, TrafficClass};
@@ -19,7 +24,7 @@ pub struct Header {
     pub vector: LongPv,
 }
 
-/// A packet to all neighbours (SHB).
+/// A packet to all neighbours (SHB, EN 302 636-4-1 clause 9).
 #[derive(Debug, Drop)]
 pub struct SingleHopBroadcast {
     /// What each packet has.
@@ -30,7 +35,7 @@ pub struct SingleHopBroadcast {
     pub payload: Payload,
 }
 
-/// A packet to all stations in an area (GBC).
+/// A packet to all stations in an area (GBC, EN 302 636-4-1 clause 9).
 #[derive(Debug, Drop)]
 pub struct Geobroadcast {
     /// What each packet has.
@@ -43,7 +48,7 @@ pub struct Geobroadcast {
     pub payload: Payload,
 }
 
-/// A packet that owns its payload.
+/// A packet that owns its payload (EN 302 636-4-1 clause 9).
 #[derive(Debug, Drop)]
 pub enum Packet {
     /// Tells the neighbours of a station, and nothing more.
@@ -52,4 +57,29 @@ pub enum Packet {
     Shb(SingleHopBroadcast),
     /// A geobroadcast.
     Gbc(Geobroadcast),
+}
+
+impl Packet {
+    /// How many octets its encoding has: 36 for a beacon, 40 and those of the payload for a single-hop
+    /// broadcast, and 56 and those of the payload for a geobroadcast.
+    pub fn length(&self) -> usize
+        ensures value { result ≡ length (encoding (pdu_of_packet self.now) (hops_left self.now)) }
+        ensures bound { result ≤ 1454 }
+    {
+        match self {
+            Packet::Beacon(_) => BEACON_END,
+            Packet::Shb(packet) => {
+                MEDIA + media_length(&packet.media) + packet.payload.octets().len()
+            }
+            Packet::Gbc(packet) => GBC_PAYLOAD + packet.payload.octets().len(),
+        }
+    }
+}
+
+/// Always 4, and so the list of the media-dependent data has 4 too.
+fn media_length(media: &[u8; 4]) -> usize
+    ensures value { result ≡ length media.now }
+    ensures four { result ≡ 4 }
+{
+    media.len()
 }

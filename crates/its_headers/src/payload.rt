@@ -4,7 +4,7 @@ ghost use Rattle.std.specs.Prelude.{◌≡◌, ◌≤◌, ◌<◌, ◌⊎◌, le
 
 use std::marker::Model;
 
-/// The payload of a packet: 4 to 1398 octets, which begin with the BTP-B header.
+/// The payload of a packet: 4 to 1398 octets (profile), which begin with the BTP-B header (EN 302 636-5-1).
 #[derive(Debug, Drop)]
 pub struct Payload {
     octets: Vec<u8>,
@@ -40,5 +40,14 @@ impl Payload {
         ensures high { length self.now ≤ 1398 }
     {
         &self.octets
+    }
+
+    /// The vector of these octets, 4 to 1398. No memory is taken.
+    pub fn into_octets(self) -> Vec<u8>
+        ensures value { result.items ≡ self }
+        ensures low { 4 ≤ length self }
+        ensures high { length self ≤ 1398 }
+    {
+        self.octets
     }
 }

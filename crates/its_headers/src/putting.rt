@@ -3,12 +3,13 @@
 ghost use Rattle.std.specs.Prelude.{◌≡◌, ◌≤◌, ◌<◌, ◌+◌, ◌*◌, ◌∷◌, [], ◌++◌, length, if◌then◌else◌};
 ghost use Rattle.byteorder.specs.Endian.{big_bytes};
 ghost use Rattle.its_headers.specs.Puts.{Puts};
-ghost use Rattle.its_headers.specs.Encoding.{vector_octets, area_octets, motion, shape_code, IsVector, IsArea, IsMedia, IsBytes};
+ghost use Rattle.its_headers.specs.Encoding.{vector_octets, area_octets, motion, IsVector, IsArea, IsMedia, IsBytes};
 ghost use Rattle.its_gnvalue.specs.Values.{IsSpeed};
 
+use crate::codes::{NEXT_COMMON, VERSION};
 use crate::packet::Header;
 use byteorder::{BigEndian, ByteOrder};
-use its_geometry::{Area, Shape};
+use its_geometry::Area;
 use its_gnvalue::LongPv;
 
 /// A number of two octets, the highest first.
@@ -99,18 +100,6 @@ pub fn put_media(out: &mut [u8], at: usize, media: [u8; 4])
     put_slice(out, at, &media);
 }
 
-/// The sub-type of a geobroadcast for an area of this shape.
-pub fn sub_type(shape: Shape) -> u8
-    ensures value { result ≡ shape_code shape }
-    ensures small { result < 3 }
-{
-    match shape {
-        Shape::Circle => 0,
-        Shape::Rectangle => 1,
-        Shape::Ellipse => 2,
-    }
-}
-
 /// The Basic and the Common Header, 12 octets. `next` and `kind` are the octets of the next header and
 /// of header type and sub-type, and `size` is the payload's length.
 pub fn put_headers(out: &mut [u8], header: &Header, next: u8, kind: u8, size: u16)
@@ -123,7 +112,7 @@ pub fn put_headers(out: &mut [u8], header: &Header, next: u8, kind: u8, size: u1
     let flags = if header.mobile { 128 } else { 0 };
     let [high, low] = size.to_be_bytes();
     let octets = [
-        17,
+        16 * VERSION + NEXT_COMMON,
         0,
         header.lifetime.octet(),
         header.hops.left(),

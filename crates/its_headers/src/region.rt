@@ -6,6 +6,7 @@ ghost use Rattle.its_headers.specs.Format.{Gives, walk};
 ghost use Rattle.its_headers.specs.Layout.{area_format, is_second, is_angle};
 
 use crate::fields::{fault, u16_at, u32_at};
+use crate::offsets::AREA;
 use crate::position::is_latitude;
 use its_geometry::{Area, Shape};
 use its_gnvalue::Place;
@@ -18,25 +19,25 @@ use its_model::{Fault, FaultKind};
 pub fn area(octets: &[u8], shape: Shape) -> Result<Area, Fault>
     ensures { Gives (λ x. (x, 54)) result (walk (area_format shape) 40 octets.now) }
 {
-    let lat = u32_at(octets, 40)?.cast_signed();
+    let lat = u32_at(octets, AREA)?.cast_signed();
     if !is_latitude(lat) {
-        return Err(fault(40, FaultKind::Area));
+        return Err(fault(AREA, FaultKind::Area));
     }
-    let lon = u32_at(octets, 44)?.cast_signed();
+    let lon = u32_at(octets, AREA + 4)?.cast_signed();
     let Ok(centre) = Place::new(lat, lon) else {
-        return Err(fault(44, FaultKind::Area));
+        return Err(fault(AREA + 4, FaultKind::Area));
     };
-    let a = u16_at(octets, 48)?;
+    let a = u16_at(octets, AREA + 8)?;
     if a == 0 {
-        return Err(fault(48, FaultKind::Area));
+        return Err(fault(AREA + 8, FaultKind::Area));
     }
-    let b = u16_at(octets, 50)?;
+    let b = u16_at(octets, AREA + 10)?;
     if !is_second(shape, b) {
-        return Err(fault(50, FaultKind::Area));
+        return Err(fault(AREA + 10, FaultKind::Area));
     }
-    let angle = u16_at(octets, 52)?;
+    let angle = u16_at(octets, AREA + 12)?;
     if !is_angle(shape, angle) {
-        return Err(fault(52, FaultKind::Area));
+        return Err(fault(AREA + 12, FaultKind::Area));
     }
     Ok(area_of(shape, centre, a, b, angle))
 }

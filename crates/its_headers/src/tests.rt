@@ -206,6 +206,7 @@ fn reads(
 /// The packet is written as these octets and no further, and into no shorter slice.
 fn writes(rt: &impl Abort, alloc: Global, packet: &Packet, octets: &[u8]) -> Result<(), Fail> {
     let mut out = Vec::from_slice(alloc, &[7; 80])?;
+    assert_eq!(rt; packet.length(), octets.len());
     assert_eq!(rt; encode_into(packet, &mut out), Ok(octets.len()));
     assert_eq!(rt; out.get(..octets.len()), Some(octets));
     assert!(rt; out.iter().skip(octets.len()).all(|octet| *octet == 7));
@@ -443,6 +444,7 @@ fn payloads(rt: HostRuntime) -> Result<(), Fail> {
             Ok(payload) => {
                 assert!(rt; fits, "{size}");
                 assert_eq!(rt; payload.octets().len(), size);
+                assert_eq!(rt; payload.into_octets().len(), size);
             }
             Err(octets) => {
                 assert!(rt; !fits, "{size}");
@@ -584,7 +586,7 @@ fn a_refused_growth_is_h1(rt: HostRuntime) -> Result<(), Fail> {
     let mut refused = 0u32;
     let mut read = 0u32;
     for step in 0..8 {
-        shortage.leave(STEP * step);
+        assert!(rt; shortage.leave(STEP * step));
         match decode(rt.alloc(), &GBC) {
             Ok(_) => read = read.saturating_add(1),
             Err(DecodeFault::NoMemory) => {

@@ -9,8 +9,10 @@ ghost use Rattle.its_headers.specs.Decoding.{HasPayload};
 ghost use Rattle.its_headers.specs.Written.{WritesEncoding};
 ghost use Rattle.its_headers.specs.FirstFault.{FirstFault};
 
+use crate::codes::{kind_of, shape_of};
 use crate::judging::packet_end;
 use crate::kind::Kind;
+use crate::offsets::{GBC_PAYLOAD, GBC_VECTOR, MEDIA, NUMBER, SHB_PAYLOAD, VECTOR};
 use crate::packet::{Geobroadcast, Header, Packet, SingleHopBroadcast};
 use crate::payload::Payload;
 use crate::position::vector;
@@ -62,18 +64,14 @@ impl<'a> PacketView<'a> {
     pub fn octets(&self) -> &'a [u8]
         ensures { Encodes self.now.pdu self.now.left result.now }
     {
-        self.octets
+        &self.octets[..]
     }
 
     /// The kind of the packet.
     pub fn kind(&self) -> Kind
         ensures { result ≡ kind_of_body self.now.pdu.body }
     {
-        match self.octets[5] / 16 {
-            1 => Kind::Beacon,
-            5 => Kind::Shb,
-            _ => Kind::Gbc,
-        }
+        kind_of(self.octets[5] / 16)
     }
 
     /// The hops that are left (RHL, from 1), and how many there were at most (MHL).
@@ -122,8 +120,8 @@ impl<'a> PacketView<'a> {
         ensures { result ≡ vector_place self.now.pdu.body }
     {
         match self.kind() {
-            Kind::Beacon | Kind::Shb => 12,
-            Kind::Gbc => 16,
+            Kind::Beacon | Kind::Shb => VECTOR,
+            Kind::Gbc => GBC_VECTOR,
         }
     }
 
@@ -133,10 +131,10 @@ impl<'a> PacketView<'a> {
     {
         match self.kind() {
             Kind::Shb => Some([
-                self.octets[36],
-                self.octets[37],
-                self.octets[38],
-                self.octets[39],
+                self.octets[MEDIA],
+                self.octets[MEDIA + 1],
+                self.octets[MEDIA + 2],
+                self.octets[MEDIA + 3],
             ]),
             Kind::Beacon | Kind::Gbc => None,
         }
@@ -147,7 +145,7 @@ impl<'a> PacketView<'a> {
         ensures { result ≡ number_in self.now.pdu.body }
     {
         match self.kind() {
-            Kind::Gbc => Some(BigEndian::read_u16(&self.octets[12..])),
+            Kind::Gbc => Some(BigEndian::read_u16(&self.octets[NUMBER..])),
             Kind::Beacon | Kind::Shb => None,
         }
     }
@@ -171,11 +169,7 @@ impl<'a> PacketView<'a> {
     fn shape(&self) -> Shape
         ensures { result ≡ shape_of_body self.now.pdu.body }
     {
-        match self.octets[5] % 16 {
-            0 => Shape::Circle,
-            1 => Shape::Rectangle,
-            _ => Shape::Ellipse,
-        }
+        shape_of(self.octets[5] % 16)
     }
 
     /// The payload, which lies in the octets that were read: a BTP-B header and what is sent to the
@@ -187,8 +181,8 @@ impl<'a> PacketView<'a> {
     {
         match self.kind() {
             Kind::Beacon => &[],
-            Kind::Shb => &self.octets[40..],
-            Kind::Gbc => &self.octets[56..],
+            Kind::Shb => &self.octets[SHB_PAYLOAD..],
+            Kind::Gbc => &self.octets[GBC_PAYLOAD..],
         }
     }
 
@@ -254,8 +248,8 @@ impl<'a> PacketView<'a> {
 }
 
 /// Writes the packet that was read, with one hop fewer left, at the front of the slice, and says how
-/// long it is. Nothing else of the packet changes. The rest of the slice stays; on `NoRoom`, exactly
-/// where the slice is too short, all of it does.
+/// long it is. The packet has to have at least two hops left. Nothing else of it changes. The rest of
+/// the slice stays; on `NoRoom`, exactly where the slice is too short, all of it does.
 pub fn relay_into(view: &PacketView<'_>, out: &mut [u8]) -> Result<usize, NoRoom>
     requires { 2 ≤ view.now.left }
     ensures written { IfOk result (λ n. WritesEncoding view.now.pdu (view.now.left - 1) out.old out.new n) }

@@ -1,26 +1,22 @@
 -- Frames that are written.
-use Rattle.std.proofs.Common.{◌≡◌, ℕ, ◌-◌, ◌^◌, ◌<◌, ◌≤◌, List, [], ◌∷◌, ◌++◌, length, take, drop, refl, ap, subst, ◌∙◌, arith, append-nil, length-take, length-drop}
+use Rattle.std.proofs.Common.{◌≡◌, ℕ, ◌-◌, ◌^◌, ◌<◌, ◌≤◌, List, [], ◌∷◌, ◌++◌, length, take, drop, ap, subst, ◌∙◌, arith, append-nil, length-take, length-drop}
 use Rattle.std.proofs.Math.ListN.{set}
 use Rattle.std.proofs.lemmas.List.{take_all, nil_from_length}
 use Rattle.byteorder.specs.Endian.{big_bytes}
 use borrow.Rule.Slice.PartMut.{put_mid}
 use Rattle.its_model.specs.Packet.{Pdu, Transmission}
 use Rattle.its_headers.specs.Encoding.{Encodes, encoding}
+use Rattle.its_headers.specs.Seen.{Seen}
 use Rattle.its_headers.specs.Written.{WritesEncoding}
-use Rattle.its_linkframe.specs.Frames.{link_header, EncodesFrame}
+use Rattle.its_linkframe.specs.Frames.{link_header, EncodesFrame, sent_from_to}
 
--- addresses and type, put into the front of octets
-pub link_header-put : (to from : ℕ) (a b w : List ℕ) → a ≡ big_bytes 6 to → b ≡ big_bytes 6 from → 14 ≤ length w
-    → set (set (put_mid 6 6 (a ++ drop 6 w) b) 12 137) 13 71 ≡ link_header to from ++ drop 14 w
+-- addresses and type, put into just the room that they need
+pub link_header-made : (to from : ℕ) (a b : List ℕ) → a ≡ big_bytes 6 to → b ≡ big_bytes 6 from
+    → set (set (put_mid 6 6 (a ++ 0 ∷ 0 ∷ 0 ∷ 0 ∷ 0 ∷ 0 ∷ 0 ∷ 0 ∷ []) b) 12 137) 13 71 ≡ link_header to from
 unfolding link_header
-link_header-put to from a b w ea eb le =
-    ap (λ (t : List ℕ). set (set (put_mid 6 6 (t ++ drop 6 w) b) 12 137) 13 71) ea
-    ∙ ap (λ (t : List ℕ). set (set (put_mid 6 6 (big_bytes 6 to ++ drop 6 w) t) 12 137) 13 71) eb
-    ∙ go to from w le
-  where
-    go : (to from : ℕ) (w : List ℕ) → 14 ≤ length w → set (set (put_mid 6 6 (big_bytes 6 to ++ drop 6 w) (big_bytes 6 from)) 12 137) 13 71 ≡ big_bytes 6 to ++ big_bytes 6 from ++ 137 ∷ 71 ∷ drop 14 w
-    go to from (a ∷ b ∷ c ∷ d ∷ e ∷ f ∷ g ∷ h ∷ i ∷ j ∷ k ∷ l ∷ m ∷ n ∷ w) le = refl
-    go to from _ le = absurd (omega arith)
+link_header-made to from a b ea eb =
+    ap (λ (t : List ℕ). set (set (put_mid 6 6 (t ++ 0 ∷ 0 ∷ 0 ∷ 0 ∷ 0 ∷ 0 ∷ 0 ∷ 0 ∷ []) b) 12 137) 13 71) ea
+    ∙ ap (λ (t : List ℕ). set (set (put_mid 6 6 (big_bytes 6 to ++ 0 ∷ 0 ∷ 0 ∷ 0 ∷ 0 ∷ 0 ∷ 0 ∷ 0 ∷ []) t) 12 137) 13 71) eb
 
 -- an encoding that fills the slice that it was written into
 Encodes-filled : (p : Pdu) (left n : ℕ) (old new : List ℕ) → WritesEncoding p left old new n → length new ≡ length (encoding p left) → Encodes p left new
@@ -28,6 +24,23 @@ Encodes-filled p left n old new put size =
     let text = ap length put.encodes.octets in
     let all : length new ≤ n = omega (arith, text, length-take n new) in
     subst (Encodes p left) (take_all n new all) put.encodes
+
+-- the octets of a packet behind addresses and type, with one hop fewer
+pub EncodesFrame-relayed : (s : Seen) (to from left : ℕ) (v w : List ℕ) → v ≡ link_header to from ++ w → to < 2 ^ 48 → from < 2 ^ 48 → 2 ≤ s.left → left ≡ s.left → Encodes s.pdu s.left w
+    → EncodesFrame (sent_from_to from to (record s { left = s.left - 1 })) (set v 17 (left - 1))
+unfolding link_header
+EncodesFrame-relayed s to from left v w is fits_target fits_source more same enc =
+    let f = enc.fields in
+    record {
+      fields = record {
+        target = fits_target;
+        source = fits_source;
+        packet = record { lifetime = f.lifetime; class = f.class; some_left = omega arith; left_below = omega (arith, f.left_below); max_hops = f.max_hops; vector = f.vector; body = f.body };
+      };
+      octets = ap (λ (t : List ℕ). set t 17 (left - 1)) is
+          ∙ ap (λ (t : List ℕ). set (link_header to from ++ t) 17 (left - 1)) enc.octets
+          ∙ ap (λ (n : ℕ). link_header to from ++ encoding s.pdu (n - 1)) same;
+    }
 
 -- a packet put behind addresses and type, in just the room that it needs
 pub EncodesFrame-put : (t : Transmission) (f v old new : List ℕ) (n : ℕ) → f ≡ link_header t.link_target t.link_source ++ v → t.link_target < 2 ^ 48 → t.link_source < 2 ^ 48

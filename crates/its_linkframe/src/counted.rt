@@ -70,13 +70,7 @@ impl<T: Read> Source for Counted<T> {
     }
 
     fn pull(&mut self, buf: &mut [u8]) -> Option<usize> {
-        match self.device.read(buf) {
-            Ok(n) => Some(n),
-            Err(_) => {
-                self.failures += 1;
-                None
-            }
-        }
+        self.read(buf).ok()
     }
 }
 
@@ -120,12 +114,9 @@ impl<T: Write> Sink for Counted<T> {
     }
 
     fn push(&mut self, buf: &[u8]) -> Option<usize> {
-        match self.device.write(buf) {
-            Ok(n) if n > 0 || buf.is_empty() => Some(n),
-            Ok(_) | Err(_) => {
-                self.failures += 1;
-                None
-            }
+        match self.write(buf) {
+            Ok(0) if !buf.is_empty() => None,
+            answer => answer.ok(),
         }
     }
 }

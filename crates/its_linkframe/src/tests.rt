@@ -120,20 +120,33 @@ fn sent_on(to: [u8; 6], from: [u8; 6], left: u8) -> [u8; 76] {
 }
 
 #[test]
-fn faults_of_a_capture(rt: HostRuntime) -> Result<(), Fail> {
+fn faults_of_a_capture(rt: HostRuntime) {
     let whole = capture();
     let mut wrong = capture();
     wrong[9] = 0;
     let rows = [
-        (&whole[..9], CaptureFault::CutRecord, "C1"),
-        (&whole[..85], CaptureFault::CutRecord, "C1"),
-        (&wrong[..], CaptureFault::Length, "C2"),
+        (&whole[..9], CaptureFault::CutRecord),
+        (&whole[..85], CaptureFault::CutRecord),
+        (&wrong[..], CaptureFault::Length),
     ];
-    for (octets, want, code) in rows {
+    for (octets, want) in rows {
         let mut reader = CaptureReader::new(rt.alloc(), Counted::new(octets));
-        assert_eq!(rt; reader.next().err(), Some(want), "{code}");
-        assert_eq!(rt; reader.next().err(), Some(CaptureFault::Failed), "{code}");
-        assert_eq!(rt; format!(in rt.alloc(); "{want}")?.as_str(), code);
+        assert_eq!(rt; reader.next().err(), Some(want), "{want}");
+        assert_eq!(rt; reader.next().err(), Some(CaptureFault::Failed), "{want}");
+    }
+}
+
+#[test]
+fn printed_faults(rt: HostRuntime) -> Result<(), Fail> {
+    let rows = [
+        (CaptureFault::CutRecord, "C1"),
+        (CaptureFault::Length, "C2"),
+        (CaptureFault::Io, "C3"),
+        (CaptureFault::NoMemory, "C4"),
+        (CaptureFault::Failed, "C5"),
+    ];
+    for (fault, text) in rows {
+        assert_eq!(rt; format!(in rt.alloc(); "{fault}")?.as_str(), text);
     }
     Ok(())
 }
@@ -297,23 +310,27 @@ fn written_relayed_and_retargeted(rt: HostRuntime) -> Result<(), Fail> {
     Ok(())
 }
 
-/// Each budget has room for a relayed frame exactly where it has room for one piece of its length, so
-/// there is no second growth.
+/// Each budget has room for a frame, relayed or written, exactly where it has room for one piece of its
+/// length, so there is no second growth.
 #[test]
-fn a_relay_has_one_growth(rt: HostRuntime) -> Result<(), Fail> {
+fn a_frame_has_one_growth(rt: HostRuntime) -> Result<(), Fail> {
     let frame = geobroadcast();
     let view = read_frame(&frame)?;
+    let (packet, _) = decode(rt.alloc(), &frame[14..])?;
     assert_eq!(rt; view.packet.hops().left(), 10);
     let mut shortage = Shortage::new(rt.alloc())?;
     let (mut was_refused, mut was_made) = (false, false);
     for step in 0..40 {
-        shortage.leave(STEP * step);
+        assert!(rt; shortage.leave(STEP * step));
         let fits = Vec::<u8>::with_capacity(rt.alloc(), 76).is_ok();
-        shortage.leave(STEP * step);
-        let is_made = relay_frame(rt.alloc(), view.to, view.from, &view).is_ok();
-        assert_eq!(rt; is_made, fits, "at {step}");
-        was_made |= is_made;
-        was_refused |= !is_made;
+        assert!(rt; shortage.leave(STEP * step));
+        let is_relayed = relay_frame(rt.alloc(), view.to, view.from, &view).is_ok();
+        assert_eq!(rt; is_relayed, fits, "at {step}");
+        assert!(rt; shortage.leave(STEP * step));
+        let is_written = write_frame(rt.alloc(), view.to, view.from, &packet).is_ok();
+        assert_eq!(rt; is_written, fits, "at {step}");
+        was_made |= fits;
+        was_refused |= !fits;
     }
     assert!(rt; was_refused && was_made);
     Ok(())
@@ -327,9 +344,9 @@ fn a_record_has_one_growth(rt: HostRuntime) -> Result<(), Fail> {
     let mut shortage = Shortage::new(rt.alloc())?;
     let (mut was_refused, mut was_read) = (false, false);
     for step in 0..40 {
-        shortage.leave(STEP * step);
+        assert!(rt; shortage.leave(STEP * step));
         let fits = Vec::<u8>::with_capacity(rt.alloc(), 76).is_ok();
-        shortage.leave(STEP * step);
+        assert!(rt; shortage.leave(STEP * step));
         let mut reader = CaptureReader::new(rt.alloc(), Counted::new(octets.as_slice()));
         let first = reader.next().err();
         let want = if fits {
@@ -342,7 +359,7 @@ fn a_record_has_one_growth(rt: HostRuntime) -> Result<(), Fail> {
         was_refused |= !fits;
     }
     assert!(rt; was_refused && was_read);
-    shortage.leave(0);
+    assert!(rt; shortage.leave(0));
     assert!(rt; read_frame(&frame).is_ok());
     let mut writer = CaptureWriter::new(Counted::new(room.as_mut_slice()));
     assert_eq!(rt; writer.put(1000, &frame), Ok(()));

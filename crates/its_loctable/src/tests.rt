@@ -183,7 +183,7 @@ fn refused_growths<S: LocationStore>(
         after: None,
     };
     for step in 0..64 {
-        shortage.leave(STEP * step);
+        assert!(rt; shortage.leave(STEP * step));
         match short_of_memory(rt, store, &asked)? {
             Ok(verdict) => {
                 assert!(rt; verdict == Verdict::Accepted);

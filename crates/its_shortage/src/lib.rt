@@ -2,7 +2,7 @@
 //!
 //! `Shortage::new` takes all memory that the process can get, and `leave` gives a budget of it back.
 //! From then on the heap itself refuses what goes past the budget: in the code under test, in std and
-//! in the libraries below.
+//! in the libraries below. Where `leave` answers false more is left, and the test shows nothing.
 //!
 //! **What a budget stands for.** Code that stops at the first growth that is refused is tried with
 //! budgets of 0, 16, 32, .. octets until it answers as with ample memory. Each of its growths is then,
@@ -15,6 +15,8 @@
 //!   do not take them for lengths.
 //! - Make all that a test needs before `Shortage::new`, and let go what a call gave before the next
 //!   `leave`.
+//! - Let the budgets of a test rise. A lower one finds what was let go in pieces that the heap keeps
+//!   apart, and `leave` may answer false; 0 may come last.
 //! - One `Shortage` in a test. Each test runs in a process of its own, so no other sees it.
 //! - It acts on the heap of a built test. An allocator that only watches for errors, as that of a run
 //!   without proof, has memory elsewhere.
@@ -37,6 +39,12 @@ const PIECES: usize = 200_000;
 /// The largest piece that is asked for: as much as a process can address.
 const LARGEST: usize = 1 << 46;
 
+/// The largest small piece. From here down, each size that the heap keeps apart is asked for.
+const LARGEST_SMALL: usize = 2048;
+
+/// The smallest piece that is asked for.
+const SMALLEST: usize = 8;
+
 /// All memory of the process but for a budget.
 #[derive(Drop)]
 pub struct Shortage {
@@ -46,49 +54,55 @@ pub struct Shortage {
 }
 
 impl Shortage {
-    /// Takes all memory that is left but for about `MOST` octets at most, which the first `leave` judges.
-    /// An error says that there was not even room to note what is held.
+    /// Takes all memory that is left, with the `MOST` octets out of which `leave` makes its budgets.
+    /// An error says that there was no room to note all that is held.
     pub fn new(alloc: Global) -> Result<Shortage, AllocError> {
         let held = Vec::with_capacity(alloc, PIECES)?;
         let plug = Some(Vec::with_capacity(alloc, MOST)?);
         let mut shortage = Shortage { alloc, held, plug };
         let mut size = LARGEST;
-        for _ in 0..37 {
-            shortage.take(size);
+        while size > LARGEST_SMALL {
+            shortage.take(size)?;
             size /= 2;
         }
-        shortage.take_small();
+        shortage.take_small()?;
         Ok(shortage)
     }
 
     /// Leaves a budget of about that many octets, `MOST` at most, in one piece; no octet at 0.
-    pub fn leave(&mut self, octets: usize) {
+    /// Answers whether it holds: false where the rest cannot be taken back, or a far larger piece is left.
+    #[must_use]
+    pub fn leave(&mut self, octets: usize) -> bool {
         self.plug = None;
         self.plug = Vec::with_capacity(self.alloc, MOST.saturating_sub(octets)).ok();
         if octets == 0 {
-            self.take_small();
+            return self.take_small().is_ok();
         }
+        // A smaller piece might stay apart in the heap once it is let go, and part the next budget.
+        let far_larger = octets.saturating_add(LARGEST_SMALL);
+        let left = Vec::<u8>::with_capacity(self.alloc, far_larger);
+        self.plug.is_some() && left.is_err()
     }
 
     /// Takes pieces of that many octets until there is none.
-    fn take(&mut self, size: usize) {
-        for _ in 0..PIECES {
+    /// An error says that there was no room to note one more.
+    fn take(&mut self, size: usize) -> Result<(), AllocError> {
+        for _ in self.held.len()..self.held.capacity() {
             match Vec::with_capacity(self.alloc, size) {
-                Ok(piece) => {
-                    if self.held.len() >= self.held.capacity() || self.held.push(piece).is_err() {
-                        break;
-                    }
-                }
-                Err(_) => break,
+                Ok(piece) => self.held.push(piece)?,
+                Err(_) => return Ok(()),
             }
         }
+        Err(AllocError)
     }
 
     /// Takes what is left in small pieces, of each size that the heap keeps apart.
-    fn take_small(&mut self) {
-        for step in 0..128 {
-            self.take(2048 - STEP * step);
+    fn take_small(&mut self) -> Result<(), AllocError> {
+        let mut size = LARGEST_SMALL;
+        while size >= STEP {
+            self.take(size)?;
+            size -= STEP;
         }
-        self.take(8);
+        self.take(SMALLEST)
     }
 }

@@ -1,10 +1,13 @@
-use Rattle.std.proofs.Common.{◌≡◌, length, sym, subst, arith}
-use Rattle.std.proofs.lemmas.List.{take_at}
-use Rattle.its_model.specs.Packet.{relay}
-use Rattle.its_linkframe.specs.Frames.{EncodesFrame, transmission_of}
+use Rattle.std.proofs.Common.{◌≡◌, List, ℕ, ◌++◌, ap, ◌∙◌}
+use Rattle.its_gnvalue.specs.Values.{HopPair}
+use Rattle.its_linkframe.specs.Frames.{link_header}
+use Rattle.its_linkframe.proofs.Makings.{EncodesFrame-relayed}
 use Rattle.its_linkframe.proofs.making.relay_frame.Goals as goal
 
 pub returns : goal.returns
 returns c =
-    let size : length c.put_relayed.new.frame ≡ c.in_ok-relayed.relayed.len = omega (arith, c.put_relayed.auto.frame, c.as_mut_slice.ensures.len) in
-    subst (EncodesFrame (relay (transmission_of c.args.frame.now) c.args.from c.args.to)) (sym (take_at c.put_relayed.new.frame _ _ size)) c.put_relayed.ensures
+    let header : c.extend_from_slice.new.self.items ≡ link_header c.args.to c.args.from =
+    c.in-Ok.ensures.items ∙ ap (λ (t : List ℕ). t ++ c.link_header.result) c.in_ok-relayed.ensures.items ∙ c.link_header.ensures.octets in
+    let text : c.extend_from_slice-2.new.self.items ≡ link_header c.args.to c.args.from ++ c.octets-octets.result.now =
+    c.in-Ok-extend_from_slice.ensures.items ∙ ap (λ (t : List ℕ). t ++ c.octets-octets.result.now) header in
+    EncodesFrame-relayed c.args.frame.now.packet c.args.to c.args.from c.left.result _ _ text c.link_header.ensures.fits.0 c.link_header.ensures.fits.1 c.requires (c.left.ensures.value ∙ ap (λ (h : HopPair). h.left) c.hops.ensures) c.octets-octets.ensures

@@ -1,0 +1,10 @@
+use Rattle.its_headers.proofs.encoding.encode_into.Goals as goal
+
+pub returns-in-Beacon-clause-written : goal.returns-in-Beacon-clause-written
+returns-in-Beacon-clause-written c = rw c.in-Beacon.is c.put_beacon.ensures
+
+pub returns-in-Shb-clause-written : goal.returns-in-Shb-clause-written
+returns-in-Shb-clause-written c = rw c.in-Shb.is c.put_shb.ensures
+
+pub returns-in-Gbc-clause-written : goal.returns-in-Gbc-clause-written
+returns-in-Gbc-clause-written c = rw c.in-Gbc.is c.put_gbc.ensures

@@ -1,0 +1,5 @@
+use Rattle.its_shortage.proofs.Shortage.new.Given as goal
+
+-- each size is below the last one
+abbrev pub decreases-loop-size : goal.decreases-loop-size
+decreases-loop-size l = l.size
