@@ -40,7 +40,7 @@ pub fn live_count(slots: &[SortedSlot], now: u64) -> usize
     slots.iter().filter(|slot| now < slot.until).count()
 }
 
-/// The same, where it is told at once if the slot of the address is at a place.
+/// As `search`, but a place is tried first, where the slot of the address may well be.
 fn search_from(slots: &[SortedSlot], place: usize, address: GnAddress) -> Result<usize, usize>
     requires { IsTrue (is_rising (held slots.now)) }
     ensures found { IfOk result (λ i. IsFoundAt slots.now address i × (i < length slots.now)) }
