@@ -4,7 +4,7 @@ use Rattle.std.specs.Prelude.{slice_get}
 use Rattle.std.specs.List.{count_by}
 use Rattle.its_model.specs.Packet.{Transmission}
 use Rattle.its_model.specs.Calls.{Answer}
-use Rattle.its_model.specs.Calls.Answer.{Accepted, Closed, Ignored, Moved, Opened, Quiet, Refused, Sent}
+use Rattle.its_model.specs.Calls.Answer.{Accepted, Closed, Ignored, Moved, Opened, Quiet, Refused, Restarted, Sent}
 use Rattle.its_model.specs.World.{Config, Event, LogLine, WorldModel, frame_of, with_one_more}
 use Rattle.its_model.specs.Log.{Origin, deeper, origin_by, origins, place_of, with_origin}
 use Rattle.its_model.specs.Schedules.{FramesAreFew, is_acceptance_of, is_at}
@@ -78,6 +78,7 @@ unfolding origins
 few_more Moved event delivered before configs air place all fact front h = few_stay place all (record { event = event; delivered = delivered; entry = Moved }) before refl h
 few_more Opened event delivered before configs air place all fact front h = few_stay place all (record { event = event; delivered = delivered; entry = Opened }) before refl h
 few_more Closed event delivered before configs air place all fact front h = few_stay place all (record { event = event; delivered = delivered; entry = Closed }) before refl h
+few_more Restarted event delivered before configs air place all fact front h = few_stay place all (record { event = event; delivered = delivered; entry = Restarted }) before refl h
 few_more Quiet event delivered before configs air place all fact front h = few_stay place all (record { event = event; delivered = delivered; entry = Quiet }) before refl h
 few_more (Ignored why) event delivered before configs air place all fact front h = few_stay place all (record { event = event; delivered = delivered; entry = Ignored why }) before refl h
 few_more (Refused r) event delivered before configs air place all fact front h = few_stay place all (record { event = event; delivered = delivered; entry = Refused r }) before refl h

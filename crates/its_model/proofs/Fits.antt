@@ -4,33 +4,33 @@ use Rattle.std.proofs.Common.{subst, ◌∙◌, arith}
 use Rattle.std.specs.Prelude.{slice_get, nat_le}
 use Rattle.std.proofs.lemmas.Bool.Decides.{nat_tests}
 use Rattle.its_gnvalue.specs.Values.{Position, broadcast, mid_of}
-use Rattle.its_geometry.specs.Area.{area_holds}
-use Rattle.its_model.specs.Packet.{Body, Transmission, number_in, relay}
-use Rattle.its_model.specs.Packet.Body.{beacon, gbc, shb}
-use Rattle.its_model.specs.History.{Reception, remembered_count, is_among, is_remembered}
+use Rattle.its_geometry.specs.Area.{GeoArea, area_holds}
+use Rattle.its_model.specs.Packet.{Body, Message, Transmission, number_in, relay}
+use Rattle.its_model.specs.Packet.Body.{beacon, gac, gbc, shb}
+use Rattle.its_model.specs.History.{Reception, is_among, is_remembered}
 use Rattle.its_model.specs.Stations.{stations_at, is_full}
 use Rattle.its_model.specs.Decision.{Decision}
 use Rattle.its_model.specs.Decision.Decision.{Broadcast, Drop, To}
-use Rattle.its_model.specs.Calls.{OwnCall, Refusal, Why}
-use Rattle.its_model.specs.Calls.OwnCall.{Close, Move, Open, SendGbc, SendShb, Tick}
+use Rattle.its_model.specs.Calls.{GbcRequest, OwnCall, Refusal, Why}
+use Rattle.its_model.specs.Calls.OwnCall.{Close, Move, Open, Restart, SendGac, SendGbc, SendShb, Tick}
 use Rattle.its_model.specs.Calls.Why.{Duplicate, NotForMe, OwnSource, SenderMismatch}
 use Rattle.its_model.specs.Calls.Refusal.{HopLimitZero, TableFull}
 use Rattle.its_model.specs.Calls.Answer.{Accepted, Ignored, Quiet, Refused, Sent}
-use Rattle.its_model.specs.Station.{StationModel, Verdict, after_hearing, after_sending, beacon_of, first, gbc_of, handing, is_repeated, is_sender_wrong}
+use Rattle.its_model.specs.Station.{StationModel, Verdict, after_hearing, after_sending, area_refusal, beacon_of, first, gac_of, gbc_of, handed_inside, handing, is_repeated}
 use Rattle.its_model.specs.Station.{moment_refusal, or_else, own_refusal, own_step, own_step_by, performed, receive_step, receive_step_by, relayed, sent_on}
-use Rattle.its_model.specs.Station.{shb_of, verdict, is_for, decided, payload_refusal}
+use Rattle.its_model.specs.Station.{shb_of, verdict, is_for, is_sender_wrong, decided, passed_on, payload_refusal}
 use Rattle.its_model.specs.Station.Verdict.{Accept, Ignore, Refuse}
 use Rattle.its_model.specs.World.{Config, Event, LogLine, What, WorldModel, numbered, with_one_more}
 use Rattle.its_model.specs.World.What.{Calls, Deliver}
-use Rattle.its_model.specs.Log.{Origin, deeper, origins, place_of, position_at}
+use Rattle.its_model.specs.Log.{Origin, deeper, origins, place_of, position_at, receptions_at}
 use Rattle.its_model.proofs.Lists.{get_front, get_last}
-use Rattle.its_model.proofs.Sound.{IsPacketOf, IsSentBy, HandingFact, RelayFact, StationSound, FramesSound, Sound, GivenFits, FrameFits, Fits}
+use Rattle.its_model.proofs.Sound.{IsPacketOf, IsSentBy, InsideFact, HandingFact, RelayFact, StopFact, StationSound, FramesSound, Sound, GivenFits, FrameFits, Fits}
 
 -- a refusal
 pub refused_fits : (configs : List Config) (w : WorldModel) (e : Event) (what : What) (s : StationModel) (delivered : Option Transmission) (r : Refusal)
     → Fits configs w e what s delivered (record { answer = Refused r; station = s })
 refused_fits configs w e what s delivered r =
-    record { address = refl; source = λ h. h; place = refl; number = refl; history = refl; frame = tt; fact = tt }
+    record { address = refl; capacity = refl; remember = refl; source = λ h. h; place = refl; number = refl; history = refl; frame = tt; fact = tt }
 
 -- each origin so far came before
 placed_before : (configs : List Config) (air : List Transmission) (all : List Origin) (log : List LogLine) (k : ℕ) (u : Transmission) (p : Origin)
@@ -67,6 +67,10 @@ hops_tested false h = refl
 positive : (n : ℕ) → eqb n 0 ≡ false → 0 < n
 positive n h = grind (arith, nat_tests)
 
+-- a packet for an area whose request isn't refused has a hop
+has_hops : (s : StationModel) (r : GbcRequest) → area_refusal r ≡ None → 0 < r.max_hops
+has_hops s r ok = positive r.max_hops (hops_tested (eqb r.max_hops 0) (first_none (payload_refusal r.message) (cond (eqb r.max_hops 0) (Some HopLimitZero) None) ok))
+
 -- a tick, due or not
 tick_fits : (b : Bool) (configs : List Config) (w : WorldModel) (e : Event) (jitter : ℕ) (s : StationModel)
     → Sound configs w → StationSound configs w.log e.station s → e.what ≡ Calls (Tick jitter)
@@ -74,6 +78,8 @@ tick_fits : (b : Bool) (configs : List Config) (w : WorldModel) (e : Event) (jit
 tick_fits true configs w e jitter s h st is =
     record {
       address = refl;
+      capacity = refl;
+      remember = refl;
       source = λ h. h;
       place = refl;
       number = refl;
@@ -82,22 +88,24 @@ tick_fits true configs w e jitter s h st is =
       frame = own_given configs w e (Tick jitter) s (beacon_of s) h st refl (subst (λ (x : What). IsPacketOf x e.station w.log (beacon_of s).pdu) (sym is) refl) refl (omega arith);
     }
 tick_fits false configs w e jitter s h st is =
-    record { address = refl; source = λ h. h; place = refl; number = refl; history = refl; frame = tt; fact = tt }
+    record { address = refl; capacity = refl; remember = refl; source = λ h. h; place = refl; number = refl; history = refl; frame = tt; fact = tt }
 
 -- a call that isn't refused
 performed_fits : (call : OwnCall) (configs : List Config) (w : WorldModel) (e : Event) (s : StationModel)
     → Sound configs w → StationSound configs w.log e.station s → e.what ≡ Calls call → own_refusal s call ≡ None
     → Fits configs w e (Calls call) s None (performed s e.moment call)
 performed_fits (Move place accurate speed heading) configs w e s h st is ok =
-    record { address = refl; source = λ h. refl; place = refl; number = refl; history = refl; frame = tt; fact = tt }
+    record { address = refl; capacity = refl; remember = refl; source = λ h. refl; place = refl; number = refl; history = refl; frame = tt; fact = tt }
 performed_fits (Open port) configs w e s h st is ok =
-    record { address = refl; source = λ h. h; place = refl; number = refl; history = refl; frame = tt; fact = tt }
+    record { address = refl; capacity = refl; remember = refl; source = λ h. h; place = refl; number = refl; history = refl; frame = tt; fact = tt }
 performed_fits (Close port) configs w e s h st is ok =
-    record { address = refl; source = λ h. h; place = refl; number = refl; history = refl; frame = tt; fact = tt }
+    record { address = refl; capacity = refl; remember = refl; source = λ h. h; place = refl; number = refl; history = refl; frame = tt; fact = tt }
 performed_fits (Tick jitter) configs w e s h st is ok = tick_fits (nat_le (s.beacon_from + jitter) e.moment) configs w e jitter s h st is
 performed_fits (SendShb r) configs w e s h st is ok =
     record {
       address = refl;
+      capacity = refl;
+      remember = refl;
       source = λ h. h;
       place = refl;
       number = refl;
@@ -108,6 +116,8 @@ performed_fits (SendShb r) configs w e s h st is ok =
 performed_fits (SendGbc r) configs w e s h st is ok =
     record {
       address = refl;
+      capacity = refl;
+      remember = refl;
       source = λ h. h;
       place = refl;
       number = refl;
@@ -115,8 +125,24 @@ performed_fits (SendGbc r) configs w e s h st is ok =
       fact = (SendGbc r, is);
       frame = own_given configs w e (SendGbc r) s (gbc_of s e.moment r) h st refl
           (subst (λ (x : What). IsPacketOf x e.station w.log (gbc_of s e.moment r).pdu) (sym is) (ap (λ n. gbc n r.area r.message) st.number, refl))
-          refl (positive r.max_hops (hops_tested (eqb r.max_hops 0) (first_none (payload_refusal r.message) (cond (eqb r.max_hops 0) (Some HopLimitZero) None) ok)));
+          refl (has_hops s r ok);
     }
+performed_fits (SendGac r) configs w e s h st is ok =
+    record {
+      address = refl;
+      capacity = refl;
+      remember = refl;
+      source = λ h. h;
+      place = refl;
+      number = refl;
+      history = refl;
+      fact = (SendGac r, is);
+      frame = own_given configs w e (SendGac r) s (gac_of s e.moment r) h st refl
+          (subst (λ (x : What). IsPacketOf x e.station w.log (gac_of s e.moment r).pdu) (sym is) (ap (λ n. gac n r.area r.message) st.number, refl))
+          refl (has_hops s r ok);
+    }
+performed_fits (Restart number) configs w e s h st is ok =
+    record { address = refl; capacity = refl; remember = refl; source = λ h. h; place = refl; number = refl; history = refl; frame = tt; fact = tt }
 
 -- a call by its judgement
 own_fits_by : (o : Option Refusal) (call : OwnCall) (configs : List Config) (w : WorldModel) (e : Event) (s : StationModel)
@@ -156,43 +182,45 @@ duplicate_test None true false false false false h = cc
 
 -- what is accepted is of another source, and new
 accepted_tests : (s : StationModel) (moment : ℕ) (t : Transmission) → verdict s moment t ≡ Accept
-    → (eqb t.pdu.vector.address s.address ≡ false) × (is_repeated (number_in t.pdu.body) t.pdu.vector.address moment s.history ≡ false)
+    → (eqb t.pdu.vector.address s.address ≡ false) × (is_repeated s.remember (number_in t.pdu.body) t.pdu.vector.address moment s.history ≡ false)
 unfolding verdict
 accepted_tests s moment t h =
     accept_tests (moment_refusal s moment) (is_for s t) (eqb t.pdu.vector.address s.address)
-    (is_sender_wrong t t.pdu.body) (is_repeated (number_in t.pdu.body) t.pdu.vector.address moment s.history) (is_full s.capacity t.pdu.vector.address (stations_at remembered_count moment s.history)) h
+    (is_sender_wrong t t.pdu.body) (is_repeated s.remember (number_in t.pdu.body) t.pdu.vector.address moment s.history) (is_full s.capacity t.pdu.vector.address (stations_at s.remember moment s.history)) h
 
 -- the same of the verdict
 ignored_test : (s : StationModel) (moment : ℕ) (t : Transmission) → verdict s moment t ≡ Ignore Duplicate
-    → is_repeated (number_in t.pdu.body) t.pdu.vector.address moment s.history ≡ true
+    → is_repeated s.remember (number_in t.pdu.body) t.pdu.vector.address moment s.history ≡ true
 unfolding verdict
 ignored_test s moment t h =
     duplicate_test (moment_refusal s moment) (is_for s t) (eqb t.pdu.vector.address s.address)
-    (is_sender_wrong t t.pdu.body) (is_repeated (number_in t.pdu.body) t.pdu.vector.address moment s.history) (is_full s.capacity t.pdu.vector.address (stations_at remembered_count moment s.history)) h
+    (is_sender_wrong t t.pdu.body) (is_repeated s.remember (number_in t.pdu.body) t.pdu.vector.address moment s.history) (is_full s.capacity t.pdu.vector.address (stations_at s.remember moment s.history)) h
 
 -- what is repeated has a number that is remembered
-remembered_number : (o : Option ℕ) (source moment : ℕ) (history : List Reception) → is_repeated o source moment history ≡ true → (n : ℕ) × (o ≡ Some n) × (is_remembered remembered_count source n moment history ≡ true)
-remembered_number None source moment history h = cc
-remembered_number (Some n) source moment history h = (n, refl, h)
+remembered_number : (remember : ℕ) (o : Option ℕ) (source moment : ℕ) (history : List Reception) → is_repeated remember o source moment history ≡ true
+    → (n : ℕ) × (o ≡ Some n) × (is_remembered remember source n moment history ≡ true)
+remembered_number remember None source moment history h = cc
+remembered_number remember (Some n) source moment history h = (n, refl, h)
 
 -- a test that says that two numbers differ
 differ : (a b : ℕ) → eqb a b ≡ false → a ≢ b
 differ a b h = grind (arith, nat_tests)
 
--- what is handed out
-handing_fact : (s : StationModel) (body : Body) (place : Position) → s.vector.place ≡ place → HandingFact (handing s body) body place
-handing_fact s beacon place h = tt
-handing_fact s (shb media m) place h = single (is_among m.port s.ports)
+-- what is handed out of a packet for an area
+inside_fact : (s : StationModel) (area : GeoArea) (m : Message) (place : Position) → s.vector.place ≡ place → InsideFact (handed_inside s area m) area m place
+inside_fact s area m place h = wide (is_among m.port s.ports) (area_holds area s.vector.place) (ap (area_holds area) h)
   where
-    single : (b : Bool) → HandingFact (cond b (Some m) None) (shb media m) place
-    single true = tt
-    single false = tt
-handing_fact s (gbc number area m) place h = wide (is_among m.port s.ports) (area_holds area s.vector.place) (ap (area_holds area) h)
-  where
-    wide : (a b : Bool) → b ≡ area_holds area place → HandingFact (cond (a && b) (Some m) None) (gbc number area m) place
+    wide : (a b : Bool) → b ≡ area_holds area place → InsideFact (cond (a && b) (Some m) None) area m place
     wide true true e = (refl, sym e)
     wide true false e = tt
     wide false b e = tt
+
+-- what is handed out
+handing_fact : (s : StationModel) (body : Body) (place : Position) → s.vector.place ≡ place → HandingFact (handing s body) body place
+handing_fact s beacon place h = tt
+handing_fact s (shb media m) place h = tt
+handing_fact s (gbc number area m) place h = inside_fact s area m place h
+handing_fact s (gac number area m) place h = inside_fact s area m place h
 
 -- what is sent on
 abbrev IsSentOn : StationModel → Transmission → Option Transmission → Type 0
@@ -209,15 +237,32 @@ sent_on_is s t Drop h = tt
 at_least_two : (n : ℕ) → nat_le 2 n ≡ true → 2 ≤ n
 at_least_two n h = grind (arith, nat_tests)
 
--- what is relayed of a packet
-relayed_is : (s : StationModel) (moment : ℕ) (t : Transmission) (body : Body) → IsSentOn s t (relayed s moment t body)
-relayed_is s moment t beacon = tt
-relayed_is s moment t (shb media m) = tt
-relayed_is s moment t (gbc number area m) = if_more (nat_le 2 t.hops_left) refl
+-- what is passed on of a packet for an area
+passed_on_is : (s : StationModel) (moment : ℕ) (t : Transmission) (area : GeoArea) → IsSentOn s t (passed_on s moment t area)
+passed_on_is s moment t area = if_more (nat_le 2 t.hops_left) refl
   where
     if_more : (b : Bool) → nat_le 2 t.hops_left ≡ b → IsSentOn s t (cond b (sent_on s t (decided s moment area (Some t.link_source))) None)
     if_more true e = sent_on_is s t (decided s moment area (Some t.link_source)) (at_least_two t.hops_left e)
     if_more false e = tt
+
+-- what is relayed of a packet
+relayed_is : (s : StationModel) (moment : ℕ) (t : Transmission) (body : Body) → IsSentOn s t (relayed s moment t body)
+relayed_is s moment t beacon = tt
+relayed_is s moment t (shb media m) = tt
+relayed_is s moment t (gbc number area m) = passed_on_is s moment t area
+relayed_is s moment t (gac number area m) = unless_inside (area_holds area s.vector.place)
+  where
+    unless_inside : (b : Bool) → IsSentOn s t (cond b None (passed_on s moment t area))
+    unless_inside true = tt
+    unless_inside false = passed_on_is s moment t area
+
+-- nothing is relayed of a geoanycast inside its area
+stop_fact : (s : StationModel) (moment n : ℕ) (t : Transmission) (body : Body) (place : Position) → s.vector.place ≡ place → StopFact (numbered n (relayed s moment t body)) body place
+stop_fact s moment n t beacon place h = tt
+stop_fact s moment n t (shb media m) place h = tt
+stop_fact s moment n t (gbc number area m) place h = tt
+stop_fact s moment n t (gac number area m) place h =
+    λ inside. ap (λ b. numbered n (cond b None (passed_on s moment t area))) (ap (area_holds area) h ∙ inside)
 
 -- a frame that was there is there with one more
 get_one_more : (air : List Transmission) (g : Option Transmission) (k : ℕ) (t : Transmission) → slice_get air k ≡ Some t → slice_get (with_one_more air g) k ≡ Some t
@@ -249,30 +294,46 @@ relay_given (Some u) configs w e k s t h atk g =
 ignored_fits : (why : Why) (configs : List Config) (w : WorldModel) (e : Event) (k : ℕ) (s : StationModel) (t : Transmission)
     → StationSound configs w.log e.station s → slice_get w.air k ≡ Some t → e.what ≡ Deliver k → verdict s e.moment t ≡ Ignore why
     → Fits configs w e (Deliver k) s (Some t) (record { answer = Ignored why; station = record s { clock = e.moment } })
-ignored_fits NotForMe configs w e k s t st atk is v = record { address = refl; source = λ h. h; place = refl; number = refl; history = refl; frame = tt; fact = tt }
-ignored_fits OwnSource configs w e k s t st atk is v = record { address = refl; source = λ h. h; place = refl; number = refl; history = refl; frame = tt; fact = tt }
-ignored_fits SenderMismatch configs w e k s t st atk is v = record { address = refl; source = λ h. h; place = refl; number = refl; history = refl; frame = tt; fact = tt }
+ignored_fits NotForMe configs w e k s t st atk is v = record { address = refl; capacity = refl; remember = refl; source = λ h. h; place = refl; number = refl; history = refl; frame = tt; fact = tt }
+ignored_fits OwnSource configs w e k s t st atk is v = record { address = refl; capacity = refl; remember = refl; source = λ h. h; place = refl; number = refl; history = refl; frame = tt; fact = tt }
+ignored_fits SenderMismatch configs w e k s t st atk is v = record { address = refl; capacity = refl; remember = refl; source = λ h. h; place = refl; number = refl; history = refl; frame = tt; fact = tt }
 ignored_fits Duplicate configs w e k s t st atk is v =
-    let r = remembered_number (number_in t.pdu.body) t.pdu.vector.address e.moment s.history (ignored_test s e.moment t v) in
+    let r = remembered_number s.remember (number_in t.pdu.body) t.pdu.vector.address e.moment s.history (ignored_test s e.moment t v) in
     record {
       address = refl;
+      capacity = refl;
+      remember = refl;
       source = λ h. h;
       place = refl;
       number = refl;
       history = refl;
       frame = tt;
-      fact = record { frame = k; packet = t; number = r.0; what = is; in_air = atk; number_is = r.1; remembered = ap (is_remembered remembered_count t.pdu.vector.address r.0 e.moment) (sym st.history) ∙ r.2 };
+      fact = record {
+        frame = k;
+        packet = t;
+        number = r.0;
+        config = st.config;
+        what = is;
+        receiver = st.is_config;
+        in_air = atk;
+        number_is = r.1;
+        remembered = ap (λ n. is_remembered n t.pdu.vector.address r.0 e.moment (receptions_at e.station w.log)) (sym st.remember)
+            ∙ ap (is_remembered s.remember t.pdu.vector.address r.0 e.moment) (sym st.history) ∙ r.2;
+      };
     }
 
 -- a frame that is accepted
 accepted_fits : (g : Option Transmission) (configs : List Config) (w : WorldModel) (e : Event) (k : ℕ) (s : StationModel) (t : Transmission)
-    → Sound configs w → StationSound configs w.log e.station s → slice_get w.air k ≡ Some t → e.what ≡ Deliver k → verdict s e.moment t ≡ Accept → IsSentOn s t g
+    → Sound configs w → (st : StationSound configs w.log e.station s) → slice_get w.air k ≡ Some t → e.what ≡ Deliver k → verdict s e.moment t ≡ Accept → IsSentOn s t g
+    → StopFact (numbered (length w.air) g) t.pdu.body (position_at st.config.place e.station w.log)
     → Fits configs w e (Deliver k) s (Some t) (record { answer = Accepted (handing s t.pdu.body) g; station = after_hearing s e.moment t })
-accepted_fits g configs w e k s t h st atk is v on =
+accepted_fits g configs w e k s t h st atk is v on stop =
     let f = h.frames.each k t atk in
     let tests = accepted_tests s e.moment t v in
     record {
       address = refl;
+      capacity = refl;
+      remember = refl;
       source = λ h. h;
       place = refl;
       number = refl;
@@ -290,9 +351,11 @@ accepted_fits g configs w e k s t h st atk is v on =
         came_from = f.is;
         sent_by = f.sent_by;
         foreign = λ same. differ t.pdu.vector.address s.address tests.0 (same ∙ sym st.address);
-        is_new = ap (is_repeated (number_in t.pdu.body) t.pdu.vector.address e.moment) (sym st.history) ∙ tests.1;
+        is_new = ap (λ n. is_repeated n (number_in t.pdu.body) t.pdu.vector.address e.moment (receptions_at e.station w.log)) (sym st.remember)
+            ∙ ap (is_repeated s.remember (number_in t.pdu.body) t.pdu.vector.address e.moment) (sym st.history) ∙ tests.1;
         handing = handing_fact s t.pdu.body (position_at st.config.place e.station w.log) st.place;
         relayed = relay_fact g w.air s st.config t st.address on;
+        stops = stop;
       };
     }
 
@@ -304,6 +367,7 @@ receive_fits_by (Refuse r) configs w e k s t h st atk is v = refused_fits config
 receive_fits_by (Ignore why) configs w e k s t h st atk is v = ignored_fits why configs w e k s t st atk is v
 receive_fits_by Accept configs w e k s t h st atk is v =
     accepted_fits (relayed (after_hearing s e.moment t) e.moment t t.pdu.body) configs w e k s t h st atk is v (relayed_is (after_hearing s e.moment t) e.moment t t.pdu.body)
+    (stop_fact (after_hearing s e.moment t) e.moment (length w.air) t t.pdu.body (position_at st.config.place e.station w.log) st.place)
 
 -- a frame
 pub receive_fits : (configs : List Config) (w : WorldModel) (e : Event) (k : ℕ) (s : StationModel) (t : Transmission)

@@ -1,22 +1,20 @@
 -- Each event keeps a world sound.
-use Rattle.std.proofs.Common.{◌≡◌, ◌≢◌, ◌⊎◌, ℕ, suc, ◌+◌, ◌%◌, List, [], ◌∷◌, ◌++◌, length, Option, Some, None, Bool, true, false, cond, eqb, ◌&&◌, refl, sym}
+use Rattle.std.proofs.Common.{◌≡◌, ◌≢◌, ◌⊎◌, ℕ, suc, ◌+◌, List, [], ◌∷◌, ◌++◌, length, Option, Some, None, Bool, true, false, cond, eqb, ◌&&◌, refl, sym}
 use Rattle.std.proofs.Common.{ap, subst, ◌∙◌, inl, inr, arith}
 use Rattle.std.specs.Prelude.{slice_get}
-use Rattle.std.specs.List.{count_by}
-use Rattle.std.proofs.Math.Nat.{mod-add-mod}
 use Rattle.its_gnvalue.specs.Values.{Position}
 use Rattle.its_model.specs.Packet.{Transmission}
 use Rattle.its_model.specs.History.{Reception}
 use Rattle.its_model.specs.Calls.{Answer, Refusal}
 use Rattle.its_model.specs.Calls.Why.{Duplicate, NotForMe, OwnSource, SenderMismatch}
-use Rattle.its_model.specs.Calls.Answer.{Accepted, Closed, Ignored, Moved, Opened, Quiet, Refused, Sent}
+use Rattle.its_model.specs.Calls.Answer.{Accepted, Closed, Ignored, Moved, Opened, Quiet, Refused, Restarted, Sent}
 use Rattle.its_model.specs.Station.{StationModel, Step}
 use Rattle.its_model.specs.World.{Config, Event, LogLine, WorldModel, answered, entry_of, frame_of, numbered, passed_over, with_one_more}
-use Rattle.its_model.specs.Log.{Origin, heard_at, heard_in, is_gbc_of, is_gbc_sent, moved_by, origin_by, origins, place_of, position_after, position_at}
-use Rattle.its_model.specs.Log.{receptions_at, with_origin}
+use Rattle.its_model.specs.Log.{Origin, heard_at, heard_in, moved_by, next_number_after, renumbered_by, origin_by, origins, place_of, position_after}
+use Rattle.its_model.specs.Log.{position_at, sequence_number_at, receptions_at, with_origin}
 use Rattle.its_model.proofs.Lists.{get_front, get_last, get_snoc, get_within, length_more, length_set, get_set}
-use Rattle.its_model.proofs.NumberTests.{eqb_same, eqb_other, and_false, same_either, count_cons, count_no}
-use Rattle.its_model.proofs.Sound.{IsSentBy, RelayFact, LineFact, EachLine, StationSound, FramesSound, NamedBy, Sound, number_after, GivenFits, FrameFits, Fits}
+use Rattle.its_model.proofs.NumberTests.{eqb_same, eqb_other, same_either}
+use Rattle.its_model.proofs.Sound.{IsSentBy, RelayFact, LineFact, EachLine, StationSound, FramesSound, NamedBy, Sound, GivenFits, FrameFits, Fits}
 
 -- a relayed frame that was there is there when there are more
 relay_more : (given : Option ℕ) (configs : List Config) (air more : List Transmission) (config : Config) (t : Transmission) → RelayFact given air config t → RelayFact given (air ++ more) config t
@@ -29,13 +27,24 @@ fact_more : (entry : Answer ℕ) (configs : List Config) (air more : List Transm
 fact_more Moved configs air more e d before h = h
 fact_more Opened configs air more e d before h = h
 fact_more Closed configs air more e d before h = h
+fact_more Restarted configs air more e d before h = h
 fact_more Quiet configs air more e d before h = h
 fact_more (Sent k) configs air more e d before h = h
 fact_more (Ignored NotForMe) configs air more e d before h = h
 fact_more (Ignored OwnSource) configs air more e d before h = h
 fact_more (Ignored SenderMismatch) configs air more e d before h = h
 fact_more (Ignored Duplicate) configs air more e d before h =
-    record { frame = h.frame; packet = h.packet; number = h.number; what = h.what; in_air = get_front air more _ _ h.in_air; number_is = h.number_is; remembered = h.remembered }
+    record {
+      frame = h.frame;
+      packet = h.packet;
+      number = h.number;
+      config = h.config;
+      what = h.what;
+      receiver = h.receiver;
+      in_air = get_front air more _ _ h.in_air;
+      number_is = h.number_is;
+      remembered = h.remembered;
+    }
 fact_more (Refused r) configs air more e d before h = h
 fact_more (Accepted handed given) configs air more e d before h =
     record {
@@ -53,6 +62,7 @@ fact_more (Accepted handed given) configs air more e d before h =
       is_new = h.is_new;
       handing = h.handing;
       relayed = relay_more given configs air more h.config h.packet h.relayed;
+      stops = h.stops;
     }
 
 -- the same of all lines
@@ -72,23 +82,20 @@ sent_later configs log line t o h =
 
 -- A station that an event doesn't concern, or that refused it.
 pub elsewhere : (configs : List Config) (log : List LogLine) (line : LogLine) (j : ℕ) (s : StationModel)
-    → ((old : Position) → position_after j line old ≡ old) → is_gbc_of j line ≡ false → ((older : List Reception) → heard_at j line older ≡ older)
+    → ((old : Position) → position_after j line old ≡ old) → ((old : ℕ) → next_number_after j line old ≡ old) → ((older : List Reception) → heard_at j line older ≡ older)
     → StationSound configs log j s → StationSound configs (line ∷ log) j s
 elsewhere configs log line j s stays silent deaf h =
     record {
       config = h.config;
       is_config = h.is_config;
       address = h.address;
+      capacity = h.capacity;
+      remember = h.remember;
       source = h.source;
       place = h.place ∙ sym (stays (position_at h.config.place j log));
-      number = h.number ∙ ap (λ n. n % 65536) (sym (count_no (is_gbc_of j) line log silent));
+      number = h.number ∙ sym (silent (sequence_number_at j log));
       history = h.history ∙ sym (deaf (receptions_at j log));
     }
-
--- the event's own station
-number_more : (b : Bool) (n : ℕ) → number_after b (n % 65536) ≡ (cond b 1 0 + n) % 65536
-number_more true n = mod-add-mod n 65536 1 ∙ ap (λ m. m % 65536) (omega arith)
-number_more false n = ap (λ m. m % 65536) (omega arith)
 
 -- the station of the event is as its log says
 here : (configs : List Config) (w : WorldModel) (e : Event) (s : StationModel) (delivered : Option Transmission) (step : Step)
@@ -100,12 +107,13 @@ here configs w e s delivered step f h =
       config = h.config;
       is_config = h.is_config;
       address = f.address ∙ h.address;
+      capacity = f.capacity ∙ h.capacity;
+      remember = f.remember ∙ h.remember;
       source = f.source (h.source ∙ sym h.address) ∙ h.address;
       place = f.place ∙ ap (λ p. moved_by entry e.what p) h.place
           ∙ ap (λ b. cond b (moved_by entry e.what (position_at h.config.place e.station w.log)) (position_at h.config.place e.station w.log)) (sym (eqb_same e.station));
-      number = f.number ∙ ap (number_after (is_gbc_sent entry e.what)) h.number ∙ number_more (is_gbc_sent entry e.what) (count_by (is_gbc_of e.station) w.log)
-          ∙ ap (λ b. (cond (b && is_gbc_sent entry e.what) 1 0 + count_by (is_gbc_of e.station) w.log) % 65536) (sym (eqb_same e.station))
-          ∙ ap (λ n. n % 65536) (sym (count_cons (is_gbc_of e.station) (record { event = e; delivered = delivered; entry = entry }) w.log));
+      number = f.number ∙ ap (λ n. renumbered_by entry e.what n) h.number
+          ∙ ap (λ b. cond b (renumbered_by entry e.what (sequence_number_at e.station w.log)) (sequence_number_at e.station w.log)) (sym (eqb_same e.station));
       history = f.history ∙ ap (λ older. heard_in entry delivered e.moment older) h.history
           ∙ ap (λ b. cond b (heard_in entry delivered e.moment (receptions_at e.station w.log)) (receptions_at e.station w.log)) (sym (eqb_same e.station));
     }
@@ -116,7 +124,7 @@ away configs log line j s off h =
     let no = eqb_other j line.event.station off in
     elsewhere configs log line j s
     (λ old. ap (λ b. cond b (moved_by line.entry line.event.what old) old) no)
-    (ap (λ b. b && is_gbc_sent line.entry line.event.what) no)
+    (λ old. ap (λ b. cond b (renumbered_by line.entry line.event.what old) old) no)
     (λ older. ap (λ b. cond b (heard_in line.entry line.delivered line.event.moment older) older) no)
     h
 
@@ -125,6 +133,7 @@ frame_numbered : (n : ℕ) (a : Answer Transmission) → frame_of (entry_of n a)
 frame_numbered n Moved = refl
 frame_numbered n Opened = refl
 frame_numbered n Closed = refl
+frame_numbered n Restarted = refl
 frame_numbered n Quiet = refl
 frame_numbered n (Sent t) = refl
 frame_numbered n (Ignored why) = refl
@@ -223,7 +232,7 @@ passed_keeps configs w e r h =
     let line : LogLine = record { event = e; delivered = None; entry = Refused r } in
     record {
       count = h.count;
-      each = λ j x at. elsewhere configs w.log line j x (λ old. sym (same_either (eqb e.station j) old)) (and_false (eqb e.station j)) (λ older. sym (same_either (eqb e.station j) older)) (h.each j x at);
+      each = λ j x at. elsewhere configs w.log line j x (λ old. sym (same_either (eqb e.station j) old)) (λ old. sym (same_either (eqb e.station j) old)) (λ older. sym (same_either (eqb e.station j) older)) (h.each j x at);
       frames = frames_stay configs w.air (origins w.log) w.log line h.frames;
       lines = (tt, h.lines);
       names = (tt, h.names);

@@ -19,8 +19,12 @@ pub mod Nearest
 pub mod Isolated
 pub mod Givers
 pub mod Steps
+pub mod Longer
 mod Scenes
 mod RowsOfRelaying
 mod RowsOfForgetting
 mod RowsOfForwarding
 mod RowsOfOwnCalls
+mod RowsOfRestarting
+mod RowsOfAnycast
+mod RowsOfRemembering

@@ -4,14 +4,14 @@ use Rattle.std.specs.Prelude.{pos, negsuc}
 use Rattle.its_gnvalue.specs.Values.{Position, broadcast}
 use Rattle.its_geometry.specs.Area.{GeoArea, area_holds}
 use Rattle.its_geometry.specs.Offsets.{squared_distance}
-use Rattle.its_model.specs.History.{Reception, remembered_count, known}
+use Rattle.its_model.specs.History.{Reception, known}
 use Rattle.its_model.specs.Stations.{stations_at}
 use Rattle.its_model.specs.Decision.{Decision, decision}
 use Rattle.its_model.specs.Decision.Decision.{Broadcast, To, Drop}
 use Rattle.its_model.specs.Calls.{GbcRequest}
 use Rattle.its_model.specs.Calls.OwnCall.{SendGbc}
 use Rattle.its_model.specs.Station.{verdict, own_step, receive_step}
-use Rattle.its_model.specs.World.{Config}
+use Rattle.its_model.specs.World.{Config, default_remember}
 use Rattle.its_model.specs.World.What.{Calls, Deliver}
 use Rattle.its_model.proofs.Scenes.{place, mac, address, station, here, circle, request, tick, by, after, targets}
 
@@ -60,7 +60,7 @@ says source where_it_is accurate number =
 
 -- what is decided at moment 1000, by these packets
 abbrev decided_by : List Reception → Position → GeoArea → Option ℕ → Decision
-decided_by history own area sender = decision (stations_at remembered_count 1000 history) own area sender
+decided_by history own area sender = decision (stations_at default_remember 1000 history) own area sender
 
 -- Of two live sources with the sender's MAC the one of least address is asked where it is; neither is a neighbour.
 sender_by_least_address : decided_by (says (address 1) here true (Some 0) ∷ says (mac 1) here false (Some 0) ∷ [])

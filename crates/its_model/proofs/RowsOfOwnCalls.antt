@@ -1,20 +1,23 @@
 -- A station's own calls: small worlds, evaluated.
-use Rattle.std.proofs.Common.{◌≡◌, ℕ, ◌+◌, ◌^◌, List, [], ◌∷◌, map, Option, zero, suc, replicate, Some, None, refl}
+use Rattle.std.proofs.Common.{◌≡◌, ℕ, ◌+◌, ◌^◌, List, [], ◌∷◌, map, Option, zero, suc, replicate, Some, None, true, false, refl}
+use Rattle.std.specs.Prelude.{pos}
+use Rattle.its_gnvalue.specs.Values.{broadcast}
 use Rattle.its_geometry.specs.Area.{area_holds}
 use Rattle.its_geometry.specs.Offsets.{squared_distance}
 use Rattle.its_model.specs.History.{known}
 use Rattle.its_model.specs.Stations.{stations_at}
 use Rattle.its_model.specs.Decision.{decision}
-use Rattle.its_model.specs.Packet.{Transmission, number_in}
+use Rattle.its_model.specs.Packet.{Body, Pdu, Transmission, number_in}
+use Rattle.its_model.specs.Packet.Body.{beacon, shb}
 use Rattle.its_model.specs.Calls.{GbcRequest}
-use Rattle.its_model.specs.Calls.OwnCall.{Open, Close, Tick, SendGbc}
+use Rattle.its_model.specs.Calls.OwnCall.{Move, Open, Close, Tick, SendShb, SendGbc}
 use Rattle.its_model.specs.Calls.Answer.{Opened, Closed, Quiet, Sent, Accepted, Refused}
 use Rattle.its_model.specs.Calls.Refusal.{MomentEarlier, MomentTooLate, JitterRange, AlreadyOpen, PortsFull, NotOpen, PayloadTooLong, HopLimitZero}
 use Rattle.its_model.specs.Calls.Refusal.{NoSuchStation, NoSuchFrame}
 use Rattle.its_model.specs.Calls.Call.{Own}
 use Rattle.its_model.specs.Station.{StationModel, new_station, verdict, own_step, receive_step, station_step}
 use Rattle.its_model.specs.World.What.{Calls, Deliver}
-use Rattle.its_model.proofs.Scenes.{address, here, three, hi, request, gbc_with_hops, gbc_hi, open_port, tick, by, after, at, Happens}
+use Rattle.its_model.proofs.Scenes.{mac, address, here, three, hi, request, gbc_with_hops, gbc_hi, open_port, tick, by, after, at, Happens}
 
 abbrev numbers_on_the_air : List Transmission → List (Option ℕ)
 numbers_on_the_air air = map (λ t. number_in t.pdu.body) air
@@ -43,9 +46,44 @@ first_number : numbers_on_the_air (after three (
 unfolding own_step receive_step verdict known stations_at decision area_holds squared_distance
 first_number = refl
 
+-- a request that is too long and has no hops is refused as too long, and one of 1394 octets is taken
+too_long_before_no_hops : Happens three (
+    at 0 1000 (Calls (SendGbc (record too_long { max_hops = 0 }))) (Refused PayloadTooLong)
+    ∷ at 0 1000 (Calls (SendGbc (record request { message = record hi { payload = replicate 1394 0 } }))) (Sent 0)
+    ∷ [])
+unfolding own_step receive_step verdict known stations_at decision area_holds squared_distance
+too_long_before_no_hops = refl
+
+-- a move takes its moment modulo 2^32
+timestamp_of_a_move : (station_step (new_station (address 1) here 64 8) (2 ^ 32 + 5) (Own (Move here true (pos 0) 0))).station.vector.timestamp ≡ 5
+unfolding own_step
+timestamp_of_a_move = refl
+
+-- what a beacon and a single-hop broadcast carry
+abbrev pdu_of : Body → Pdu
+pdu_of body =
+    record {
+      vector = record { address = address 1; timestamp = 0; place = here; accurate = false; speed = pos 0; heading = 0 };
+      lifetime = 26;
+      class = 0;
+      mobile = true;
+      max_hops = 1;
+      body = body;
+    }
+
+beacon_on_the_air : (after three (by 0 0 tick ∷ [])).air
+    ≡ record { pdu = pdu_of beacon; hops_left = 1; link_source = mac 1; link_target = broadcast } ∷ []
+unfolding own_step
+beacon_on_the_air = refl
+
+single_hop_on_the_air : (after three (by 0 0 (Calls (SendShb (record { class = 0; message = hi }))) ∷ [])).air
+    ≡ record { pdu = pdu_of (shb (0 ∷ 0 ∷ 0 ∷ 0 ∷ []) hi); hops_left = 1; link_source = mac 1; link_target = broadcast } ∷ []
+unfolding own_step
+single_hop_on_the_air = refl
+
 -- numbers go up to 65535, and from there to 0
 abbrev at_the_last_number : StationModel
-at_the_last_number = record (new_station (address 1) here 64) { next_number = 65535 }
+at_the_last_number = record (new_station (address 1) here 64 8) { next_number = 65535 }
 
 after_the_last_number_comes_the_first : (station_step at_the_last_number 0 (Own (SendGbc request))).station.next_number ≡ 0
 unfolding own_step receive_step verdict known stations_at decision area_holds squared_distance
@@ -97,7 +135,7 @@ ports_open_and_close_once = refl
 
 -- with 64 ports open, one of them is refused as open, and another for want of room
 abbrev with_ports : List ℕ → StationModel
-with_ports ports = record (new_station (address 1) here 64) { ports = ports }
+with_ports ports = record (new_station (address 1) here 64 8) { ports = ports }
 
 abbrev ports_to : ℕ → List ℕ
 ports_to zero = []

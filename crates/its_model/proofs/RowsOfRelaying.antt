@@ -9,11 +9,12 @@ use Rattle.its_model.specs.Stations.{stations_at}
 use Rattle.its_model.specs.Decision.{decision}
 use Rattle.its_model.specs.Packet.{Transmission}
 use Rattle.its_model.specs.Packet.Body.{gbc}
+use Rattle.its_model.specs.Calls.{Answer}
 use Rattle.its_model.specs.Calls.OwnCall.{SendShb}
 use Rattle.its_model.specs.Calls.Answer.{Moved, Opened, Sent, Ignored, Accepted}
-use Rattle.its_model.specs.Calls.Why.{OwnSource, SenderMismatch, Duplicate}
+use Rattle.its_model.specs.Calls.Why.{NotForMe, OwnSource, SenderMismatch, Duplicate}
 use Rattle.its_model.specs.Calls.Call.{Receive}
-use Rattle.its_model.specs.Station.{StationModel, new_station, verdict, beacon_of, own_step, receive_step, station_step}
+use Rattle.its_model.specs.Station.{StationModel, new_station, verdict, beacon_of, shb_of, own_step, receive_step, station_step}
 use Rattle.its_model.specs.World.What.{Calls, Deliver}
 use Rattle.its_model.proofs.Scenes.{place, mac, address, here, three, second_far, hi, circle, gbc_with_hops, gbc_hi, open_port, move, by, after, at, Happens}
 
@@ -122,14 +123,40 @@ single_hop_is_handed_out_each_time : Happens three (
 unfolding own_step receive_step verdict known stations_at decision area_holds squared_distance
 single_hop_is_handed_out_each_time = refl
 
--- a beacon that comes from another link address than its source's
+-- ---- which frames are ignored, and in which order that is judged
+
 abbrev first_station : StationModel
-first_station = new_station (address 1) here 64
+first_station = new_station (address 1) here 64 8
 
 abbrev second_station : StationModel
-second_station = new_station (address 2) (place (pos 449) (pos 0)) 64
+second_station = new_station (address 2) (place (pos 449) (pos 0)) 64 8
 
-beacon_of_another_sender : (station_step second_station 0 (Receive (record (beacon_of first_station) { link_source = mac 3 }))).answer
-    ≡ Ignored SenderMismatch
+-- what the second station answers to a frame
+abbrev answer_to : Transmission → Answer Transmission
+answer_to t = (station_step second_station 0 (Receive t)).answer
+
+to_another_station : answer_to (record (beacon_of first_station) { link_target = mac 3 }) ≡ Ignored NotForMe
+unfolding own_step receive_step verdict known stations_at decision area_holds squared_distance
+to_another_station = refl
+
+to_the_station_itself : answer_to (record (beacon_of first_station) { link_target = mac 2 }) ≡ Accepted None None
+unfolding own_step receive_step verdict known stations_at decision area_holds squared_distance
+to_the_station_itself = refl
+
+-- its own packet, to another station, from another sender
+not_for_me_before_own_source : answer_to (record (beacon_of second_station) { link_target = mac 3; link_source = mac 3 }) ≡ Ignored NotForMe
+unfolding own_step receive_step verdict known stations_at decision area_holds squared_distance
+not_for_me_before_own_source = refl
+
+own_source_before_sender_mismatch : answer_to (record (beacon_of second_station) { link_source = mac 3 }) ≡ Ignored OwnSource
+unfolding own_step receive_step verdict known stations_at decision area_holds squared_distance
+own_source_before_sender_mismatch = refl
+
+single_hop_of_another_sender : answer_to (record (shb_of first_station (record { class = 0; message = hi })) { link_source = mac 3 }) ≡ Ignored SenderMismatch
+unfolding own_step receive_step verdict known stations_at decision area_holds squared_distance
+single_hop_of_another_sender = refl
+
+-- a beacon that comes from another link address than its source's
+beacon_of_another_sender : answer_to (record (beacon_of first_station) { link_source = mac 3 }) ≡ Ignored SenderMismatch
 unfolding own_step receive_step verdict known stations_at decision area_holds squared_distance
 beacon_of_another_sender = refl

@@ -6,8 +6,8 @@ use Rattle.its_geometry.specs.Area.{GeoArea}
 use Rattle.its_geometry.specs.declared.area.Shape.TheVariants.{Circle}
 use Rattle.its_model.specs.Packet.{Message}
 use Rattle.its_model.specs.Calls.{GbcRequest, Answer}
-use Rattle.its_model.specs.Calls.OwnCall.{Open, Move, Tick, SendGbc}
-use Rattle.its_model.specs.World.{What, Event, WorldModel, Config, opening, world_run, entries}
+use Rattle.its_model.specs.Calls.OwnCall.{Open, Move, Tick, SendGbc, SendGac, Restart}
+use Rattle.its_model.specs.World.{What, Event, WorldModel, Config, default_remember, opening, world_run, entries}
 use Rattle.its_model.specs.World.What.{Calls}
 
 -- in tenths of a microdegree
@@ -24,7 +24,7 @@ address n = 5120 * 2 ^ 48 + mac n
 
 -- a config
 abbrev pub station : ℕ → Position → ℕ → Config
-station n where_it_is capacity = record { address = address n; place = where_it_is; capacity = capacity }
+station n where_it_is capacity = record { address = address n; place = where_it_is; capacity = capacity; remember = default_remember }
 
 -- the place (0, 0)
 abbrev pub here : Position
@@ -57,6 +57,14 @@ gbc_with_hops hops = Calls (SendGbc (record request { max_hops = hops }))
 -- a call for it
 abbrev pub gbc_hi : What
 gbc_hi = Calls (SendGbc request)
+
+-- a geoanycast of the same
+abbrev pub gac_hi : What
+gac_hi = Calls (SendGac request)
+
+-- a restart, from this number on
+abbrev pub restart : ℕ → What
+restart number = Calls (Restart number)
 
 -- a call to open its port
 abbrev pub open_port : What

@@ -1,23 +1,29 @@
 -- What holds of a world after every run.
-use Rattle.std.proofs.Common.{◌≡◌, ◌≢◌, ℕ, ◌+◌, ◌%◌, ◌<◌, ◌≤◌, List, [], ◌∷◌, length, Option, Some, None, Bool, true, false}
+use Rattle.std.proofs.Common.{◌≡◌, ◌≢◌, ℕ, ◌+◌, ◌<◌, ◌≤◌, List, [], ◌∷◌, length, Option, Some, None, true, false}
 use Rattle.std.specs.Prelude.{slice_get}
 use Rattle.its_gnvalue.specs.Values.{Position, mid_of}
-use Rattle.its_geometry.specs.Area.{area_holds}
-use Rattle.its_model.specs.Packet.{Body, Message, Pdu, Transmission, number_in, relay}
-use Rattle.its_model.specs.Packet.Body.{gbc}
-use Rattle.its_model.specs.History.{remembered_count, is_remembered}
-use Rattle.its_model.specs.Calls.{Answer, OwnCall}
-use Rattle.its_model.specs.Calls.OwnCall.{SendGbc}
+use Rattle.its_geometry.specs.Area.{GeoArea, area_holds}
+use Rattle.its_model.specs.Packet.{Body, Message, Pdu, Transmission, AreaKind, number_in, relay, area_body}
+use Rattle.its_model.specs.Packet.Body.{gbc, gac}
+use Rattle.its_model.specs.Packet.AreaKind.{geobroadcast, geoanycast}
+use Rattle.its_model.specs.History.{is_remembered}
+use Rattle.its_model.specs.Calls.{Answer, GbcRequest, OwnCall}
+use Rattle.its_model.specs.Calls.OwnCall.{SendGbc, SendGac}
 use Rattle.its_model.specs.Calls.Why.{Duplicate}
 use Rattle.its_model.specs.Calls.Answer.{Accepted, Ignored, Sent}
 use Rattle.its_model.specs.Station.{StationModel, Step, is_repeated}
 use Rattle.its_model.specs.World.{Config, Event, LogLine, What, WorldModel, entry_of, frame_of, with_one_more}
 use Rattle.its_model.specs.World.What.{Calls, Deliver}
-use Rattle.its_model.specs.Log.{Origin, heard_in, is_gbc_sent, moved_by, origin_by, origins, place_of, position_at, receptions_at, sequence_number_at}
+use Rattle.its_model.specs.Log.{Origin, heard_in, moved_by, renumbered_by, origin_by, origins, place_of, position_at, receptions_at, sequence_number_at}
+
+-- the packet is what the request asks for, from there
+abbrev pub IsAreaPacket : AreaKind → GbcRequest → ℕ → List LogLine → Pdu → Type 0
+IsAreaPacket kind r station before p = (p.body ≡ area_body kind (sequence_number_at station before) r.area r.message) × (p.max_hops ≡ r.max_hops)
 
 -- the packet is what the call sends from there
 abbrev pub IsPacketOf : What → ℕ → List LogLine → Pdu → Type 0
-IsPacketOf (Calls (SendGbc r)) station before p = (p.body ≡ gbc (sequence_number_at station before) r.area r.message) × (p.max_hops ≡ r.max_hops)
+IsPacketOf (Calls (SendGbc r)) station before p = IsAreaPacket geobroadcast r station before p
+IsPacketOf (Calls (SendGac r)) station before p = IsAreaPacket geoanycast r station before p
 IsPacketOf (Calls call) station before p = number_in p.body ≡ None
 IsPacketOf (Deliver k) station before p = ⊥
 
@@ -31,11 +37,21 @@ pub record IsSentBy (configs : List Config) (log : List LogLine) (t : Transmissi
   pub hops : t.hops_left + o.depth ≡ t.pdu.max_hops
   pub left : 0 < t.hops_left
 
--- what was handed out of a geobroadcast was in it, and its area holds the place
+-- what was handed out is this message, and the area holds the place
+abbrev pub InsideFact : Option Message → GeoArea → Message → Position → Type 0
+InsideFact None area message place = Unit {0}
+InsideFact (Some m) area message place = (message ≡ m) × (area_holds area place ≡ true)
+
+-- what was handed out of a packet for an area was in it, and its area holds the place
 abbrev pub HandingFact : Option Message → Body → Position → Type 0
-HandingFact None body place = Unit {0}
-HandingFact (Some m) (gbc number area message) place = (message ≡ m) × (area_holds area place ≡ true)
-HandingFact (Some m) body place = Unit {0}
+HandingFact handed (gbc number area message) place = InsideFact handed area message place
+HandingFact handed (gac number area message) place = InsideFact handed area message place
+HandingFact handed body place = Unit {0}
+
+-- nothing was given for a geoanycast whose area holds the place
+abbrev pub StopFact : Option ℕ → Body → Position → Type 0
+StopFact given (gac number area message) place = area_holds area place ≡ true → given ≡ None
+StopFact given body place = Unit {0}
 
 -- the frame that was given for a delivery is the relay
 abbrev pub RelayFact : Option ℕ → List Transmission → Config → Transmission → Type 0
@@ -55,24 +71,27 @@ pub record AcceptedFact (configs : List Config) (air : List Transmission) (e : E
   pub came_from : slice_get (origins before) frame ≡ Some origin
   pub sent_by : IsSentBy configs before packet origin
   pub foreign : packet.pdu.vector.address ≢ config.address
-  pub is_new : is_repeated (number_in packet.pdu.body) packet.pdu.vector.address e.moment (receptions_at e.station before) ≡ false
+  pub is_new : is_repeated config.remember (number_in packet.pdu.body) packet.pdu.vector.address e.moment (receptions_at e.station before) ≡ false
   pub handing : HandingFact handed packet.pdu.body (position_at config.place e.station before)
   pub relayed : RelayFact given air config packet
+  pub stops : StopFact given packet.pdu.body (position_at config.place e.station before)
 
 -- a frame that was ignored as a duplicate
-pub record DuplicateFact (air : List Transmission) (e : Event) (before : List LogLine) : Type 0 where
+pub record DuplicateFact (configs : List Config) (air : List Transmission) (e : Event) (before : List LogLine) : Type 0 where
   pub frame : ℕ
   pub packet : Transmission
   pub number : ℕ
+  pub config : Config
   pub what : e.what ≡ Deliver frame
+  pub receiver : slice_get configs e.station ≡ Some config
   pub in_air : slice_get air frame ≡ Some packet
   pub number_is : number_in packet.pdu.body ≡ Some number
-  pub remembered : is_remembered remembered_count packet.pdu.vector.address number e.moment (receptions_at e.station before) ≡ true
+  pub remembered : is_remembered config.remember packet.pdu.vector.address number e.moment (receptions_at e.station before) ≡ true
 
 -- a line of the log, by its entry
 abbrev pub LineFact : Answer ℕ → List Config → List Transmission → Event → Option Transmission → List LogLine → Type 0
 LineFact (Accepted handed given) configs air e delivered before = AcceptedFact configs air e before delivered handed given
-LineFact (Ignored Duplicate) configs air e delivered before = DuplicateFact air e before
+LineFact (Ignored Duplicate) configs air e delivered before = DuplicateFact configs air e before
 LineFact (Sent k) configs air e delivered before = (call : OwnCall) × (e.what ≡ Calls call)
 LineFact entry configs air e delivered before = Unit {0}
 
@@ -86,6 +105,8 @@ pub record StationSound (configs : List Config) (log : List LogLine) (j : ℕ) (
   pub config : Config
   pub is_config : slice_get configs j ≡ Some config
   pub address : s.address ≡ config.address
+  pub capacity : s.capacity ≡ config.capacity
+  pub remember : s.remember ≡ config.remember
   pub source : s.vector.address ≡ config.address
   pub place : s.vector.place ≡ position_at config.place j log
   pub number : s.next_number ≡ sequence_number_at j log
@@ -128,10 +149,7 @@ pub record Sound (configs : List Config) (w : WorldModel) : Type 0 where
   pub lines : EachLine configs w.air w.log
   pub names : EachNamed w.log
 
--- What a station's answer to an event has to be, for the world to stay sound.
-abbrev pub number_after : Bool → ℕ → ℕ
-number_after true n = (n + 1) % 65536
-number_after false n = n
+-- ---- What a station's answer to an event has to be, for the world to stay sound.
 
 -- the frame that an answer gives has an origin, and the packet of its other frames
 pub record GivenFits (configs : List Config) (w : WorldModel) (e : Event) (what : What) (t : Transmission) : Type 0 where
@@ -148,9 +166,11 @@ FrameFits (Some t) configs w e what = GivenFits configs w e what t
 -- what a station's step has to be
 pub record Fits (configs : List Config) (w : WorldModel) (e : Event) (what : What) (s : StationModel) (delivered : Option Transmission) (step : Step) : Type 0 where
   pub address : step.station.address ≡ s.address
+  pub capacity : step.station.capacity ≡ s.capacity
+  pub remember : step.station.remember ≡ s.remember
   pub source : s.vector.address ≡ s.address → step.station.vector.address ≡ s.address
   pub place : step.station.vector.place ≡ moved_by (entry_of (length w.air) step.answer) what s.vector.place
-  pub number : step.station.next_number ≡ number_after (is_gbc_sent (entry_of (length w.air) step.answer) what) s.next_number
+  pub number : step.station.next_number ≡ renumbered_by (entry_of (length w.air) step.answer) what s.next_number
   pub history : step.station.history ≡ heard_in (entry_of (length w.air) step.answer) delivered e.moment s.history
   pub frame : FrameFits (frame_of step.answer) configs w e what
   pub fact : LineFact (entry_of (length w.air) step.answer) configs (with_one_more w.air (frame_of step.answer)) e delivered w.log

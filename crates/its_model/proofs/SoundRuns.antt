@@ -3,8 +3,8 @@ use Rattle.std.proofs.Common.{◌≡◌, ℕ, zero, suc, List, [], ◌∷◌, ma
 use Rattle.std.specs.Prelude.{slice_get}
 use Rattle.its_model.specs.Packet.{Transmission}
 use Rattle.its_model.specs.Calls.Refusal.{NoSuchFrame, NoSuchStation}
-use Rattle.its_model.specs.Station.{StationModel, new_station, own_step, receive_step}
-use Rattle.its_model.specs.World.{Config, Event, What, WorldModel, asked, at_station, delivery, opening, world_run, world_step}
+use Rattle.its_model.specs.Station.{StationModel, own_step, receive_step}
+use Rattle.its_model.specs.World.{Config, Event, What, WorldModel, asked, at_station, delivery, opening, station_of, world_run, world_step}
 use Rattle.its_model.specs.World.What.{Calls, Deliver}
 use Rattle.its_model.specs.Log.{origins}
 use Rattle.its_model.proofs.Sound.{StationSound, Fits, Sound}
@@ -45,13 +45,13 @@ run_keeps configs [] w h = h
 run_keeps configs (e ∷ es) w h = run_keeps configs es (world_step w e) (step_keeps configs w e h)
 
 -- there are as many stations as configs
-length_opening : (cs : List Config) → length (map (λ (c : Config). new_station c.address c.place c.capacity) cs) ≡ length cs
+length_opening : (cs : List Config) → length (map station_of cs) ≡ length cs
 length_opening [] = refl
 length_opening (c ∷ cs) = ap suc (length_opening cs)
 
 -- each station is that of its config
-get_opening : (cs : List Config) (j : ℕ) (s : StationModel) → slice_get (map (λ (c : Config). new_station c.address c.place c.capacity) cs) j ≡ Some s
-    → (c : Config) × (slice_get cs j ≡ Some c) × (new_station c.address c.place c.capacity ≡ s)
+get_opening : (cs : List Config) (j : ℕ) (s : StationModel) → slice_get (map station_of cs) j ≡ Some s
+    → (c : Config) × (slice_get cs j ≡ Some c) × (station_of c ≡ s)
 get_opening [] j s h = cc
 get_opening (c ∷ cs) zero s h = (c, refl, cc)
 get_opening (c ∷ cs) (suc j) s h = get_opening cs j s h
@@ -64,7 +64,7 @@ opening_sound configs =
       count = length_opening configs;
       each = λ j s at. (let g = get_opening configs j s at in
           subst (λ (x : StationModel). StationSound configs [] j x) g.2
-          (record { config = g.0; is_config = g.1; address = refl; source = refl; place = refl; number = refl; history = refl }));
+          (record { config = g.0; is_config = g.1; address = refl; capacity = refl; remember = refl; source = refl; place = refl; number = refl; history = refl }));
       frames = record { even = refl; each = λ k t at. cc; same = λ k m t u o p a b c d e. cc };
       lines = tt;
       names = tt;

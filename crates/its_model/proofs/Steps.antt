@@ -3,12 +3,14 @@ use Rattle.std.proofs.Common.{◌≡◌, ◌≢◌, ◌⊎◌, ℕ, suc, ◌+◌
 use Rattle.std.specs.Prelude.{nat_lt, nat_le}
 use Rattle.std.proofs.lemmas.Bool.Decides.{nat_tests}
 use Rattle.its_geometry.specs.Area.{GeoArea, area_holds}
-use Rattle.its_model.specs.Packet.{Message, Body, Transmission, number_in}
-use Rattle.its_model.specs.Packet.Body.{gbc}
-use Rattle.its_model.specs.History.{remembered_count, is_among, is_remembered}
+use Rattle.its_gnvalue.specs.Values.{mid_of}
+use Rattle.its_model.specs.Packet.{AreaKind, Message, Body, Transmission, area_body, number_in}
+use Rattle.its_model.specs.Packet.AreaKind.{geoanycast, geobroadcast}
+use Rattle.its_model.specs.Packet.Body.{shb}
+use Rattle.its_model.specs.History.{is_among, is_remembered}
 use Rattle.its_model.specs.Stations.{stations_at, is_full, AreDistinct}
 use Rattle.its_model.specs.Calls.{OwnCall, Call, Why, Refusal}
-use Rattle.its_model.specs.Calls.OwnCall.{Move, Open, Close, Tick, SendShb, SendGbc}
+use Rattle.its_model.specs.Calls.OwnCall.{Move, Open, Close, Tick, SendShb, SendGbc, SendGac, Restart}
 use Rattle.its_model.specs.Calls.Call.{Own, Receive, Junk}
 use Rattle.its_model.specs.Calls.Why.{NotForMe, OwnSource, SenderMismatch, Duplicate}
 use Rattle.its_model.specs.Calls.Refusal.{MomentEarlier, MomentTooLate, BadFrame, AlreadyOpen, PortsFull, TableFull}
@@ -17,7 +19,7 @@ use Rattle.its_model.specs.Station.{StationModel, Step, last_moment, max_open_po
 use Rattle.its_model.specs.Station.{after_sending, or_else, is_for, is_sender_wrong, is_repeated, verdict, handing, relayed, after_hearing, receive_step_by}
 use Rattle.its_model.specs.Station.{receive_step, junk_step_by, station_step}
 use Rattle.its_model.specs.Station.Verdict.{Refuse, Ignore, Accept}
-use Rattle.its_model.specs.declared.fault.FrameFault.{FrameFault}
+use Rattle.its_faults.specs.declared.frame.FrameFault.{FrameFault}
 use Rattle.its_model.proofs.Distinct.{differ_filter, shorter_or_same}
 
 -- ---- the moment
@@ -69,6 +71,8 @@ performed_done (Close port) s moment on = record { not_refused = λ r e. cc; on_
 performed_done (Tick jitter) s moment on = tick_done (nat_le (s.beacon_from + jitter) moment) s moment on
 performed_done (SendShb r) s moment on = record { not_refused = λ r e. cc; on_time = on; clock = refl }
 performed_done (SendGbc r) s moment on = record { not_refused = λ r e. cc; on_time = on; clock = refl }
+performed_done (SendGac r) s moment on = record { not_refused = λ r e. cc; on_time = on; clock = refl }
+performed_done (Restart number) s moment on = record { not_refused = λ r e. cc; on_time = on; clock = refl }
 
 -- a call of its own
 own_outcome : (o : Option Refusal) (call : OwnCall) (s : StationModel) (moment : ℕ) → first (moment_refusal s moment) (own_refusal s call) ≡ o
@@ -120,47 +124,84 @@ done_in_time s moment call h =
     ]
 
 -- ---- a handing that is owed
-to_accept : (m : Option Refusal) (a b d f : Bool) → m ≡ None → a ≡ true → b ≡ false → d ≡ false → f ≡ false
-    → or_else m (cond (not a) (Ignore NotForMe) (cond b (Ignore OwnSource) (cond false (Ignore SenderMismatch) (cond d (Ignore Duplicate) (cond f (Refuse TableFull) Accept))))) ≡ Accept
-to_accept m a b d f p q r u v = rw (p, q, r, u, v) refl
+to_accept : (m : Option Refusal) (a b c d f : Bool) → m ≡ None → a ≡ true → b ≡ false → c ≡ false → d ≡ false → f ≡ false
+    → or_else m (cond (not a) (Ignore NotForMe) (cond b (Ignore OwnSource) (cond c (Ignore SenderMismatch) (cond d (Ignore Duplicate) (cond f (Refuse TableFull) Accept))))) ≡ Accept
+to_accept m a b c d f p q r o u v = rw (p, q, r, o, u, v) refl
 
 -- another source
 not_own : (a b : ℕ) → a ≢ b → eqb a b ≡ false
 not_own a b h = grind (arith, nat_tests)
 
--- a new geobroadcast of another source, for which there is room, is accepted
-pub accepts_new : (s : StationModel) (moment : ℕ) (t : Transmission) (number : ℕ) (area : GeoArea) (message : Message)
-    → s.clock ≤ moment → moment ≤ last_moment → is_for s t ≡ true → t.pdu.vector.address ≢ s.address → t.pdu.body ≡ gbc number area message
-    → is_remembered remembered_count t.pdu.vector.address number moment s.history ≡ false
-    → is_full s.capacity t.pdu.vector.address (stations_at remembered_count moment s.history) ≡ false
+-- the same address
+is_own : (a b : ℕ) → a ≡ b → eqb a b ≡ true
+is_own a b h = grind (arith, nat_tests)
+
+-- what comes in time from another source and the right sender, isn't repeated and has room, is accepted
+pub is_accepted : (s : StationModel) (moment : ℕ) (t : Transmission)
+    → s.clock ≤ moment → moment ≤ last_moment → is_for s t ≡ true → t.pdu.vector.address ≢ s.address
+    → is_sender_wrong t t.pdu.body ≡ false → is_repeated s.remember (number_in t.pdu.body) t.pdu.vector.address moment s.history ≡ false
+    → is_full s.capacity t.pdu.vector.address (stations_at s.remember moment s.history) ≡ false
     → verdict s moment t ≡ Accept
 unfolding verdict
-accepts_new s moment t number area message le small mine foreign body new room =
+is_accepted s moment t le small mine foreign sender new room =
     let source = t.pdu.vector.address in
-    let fits : is_repeated (number_in t.pdu.body) source moment s.history ≡ false = ap (λ (b : Body). is_repeated (number_in b) source moment s.history) body ∙ new in
-    let sender : is_sender_wrong t t.pdu.body ≡ false = ap (is_sender_wrong t) body in
-    ap (λ c. or_else (moment_refusal s moment) (cond (not (is_for s t)) (Ignore NotForMe) (cond (eqb source s.address) (Ignore OwnSource) (cond c (Ignore SenderMismatch)
-    (cond (is_repeated (number_in t.pdu.body) source moment s.history) (Ignore Duplicate) (cond (is_full s.capacity source (stations_at remembered_count moment s.history)) (Refuse TableFull) Accept)))))) sender
-    ∙ to_accept (moment_refusal s moment) (is_for s t) (eqb source s.address) (is_repeated (number_in t.pdu.body) source moment s.history) (is_full s.capacity source (stations_at remembered_count moment s.history))
-    (no_moment_refusal s moment le small) mine (not_own source s.address foreign) fits room
+    to_accept (moment_refusal s moment) (is_for s t) (eqb source s.address) (is_sender_wrong t t.pdu.body) (is_repeated s.remember (number_in t.pdu.body) source moment s.history)
+    (is_full s.capacity source (stations_at s.remember moment s.history)) (no_moment_refusal s moment le small) mine (not_own source s.address foreign) sender new room
+
+-- a packet for an area has its number
+area_number_is : (kind : AreaKind) (number : ℕ) (area : GeoArea) (message : Message) → number_in (area_body kind number area message) ≡ Some number
+area_number_is geobroadcast number area message = refl
+area_number_is geoanycast number area message = refl
+
+-- any station may have relayed a packet for an area
+any_sender : (kind : AreaKind) (t : Transmission) (number : ℕ) (area : GeoArea) (message : Message) → is_sender_wrong t (area_body kind number area message) ≡ false
+any_sender geobroadcast t number area message = refl
+any_sender geoanycast t number area message = refl
 
 -- where both tests pass the message is handed out
 handed : (a b : Bool) (message : Message) → a ≡ true → b ≡ true → cond (a && b) (Some message) None ≡ Some message
 handed a b message p q = rw (p, q) refl
 
+-- of a packet for an area, in the area
+handed_in_area : (kind : AreaKind) (s : StationModel) (number : ℕ) (area : GeoArea) (message : Message)
+    → is_among message.port s.ports ≡ true → area_holds area s.vector.place ≡ true → handing s (area_body kind number area message) ≡ Some message
+handed_in_area geobroadcast s number area message opened inside = handed (is_among message.port s.ports) (area_holds area s.vector.place) message opened inside
+handed_in_area geoanycast s number area message opened inside = handed (is_among message.port s.ports) (area_holds area s.vector.place) message opened inside
+
 -- so it is handed out
-pub handing_owed : (s : StationModel) (moment : ℕ) (t : Transmission) (number : ℕ) (area : GeoArea) (message : Message)
-    → s.clock ≤ moment → moment ≤ last_moment → is_for s t ≡ true → t.pdu.vector.address ≢ s.address → t.pdu.body ≡ gbc number area message
-    → is_remembered remembered_count t.pdu.vector.address number moment s.history ≡ false
-    → is_full s.capacity t.pdu.vector.address (stations_at remembered_count moment s.history) ≡ false
+pub handing_owed : (s : StationModel) (moment : ℕ) (t : Transmission) (kind : AreaKind) (number : ℕ) (area : GeoArea) (message : Message)
+    → s.clock ≤ moment → moment ≤ last_moment → is_for s t ≡ true → t.pdu.vector.address ≢ s.address → t.pdu.body ≡ area_body kind number area message
+    → is_remembered s.remember t.pdu.vector.address number moment s.history ≡ false
+    → is_full s.capacity t.pdu.vector.address (stations_at s.remember moment s.history) ≡ false
     → is_among message.port s.ports ≡ true → area_holds area s.vector.place ≡ true
     → (on : Option Transmission) × ((station_step s moment (Receive t)).answer ≡ Accepted (Some message) on)
 unfolding receive_step
-handing_owed s moment t number area message le small mine foreign body new room opened inside =
-    let accepted = accepts_new s moment t number area message le small mine foreign body new room in
-    let message_is : handing s t.pdu.body ≡ Some message = ap (handing s) body ∙ handed (is_among message.port s.ports) (area_holds area s.vector.place) message opened inside in
+handing_owed s moment t kind number area message le small mine foreign body new room opened inside =
+    let source = t.pdu.vector.address in
+    let number_is : number_in t.pdu.body ≡ Some number = ap number_in body ∙ area_number_is kind number area message in
+    let fits : is_repeated s.remember (number_in t.pdu.body) source moment s.history ≡ false = ap (λ n. is_repeated s.remember n source moment s.history) number_is ∙ new in
+    let sender : is_sender_wrong t t.pdu.body ≡ false = ap (is_sender_wrong t) body ∙ any_sender kind t number area message in
+    let accepted = is_accepted s moment t le small mine foreign sender fits room in
+    let message_is : handing s t.pdu.body ≡ Some message = ap (handing s) body ∙ handed_in_area kind s number area message opened inside in
     let on = relayed (after_hearing s moment t) moment t t.pdu.body in
     (on, ap (λ v. (receive_step_by s moment t v).answer) accepted ∙ ap (λ m. Accepted m on) message_is)
+
+-- and a single-hop broadcast from its source's own link address is handed out at its port
+pub single_hop_owed : (s : StationModel) (moment : ℕ) (t : Transmission) (media : List ℕ) (message : Message)
+    → s.clock ≤ moment → moment ≤ last_moment → is_for s t ≡ true → t.pdu.vector.address ≢ s.address → t.pdu.body ≡ shb media message
+    → mid_of t.pdu.vector.address ≡ t.link_source
+    → is_full s.capacity t.pdu.vector.address (stations_at s.remember moment s.history) ≡ false
+    → is_among message.port s.ports ≡ true
+    → (station_step s moment (Receive t)).answer ≡ Accepted (Some message) None
+unfolding receive_step
+single_hop_owed s moment t media message le small mine foreign body from room opened =
+    let source = t.pdu.vector.address in
+    let fits : is_repeated s.remember (number_in t.pdu.body) source moment s.history ≡ false = ap (λ (b : Body). is_repeated s.remember (number_in b) source moment s.history) body in
+    let sender : is_sender_wrong t t.pdu.body ≡ false = ap (is_sender_wrong t) body ∙ ap not (is_own (mid_of source) t.link_source from) in
+    let accepted = is_accepted s moment t le small mine foreign sender fits room in
+    let message_is : handing s t.pdu.body ≡ Some message = ap (handing s) body ∙ ap (λ b. cond b (Some message) None) opened in
+    let none : relayed (after_hearing s moment t) moment t t.pdu.body ≡ None = ap (relayed (after_hearing s moment t) moment t) body in
+    ap (λ v. (receive_step_by s moment t v).answer) accepted ∙ ap (λ m. Accepted m (relayed (after_hearing s moment t) moment t t.pdu.body)) message_is ∙ ap (Accepted (Some message)) none
 
 -- ---- the open ports
 abbrev pub PortsAreKept : List ℕ → Type 0
@@ -190,6 +231,8 @@ performed_ports (Tick jitter) s moment ok h = either (nat_le (s.beacon_from + ji
     either false = h
 performed_ports (SendShb r) s moment ok h = h
 performed_ports (SendGbc r) s moment ok h = h
+performed_ports (SendGac r) s moment ok h = h
+performed_ports (Restart number) s moment ok h = (tt, omega arith)
 
 -- where no refusal applies, the second of two doesn't
 second_none : (a b : Option Refusal) → first a b ≡ None → b ≡ None

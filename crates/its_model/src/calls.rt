@@ -1,10 +1,10 @@
 //! What a station owes at each call.
 ghost use Rattle.std.specs.Prelude.{◌≡◌, ◌≢◌, ℕ, ◌≤◌, List, length, Option, Some, None, IsTrue, IsFalse};
-ghost use Rattle.its_gnvalue.specs.Values.{Position};
 ghost use Rattle.its_geometry.specs.Area.{GeoArea, area_holds};
-ghost use Rattle.its_model.specs.Packet.{Message, Transmission};
-ghost use Rattle.its_model.specs.Packet.Body.{gbc};
-ghost use Rattle.its_model.specs.History.{Known, remembered_count, is_among, is_remembered};
+ghost use Rattle.its_gnvalue.specs.Values.{Position, mid_of};
+ghost use Rattle.its_model.specs.Packet.{AreaKind, Message, Transmission, area_body};
+ghost use Rattle.its_model.specs.Packet.Body.{shb};
+ghost use Rattle.its_model.specs.History.{Known, is_among, is_remembered};
 ghost use Rattle.its_model.specs.Stations.{stations_at, is_full, AreDistinct};
 ghost use Rattle.its_model.specs.Decision.{decision};
 ghost use Rattle.its_model.specs.Decision.Decision.{Drop};
@@ -22,18 +22,30 @@ pub fn a_refused_call_changes_nothing()
         (s.clock ≤ moment) × (moment ≤ last_moment) × ((station_step s moment call).station.clock ≡ moment) }
 {}
 
-/// A geobroadcast of another source that comes to a station in time is handed out in that very call, where it isn't
-/// remembered, there is room, its port is open and its area holds the station.
+/// A packet of another source that comes to a station in time and finds room is handed out in that
+/// very call, where its port is open: a geobroadcast or geoanycast that isn't remembered and whose
+/// area holds the station, and a single-hop broadcast from its source's own link address.
 pub fn a_handing_is_owed()
-    ensures { (s : StationModel) (moment : ℕ) (t : Transmission)
-        (number : ℕ) (area : GeoArea) (message : Message) →
+    ensures inside { (s : StationModel) (moment : ℕ) (t : Transmission)
+        (kind : AreaKind) (number : ℕ) (area : GeoArea) (message : Message) →
         s.clock ≤ moment → moment ≤ last_moment →
-        IsTrue (is_for s t) → t.pdu.vector.address ≢ s.address → t.pdu.body ≡ gbc number area message →
-        IsFalse (is_remembered remembered_count t.pdu.vector.address number moment s.history) →
+        IsTrue (is_for s t) → t.pdu.vector.address ≢ s.address →
+        t.pdu.body ≡ area_body kind number area message →
+        IsFalse (is_remembered s.remember t.pdu.vector.address number moment s.history) →
         IsFalse (is_full s.capacity t.pdu.vector.address
-        (stations_at remembered_count moment s.history)) →
+        (stations_at s.remember moment s.history)) →
         IsTrue (is_among message.port s.ports) → IsTrue (area_holds area s.vector.place) →
-        (relayed : Option Transmission) × ((station_step s moment (Receive t)).answer ≡ Accepted (Some message) relayed) }
+        (relayed : Option Transmission)
+        × ((station_step s moment (Receive t)).answer ≡ Accepted (Some message) relayed) }
+    ensures single_hop { (s : StationModel) (moment : ℕ) (t : Transmission)
+        (media : List ℕ) (message : Message) →
+        s.clock ≤ moment → moment ≤ last_moment →
+        IsTrue (is_for s t) → t.pdu.vector.address ≢ s.address →
+        t.pdu.body ≡ shb media message → mid_of t.pdu.vector.address ≡ t.link_source →
+        IsFalse (is_full s.capacity t.pdu.vector.address
+        (stations_at s.remember moment s.history)) →
+        IsTrue (is_among message.port s.ports) →
+        (station_step s moment (Receive t)).answer ≡ Accepted (Some message) None }
 {}
 
 /// The open ports stay each there once, and no more than may be open at once.

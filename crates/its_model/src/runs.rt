@@ -1,5 +1,5 @@
 //! How a run, its log and its frames belong together.
-ghost use Rattle.std.specs.Prelude.{◌≡◌, ℕ, ◌<◌, List, ◌∷◌, ◌++◌, length, Some, slice_get};
+ghost use Rattle.std.specs.Prelude.{◌≡◌, ℕ, ◌<◌, List, ◌∷◌, ◌++◌, length, take, Some, slice_get};
 ghost use Rattle.its_model.specs.Packet.{Transmission};
 ghost use Rattle.its_model.specs.Station.{StationModel};
 ghost use Rattle.its_model.specs.World.{WorldModel, LogLine, Config, Event, opening, frame_of, world_run};
@@ -12,6 +12,20 @@ ghost use Rattle.its_model.specs.Schedules.{IsAsLogged, IsGivenBy, IsInLog};
 pub fn runs_go_on()
     ensures { (w : WorldModel) (first next : List Event) →
         world_run w (first ++ next) ≡ world_run (world_run w first) next }
+{}
+
+/// What a run did stays as it goes on: a frame keeps its number and its origin, and an earlier log is
+/// that of a shorter run, of its first events. So what a law says of a run's end it says of each line
+/// before.
+pub fn what_was_done_stays()
+    ensures frames { (w : WorldModel) (first next : List Event) (k : ℕ) (t : Transmission) →
+        slice_get (world_run w first).air k ≡ Some t →
+        slice_get (world_run w (first ++ next)).air k ≡ Some t }
+    ensures origins { (later before : List LogLine) (k : ℕ) (o : Origin) →
+        slice_get (origins before) k ≡ Some o → slice_get (origins (later ++ before)) k ≡ Some o }
+    ensures log { (configs : List Config) (events : List Event) (later before : List LogLine) →
+        (world_run (opening configs) events).log ≡ later ++ before →
+        (world_run (opening configs) (take (length before) events)).log ≡ before }
 {}
 
 /// Each event has one line in the log, and a line's place is how many lines came before it: it is the

@@ -1,11 +1,13 @@
-//! What holds after every schedule of calls and deliveries: frames lost, repeated, late, in any order.
+//! What holds after every schedule of calls and deliveries: frames lost, repeated, late, in any order. Each law is of
+//! geobroadcasts, and of geoanycasts in the same words, but for the one on geoanycasts alone.
 ghost use Rattle.std.specs.Prelude.{List};
 ghost use Rattle.its_model.specs.World.{Config, Event, opening, world_run};
 ghost use Rattle.its_model.specs.Schedules.{HandedAsSent, RelaysAreFaithful, AtMostOnce, FloodingIsBounded};
+ghost use Rattle.its_model.specs.Schedules.{AcceptedAgainByDefault, AnycastStopsInside, FramesNameTheirSource};
 ghost use Rattle.its_model.specs.Schedules.{HoldsOfSchedules};
 
-/// What is handed out of a geobroadcast was sent earlier, to that port, for an area that holds the
-/// receiver where it stands then.
+/// What is handed out of a packet for an area was sent earlier, to that port, for an area that holds
+/// the receiver where it stands then.
 pub fn handed_as_sent()
     ensures { (configs : List Config) (events : List Event) →
         HandedAsSent configs (world_run (opening configs) events) }
@@ -17,17 +19,36 @@ pub fn relays_are_faithful()
         RelaysAreFaithful configs (world_run (opening configs) events) }
 {}
 
-/// No station accepts a geobroadcast twice, unless it forgot it between; and what it ignores as a
-/// duplicate it accepted before, and didn't forget.
+/// No station accepts a packet for an area twice, unless it forgot it between; and what it ignores as
+/// a duplicate it accepted before, and didn't forget.
 pub fn at_most_once()
     ensures { (configs : List Config) (events : List Event) →
-        AtMostOnce (world_run (opening configs) events) }
+        AtMostOnce configs (world_run (opening configs) events) }
 {}
 
-/// A geobroadcast makes few frames, each with its number and with the hops that its relays left.
+/// The same said shorter for the default: where a station remembers eight numbers of a source and
+/// didn't restart between two acceptances, the source's session broke there or eight others came.
+pub fn at_most_once_by_default()
+    ensures { (configs : List Config) (events : List Event) →
+        AcceptedAgainByDefault configs (world_run (opening configs) events) }
+{}
+
+/// A packet for an area makes few frames, each with its number and with the hops that its relays left.
 pub fn flooding_is_bounded()
     ensures { (configs : List Config) (events : List Event) →
-        FloodingIsBounded (world_run (opening configs) events) }
+        FloodingIsBounded configs (world_run (opening configs) events) }
+{}
+
+/// A geoanycast that a station accepted inside its area goes no further.
+pub fn anycast_stops_inside()
+    ensures { (configs : List Config) (events : List Event) →
+        AnycastStopsInside configs (world_run (opening configs) events) }
+{}
+
+/// A frame's source address is that of the station that first sent its packet, as it was configured.
+pub fn frames_name_their_source()
+    ensures { (configs : List Config) (events : List Event) →
+        FramesNameTheirSource configs (world_run (opening configs) events) }
 {}
 
 /// All of these, for the crate that runs a world.
@@ -39,4 +60,6 @@ pub fn every_schedule()
     relays_are_faithful();
     at_most_once();
     flooding_is_bounded();
+    anycast_stops_inside();
+    frames_name_their_source();
 }
