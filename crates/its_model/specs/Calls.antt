@@ -2,15 +2,16 @@
 use Rattle.std.specs.Prelude.{ℕ, ℤ, Bool, Option}
 use Rattle.its_gnvalue.specs.Values.{Position}
 use Rattle.its_geometry.specs.Area.{GeoArea}
-use Rattle.its_model.specs.Packet.{Message, Transmission}
-use Rattle.its_model.specs.declared.fault.FrameFault.{FrameFault}
+use Rattle.its_model.specs.Packet.{Message, Transmission, AreaKind}
+use Rattle.its_model.specs.Packet.AreaKind.{geobroadcast, geoanycast}
+use Rattle.its_faults.specs.declared.frame.FrameFault.{FrameFault}
 
 -- to be sent to all stations in reach
 pub record ShbRequest : Type 0 where
   pub class : ℕ
   pub message : Message
 
--- to be sent to all stations in an area
+-- to be sent to all stations in an area, or to any one of them
 pub record GbcRequest : Type 0 where
   pub class : ℕ
   pub lifetime : ℕ
@@ -26,6 +27,13 @@ pub data OwnCall : Type 0 where
   Tick : (jitter : ℕ) → OwnCall
   SendShb : (request : ShbRequest) → OwnCall
   SendGbc : (request : GbcRequest) → OwnCall
+  SendGac : (request : GbcRequest) → OwnCall
+  Restart : (number : ℕ) → OwnCall
+
+-- the call by which a packet of the kind is sent
+abbrev pub area_call : AreaKind → GbcRequest → OwnCall
+area_call geobroadcast request = SendGbc request
+area_call geoanycast request = SendGac request
 
 -- a call: one of its own, a frame that came, or octets that came and are no frame
 pub data Call : Type 0 where
@@ -60,6 +68,7 @@ pub data Answer (F : Type 0) : Type 0 where
   Moved : Answer F
   Opened : Answer F
   Closed : Answer F
+  Restarted : Answer F
   Quiet : Answer F
   Sent : (frame : F) → Answer F
   Ignored : (why : Why) → Answer F

@@ -10,11 +10,7 @@ use Rattle.its_gnvalue.specs.Values.{PositionVector, is_newer}
 abbrev pub entry_life : ℕ
 entry_life = 20000
 
--- how many numbers of a source are remembered (profile)
-abbrev pub remembered_count : ℕ
-remembered_count = 8
-
--- an accepted packet: when it came, its source's vector, and its number if it is a geobroadcast
+-- an accepted packet: when it came, its source's vector, and its number if it is a geobroadcast or a geoanycast
 pub record Reception : Type 0 where
   pub moment : ℕ
   pub vector : PositionVector
@@ -74,7 +70,7 @@ abbrev pub with_number : Option ℕ → List ℕ → List ℕ
 with_number None numbers = numbers
 with_number (Some n) numbers = n ∷ numbers
 
--- the numbers of the geobroadcasts among these
+-- the numbers of those among these that have one
 abbrev pub numbers_of : List Reception → List ℕ
 numbers_of [] = []
 numbers_of (r ∷ older) = with_number r.number (numbers_of older)

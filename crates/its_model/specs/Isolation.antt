@@ -1,10 +1,10 @@
 -- What a station's own applications and one source see of it doesn't depend on the frames of other sources.
-use Rattle.std.specs.Prelude.{◌≡◌, ◌≢◌, ℕ, ◌<◌, ◌≤◌, List, [], ◌∷◌, ◌++◌, filter, Bool, true, false, None}
+use Rattle.std.specs.Prelude.{◌≡◌, ◌≢◌, ℕ, ◌≤◌, List, [], ◌∷◌, ◌++◌, filter, Bool, true, false, None}
 use Rattle.std.specs.Prelude.{if◌then◌else◌, ◌==◌}
 use Rattle.its_gnvalue.specs.Values.{Position}
 use Rattle.its_model.specs.Packet.{Transmission}
 use Rattle.its_model.specs.Calls.{Call, Answer}
-use Rattle.its_model.specs.Calls.OwnCall.{SendGbc}
+use Rattle.its_model.specs.Calls.OwnCall.{SendGbc, SendGac}
 use Rattle.its_model.specs.Calls.Call.{Own, Receive, Junk}
 use Rattle.its_model.specs.Calls.Answer.{Sent, Accepted, Refused}
 use Rattle.its_model.specs.Calls.Refusal.{TableFull}
@@ -35,9 +35,15 @@ concerns source (Junk fault) = false
 abbrev pub calls_for : ℕ → List TimedCall → List TimedCall
 calls_for source calls = filter (λ c. concerns source c.call) calls
 
--- An answer, but for what depends on where others are: to whom a geobroadcast of the station's own is sent, and what is relayed.
+-- the frame, to nobody
+abbrev pub without_target : Transmission → Transmission
+without_target t = record { pdu = t.pdu; hops_left = t.hops_left; link_source = t.link_source; link_target = 0 }
+
+-- An answer, but for what depends on where others are: to whom a packet of the station's own for an area is sent, and what is
+-- relayed.
 abbrev pub seen : Answer Transmission → Call → Answer Transmission
-seen (Sent t) (Own (SendGbc request)) = Sent (record { pdu = t.pdu; hops_left = t.hops_left; link_source = t.link_source; link_target = 0 })
+seen (Sent t) (Own (SendGbc request)) = Sent (without_target t)
+seen (Sent t) (Own (SendGac request)) = Sent (without_target t)
 seen (Accepted handed relayed) (Receive t) = Accepted handed None
 seen answer call = answer
 
@@ -62,8 +68,8 @@ IsNeverFull (answer ∷ answers) = (answer ≢ Refused TableFull) × IsNeverFull
 -- others were left out, before and now.
 abbrev pub SourcesAreIsolated : Type 0
 SourcesAreIsolated =
-    (address capacity : ℕ) (place : Position) (past done : List TimedCall) (source : ℕ)
-    → 0 < capacity → NeverFalls 0 (past ++ done) → IsNeverFull (answers_of (new_station address place capacity) (past ++ done))
-    → answers_for source done (answers_of (station_run (new_station address place capacity) past) done)
-    ≡ answers_for source (calls_for source done)
-    (answers_of (station_run (new_station address place capacity) (calls_for source past)) (calls_for source done))
+    (address : ℕ) (place : Position) (capacity remember : ℕ) (past done : List TimedCall) (source : ℕ)
+    → let new = new_station address place capacity remember in
+    NeverFalls 0 (past ++ done) → IsNeverFull (answers_of new (past ++ done))
+    → answers_for source done (answers_of (station_run new past) done)
+    ≡ answers_for source (calls_for source done) (answers_of (station_run new (calls_for source past)) (calls_for source done))

@@ -5,38 +5,40 @@ use Rattle.std.specs.Prelude.{Option, Some, None, if◌then◌else◌, ◌==◌,
 use Rattle.its_gnvalue.specs.Values.{Position, PositionVector, mid_of, broadcast}
 use Rattle.its_geometry.specs.Area.{GeoArea, area_holds}
 use Rattle.its_model.specs.Packet.{Message, Body, Transmission, number_in, relay}
-use Rattle.its_model.specs.Packet.Body.{beacon, shb, gbc}
-use Rattle.its_model.specs.History.{Reception, remembered_count, is_among, is_remembered}
+use Rattle.its_model.specs.Packet.Body.{beacon, shb, gbc, gac}
+use Rattle.its_model.specs.History.{Reception, is_among, is_remembered}
 use Rattle.its_model.specs.Stations.{stations_at, is_full}
 use Rattle.its_model.specs.Decision.{Decision, decision}
 use Rattle.its_model.specs.Decision.Decision.{Broadcast, To, Drop}
 use Rattle.its_model.specs.Calls.{ShbRequest, GbcRequest, OwnCall, Call, Why, Refusal, Answer}
-use Rattle.its_model.specs.Calls.OwnCall.{Move, Open, Close, Tick, SendShb, SendGbc}
+use Rattle.its_model.specs.Calls.OwnCall.{Move, Open, Close, Tick, SendShb, SendGbc, SendGac, Restart}
 use Rattle.its_model.specs.Calls.Call.{Own, Receive, Junk}
 use Rattle.its_model.specs.Calls.Why.{NotForMe, OwnSource, SenderMismatch, Duplicate}
 use Rattle.its_model.specs.Calls.Refusal.{MomentEarlier, MomentTooLate, JitterRange, BadFrame, AlreadyOpen, PortsFull, NotOpen}
 use Rattle.its_model.specs.Calls.Refusal.{PayloadTooLong, HopLimitZero, TableFull}
-use Rattle.its_model.specs.Calls.Answer.{Moved, Opened, Closed, Quiet, Sent, Ignored, Accepted, Refused}
-use Rattle.its_model.specs.declared.fault.FrameFault.{FrameFault}
+use Rattle.its_model.specs.Calls.Answer.{Moved, Opened, Closed, Restarted, Quiet, Sent, Ignored, Accepted, Refused}
+use Rattle.its_faults.specs.declared.frame.FrameFault.{FrameFault}
 
 -- The clock is the moment of the last call that wasn't refused, and no beacon is due before `beacon_from`. There is no table:
 -- what is known of others is a function of the history.
 pub record StationModel : Type 0 where
   pub address : ℕ
   pub capacity : ℕ  -- of how many sources it can know at once
+  pub remember : ℕ  -- how many numbers of a source it remembers
   pub clock : ℕ
   pub vector : PositionVector  -- its own
   pub next_number : ℕ
   pub ports : List ℕ  -- those that are open, each once
   pub beacon_from : ℕ
-  pub history : List Reception  -- every packet that it ever accepted, the newest first
+  pub history : List Reception  -- every packet that it accepted since its last restart, the newest first
 
 -- a station to which nothing happened yet
-abbrev pub new_station : ℕ → Position → ℕ → StationModel
-new_station address place capacity =
+abbrev pub new_station : ℕ → Position → ℕ → ℕ → StationModel
+new_station address place capacity remember =
     record {
       address = address;
       capacity = capacity;
+      remember = remember;
       clock = 0;
       vector = record { address = address; timestamp = 0; place = place; accurate = false; speed = pos 0; heading = 0 };
       next_number = 0;
@@ -90,6 +92,10 @@ abbrev pub first : Option Refusal → Option Refusal → Option Refusal
 first (Some refusal) other = Some refusal
 first None other = other
 
+-- a packet for an area: too long, or over no hops
+abbrev pub area_refusal : GbcRequest → Option Refusal
+area_refusal r = first (payload_refusal r.message) (if r.max_hops == 0 then Some HopLimitZero else None)
+
 -- what else a call of its own is refused for: the port, the jitter, the payload, or no hops
 abbrev pub own_refusal : StationModel → OwnCall → Option Refusal
 own_refusal s (Move place accurate speed heading) = None
@@ -100,7 +106,9 @@ own_refusal s (Open port) =
 own_refusal s (Close port) = if is_among port s.ports then None else Some NotOpen
 own_refusal s (Tick jitter) = if nat_lt max_jitter jitter then Some JitterRange else None
 own_refusal s (SendShb r) = payload_refusal r.message
-own_refusal s (SendGbc r) = first (payload_refusal r.message) (if r.max_hops == 0 then Some HopLimitZero else None)
+own_refusal s (SendGbc r) = area_refusal r
+own_refusal s (SendGac r) = area_refusal r
+own_refusal s (Restart number) = None
 
 -- a beacon: over one hop, to all, with the lifetime octet of 60 s; every station says that it is mobile (profile)
 abbrev pub beacon_of : StationModel → Transmission
@@ -135,13 +143,13 @@ target_of Broadcast = broadcast
 target_of (To mac) = mac
 target_of Drop = broadcast
 
--- to whom a geobroadcast goes from where the station is, by what it knows of others at a moment
+-- to whom a packet for an area goes from where the station is, by what it knows of others at a moment
 abbrev pub decided : StationModel → ℕ → GeoArea → Option ℕ → Decision
-decided s moment area sender = decision (stations_at remembered_count moment s.history) s.vector.place area sender
+decided s moment area sender = decision (stations_at s.remember moment s.history) s.vector.place area sender
 
--- a geobroadcast: with all its hops, and the station's next number
-abbrev pub gbc_of : StationModel → ℕ → GbcRequest → Transmission
-gbc_of s moment r =
+-- a packet for an area: with all its hops
+abbrev pub area_packet : StationModel → ℕ → GbcRequest → Body → Transmission
+area_packet s moment r body =
     record {
       pdu = record {
         vector = s.vector;
@@ -149,19 +157,39 @@ gbc_of s moment r =
         class = r.class;
         mobile = true;
         max_hops = r.max_hops;
-        body = gbc s.next_number r.area r.message;
+        body = body;
       };
       hops_left = r.max_hops;
       link_source = mid_of s.address;
       link_target = target_of (decided s moment r.area None);
     }
 
+-- a geobroadcast, with the station's next number
+abbrev pub gbc_of : StationModel → ℕ → GbcRequest → Transmission
+gbc_of s moment r = area_packet s moment r (gbc s.next_number r.area r.message)
+
+-- a geoanycast, with the next number of the same count
+abbrev pub gac_of : StationModel → ℕ → GbcRequest → Transmission
+gac_of s moment r = area_packet s moment r (gac s.next_number r.area r.message)
+
 -- the station after a packet of its own: from then on its next beacon waits
 abbrev pub after_sending : StationModel → ℕ → StationModel
 after_sending s moment = record s { clock = moment; beacon_from = moment + beacon_wait }
 
--- A call of its own that isn't refused. A move takes the moment for the vector's timestamp; numbers go from 65535 to 0
--- (profile).
+-- the number after this one: from 65535 to 0 (profile)
+abbrev pub number_after : ℕ → ℕ
+number_after number = (number + 1) % 65536
+
+-- the station after a packet with its next number
+abbrev pub after_numbering : StationModel → ℕ → StationModel
+after_numbering s moment = record (after_sending s moment) { next_number = number_after s.next_number }
+
+-- the station after a restart: what it heard is gone and its ports are closed, but it stands where it stood
+abbrev pub after_restart : StationModel → ℕ → ℕ → StationModel
+after_restart s moment number =
+    record s { clock = moment; next_number = number; ports = []; beacon_from = moment; history = [] }
+
+-- A call of its own that isn't refused. A move takes the moment for the vector's timestamp (profile).
 abbrev pub performed : StationModel → ℕ → OwnCall → Step
 performed s moment (Move place accurate speed heading) =
     record {
@@ -186,8 +214,9 @@ performed s moment (Tick jitter) =
     then record { answer = Sent (beacon_of s); station = after_sending s moment }
     else record { answer = Quiet; station = record s { clock = moment } }
 performed s moment (SendShb r) = record { answer = Sent (shb_of s r); station = after_sending s moment }
-performed s moment (SendGbc r) =
-    record { answer = Sent (gbc_of s moment r); station = record (after_sending s moment) { next_number = (s.next_number + 1) % 65536 } }
+performed s moment (SendGbc r) = record { answer = Sent (gbc_of s moment r); station = after_numbering s moment }
+performed s moment (SendGac r) = record { answer = Sent (gac_of s moment r); station = after_numbering s moment }
+performed s moment (Restart number) = record { answer = Restarted; station = after_restart s moment number }
 
 -- by its judgement: refused, and then nothing changes, or performed
 abbrev pub own_step_by : StationModel → ℕ → OwnCall → Option Refusal → Step
@@ -220,11 +249,12 @@ abbrev pub is_sender_wrong : Transmission → Body → Bool
 is_sender_wrong t beacon = not (mid_of t.pdu.vector.address == t.link_source)
 is_sender_wrong t (shb media message) = not (mid_of t.pdu.vector.address == t.link_source)
 is_sender_wrong t (gbc number area message) = false
+is_sender_wrong t (gac number area message) = false
 
 -- a packet with a number that is remembered of its source
-abbrev pub is_repeated : Option ℕ → ℕ → ℕ → List Reception → Bool
-is_repeated None source moment history = false
-is_repeated (Some number) source moment history = is_remembered remembered_count source number moment history
+abbrev pub is_repeated : ℕ → Option ℕ → ℕ → ℕ → List Reception → Bool
+is_repeated remember None source moment history = false
+is_repeated remember (Some number) source moment history = is_remembered remember source number moment history
 
 -- The first that applies: a frame for another station, a packet of its own, one from a wrong sender or one that it remembers
 -- is ignored; one for which there is no room is refused (profile, in this order).
@@ -234,8 +264,8 @@ verdict s moment t =
     (if not (is_for s t) then Ignore NotForMe
     else if t.pdu.vector.address == s.address then Ignore OwnSource
     else if is_sender_wrong t t.pdu.body then Ignore SenderMismatch
-    else if is_repeated (number_in t.pdu.body) t.pdu.vector.address moment s.history then Ignore Duplicate
-    else if is_full s.capacity t.pdu.vector.address (stations_at remembered_count moment s.history) then Refuse TableFull
+    else if is_repeated s.remember (number_in t.pdu.body) t.pdu.vector.address moment s.history then Ignore Duplicate
+    else if is_full s.capacity t.pdu.vector.address (stations_at s.remember moment s.history) then Refuse TableFull
     else Accept)
 
 -- a packet, as it is put into the history
@@ -246,12 +276,16 @@ reception moment t = record { moment = moment; vector = t.pdu.vector; number = n
 abbrev pub after_hearing : StationModel → ℕ → Transmission → StationModel
 after_hearing s moment t = record s { clock = moment; history = reception moment t ∷ s.history }
 
--- What is handed out, where its port is open: the message of a single-hop broadcast, and that of a geobroadcast whose area
--- holds the station where it is now.
+-- a message for an area is handed out where its port is open and the area holds the station where it is now
+abbrev pub handed_inside : StationModel → GeoArea → Message → Option Message
+handed_inside s area message = if is_among message.port s.ports && area_holds area s.vector.place then Some message else None
+
+-- What is handed out: the message of a single-hop broadcast whose port is open, and a message for an area inside of it.
 abbrev pub handing : StationModel → Body → Option Message
 handing s beacon = None
 handing s (shb media message) = if is_among message.port s.ports then Some message else None
-handing s (gbc number area message) = if is_among message.port s.ports && area_holds area s.vector.place then Some message else None
+handing s (gbc number area message) = handed_inside s area message
+handing s (gac number area message) = handed_inside s area message
 
 -- the packet with one hop fewer, to whom the decision says
 abbrev pub sent_on : StationModel → Transmission → Decision → Option Transmission
@@ -259,12 +293,18 @@ sent_on s t Broadcast = Some (relay t (mid_of s.address) broadcast)
 sent_on s t (To mac) = Some (relay t (mid_of s.address) mac)
 sent_on s t Drop = None
 
--- What is sent on: a geobroadcast that has another hop left. The station has accepted it, so it knows of its source.
+-- a packet for an area that has another hop left
+abbrev pub passed_on : StationModel → ℕ → Transmission → GeoArea → Option Transmission
+passed_on s moment t area =
+    if nat_le 2 t.hops_left then sent_on s t (decided s moment area (Some t.link_source)) else None
+
+-- What is sent on: a geobroadcast, and outside of its area a geoanycast. One that has come inside has arrived. The station
+-- has accepted the packet, so it knows of its source.
 abbrev pub relayed : StationModel → ℕ → Transmission → Body → Option Transmission
 relayed s moment t beacon = None
 relayed s moment t (shb media message) = None
-relayed s moment t (gbc number area message) =
-    if nat_le 2 t.hops_left then sent_on s t (decided s moment area (Some t.link_source)) else None
+relayed s moment t (gbc number area message) = passed_on s moment t area
+relayed s moment t (gac number area message) = if area_holds area s.vector.place then None else passed_on s moment t area
 
 -- By its judgement: a frame that is ignored sets the clock alone. One that is accepted is put into the history before it is
 -- decided to whom it goes on.

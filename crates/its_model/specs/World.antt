@@ -6,7 +6,7 @@ use Rattle.its_model.specs.Packet.{Transmission}
 use Rattle.its_model.specs.Calls.{OwnCall, Refusal, Answer}
 use Rattle.its_model.specs.Calls.Call.{Own, Receive}
 use Rattle.its_model.specs.Calls.Refusal.{NoSuchStation, NoSuchFrame}
-use Rattle.its_model.specs.Calls.Answer.{Moved, Opened, Closed, Quiet, Sent, Ignored, Accepted, Refused}
+use Rattle.its_model.specs.Calls.Answer.{Moved, Opened, Closed, Restarted, Quiet, Sent, Ignored, Accepted, Refused}
 use Rattle.its_model.specs.Station.{StationModel, Step, station_step, new_station}
 
 -- a station's own call, or the delivery of a frame of the world, by its number
@@ -37,10 +37,19 @@ pub record Config : Type 0 where
   pub address : ℕ
   pub place : Position
   pub capacity : ℕ
+  pub remember : ℕ
+
+-- how many numbers of a source a station remembers where its config doesn't say (profile)
+abbrev pub default_remember : ℕ
+default_remember = 8
+
+-- a station of this config, to which nothing happened yet
+abbrev pub station_of : Config → StationModel
+station_of c = new_station c.address c.place c.capacity c.remember
 
 -- new stations, and nothing that happened
 abbrev pub opening : List Config → WorldModel
-opening configs = record { stations = map (λ c. new_station c.address c.place c.capacity) configs; air = []; log = [] }
+opening configs = record { stations = map station_of configs; air = []; log = [] }
 
 -- the frame that an answer gives
 abbrev pub frame_of : {F : Type 0} → Answer F → Option F
@@ -49,6 +58,7 @@ frame_of (Accepted handed relayed) = relayed
 frame_of Moved = None
 frame_of Opened = None
 frame_of Closed = None
+frame_of Restarted = None
 frame_of Quiet = None
 frame_of (Ignored why) = None
 frame_of (Refused refusal) = None
@@ -63,6 +73,7 @@ abbrev pub entry_of : ℕ → Answer Transmission → Answer ℕ
 entry_of n Moved = Moved
 entry_of n Opened = Opened
 entry_of n Closed = Closed
+entry_of n Restarted = Restarted
 entry_of n Quiet = Quiet
 entry_of n (Sent frame) = Sent n
 entry_of n (Ignored why) = Ignored why
