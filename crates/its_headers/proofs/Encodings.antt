@@ -1,7 +1,7 @@
 -- The laws of encodings and of their reading.
 use Rattle.std.proofs.Common.{◌≡◌, ℕ, ◌≤◌, List, ◌++◌, length, take, drop, Result, Ok, refl, sym, ap, subst, ◌∙◌, arith, zero-add}
 use Rattle.std.proofs.lemmas.List.{take_at}
-use Rattle.its_model.specs.declared.fault.Fault.{Fault}
+use Rattle.its_faults.specs.declared.packet.Fault.{Fault}
 use Rattle.its_model.specs.Packet.{Pdu}
 use Rattle.its_headers.specs.Encoding.{IsBytes, Encodes}
 use Rattle.its_headers.specs.Format.{walk}

@@ -4,9 +4,9 @@ use Rattle.std.proofs.lemmas.Bool.{cases_lt, lt-ltb}
 use Rattle.std.proofs.lemmas.List.{append-nil, take_at, drop_at, take-take, drop-take, take_all, get_or-drop}
 use Rattle.byteorder.specs.Endian.{big_number, big_bytes}
 use Rattle.byteorder.specs.Numbers.{big_from-take, big_from-lt}
-use Rattle.its_model.specs.declared.fault.Fault.{Fault}
-use Rattle.its_model.specs.declared.fault.FaultKind.{FaultKind}
-use Rattle.its_model.specs.declared.fault.FaultKind.TheVariants.{Truncated}
+use Rattle.its_faults.specs.declared.packet.Fault.{Fault}
+use Rattle.its_faults.specs.declared.packet.FaultKind.{FaultKind}
+use Rattle.its_faults.specs.declared.packet.FaultKind.TheVariants.{Truncated}
 use Rattle.its_model.specs.Packet.{Pdu}
 use Rattle.its_headers.specs.Encoding.{IsBytes, Encodes}
 use Rattle.its_headers.specs.Format.{Format, ends, number, halves, octets, walk, number_at, octets_at, fault, ◌>>=◌}

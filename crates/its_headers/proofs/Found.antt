@@ -4,8 +4,8 @@ use Rattle.std.proofs.lemmas.Bool.{ltb-false, le-ltb}
 use Rattle.std.proofs.lemmas.List.{take_at, drop_at, take-append-drop, drop-drop}
 use Rattle.byteorder.specs.Endian.{big_number, big_bytes}
 use Rattle.byteorder.specs.Numbers.{big_number-reads_back, big_from-lt, length-bytes_high_first}
-use Rattle.its_model.specs.declared.fault.Fault.{Fault}
-use Rattle.its_model.specs.declared.fault.FaultKind.{FaultKind}
+use Rattle.its_faults.specs.declared.packet.Fault.{Fault}
+use Rattle.its_faults.specs.declared.packet.FaultKind.{FaultKind}
 use Rattle.its_headers.specs.Encoding.{IsBytes}
 use Rattle.its_headers.specs.Format.{Format, ends, number, halves, octets, walk, number_at, octets_at, fault, ◌>>=◌}
 use Rattle.its_headers.proofs.Spells.{Spells}

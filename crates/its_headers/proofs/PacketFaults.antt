@@ -3,16 +3,16 @@ use Rattle.std.proofs.Common.{◌≡◌, ℕ, ◌+◌, ◌*◌, ◌/◌, ◌^◌
 use Rattle.std.proofs.lemmas.List.{take-append-drop}
 use Rattle.byteorder.specs.Endian.{big_number, big_bytes}
 use Rattle.its_gnvalue.specs.Values.{PositionVector}
-use Rattle.its_model.specs.declared.fault.Fault.{Fault}
+use Rattle.its_faults.specs.declared.packet.Fault.{Fault}
 use Rattle.its_geometry.specs.declared.area.Shape.{Shape}
 use Rattle.its_geometry.specs.declared.area.Shape.TheVariants.{Circle, Rectangle, Ellipse}
 use Rattle.its_headers.specs.declared.kind.Kind.{Kind}
-use Rattle.its_headers.specs.declared.kind.Kind.TheVariants.{Beacon, Shb, Gbc}
-use Rattle.its_model.specs.Packet.{Pdu, Body}
+use Rattle.its_headers.specs.declared.kind.Kind.TheVariants.{Beacon, Shb, Gbc, Gac}
+use Rattle.its_model.specs.Packet.{Pdu, Body, AreaKind, geobroadcast, geoanycast}
 use Rattle.its_headers.specs.Encoding.{IsBytes, Encodes}
 use Rattle.its_headers.specs.Format.{Format, ends, number, halves, octets, after, walk}
-use Rattle.its_headers.specs.Layout.{basic_format, type_format, common_format, vector_format, area_format, body_format, packet_format, is_type, is_subtype, is_length, is_next, is_second, is_angle}
-use Rattle.its_headers.specs.FirstFault.{Row, common_rows, vector_rows, shb_rows, gbc_rows, rows_of, FaultAmong, FirstFault}
+use Rattle.its_headers.specs.Layout.{basic_format, type_format, common_format, vector_format, area_format, area_packet_format, body_format, packet_format, is_type, is_subtype, is_length, is_next, is_second, is_angle}
+use Rattle.its_headers.specs.FirstFault.{Row, common_rows, vector_rows, shb_rows, area_packet_rows, rows_of, FaultAmong, FirstFault}
 use Rattle.its_headers.proofs.Spells.{Spells}
 use Rattle.its_headers.proofs.Packets.{basic_spelled}
 use Rattle.its_headers.proofs.Encodings.{read_front, encoding_read}
@@ -76,26 +76,31 @@ area_inhabited : (shape : Shape) → IsInhabited (area_format shape)
 unfolding area_format
 area_inhabited shape = ((0, omega arith, refl), λ _ _ _. ((0, omega arith, refl), λ _ _ _. ((1, omega arith, refl), λ _ _ _. (a_second shape, λ _ _ _. ((0, omega arith, an_angle shape), λ _ _ _. tt)))))
 
+area_packet_inhabited : (kind : AreaKind) (shape : Shape) (n : ℕ) → IsInhabited (area_packet_format kind shape n)
+area_packet_inhabited kind shape n = ((0, omega arith, refl), λ _ _ _. ((0, omega arith, refl), λ _ _ _. inhabited_after vector_format _ vector_inhabited (λ _ _ _. inhabited_after (area_format shape) _ (area_inhabited shape) (λ _ _ _. ((0, omega arith, refl), λ _ _ _. λ _ _ _. tt)))))
+
 body_inhabited : (k : Kind) (shape : Shape) (n : ℕ) → IsInhabited (body_format k shape n)
 body_inhabited Beacon shape n = inhabited_after vector_format _ vector_inhabited (λ _ _ _. tt)
 body_inhabited Shb shape n = inhabited_after vector_format _ vector_inhabited (λ _ _ _. λ _ _ _. λ _ _ _. tt)
-body_inhabited Gbc shape n = ((0, omega arith, refl), λ _ _ _. ((0, omega arith, refl), λ _ _ _. inhabited_after vector_format _ vector_inhabited (λ _ _ _. inhabited_after (area_format shape) _ (area_inhabited shape) (λ _ _ _. ((0, omega arith, refl), λ _ _ _. λ _ _ _. tt)))))
+body_inhabited Gbc shape n = area_packet_inhabited geobroadcast shape n
+body_inhabited Gac shape n = area_packet_inhabited geoanycast shape n
 
 inhabited : IsInhabited packet_format
 inhabited = inhabited_after basic_format _ basic_inhabited (λ b s h. inhabited_after (common_format b.1) _ (common_inhabited b.1 (basic_spelled b s h).left) (λ c _ _. inhabited_after (body_format c.kind c.shape c.length) _ (body_inhabited c.kind c.shape c.length) (λ _ _ _. tt)))
 
 -- ---- the rows
 
-rows_of_kind : {B : Type 0} (one five : Bool) (shape : Shape) (n : ℕ) (g : PositionVector × Body → B) (w : List ℕ)
-    → rows_in (after (body_format (cond one Beacon (cond five Shb Gbc)) shape n) (λ x. ends (g x))) 12 w ≡ cond one vector_rows (cond five (shb_rows n) (gbc_rows n))
+rows_of_kind : {B : Type 0} (one five three : Bool) (shape : Shape) (n : ℕ) (g : PositionVector × Body → B) (w : List ℕ)
+    → rows_in (after (body_format (cond one Beacon (cond five Shb (cond three Gac Gbc))) shape n) (λ x. ends (g x))) 12 w ≡ cond one vector_rows (cond five (shb_rows n) (area_packet_rows n))
 unfolding vector_format area_format
-rows_of_kind true five shape n g w = refl
-rows_of_kind false true shape n g w = refl
-rows_of_kind false false shape n g w = refl
+rows_of_kind true five three shape n g w = refl
+rows_of_kind false true three shape n g w = refl
+rows_of_kind false false true shape n g w = refl
+rows_of_kind false false false shape n g w = refl
 
 rows_are : (w : List ℕ) → rows_in packet_format 0 w ≡ rows_of w
 unfolding basic_format type_format common_format
-rows_are w = ap (λ (t : List Row). common_rows ++ t) (rows_of_kind (eqb (big_number 1 (drop 5 w) / 16) 1) (eqb (big_number 1 (drop 5 w) / 16) 5) _ (big_number 2 (drop 8 w)) _ w)
+rows_are w = ap (λ (t : List Row). common_rows ++ t) (rows_of_kind (eqb (big_number 1 (drop 5 w) / 16) 1) (eqb (big_number 1 (drop 5 w) / 16) 5) (eqb (big_number 1 (drop 5 w) / 16) 3) _ (big_number 2 (drop 8 w)) _ w)
 
 from_start : (w : List ℕ) → Path packet_format packet_format 0 w
 from_start w = record { goes = λ v same le. refl }

@@ -9,13 +9,13 @@ use Rattle.its_gnvalue.specs.Values.{PositionVector}
 use Rattle.its_geometry.specs.declared.area.Shape.{Shape}
 use Rattle.its_geometry.specs.declared.area.Shape.TheVariants.{Circle, Rectangle, Ellipse}
 use Rattle.its_headers.specs.declared.kind.Kind.{Kind}
-use Rattle.its_headers.specs.declared.kind.Kind.TheVariants.{Beacon, Shb, Gbc}
-use Rattle.its_model.specs.declared.fault.FaultKind.TheVariants.{Reserved}
+use Rattle.its_headers.specs.declared.kind.Kind.TheVariants.{Beacon, Shb, Gbc, Gac}
+use Rattle.its_faults.specs.declared.packet.FaultKind.TheVariants.{Reserved}
 use Rattle.its_geometry.specs.Area.{GeoArea}
-use Rattle.its_model.specs.Packet.{Pdu, Body, beacon, shb, gbc, Message}
-use Rattle.its_headers.specs.Encoding.{IsVector, IsBody, IsMessage, IsBytes, IsPacket, Encodes, vector_octets, area_octets, message_octets, basic_header, common_header, extended_header, encoding, common_next, header_type, payload_length, shape_code}
+use Rattle.its_model.specs.Packet.{Pdu, Body, beacon, shb, gbc, gac, AreaKind, geobroadcast, geoanycast, area_body, Message}
+use Rattle.its_headers.specs.Encoding.{IsVector, IsArea, IsBody, IsMessage, IsBytes, IsPacket, Encodes, vector_octets, area_octets, message_octets, basic_header, common_header, extended_header, encoding, area_packet_octets, common_next, header_type, payload_length, shape_code}
 use Rattle.its_headers.specs.Format.{Format, after, ends, number, octets}
-use Rattle.its_headers.specs.Layout.{Common, basic_format, type_format, common_format, vector_format, area_format, beacon_format, body_format, packet_format, is_next, is_type, is_subtype, is_length, kind_of, shape_of, is_zero, shb_format}
+use Rattle.its_headers.specs.Layout.{Common, basic_format, type_format, common_format, vector_format, area_format, beacon_format, body_format, packet_format, is_next, is_type, is_subtype, is_length, kind_of, shape_of, is_zero, shb_format, area_packet_format}
 use Rattle.its_headers.specs.Fields.{message_of, IsLength, kind_of_body, shape_of_body}
 use Rattle.its_headers.proofs.Spells.{Spells, Spells-after, after-Spells}
 use Rattle.its_headers.proofs.Spelled.{vector_spelled, spells_vector, area_spelled, spells_area}
@@ -76,17 +76,20 @@ abbrev pub next_of : Kind → ℕ
 next_of Beacon = 0
 next_of Shb = 2
 next_of Gbc = 2
+next_of Gac = 2
 
 abbrev pub type_of : Kind → ℕ
 type_of Beacon = 1
 type_of Shb = 5
 type_of Gbc = 4
+type_of Gac = 3
 
--- only a geobroadcast has a sub-type other than 0
+-- only a geobroadcast and a geoanycast have a sub-type other than 0
 abbrev pub IsSubtype : Kind → Shape → Type 0
 IsSubtype Beacon shape = shape ≡ Circle
 IsSubtype Shb shape = shape ≡ Circle
 IsSubtype Gbc shape = Unit {0}
+IsSubtype Gac shape = Unit {0}
 
 abbrev pub type_octet : Kind → Shape → ℕ
 type_octet kind shape = 16 * type_of kind + shape_code shape
@@ -108,7 +111,7 @@ pub record IsKind (n t : ℕ) (kind : Kind) : Type 0 where
   pub type : t ≡ type_of kind
   pub kind_is : kind_of t ≡ kind
 
-types : (n t : ℕ) → is_next n ≡ true → is_type n t ≡ true → ((n ≡ 0) × (t ≡ 1)) ⊎ ((n ≡ 2) × (t ≡ 5)) ⊎ ((n ≡ 2) × (t ≡ 4))
+types : (n t : ℕ) → is_next n ≡ true → is_type n t ≡ true → ((n ≡ 0) × (t ≡ 1)) ⊎ ((n ≡ 2) × (t ≡ 5)) ⊎ ((n ≡ 2) × (t ≡ 4)) ⊎ ((n ≡ 2) × (t ≡ 3))
 types n t hn ht = grind arith
 
 kind_is : (n t : ℕ) → is_next n ≡ true → is_type n t ≡ true → (kind : Kind) × IsKind n t kind
@@ -117,7 +120,10 @@ kind_is n t hn ht =
       | inl p ↦ (Beacon, record { next = p.0; type = p.1; kind_is = rw (p.1) refl })
       | inr q ↦ elim q [
         | inl p ↦ (Shb, record { next = p.0; type = p.1; kind_is = rw (p.1) refl })
-        | inr p ↦ (Gbc, record { next = p.0; type = p.1; kind_is = rw (p.1) refl })
+        | inr r ↦ elim r [
+          | inl p ↦ (Gbc, record { next = p.0; type = p.1; kind_is = rw (p.1) refl })
+          | inr p ↦ (Gac, record { next = p.0; type = p.1; kind_is = rw (p.1) refl })
+        ]
       ]
     ]
 
@@ -128,11 +134,13 @@ length_is : (kind : Kind) (n : ℕ) → is_length (type_of kind) n ≡ true → 
 length_is Beacon n h = eqb-true _ _ h
 length_is Shb n h = (grind arith, grind arith)
 length_is Gbc n h = (grind arith, grind arith)
+length_is Gac n h = (grind arith, grind arith)
 
 size_test : (kind : Kind) (n : ℕ) → IsLength kind n → is_length (type_of kind) n ≡ true
 size_test Beacon n h = rw h refl
 size_test Shb n h = grind arith
 size_test Gbc n h = grind arith
+size_test Gac n h = grind arith
 
 -- the sub-type that is read is that of the shape
 subtype_is : (kind : Kind) (u : ℕ) → is_subtype (type_of kind) u ≡ true → IsSubtype kind (shape_of u) × (u ≡ shape_code (shape_of u))
@@ -142,6 +150,10 @@ subtype_is Gbc zero h = (tt, refl)
 subtype_is Gbc (suc zero) h = (tt, refl)
 subtype_is Gbc (suc (suc zero)) h = (tt, refl)
 subtype_is Gbc (suc (suc (suc u))) h = absurd (grind arith)
+subtype_is Gac zero h = (tt, refl)
+subtype_is Gac (suc zero) h = (tt, refl)
+subtype_is Gac (suc (suc zero)) h = (tt, refl)
+subtype_is Gac (suc (suc (suc u))) h = absurd (grind arith)
 
 subtype_test : (kind : Kind) (shape : Shape) → IsSubtype kind shape → is_subtype (type_of kind) (shape_code shape) ≡ true
 subtype_test Beacon shape h = rw h refl
@@ -149,6 +161,9 @@ subtype_test Shb shape h = rw h refl
 subtype_test Gbc Circle h = refl
 subtype_test Gbc Rectangle h = refl
 subtype_test Gbc Ellipse h = refl
+subtype_test Gac Circle h = refl
+subtype_test Gac Rectangle h = refl
+subtype_test Gac Ellipse h = refl
 
 shape_back : (shape : Shape) → shape_of (shape_code shape) ≡ shape
 shape_back Circle = refl
@@ -164,11 +179,13 @@ type_of-lt : (kind : Kind) → type_of kind < 16
 type_of-lt Beacon = omega arith
 type_of-lt Shb = omega arith
 type_of-lt Gbc = omega arith
+type_of-lt Gac = omega arith
 
 next_of-lt : (kind : Kind) → next_of kind < 16
 next_of-lt Beacon = omega arith
 next_of-lt Shb = omega arith
 next_of-lt Gbc = omega arith
+next_of-lt Gac = omega arith
 
 common_text : (n n' t t' class f f' size max : ℕ) → 16 * n + 0 ≡ n' → t ≡ t' → f ≡ f'
     → (16 * n + 0) ∷ t ∷ class ∷ f ∷ (big_bytes 2 size ++ max ∷ 0 ∷ []) ≡ n' ∷ t' ∷ class ∷ f' ∷ (big_bytes 2 size ++ max ∷ 0 ∷ [])
@@ -196,6 +213,7 @@ type_test : (kind : Kind) → (is_next (next_of kind) ≡ true) × (is_type (nex
 type_test Beacon = (refl, refl, refl)
 type_test Shb = (refl, refl, refl)
 type_test Gbc = (refl, refl, refl)
+type_test Gac = (refl, refl, refl)
 
 -- the flags of a packet
 pub record IsFlags (f : ℕ) (mobile : Bool) : Type 0 where
@@ -278,6 +296,7 @@ length-lt : (kind : Kind) (n : ℕ) → IsLength kind n → n < 2 ^ 16
 length-lt Beacon n h = omega arith
 length-lt Shb n h = omega arith
 length-lt Gbc n h = omega arith
+length-lt Gac n h = omega arith
 
 pub spells_common : (left : ℕ) (c : Common) → c.class < 256 → c.max_hops < 256 → left ≤ c.max_hops → IsSubtype c.kind c.shape → IsLength c.kind c.length → Spells (common_format left) c (common_octets c)
 unfolding type_format common_format
@@ -313,8 +332,8 @@ IsBytes-message m fits = IsBytes-append (big_bytes 2 m.port ++ big_bytes 2 m.inf
 
 -- ---- what follows the common header
 
-abbrev gbc_end : PositionVector → ℕ → GeoArea → ℕ → Format (PositionVector × Body)
-gbc_end v sequence area size = number 2 Reserved is_zero λ _. octets size λ payload. ends (v, gbc sequence area (message_of payload))
+abbrev area_packet_end : AreaKind → PositionVector → ℕ → GeoArea → ℕ → Format (PositionVector × Body)
+area_packet_end kind v sequence area size = number 2 Reserved is_zero λ _. octets size λ payload. ends (v, area_body kind sequence area (message_of payload))
 
 abbrev shb_end : PositionVector → ℕ → Format (PositionVector × Body)
 shb_end v size = octets 4 λ media. octets size λ payload. ends (v, shb media (message_of payload))
@@ -330,8 +349,45 @@ pub record IsRest (k : Kind) (shape : Shape) (n : ℕ) (y : PositionVector × Bo
 shb_text : (s a b c d p p' v : List ℕ) → s ≡ a ++ b → a ≡ v → b ≡ c ++ d → d ≡ p ++ p' → p' ≡ [] → s ≡ v ++ (c ++ (p ++ []))
 shb_text s a b c d p p' v e0 e1 e2 e3 e4 = rw (e0, e1, e2, e3, e4) refl
 
-gbc_text : (n z zz : ℕ) (s t0 t1 a b c d e p p' v ar : List ℕ) → s ≡ big_bytes 2 n ++ t0 → t0 ≡ big_bytes 2 z ++ t1 → t1 ≡ a ++ b → a ≡ v → b ≡ c ++ d → c ≡ ar → d ≡ big_bytes 2 zz ++ e → e ≡ p ++ p' → p' ≡ [] → z ≡ 0 → zz ≡ 0 → s ≡ big_bytes 2 n ++ (big_bytes 2 0 ++ (v ++ (ar ++ (big_bytes 2 0 ++ (p ++ [])))))
-gbc_text n z zz s t0 t1 a b c d e p p' v ar e0 e1 e2 e3 e4 e5 e6 e7 e8 hz hzz = rw (e0, e1, e2, e3, e4, e5, e6, e7, e8, hz, hzz) refl
+area_packet_text : (n z zz : ℕ) (s t0 t1 a b c d e p p' v ar : List ℕ) → s ≡ big_bytes 2 n ++ t0 → t0 ≡ big_bytes 2 z ++ t1 → t1 ≡ a ++ b → a ≡ v → b ≡ c ++ d → c ≡ ar → d ≡ big_bytes 2 zz ++ e → e ≡ p ++ p' → p' ≡ [] → z ≡ 0 → zz ≡ 0 → s ≡ big_bytes 2 n ++ (big_bytes 2 0 ++ (v ++ (ar ++ (big_bytes 2 0 ++ (p ++ [])))))
+area_packet_text n z zz s t0 t1 a b c d e p p' v ar e0 e1 e2 e3 e4 e5 e6 e7 e8 hz hzz = rw (e0, e1, e2, e3, e4, e5, e6, e7, e8, hz, hzz) refl
+
+-- what a geobroadcast or a geoanycast says after the Common Header
+record IsAreaPacketRest (kind : AreaKind) (shape : Shape) (n : ℕ) (y : PositionVector × Body) (s : List ℕ) : Type 0 where
+  pub vector : PositionVector
+  pub sequence : ℕ
+  pub area : GeoArea
+  pub message : Message
+  pub is : (vector, area_body kind sequence area message) ≡ y
+  pub fits : IsVector vector
+  pub body : (sequence < 2 ^ 16) × IsArea area × IsMessage message
+  pub octets : s ≡ area_packet_octets vector sequence area message
+  pub shape_is : shape ≡ area.shape
+  pub size : n ≡ 4 + length message.payload
+
+area_packet_spelled : (kind : AreaKind) (shape : Shape) (n : ℕ) (y : PositionVector × Body) (s : List ℕ) → 4 ≤ n → n ≤ 1398 → Spells (area_packet_format kind shape n) y s → IsAreaPacketRest kind shape n y s
+area_packet_spelled kind shape n y s low high (sequence, t0, fs, rs, e0, (z, t1, fz, rz, e1, h)) =
+    let i = Spells-after vector_format _ y t1 h in
+    let v = vector_spelled i.0 i.1 i.3 in
+    let j = Spells-after (area_format shape) _ y i.2 i.4 in
+    let a = area_spelled shape j.0 j.1 j.3 in
+    let q = j.4 in
+    let p = q.5 in
+    let z0 : z ≡ 0 = eqb-true _ _ rz in
+    let zz0 : q.0 ≡ 0 = eqb-true _ _ q.3 in
+    let text : s ≡ area_packet_octets i.0 sequence j.0 (message_of p.0) = area_packet_text sequence z q.0 s t0 t1 i.1 i.2 j.1 j.2 q.1 p.0 p.1 (vector_octets i.0) (area_octets j.0) e0 e1 i.5 v.1 j.5 a.1 q.4 p.4 p.5.1 z0 zz0 ∙ (ap (λ (t : List ℕ). big_bytes 2 sequence ++ big_bytes 2 0 ++ vector_octets i.0 ++ area_octets j.0 ++ big_bytes 2 0 ++ t) (append-nil p.0 ∙ sym (message_back p.0 (omega (arith, p.2)) p.3))) in
+    record {
+      vector = i.0;
+      sequence = sequence;
+      area = j.0;
+      message = message_of p.0;
+      is = p.5.0;
+      fits = v.0;
+      body = (omega arith, a.0, message_fits p.0 (omega (arith, p.2)) (omega (arith, p.2)) p.3);
+      octets = text;
+      shape_is = sym a.2;
+      size = omega (arith, p.2, length-drop 4 p.0);
+    }
 
 pub rest_spelled : (k : Kind) (shape : Shape) (n : ℕ) (y : PositionVector × Body) (s : List ℕ) → IsSubtype k shape → IsLength k n → Spells (body_format k shape n) y s → IsRest k shape n y s
 rest_spelled Beacon shape n y s sub size h =
@@ -356,24 +412,12 @@ rest_spelled Shb shape n y s sub size h =
       type = ap (λ (x : Shape). type_octet Shb x) sub;
       size = omega (arith, p.2, size.0, length-drop 4 p.0);
     })
-rest_spelled Gbc shape n y s sub size (sequence, t0, fs, rs, e0, (z, t1, fz, rz, e1, h)) =
-    let i = Spells-after vector_format _ y t1 h in
-    let v = vector_spelled i.0 i.1 i.3 in
-    let j = Spells-after (area_format shape) _ y i.2 i.4 in
-    let a = area_spelled shape j.0 j.1 j.3 in
-    let q = j.4 in
-    let p = q.5 in
-    let z0 : z ≡ 0 = eqb-true _ _ rz in
-    let zz0 : q.0 ≡ 0 = eqb-true _ _ q.3 in
-    let text : s ≡ extended_header i.0 (gbc sequence j.0 (message_of p.0)) = gbc_text sequence z q.0 s t0 t1 i.1 i.2 j.1 j.2 q.1 p.0 p.1 (vector_octets i.0) (area_octets j.0) e0 e1 i.5 v.1 j.5 a.1 q.4 p.4 p.5.1 z0 zz0 ∙ (ap (λ (t : List ℕ). big_bytes 2 sequence ++ big_bytes 2 0 ++ vector_octets i.0 ++ area_octets j.0 ++ big_bytes 2 0 ++ t) (append-nil p.0 ∙ sym (message_back p.0 (omega (arith, p.2, size.0)) p.3))) in
-    subst (λ y. IsRest Gbc shape n y s) p.5.0 (record {
-      vector = v.0;
-      body = (omega arith, a.0, message_fits p.0 (omega (arith, p.2, size.0)) (omega (arith, p.2, size.1)) p.3);
-      octets = text;
-      next = refl;
-      type = ap (λ (x : Shape). type_octet Gbc x) (sym a.2);
-      size = omega (arith, p.2, size.0, length-drop 4 p.0);
-    })
+rest_spelled Gbc shape n y s sub size h =
+    let g = area_packet_spelled geobroadcast shape n y s size.0 size.1 h in
+    subst (λ y. IsRest Gbc shape n y s) g.is (record { vector = g.fits; body = g.body; octets = g.octets; next = refl; type = ap (λ (x : Shape). type_octet Gbc x) g.shape_is; size = g.size })
+rest_spelled Gac shape n y s sub size h =
+    let g = area_packet_spelled geoanycast shape n y s size.0 size.1 h in
+    subst (λ y. IsRest Gac shape n y s) g.is (record { vector = g.fits; body = g.body; octets = g.octets; next = refl; type = ap (λ (x : Shape). type_octet Gac x) g.shape_is; size = g.size })
 
 -- ---- packets
 
@@ -381,11 +425,28 @@ length_of_body : (b : Body) → IsBody b → IsLength (kind_of_body b) (payload_
 length_of_body beacon h = refl
 length_of_body (shb media message) h = (omega arith, omega (arith, h.1.size))
 length_of_body (gbc sequence area message) h = (omega arith, omega (arith, h.2.size))
+length_of_body (gac sequence area message) h = (omega arith, omega (arith, h.2.size))
 
 subtype_of_body : (b : Body) → IsSubtype (kind_of_body b) (shape_of_body b)
 subtype_of_body beacon = refl
 subtype_of_body (shb media message) = refl
 subtype_of_body (gbc sequence area message) = tt
+subtype_of_body (gac sequence area message) = tt
+
+spells_area_packet : (kind : AreaKind) (v : PositionVector) (sequence : ℕ) (area : GeoArea) (message : Message) → IsVector v → (sequence < 2 ^ 16) × IsArea area × IsMessage message
+    → Spells (area_packet_format kind area.shape (4 + length message.payload)) (v, area_body kind sequence area message) (area_packet_octets v sequence area message)
+spells_area_packet kind v sequence area message fv fb =
+    let last : Spells (area_packet_end kind v sequence area (4 + length message.payload)) (v, area_body kind sequence area message) (big_bytes 2 0 ++ message_octets message) =
+    (0, message_octets message, omega arith, refl, refl, (message_octets message, [], omega arith, IsBytes-message message fb.2, sym (append-nil (message_octets message)), (ap (λ (m : Message). (v, area_body kind sequence area m)) (message_again message fb.2), refl))) in
+    let two = after-Spells (area_format area.shape) (λ a. area_packet_end kind v sequence a (4 + length message.payload)) area (v, area_body kind sequence area message) (area_octets area) (big_bytes 2 0 ++ message_octets message) (spells_area area fb.1) last in
+    let one = after-Spells vector_format (λ w. after (area_format area.shape) λ a. area_packet_end kind w sequence a (4 + length message.payload)) v (v, area_body kind sequence area message) (vector_octets v) (area_octets area ++ (big_bytes 2 0 ++ message_octets message)) (spells_vector v fv) two in (
+      sequence,
+      big_bytes 2 0 ++ (vector_octets v ++ (area_octets area ++ (big_bytes 2 0 ++ message_octets message))),
+      fb.0,
+      refl,
+      refl,
+      (0, vector_octets v ++ (area_octets area ++ (big_bytes 2 0 ++ message_octets message)), omega arith, refl, refl, one),
+    )
 
 pub spells_rest : (v : PositionVector) (b : Body) → IsVector v → IsBody b → Spells (body_format (kind_of_body b) (shape_of_body b) (payload_length b)) (v, b) (extended_header v b)
 spells_rest v beacon fv fb = subst (λ (t : List ℕ). Spells beacon_format (v, beacon) t) (append-nil (vector_octets v)) (after-Spells vector_format _ v (v, beacon) (vector_octets v) [] (spells_vector v fv) (refl, refl))
@@ -394,18 +455,8 @@ spells_rest v (shb media message) fv fb =
     (media, message_octets message, fb.0.size, fb.0.bytes, refl, (message_octets message, [], omega arith, IsBytes-message message fb.1, sym (append-nil (message_octets message)), (ap (λ (m : Message). (v, shb media m)) (message_again message fb.1), refl))) in
     subst (λ (t : List ℕ). Spells (shb_format (4 + length message.payload)) (v, shb media message) t) (sym (append_assoc (vector_octets v) media (message_octets message)))
     (after-Spells vector_format (λ w. shb_end w (4 + length message.payload)) v (v, shb media message) (vector_octets v) (media ++ message_octets message) (spells_vector v fv) last)
-spells_rest v (gbc sequence area message) fv fb =
-    let last : Spells (gbc_end v sequence area (4 + length message.payload)) (v, gbc sequence area message) (big_bytes 2 0 ++ message_octets message) =
-    (0, message_octets message, omega arith, refl, refl, (message_octets message, [], omega arith, IsBytes-message message fb.2, sym (append-nil (message_octets message)), (ap (λ (m : Message). (v, gbc sequence area m)) (message_again message fb.2), refl))) in
-    let two = after-Spells (area_format area.shape) (λ a. gbc_end v sequence a (4 + length message.payload)) area (v, gbc sequence area message) (area_octets area) (big_bytes 2 0 ++ message_octets message) (spells_area area fb.1) last in
-    let one = after-Spells vector_format (λ w. after (area_format area.shape) λ a. gbc_end w sequence a (4 + length message.payload)) v (v, gbc sequence area message) (vector_octets v) (area_octets area ++ (big_bytes 2 0 ++ message_octets message)) (spells_vector v fv) two in (
-      sequence,
-      big_bytes 2 0 ++ (vector_octets v ++ (area_octets area ++ (big_bytes 2 0 ++ message_octets message))),
-      fb.0,
-      refl,
-      refl,
-      (0, vector_octets v ++ (area_octets area ++ (big_bytes 2 0 ++ message_octets message)), omega arith, refl, refl, one),
-    )
+spells_rest v (gbc sequence area message) fv fb = spells_area_packet geobroadcast v sequence area message fv fb
+spells_rest v (gac sequence area message) fv fb = spells_area_packet geoanycast v sequence area message fv fb
 
 same_heads : (class max l l' n n' t t' : ℕ) (mobile : Bool) → n ≡ n' → t ≡ t' → l ≡ l' → (16 * n) ∷ t ∷ class ∷ cond mobile 128 0 ∷ (big_bytes 2 l ++ max ∷ 0 ∷ []) ≡ (16 * n') ∷ t' ∷ class ∷ cond mobile 128 0 ∷ (big_bytes 2 l' ++ max ∷ 0 ∷ [])
 same_heads class max l l' n n' t t' mobile e0 e1 e2 = rw (e0, e1, e2) refl
@@ -432,6 +483,7 @@ heads_of_body : (b : Body) → (next_of (kind_of_body b) ≡ common_next b) × (
 heads_of_body beacon = (refl, refl)
 heads_of_body (shb media message) = (refl, refl)
 heads_of_body (gbc sequence area message) = (refl, refl)
+heads_of_body (gac sequence area message) = (refl, refl)
 
 pub spells_packet : (p : Pdu) (left : ℕ) → IsPacket p left → Spells packet_format (p, left) (encoding p left)
 spells_packet p left fits =

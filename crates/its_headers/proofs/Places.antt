@@ -1,19 +1,20 @@
 -- Where the fields of an encoding stand, and that they are read there.
-use Rattle.std.proofs.Common.{◌≡◌, ℕ, ◌+◌, ◌≤◌, List, [], ◌++◌, length, drop, Result, Ok, Err, refl, sym, ap, subst, ◌∙◌, arith, length-append, length-drop}
+use Rattle.std.proofs.Common.{◌≡◌, ℕ, ◌+◌, ◌≤◌, List, [], ◌++◌, length, drop, Result, Ok, Err, refl, sym, ap, subst, ◌∙◌, arith, length-append, length-drop, ◌⊎◌, inl, inr}
 use Rattle.std.proofs.lemmas.List.{drop_at}
 use Rattle.std.specs.Prelude.{Option, Some}
 use Rattle.byteorder.specs.Endian.{big_bytes}
 use Rattle.its_gnvalue.specs.Values.{PositionVector}
 use Rattle.its_geometry.specs.declared.area.Shape.{Shape}
 use Rattle.its_geometry.specs.Area.{GeoArea}
-use Rattle.its_model.specs.declared.fault.Fault.{Fault}
-use Rattle.its_model.specs.Packet.{Pdu, Body, beacon, shb, gbc, number_in}
+use Rattle.its_faults.specs.declared.packet.Fault.{Fault}
+use Rattle.its_model.specs.Packet.{Pdu, Body, Message, beacon, shb, gbc, gac, AreaKind, geobroadcast, geoanycast, area_body, number_in}
 use Rattle.its_headers.specs.declared.kind.Kind.{Kind}
-use Rattle.its_headers.specs.declared.kind.Kind.TheVariants.{Shb, Gbc}
-use Rattle.its_headers.specs.Encoding.{Encodes, IsBody, encoding, payload_of, vector_octets, area_octets, message_octets}
-use Rattle.its_headers.specs.Fields.{vector_place, kind_of_body, shape_of_body, message_of, IsLength, media_in, area_in, SaysMessage}
+use Rattle.its_headers.specs.declared.kind.Kind.TheVariants.{Shb, Gbc, Gac}
+use Rattle.its_headers.specs.Encoding.{Encodes, IsBody, IsArea, encoding, payload_of, vector_octets, area_octets, message_octets}
+use Rattle.its_headers.specs.Fields.{vector_place, kind_of_body, shape_of_body, message_of, IsLength, media_in, area_in, SaysMessage, IsForArea}
 use Rattle.its_headers.specs.declared.packet.Header.{Header}
-use Rattle.its_headers.specs.Packets.{with_body, IsHeaderOf}
+use Rattle.its_headers.specs.declared.packet.AreaPacket.{AreaPacket}
+use Rattle.its_headers.specs.Packets.{with_body, pdu_for_area, IsHeaderOf, IsAreaPacketOf}
 use Rattle.its_headers.specs.Format.{Format, walk}
 use Rattle.its_headers.specs.Layout.{vector_format, area_format}
 use Rattle.its_headers.specs.Seen.{Seen, seen_of, IsEncoding}
@@ -39,6 +40,7 @@ vector_text : (left : ℕ) (p : Pdu) (b : Body) → p.body ≡ b → (rest : Lis
 vector_text left p beacon is = ([], ap (λ (b : Body). drop 12 (text_of left p b)) is)
 vector_text left p (shb media message) is = (media ++ message_octets message, ap (λ (b : Body). drop 12 (text_of left p b)) is)
 vector_text left p (gbc number area message) is = (area_octets area ++ big_bytes 2 0 ++ message_octets message, ap (λ (b : Body). drop 16 (text_of left p b)) is)
+vector_text left p (gac number area message) is = (area_octets area ++ big_bytes 2 0 ++ message_octets message, ap (λ (b : Body). drop 16 (text_of left p b)) is)
 
 pub vector_read : (p : Pdu) (left at : ℕ) (w : List ℕ) → Encodes p left w → at ≡ vector_place p.body → walk vector_format at w ≡ Ok (p.vector, at + 24)
 vector_read p left at w e is =
@@ -65,16 +67,28 @@ pub record AreaRead (b : Body) (w : List ℕ) (shape : Shape) : Type 0 where
   pub is : area_in b ≡ Some area
   pub reading : walk (area_format shape) 40 w ≡ Ok (area, 54)
 
-area_read_in : (left : ℕ) (p : Pdu) (b : Body) (w : List ℕ) (shape : Shape) → p.body ≡ b → IsBody b → w ≡ encoding p left → kind_of_body b ≡ Gbc → shape ≡ shape_of_body b → AreaRead b w shape
-area_read_in left p beacon w shape is fits text kind same = absurd cc
-area_read_in left p (shb media message) w shape is fits text kind same = absurd cc
-area_read_in left p (gbc number area message) w shape is fits text kind same =
-    let here : drop 40 w ≡ area_octets area ++ (big_bytes 2 0 ++ message_octets message) = ap (drop 40) text ∙ ap (λ (b : Body). drop 40 (text_of left p b)) is in
-    let spelled : Spells (area_format shape) area (area_octets area) = subst (λ (s : Shape). Spells (area_format s) area (area_octets area)) (sym same) (spells_area area fits.1) in
-    record { area = area; is = refl; reading = read_at (area_format shape) area 40 54 w (area_octets area) (big_bytes 2 0 ++ message_octets message) spelled here refl (omega arith) }
+area_read_from : (w : List ℕ) (shape : Shape) (area : GeoArea) (message : Message) → drop 40 w ≡ area_octets area ++ (big_bytes 2 0 ++ message_octets message) → IsArea area → shape ≡ area.shape → walk (area_format shape) 40 w ≡ Ok (area, 54)
+area_read_from w shape area message here fits same =
+    let spelled : Spells (area_format shape) area (area_octets area) = subst (λ (s : Shape). Spells (area_format s) area (area_octets area)) (sym same) (spells_area area fits) in
+    read_at (area_format shape) area 40 54 w (area_octets area) (big_bytes 2 0 ++ message_octets message) spelled here refl (omega arith)
 
-pub area_read : (p : Pdu) (left : ℕ) (w : List ℕ) (shape : Shape) → Encodes p left w → kind_of_body p.body ≡ Gbc → shape ≡ shape_of_body p.body → AreaRead p.body w shape
-area_read p left w shape e kind same = area_read_in left p p.body w shape refl e.fields.body e.octets kind same
+area_read_in : (left : ℕ) (p : Pdu) (b : Body) (w : List ℕ) (shape : Shape) → p.body ≡ b → IsBody b → w ≡ encoding p left → IsForArea b → shape ≡ shape_of_body b → AreaRead b w shape
+area_read_in left p beacon w shape is fits text for_area same = absurd for_area
+area_read_in left p (shb media message) w shape is fits text for_area same = absurd for_area
+area_read_in left p (gbc number area message) w shape is fits text for_area same =
+    record { area = area; is = refl; reading = area_read_from w shape area message (ap (drop 40) text ∙ ap (λ (b : Body). drop 40 (text_of left p b)) is) fits.1 same }
+area_read_in left p (gac number area message) w shape is fits text for_area same =
+    record { area = area; is = refl; reading = area_read_from w shape area message (ap (drop 40) text ∙ ap (λ (b : Body). drop 40 (text_of left p b)) is) fits.1 same }
+
+pub area_read : (p : Pdu) (left : ℕ) (w : List ℕ) (shape : Shape) → Encodes p left w → IsForArea p.body → shape ≡ shape_of_body p.body → AreaRead p.body w shape
+area_read p left w shape e for_area same = area_read_in left p p.body w shape refl e.fields.body e.octets for_area same
+
+-- the kinds of packet for an area
+pub is_for_area : (b : Body) (kind : Kind) → kind ≡ kind_of_body b → (kind ≡ Gbc) ⊎ (kind ≡ Gac) → IsForArea b
+is_for_area beacon kind is either = elim either [ inl a ↦ absurd cc | inr a ↦ absurd cc ]
+is_for_area (shb media message) kind is either = elim either [ inl a ↦ absurd cc | inr a ↦ absurd cc ]
+is_for_area (gbc number area message) kind is either = tt
+is_for_area (gac number area message) kind is either = tt
 
 abbrev area_reading : GeoArea → ℕ → Result (GeoArea × ℕ) Fault
 area_reading a n = Ok (a, n)
@@ -93,6 +107,7 @@ area_not_refused e a n h = cc
 shb_payload_in : (left : ℕ) (p : Pdu) (b : Body) → p.body ≡ b → IsBody b → kind_of_body b ≡ Shb → drop 40 (encoding p left) ≡ payload_of b
 shb_payload_in left p beacon is fits kind = absurd cc
 shb_payload_in left p (gbc number area message) is fits kind = absurd cc
+shb_payload_in left p (gac number area message) is fits kind = absurd cc
 shb_payload_in left p (shb media message) is fits kind = ap (λ (b : Body). drop 40 (text_of left p b)) is ∙ drop_at media (message_octets message) 4 fits.0.size
 
 pub shb_payload : (p : Pdu) (left : ℕ) (w : List ℕ) → Encodes p left w → kind_of_body p.body ≡ Shb → drop 40 w ≡ payload_of p.body
@@ -102,6 +117,7 @@ payload_fits_in : (b : Body) → IsBody b → IsLength (kind_of_body b) (length 
 payload_fits_in beacon fits = refl
 payload_fits_in (shb media message) fits = (omega arith, omega (arith, fits.1.size))
 payload_fits_in (gbc number area message) fits = (omega arith, omega (arith, fits.2.size))
+payload_fits_in (gac number area message) fits = (omega arith, omega (arith, fits.2.size))
 
 -- a payload has a length that its kind may have
 pub payload_fits : (p : Pdu) (left : ℕ) (w x : List ℕ) → Encodes p left w → x ≡ payload_of p.body → IsLength (kind_of_body p.body) (length x)
@@ -109,10 +125,10 @@ payload_fits p left w x e is = subst (λ (t : List ℕ). IsLength (kind_of_body 
 
 -- ---- through a view
 
-pub view_area : (w : List ℕ) (s : Seen) (kind : Kind) (shape : Shape) → IsEncoding w → seen_of w ≡ s → kind ≡ kind_of_body s.pdu.body → kind ≡ Gbc → shape ≡ shape_of_body s.pdu.body → AreaRead s.pdu.body w shape
-view_area w s kind shape e is of gbc_is same =
+pub view_area : (w : List ℕ) (s : Seen) (shape : Shape) → IsEncoding w → seen_of w ≡ s → IsForArea s.pdu.body → shape ≡ shape_of_body s.pdu.body → AreaRead s.pdu.body w shape
+view_area w s shape e is for_area same =
     subst (λ (t : Seen). AreaRead t.pdu.body w shape) is
-    (area_read (seen_of w).pdu (seen_of w).left w shape e (ap (λ (t : Seen). kind_of_body t.pdu.body) is ∙ sym of ∙ gbc_is) (same ∙ ap (λ (t : Seen). shape_of_body t.pdu.body) (sym is)))
+    (area_read (seen_of w).pdu (seen_of w).left w shape e (subst (λ (t : Seen). IsForArea t.pdu.body) (sym is) for_area) (same ∙ ap (λ (t : Seen). shape_of_body t.pdu.body) (sym is)))
 
 pub view_shb_payload : (w : List ℕ) (s : Seen) (kind : Kind) → IsEncoding w → seen_of w ≡ s → kind ≡ kind_of_body s.pdu.body → kind ≡ Shb → drop 40 w ≡ payload_of s.pdu.body
 view_shb_payload w s kind e is of shb_is =
@@ -126,6 +142,7 @@ says_message_in : (b : Body) (w : List ℕ) → IsBody b → w ≡ payload_of b 
 says_message_in beacon w fits is = is
 says_message_in (shb media message) w fits is = ap message_of is ∙ message_again message fits.1
 says_message_in (gbc number area message) w fits is = ap message_of is ∙ message_again message fits.2
+says_message_in (gac number area message) w fits is = ap message_of is ∙ message_again message fits.2
 
 pub view_says_message : (w x : List ℕ) (s : Seen) → IsEncoding w → seen_of w ≡ s → x ≡ payload_of s.pdu.body → SaysMessage s.pdu.body x
 view_says_message w x s e is same =
@@ -146,15 +163,22 @@ shb_body : (b : Body) (media w : List ℕ) → media_in b ≡ Some media → Say
 shb_body beacon media w is says = absurd cc
 shb_body (shb m message) media w is says = let e : media ≡ m = sym (same_media m media is) in rw (e, says) refl
 shb_body (gbc number area message) media w is says = absurd cc
+shb_body (gac number area message) media w is says = absurd cc
 
-gbc_body : (b : Body) (number : ℕ) (area : GeoArea) (w : List ℕ) → number_in b ≡ Some number → area_in b ≡ Some area → SaysMessage b w → gbc number area (message_of w) ≡ b
-gbc_body beacon number area w n a says = absurd cc
-gbc_body (shb media message) number area w n a says = absurd cc
-gbc_body (gbc m r message) number area w n a says = let e : number ≡ m = cc in let f : area ≡ r = cc in rw (e, f, says) refl
+abbrev pub kind_for_area : AreaKind → Kind
+kind_for_area geobroadcast = Gbc
+kind_for_area geoanycast = Gac
+
+area_packet_body : (kind : AreaKind) (b : Body) (number : ℕ) (area : GeoArea) (w : List ℕ) → kind_for_area kind ≡ kind_of_body b → number_in b ≡ Some number → area_in b ≡ Some area → SaysMessage b w → area_body kind number area (message_of w) ≡ b
+area_packet_body kind beacon number area w is n a says = absurd cc
+area_packet_body kind (shb media message) number area w is n a says = absurd cc
+area_packet_body geobroadcast (gbc m r message) number area w is n a says = let e : number ≡ m = cc in let f : area ≡ r = cc in rw (e, f, says) refl
+area_packet_body geobroadcast (gac m r message) number area w is n a says = absurd cc
+area_packet_body geoanycast (gbc m r message) number area w is n a says = absurd cc
+area_packet_body geoanycast (gac m r message) number area w is n a says = let e : number ≡ m = cc in let f : area ≡ r = cc in rw (e, f, says) refl
 
 pub shb_packet : (h : Header) (s : Seen) (media w : List ℕ) → IsHeaderOf h s → media_in s.pdu.body ≡ Some media → SaysMessage s.pdu.body w → (with_body h (shb media (message_of w)) ≡ s.pdu) × (h.hops.left ≡ s.left)
 shb_packet h s media w fits is says = (with_body_of h s _ fits (shb_body s.pdu.body media w is says), fits.left)
 
-pub gbc_packet : (h : Header) (s : Seen) (number : ℕ) (area : GeoArea) (w : List ℕ) → IsHeaderOf h s → number_in s.pdu.body ≡ Some number → area_in s.pdu.body ≡ Some area → SaysMessage s.pdu.body w
-    → (with_body h (gbc number area (message_of w)) ≡ s.pdu) × (h.hops.left ≡ s.left)
-gbc_packet h s number area w fits n a says = (with_body_of h s _ fits (gbc_body s.pdu.body number area w n a says), fits.left)
+pub area_packet : (kind : AreaKind) (a : AreaPacket) (s : Seen) → kind_for_area kind ≡ kind_of_body s.pdu.body → IsAreaPacketOf a s → (pdu_for_area kind a ≡ s.pdu) × (a.header.hops.left ≡ s.left)
+area_packet kind a s is of = (with_body_of a.header s _ of.header (area_packet_body kind s.pdu.body a.number a.area a.payload is of.number of.area of.message), of.header.left)

@@ -1,7 +1,7 @@
 -- What a view of octets says.
 use Rattle.std.proofs.Common.{◌≡◌, ℕ, List, [], ◌++◌, length, take, drop, Result, Ok, Err, sym, ap, subst, ◌∙◌}
 use Rattle.std.proofs.lemmas.List.{append-nil, take-append-drop}
-use Rattle.its_model.specs.declared.fault.Fault.{Fault}
+use Rattle.its_faults.specs.declared.packet.Fault.{Fault}
 use Rattle.std.specs.Prelude.{OnErr}
 use Rattle.its_model.specs.Packet.{Pdu}
 use Rattle.its_headers.specs.Encoding.{IsBytes, Encodes}

@@ -1,6 +1,6 @@
 -- Walks of formats.
 use Rattle.std.proofs.Common.{◌≡◌, ℕ, ◌+◌, ◌/◌, ◌%◌, List, Bool, true, false, cond, Result, Ok, Err, refl, sym, ◌∙◌}
-use Rattle.its_model.specs.declared.fault.Fault.{Fault}
+use Rattle.its_faults.specs.declared.packet.Fault.{Fault}
 use Rattle.its_headers.specs.Format.{Format, ends, number, halves, octets, after, walk, number_at, octets_at, ◌>>=◌}
 
 -- a step at both ends of a bind

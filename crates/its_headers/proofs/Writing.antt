@@ -5,8 +5,8 @@ use Rattle.std.proofs.Math.ListN.{set}
 use Rattle.byteorder.specs.Endian.{big_bytes}
 use Rattle.its_headers.specs.declared.packet.Header.{Header}
 use Rattle.its_geometry.specs.Area.{GeoArea}
-use Rattle.its_model.specs.Packet.{Pdu, Body, beacon, shb, gbc}
-use Rattle.its_headers.specs.Encoding.{IsBytes, IsPacket, IsVector, IsBody, Encodes, encoding, vector_octets, area_octets, IsArea, IsMedia, shape_code}
+use Rattle.its_model.specs.Packet.{Pdu, Body, beacon, shb, AreaKind, geobroadcast, geoanycast, area_body, Message}
+use Rattle.its_headers.specs.Encoding.{IsBytes, IsPacket, IsVector, IsBody, Encodes, encoding, vector_octets, area_octets, IsArea, IsMedia, IsMessage, header_type, message_octets}
 use Rattle.its_headers.specs.Fields.{message_of}
 use Rattle.its_headers.specs.Packets.{with_body}
 use Rattle.its_headers.specs.Puts.{Puts}
@@ -56,25 +56,44 @@ shb_written h media w old m0 m1 m2 new p0 p1 p2 p3 room f v fm low high fits =
     ∙ ap (λ (t : List ℕ). heads h 32 80 (4 + length (drop 4 w)) ++ vector_octets h.vector ++ media ++ t) (sym (message_back w low fits)) in
     written_from (with_body h b) h.hops.left old new (s0 ++ vector_octets h.vector ++ media ++ w) (40 + length w) q3 text (packet_fits h b f v (fm, message_fits w low high fits)) (omega (arith, place, length-append (s0 ++ vector_octets h.vector ++ media) w))
 
-pub gbc_written : (h : Header) (kind number : ℕ) (a : GeoArea) (w old m0 m1 m2 m3 m4 m5 new : List ℕ)
-    → kind ≡ 64 + shape_code a.shape → Puts old m0 0 (heads h 32 kind (length w)) → Puts m0 m1 12 (big_bytes 2 number) → Puts m1 m2 14 (big_bytes 2 0) → Puts m2 m3 16 (vector_octets h.vector) → Puts m3 m4 40 (area_octets a) → Puts m4 m5 54 (big_bytes 2 0) → Puts m5 new 56 w
+-- packets for an area are laid out alike, and have the same ranges
+laid_out : (kind : AreaKind) (h : Header) (number : ℕ) (a : GeoArea) (m : Message)
+    → heads h 32 (header_type (area_body kind number a m)) (4 + length m.payload) ++ big_bytes 2 number ++ big_bytes 2 0 ++ vector_octets h.vector ++ area_octets a ++ big_bytes 2 0 ++ message_octets m ≡ encoding (with_body h (area_body kind number a m)) h.hops.left
+laid_out geobroadcast h number a m = refl
+laid_out geoanycast h number a m = refl
+
+body_fits : (kind : AreaKind) (number : ℕ) (a : GeoArea) (m : Message) → number < 2 ^ 16 → IsArea a → IsMessage m → IsBody (area_body kind number a m)
+body_fits geobroadcast number a m fn fa fm = (fn, fa, fm)
+body_fits geoanycast number a m fn fa fm = (fn, fa, fm)
+
+-- what is written of a packet for an area, once its type octet is that of its kind and shape
+area_packet_text : (kind : AreaKind) (h : Header) (type number : ℕ) (a : GeoArea) (w : List ℕ) → type ≡ header_type (area_body kind number a (message_of w)) → 4 ≤ length w → IsBytes w
+    → heads h 32 type (length w) ++ big_bytes 2 number ++ big_bytes 2 0 ++ vector_octets h.vector ++ area_octets a ++ big_bytes 2 0 ++ w ≡ encoding (with_body h (area_body kind number a (message_of w))) h.hops.left
+area_packet_text kind h type number a w typed low fits =
+    let size : length w ≡ 4 + length (drop 4 w) = omega (arith, length-drop 4 w) in
+    let back = sym (message_back w low fits) in
+    let same : heads h 32 type (length w) ++ big_bytes 2 number ++ big_bytes 2 0 ++ vector_octets h.vector ++ area_octets a ++ big_bytes 2 0 ++ w
+        ≡ heads h 32 (header_type (area_body kind number a (message_of w))) (4 + length (drop 4 w)) ++ big_bytes 2 number ++ big_bytes 2 0 ++ vector_octets h.vector ++ area_octets a ++ big_bytes 2 0 ++ message_octets (message_of w) =
+    ap (λ (k : ℕ). heads h 32 k (length w) ++ big_bytes 2 number ++ big_bytes 2 0 ++ vector_octets h.vector ++ area_octets a ++ big_bytes 2 0 ++ w) typed
+    ∙ ap (λ (n : ℕ). heads h 32 (header_type (area_body kind number a (message_of w))) n ++ big_bytes 2 number ++ big_bytes 2 0 ++ vector_octets h.vector ++ area_octets a ++ big_bytes 2 0 ++ w) size
+    ∙ ap (λ (t : List ℕ). heads h 32 (header_type (area_body kind number a (message_of w))) (4 + length (drop 4 w)) ++ big_bytes 2 number ++ big_bytes 2 0 ++ vector_octets h.vector ++ area_octets a ++ big_bytes 2 0 ++ t) back in
+    same ∙ laid_out kind h number a (message_of w)
+
+pub area_packet_written : (kind : AreaKind) (h : Header) (type number : ℕ) (a : GeoArea) (w old m0 m1 m2 m3 m4 m5 new : List ℕ)
+    → type ≡ header_type (area_body kind number a (message_of w)) → Puts old m0 0 (heads h 32 type (length w)) → Puts m0 m1 12 (big_bytes 2 number) → Puts m1 m2 14 (big_bytes 2 0) → Puts m2 m3 16 (vector_octets h.vector) → Puts m3 m4 40 (area_octets a) → Puts m4 m5 54 (big_bytes 2 0) → Puts m5 new 56 w
     → 56 + length w ≤ length old → HeaderFits h → IsVector h.vector → IsArea a → number < 2 ^ 16 → 4 ≤ length w → length w ≤ 1398 → IsBytes w
-    → WritesEncoding (with_body h (gbc number a (message_of w))) h.hops.left old new (56 + length w)
-gbc_written h kind number a w old m0 m1 m2 m3 m4 m5 new typed p0 p1 p2 p3 p4 p5 p6 room f v fa fn low high fits =
-    let s0 = heads h 32 kind (length w) in
+    → WritesEncoding (with_body h (area_body kind number a (message_of w))) h.hops.left old new (56 + length w)
+area_packet_written kind h type number a w old m0 m1 m2 m3 m4 m5 new typed p0 p1 p2 p3 p4 p5 p6 room f v fa fn low high fits =
+    let s0 = heads h 32 type (length w) in
     let q1 = Puts-then old m0 m1 0 12 s0 (big_bytes 2 number) p0 p1 refl (omega arith) in
     let q2 = Puts-then old m1 m2 0 14 (s0 ++ big_bytes 2 number) (big_bytes 2 0) q1 p2 refl (omega arith) in
     let q3 = Puts-then old m2 m3 0 16 (s0 ++ big_bytes 2 number ++ big_bytes 2 0) (vector_octets h.vector) q2 p3 refl (omega arith) in
     let q4 = Puts-then old m3 m4 0 40 (s0 ++ big_bytes 2 number ++ big_bytes 2 0 ++ vector_octets h.vector) (area_octets a) q3 p4 refl (omega arith) in
     let q5 = Puts-then old m4 m5 0 54 (s0 ++ big_bytes 2 number ++ big_bytes 2 0 ++ vector_octets h.vector ++ area_octets a) (big_bytes 2 0) q4 p5 refl (omega arith) in
     let q6 = Puts-then old m5 new 0 56 (s0 ++ big_bytes 2 number ++ big_bytes 2 0 ++ vector_octets h.vector ++ area_octets a ++ big_bytes 2 0) w q5 p6 refl (omega arith) in
-    let b = gbc number a (message_of w) in
-    let size : length w ≡ 4 + length (drop 4 w) = omega (arith, length-drop 4 w) in
-    let text : s0 ++ big_bytes 2 number ++ big_bytes 2 0 ++ vector_octets h.vector ++ area_octets a ++ big_bytes 2 0 ++ w ≡ encoding (with_body h b) h.hops.left =
-    ap (λ (k : ℕ). heads h 32 k (length w) ++ big_bytes 2 number ++ big_bytes 2 0 ++ vector_octets h.vector ++ area_octets a ++ big_bytes 2 0 ++ w) typed
-    ∙ ap (λ (n : ℕ). heads h 32 (64 + shape_code a.shape) n ++ big_bytes 2 number ++ big_bytes 2 0 ++ vector_octets h.vector ++ area_octets a ++ big_bytes 2 0 ++ w) size
-    ∙ ap (λ (t : List ℕ). heads h 32 (64 + shape_code a.shape) (4 + length (drop 4 w)) ++ big_bytes 2 number ++ big_bytes 2 0 ++ vector_octets h.vector ++ area_octets a ++ big_bytes 2 0 ++ t) (sym (message_back w low fits)) in
-    written_from (with_body h b) h.hops.left old new (s0 ++ big_bytes 2 number ++ big_bytes 2 0 ++ vector_octets h.vector ++ area_octets a ++ big_bytes 2 0 ++ w) (56 + length w) q6 text (packet_fits h b f v (fn, fa, message_fits w low high fits)) (omega arith)
+    let b = area_body kind number a (message_of w) in
+    let text = area_packet_text kind h type number a w typed low fits in
+    written_from (with_body h b) h.hops.left old new (s0 ++ big_bytes 2 number ++ big_bytes 2 0 ++ vector_octets h.vector ++ area_octets a ++ big_bytes 2 0 ++ w) (56 + length w) q6 text (packet_fits h b f v (body_fits kind number a (message_of w) fn fa (message_fits w low high fits))) (omega arith)
 
 -- one hop fewer
 pub relay_written : (p : Pdu) (left : ℕ) (old m w : List ℕ) → Encodes p left w → Puts old m 0 w → 2 ≤ left → WritesEncoding p (left - 1) old (set m 3 (get_or w 3 0 - 1)) (length w)

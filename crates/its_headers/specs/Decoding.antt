@@ -2,7 +2,7 @@
 use Rattle.std.specs.Prelude.{◌≡◌, ℕ, List, ◌++◌}
 use Rattle.its_headers.specs.declared.decoding.DecodeFault.{DecodeFault}
 use Rattle.its_headers.specs.declared.decoding.DecodeFault.TheVariants as faults
-use Rattle.its_model.specs.Packet.{Pdu, Body, beacon, shb, gbc}
+use Rattle.its_model.specs.Packet.{Pdu, Body, beacon, shb, gbc, gac}
 use Rattle.its_headers.specs.Encoding.{Encodes}
 use Rattle.its_headers.specs.FirstFault.{FirstFault}
 
@@ -11,6 +11,7 @@ abbrev pub HasPayload : Body → Type 0
 HasPayload beacon = ⊥
 HasPayload (shb media message) = Unit {0}
 HasPayload (gbc number area message) = Unit {0}
+HasPayload (gac number area message) = Unit {0}
 
 -- a packet with a payload begins the octets
 pub record BeginsWithPayload (w : List ℕ) : Type 0 where

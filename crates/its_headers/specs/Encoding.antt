@@ -6,7 +6,7 @@ use Rattle.its_gnvalue.specs.Values.{PositionVector, IsIndividual, IsLatitude, I
 use Rattle.its_geometry.specs.declared.area.Shape.{Shape}
 use Rattle.its_geometry.specs.declared.area.Shape.TheVariants.{Circle, Rectangle, Ellipse}
 use Rattle.its_geometry.specs.Area.{GeoArea, HasMeasures}
-use Rattle.its_model.specs.Packet.{Message, Body, beacon, shb, gbc, Pdu}
+use Rattle.its_model.specs.Packet.{Message, Body, beacon, shb, gbc, gac, Pdu}
 pub use Rattle.its_headers.specs.Bytes.{IsBytes}
 
 -- the next header of the Common Header: nothing after a beacon, else BTP-B
@@ -14,24 +14,27 @@ abbrev pub common_next : Body → ℕ
 common_next beacon = 0
 common_next (shb media message) = 2
 common_next (gbc number area message) = 2
+common_next (gac number area message) = 2
 
--- the sub-type of a geobroadcast
+-- the sub-type of a geobroadcast or geoanycast
 abbrev pub shape_code : Shape → ℕ
 shape_code Circle = 0
 shape_code Rectangle = 1
 shape_code Ellipse = 2
 
--- header type and sub-type, a half octet each: BEACON 1 0, TSB 5 0 (single-hop), GBC 4 and the shape
+-- header type and sub-type, a half octet each: BEACON 1 0, TSB 5 0 (single-hop), GBC 4 and the shape, GAC 3 and the shape
 abbrev pub header_type : Body → ℕ
 header_type beacon = 16
 header_type (shb media message) = 80
 header_type (gbc number area message) = 64 + shape_code area.shape
+header_type (gac number area message) = 48 + shape_code area.shape
 
 -- the length of what follows the extended header: a BTP-B header of four octets and its payload
 abbrev pub payload_length : Body → ℕ
 payload_length beacon = 0
 payload_length (shb media message) = 4 + length message.payload
 payload_length (gbc number area message) = 4 + length message.payload
+payload_length (gac number area message) = 4 + length message.payload
 
 -- Basic Header: version 1 and next header 1, a reserved octet, lifetime, hops left
 abbrev pub basic_header : Pdu → ℕ → List ℕ
@@ -68,13 +71,18 @@ abbrev pub payload_of : Body → List ℕ
 payload_of beacon = []
 payload_of (shb media message) = message_octets message
 payload_of (gbc number area message) = message_octets message
+payload_of (gac number area message) = message_octets message
 
--- What follows the Common Header. An SHB: vector, media-dependent data, payload. A GBC: number, two reserved octets,
--- vector, area, two reserved octets, payload.
+-- of a packet for an area: number, two reserved octets, vector, area, two reserved octets, payload
+abbrev pub area_packet_octets : PositionVector → ℕ → GeoArea → Message → List ℕ
+area_packet_octets v number area message = big_bytes 2 number ++ big_bytes 2 0 ++ vector_octets v ++ area_octets area ++ big_bytes 2 0 ++ message_octets message
+
+-- What follows the Common Header. An SHB: vector, media-dependent data, payload. A GBC and a GAC are laid out alike.
 abbrev pub extended_header : PositionVector → Body → List ℕ
 extended_header v beacon = vector_octets v
 extended_header v (shb media message) = vector_octets v ++ media ++ message_octets message
-extended_header v (gbc number area message) = big_bytes 2 number ++ big_bytes 2 0 ++ vector_octets v ++ area_octets area ++ big_bytes 2 0 ++ message_octets message
+extended_header v (gbc number area message) = area_packet_octets v number area message
+extended_header v (gac number area message) = area_packet_octets v number area message
 
 -- the octets of a packet with so many hops left
 abbrev pub encoding : Pdu → ℕ → List ℕ
@@ -115,6 +123,7 @@ abbrev pub IsBody : Body → Type 0
 IsBody beacon = Unit {0}
 IsBody (shb media message) = IsMedia media × IsMessage message
 IsBody (gbc number area message) = (number < 2 ^ 16) × IsArea area × IsMessage message
+IsBody (gac number area message) = (number < 2 ^ 16) × IsArea area × IsMessage message
 
 -- a packet whose fields are in range, with so many hops left
 pub record IsPacket (p : Pdu) (left : ℕ) : Type 0 where

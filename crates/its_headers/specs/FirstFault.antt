@@ -2,9 +2,9 @@
 -- before it, with the kind of that field, or at the end of the octets where they end before or in a field.
 use Rattle.std.specs.Prelude.{◌≡◌, ◌≤◌, ◌<◌, ℕ, ◌+◌, ◌*◌, ◌/◌, ◌%◌, List, [], ◌∷◌, ◌++◌, length, take, drop, ◌⊎◌, ◌==◌, if◌then◌else◌}
 use Rattle.byteorder.specs.Endian.{big_number}
-use Rattle.its_model.specs.declared.fault.Fault.{Fault}
-use Rattle.its_model.specs.declared.fault.FaultKind.{FaultKind}
-use Rattle.its_model.specs.declared.fault.FaultKind.TheVariants.{Truncated, Version, BasicNext, Reserved, HopZero, CommonNext, HeaderType, SubType, HopAboveMax, PayloadLength, Position, Area}
+use Rattle.its_faults.specs.declared.packet.Fault.{Fault}
+use Rattle.its_faults.specs.declared.packet.FaultKind.{FaultKind}
+use Rattle.its_faults.specs.declared.packet.FaultKind.TheVariants.{Truncated, Version, BasicNext, Reserved, HopZero, CommonNext, HeaderType, SubType, HopAboveMax, PayloadLength, Position, Area}
 use Rattle.its_model.specs.Packet.{Pdu}
 use Rattle.its_headers.specs.Encoding.{Encodes}
 
@@ -40,16 +40,16 @@ area_rows = whole 4 Area ∷ whole 4 Area ∷ whole 2 Area ∷ whole 2 Area ∷ 
 abbrev pub shb_rows : ℕ → List Row
 shb_rows payload = vector_rows ++ whole 4 Truncated ∷ whole payload Truncated ∷ []
 
--- a geobroadcast: sequence number, reserved, vector, area, reserved, payload
-abbrev pub gbc_rows : ℕ → List Row
-gbc_rows payload = whole 2 Truncated ∷ whole 2 Reserved ∷ (vector_rows ++ area_rows ++ whole 2 Reserved ∷ whole payload Truncated ∷ [])
+-- a geobroadcast or geoanycast: sequence number, reserved, vector, area, reserved, payload
+abbrev pub area_packet_rows : ℕ → List Row
+area_packet_rows payload = whole 2 Truncated ∷ whole 2 Reserved ∷ (vector_rows ++ area_rows ++ whole 2 Reserved ∷ whole payload Truncated ∷ [])
 
 -- the fields of a packet with the type and the payload length that the octets name
 abbrev pub rows_of : List ℕ → List Row
 rows_of w =
     let type = big_number 1 (drop 5 w) / 16 in
     let payload = big_number 2 (drop 8 w) in
-    common_rows ++ (if type == 1 then vector_rows else if type == 5 then shb_rows payload else gbc_rows payload)
+    common_rows ++ (if type == 1 then vector_rows else if type == 5 then shb_rows payload else area_packet_rows payload)
 
 -- each octet as two halves, the high one first
 abbrev pub half_octets : List ℕ → List ℕ

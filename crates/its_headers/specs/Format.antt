@@ -1,9 +1,9 @@
 -- A format says which fields follow one another, and judges each together with those before it.
 use Rattle.std.specs.Prelude.{◌≡◌, ℕ, ◌+◌, ◌/◌, ◌%◌, List, length, drop, take, Bool, Result, Ok, Err, nat_lt, if◌then◌else◌}
 use Rattle.byteorder.specs.Endian.{big_number}
-use Rattle.its_model.specs.declared.fault.Fault.{Fault}
-use Rattle.its_model.specs.declared.fault.FaultKind.{FaultKind}
-use Rattle.its_model.specs.declared.fault.FaultKind.TheVariants.{Truncated}
+use Rattle.its_faults.specs.declared.packet.Fault.{Fault}
+use Rattle.its_faults.specs.declared.packet.FaultKind.{FaultKind}
+use Rattle.its_faults.specs.declared.packet.FaultKind.TheVariants.{Truncated}
 
 infixl 10 ◌>>=◌
 abbrev pub ◌>>=◌ : {A B : Type 0} → Result A Fault → (A → Result B Fault) → Result B Fault

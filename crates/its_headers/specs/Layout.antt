@@ -3,15 +3,15 @@
 use Rattle.std.specs.Prelude.{ℕ, ◌-◌, ◌/◌, ◌%◌, ◌^◌, ℤ, pos, negsuc, suc, int_lt, Bool, true, ◌&&◌, nat_lt, nat_le, ◌==◌, ◌||◌, if◌then◌else◌}
 use Rattle.std.specs.Int.{w32, cast_signed}
 use Rattle.its_gnvalue.specs.Values.{PositionVector}
-use Rattle.its_model.specs.declared.fault.FaultKind.TheVariants.{Truncated, Version, BasicNext, Reserved, HopZero, CommonNext, HeaderType, SubType, HopAboveMax, PayloadLength, Position as BadPosition, Area as BadArea}
+use Rattle.its_faults.specs.declared.packet.FaultKind.TheVariants.{Truncated, Version, BasicNext, Reserved, HopZero, CommonNext, HeaderType, SubType, HopAboveMax, PayloadLength, Position as BadPosition, Area as BadArea}
 use Rattle.its_headers.specs.Format.{Format, ends, number, halves, octets, after}
 use Rattle.its_geometry.specs.declared.area.Shape.{Shape}
 use Rattle.its_geometry.specs.declared.area.Shape.TheVariants.{Circle, Rectangle, Ellipse}
 use Rattle.its_geometry.specs.Area.{GeoArea}
-use Rattle.its_model.specs.Packet.{Pdu, Body, beacon, shb, gbc}
+use Rattle.its_model.specs.Packet.{Pdu, Body, beacon, shb, AreaKind, geobroadcast, geoanycast, area_body}
 use Rattle.its_headers.specs.Fields.{message_of}
 use Rattle.its_headers.specs.declared.kind.Kind.{Kind}
-use Rattle.its_headers.specs.declared.kind.Kind.TheVariants.{Beacon, Shb, Gbc}
+use Rattle.its_headers.specs.declared.kind.Kind.TheVariants.{Beacon, Shb, Gbc, Gac}
 
 -- a field that is never wrong
 abbrev pub any : ℕ → Bool
@@ -45,11 +45,11 @@ is_next n = n == 0 || n == 2
 
 -- the header types that may stand after a next header
 abbrev pub is_type : ℕ → ℕ → Bool
-is_type next t = if next == 0 then t == 1 else t == 4 || t == 5
+is_type next t = if next == 0 then t == 1 else t == 3 || t == 4 || t == 5
 
--- the sub-types of a header type: the shapes of a geobroadcast, else 0
+-- the sub-types of a header type: the shapes of a geobroadcast or geoanycast, else 0
 abbrev pub is_subtype : ℕ → ℕ → Bool
-is_subtype type s = if type == 4 then nat_le s 2 else s == 0
+is_subtype type s = if type == 3 || type == 4 then nat_le s 2 else s == 0
 
 -- the payload lengths of a header type
 abbrev pub is_length : ℕ → ℕ → Bool
@@ -57,7 +57,7 @@ is_length type n = if type == 1 then n == 0 else nat_le 4 n && nat_le n 1398
 
 -- the kind that a header type names
 abbrev pub kind_of : ℕ → Kind
-kind_of type = if type == 1 then Beacon else if type == 5 then Shb else Gbc
+kind_of type = if type == 1 then Beacon else if type == 5 then Shb else if type == 3 then Gac else Gbc
 
 -- the shape that a sub-type names
 abbrev pub shape_of : ℕ → Shape
@@ -131,7 +131,7 @@ is_angle Circle angle = is_zero angle
 is_angle Rectangle angle = nat_lt angle 360
 is_angle Ellipse angle = nat_lt angle 360
 
--- the area of a geobroadcast
+-- the area of a geobroadcast or geoanycast
 unfoldable pub area_format : Shape → Format GeoArea
 area_format shape =
     number 4 BadArea is_latitude λ latitude.
@@ -153,22 +153,23 @@ shb_format length =
     octets length λ payload.
     ends (vector, shb media (message_of payload))
 
--- an area of this shape, and a payload of so many octets
-abbrev pub gbc_format : Shape → ℕ → Format (PositionVector × Body)
-gbc_format shape length =
+-- a packet for an area of this shape, and a payload of so many octets
+abbrev pub area_packet_format : AreaKind → Shape → ℕ → Format (PositionVector × Body)
+area_packet_format kind shape length =
     number 2 Truncated any λ sequence.
     number 2 Reserved is_zero λ _.
     after vector_format λ vector.
     after (area_format shape) λ area.
     number 2 Reserved is_zero λ _.
     octets length λ payload.
-    ends (vector, gbc sequence area (message_of payload))
+    ends (vector, area_body kind sequence area (message_of payload))
 
 -- what follows the Common Header, by the kind that it names
 abbrev pub body_format : Kind → Shape → ℕ → Format (PositionVector × Body)
 body_format Beacon shape length = beacon_format
 body_format Shb shape length = shb_format length
-body_format Gbc shape length = gbc_format shape length
+body_format Gbc shape length = area_packet_format geobroadcast shape length
+body_format Gac shape length = area_packet_format geoanycast shape length
 
 -- a packet, and how many hops it has left
 abbrev pub packet_format : Format (Pdu × ℕ)

@@ -1,6 +1,6 @@
 -- What the octets of a packet say.
 use Rattle.std.specs.Prelude.{ℕ, List, pos, false, Result, Ok, Err}
-use Rattle.its_model.specs.declared.fault.Fault.{Fault}
+use Rattle.its_faults.specs.declared.packet.Fault.{Fault}
 use Rattle.its_model.specs.Packet.{Pdu, beacon}
 use Rattle.its_headers.specs.Encoding.{Encodes}
 use Rattle.its_headers.specs.Format.{walk}

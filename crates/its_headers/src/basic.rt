@@ -7,7 +7,7 @@ ghost use Rattle.its_headers.specs.Layout.{basic_format};
 use crate::codes::{NEXT_COMMON, VERSION};
 use crate::fields::{fault, octet_at};
 use its_gnvalue::Lifetime;
-use its_model::{Fault, FaultKind};
+use its_faults::{Fault, FaultKind};
 
 /// The lifetime, and the hops that are left.
 #[tactic(auto, unfolding(crate::specs::Layout::basic_format))]

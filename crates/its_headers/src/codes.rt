@@ -22,6 +22,9 @@ pub const NEXT_BTP_B: u8 = 2;
 /// Header type: a beacon.
 pub const TYPE_BEACON: u8 = 1;
 
+/// Header type: a geoanycast.
+pub const TYPE_GAC: u8 = 3;
+
 /// Header type: a geobroadcast.
 pub const TYPE_GBC: u8 = 4;
 
@@ -41,7 +44,7 @@ pub fn is_type(next: u8, header_type: u8) -> bool
 {
     match next {
         NEXT_NONE => header_type == TYPE_BEACON,
-        _ => header_type == TYPE_GBC || header_type == TYPE_SHB,
+        _ => matches!(header_type, TYPE_GAC | TYPE_GBC | TYPE_SHB),
     }
 }
 
@@ -50,7 +53,7 @@ pub fn is_sub_type(header_type: u8, sub_type: u8) -> bool
     ensures { result ≡ is_subtype header_type sub_type }
 {
     match header_type {
-        TYPE_GBC => sub_type <= 2,
+        TYPE_GAC | TYPE_GBC => sub_type <= 2,
         _ => sub_type == 0,
     }
 }
@@ -62,6 +65,7 @@ pub fn kind_of(header_type: u8) -> Kind
     match header_type {
         TYPE_BEACON => Kind::Beacon,
         TYPE_SHB => Kind::Shb,
+        TYPE_GAC => Kind::Gac,
         _ => Kind::Gbc,
     }
 }

@@ -10,7 +10,7 @@ use crate::fields::{fault, octet_at, u16_at};
 use crate::kind::Kind;
 use its_geometry::Shape;
 use its_gnvalue::TrafficClass;
-use its_model::{Fault, FaultKind};
+use its_faults::{Fault, FaultKind};
 
 /// What the Common Header says; the shape is that of a geobroadcast's sub-type.
 #[derive(Clone, Copy)]

@@ -8,7 +8,7 @@ ghost use Rattle.its_headers.specs.Decoding.{HasPayload, IsReason};
 
 use crate::packet::Packet;
 use crate::view::PacketView;
-use its_model::Fault;
+use its_faults::Fault;
 use std::alloc::Global;
 use std::error::Error;
 use std::fmt;

@@ -1,18 +1,18 @@
 //! Packets to octets.
 
-ghost use Rattle.std.specs.Prelude.{◌≡◌, ◌≤◌, ◌<◌, length, IfOk, IsOk, OnErr};
-ghost use Rattle.its_model.specs.Packet.{beacon, shb, gbc};
+ghost use Rattle.std.specs.Prelude.{◌≡◌, ◌≤◌, ◌<◌, ◌+◌, length, IfOk, IsOk, OnErr};
+ghost use Rattle.its_model.specs.Packet.{beacon, shb, geobroadcast, geoanycast};
 ghost use Rattle.its_headers.specs.Encoding.{encoding};
 ghost use Rattle.its_headers.specs.Fields.{message_of};
-ghost use Rattle.its_headers.specs.Packets.{with_body, pdu_of_packet, hops_left};
+ghost use Rattle.its_headers.specs.Packets.{with_body, pdu_of_packet, pdu_for_area, hops_left};
 ghost use Rattle.its_headers.specs.Written.{WritesEncoding};
 
-use crate::codes::{NEXT_BTP_B, NEXT_NONE, TYPE_BEACON, TYPE_GBC, TYPE_SHB, sub_type};
+use crate::codes::{NEXT_BTP_B, NEXT_NONE, TYPE_BEACON, TYPE_GAC, TYPE_GBC, TYPE_SHB, sub_type};
 use crate::offsets::{
-    AREA, AREA_RESERVED, BEACON_END, GBC_PAYLOAD, GBC_VECTOR, MEDIA, NUMBER, NUMBER_RESERVED,
+    AREA, AREA_RESERVED, BEACON_END, AREA_PAYLOAD, AREA_VECTOR, MEDIA, NUMBER, NUMBER_RESERVED,
     SHB_PAYLOAD, VECTOR,
 };
-use crate::packet::{Geobroadcast, Header, Packet, SingleHopBroadcast};
+use crate::packet::{AreaPacket, Header, Packet, SingleHopBroadcast};
 use crate::putting::{put_area, put_headers, put_media, put_slice, put_u16, put_vector};
 use its_gnvalue::NoRoom;
 
@@ -42,26 +42,26 @@ fn put_shb(packet: &SingleHopBroadcast, out: &mut [u8]) -> usize
     SHB_PAYLOAD + payload.len()
 }
 
-/// Writes a geobroadcast into a slice with room for it, and says how long it is.
-fn put_gbc(packet: &Geobroadcast, out: &mut [u8]) -> usize
-    requires { length (encoding
-        (with_body packet.now.header (gbc packet.now.number packet.now.area (message_of packet.now.payload)))
-        packet.now.header.hops.left) ≤ length out.old }
-    ensures { WritesEncoding
-        (with_body packet.now.header (gbc packet.now.number packet.now.area (message_of packet.now.payload)))
+/// Writes a packet for an area, of this header type, into a slice with room for it, and says how long it is.
+fn put_area_packet(header_type: u8, packet: &AreaPacket, out: &mut [u8]) -> usize
+    requires known { header_type ≤ 4 }
+    requires room { 56 + length packet.now.payload ≤ length out.old }
+    ensures gbc { header_type ≡ 4 → WritesEncoding (pdu_for_area geobroadcast packet.now)
+        packet.now.header.hops.left out.old out.new result }
+    ensures gac { header_type ≡ 3 → WritesEncoding (pdu_for_area geoanycast packet.now)
         packet.now.header.hops.left out.old out.new result }
 {
     let payload = packet.payload.octets();
     let size = payload.len() as u16;
-    let kind = 16 * TYPE_GBC + sub_type(packet.area.shape());
+    let kind = 16 * header_type + sub_type(packet.area.shape());
     put_headers(out, &packet.header, 16 * NEXT_BTP_B, kind, size);
     put_u16(out, NUMBER, packet.number);
     put_u16(out, NUMBER_RESERVED, 0);
-    put_vector(out, GBC_VECTOR, packet.header.vector);
+    put_vector(out, AREA_VECTOR, packet.header.vector);
     put_area(out, AREA, packet.area);
     put_u16(out, AREA_RESERVED, 0);
-    put_slice(out, GBC_PAYLOAD, payload);
-    GBC_PAYLOAD + payload.len()
+    put_slice(out, AREA_PAYLOAD, payload);
+    AREA_PAYLOAD + payload.len()
 }
 
 /// Writes the encoding of the packet at the front of the slice, and says how long it is. The rest of
@@ -79,6 +79,7 @@ pub fn encode_into(packet: &Packet, out: &mut [u8]) -> Result<usize, NoRoom>
     Ok(match packet {
         Packet::Beacon(header) => put_beacon(header, out),
         Packet::Shb(packet) => put_shb(packet, out),
-        Packet::Gbc(packet) => put_gbc(packet, out),
+        Packet::Gbc(packet) => put_area_packet(TYPE_GBC, packet, out),
+        Packet::Gac(packet) => put_area_packet(TYPE_GAC, packet, out),
     })
 }

@@ -4,7 +4,7 @@ ghost use Rattle.std.specs.Prelude.{◌≡◌, ◌<◌, ◌+◌, ◌^◌, length
 ghost use Rattle.its_headers.specs.Format.{Gives, number_at, octets_at};
 
 use byteorder::{BigEndian, ByteOrder};
-use its_model::{Fault, FaultKind};
+use its_faults::{Fault, FaultKind};
 
 /// A fault of the field that begins at this octet.
 pub fn fault(at: usize, kind: FaultKind) -> Fault

@@ -9,4 +9,6 @@ pub enum Kind {
     Shb,
     /// A geobroadcast, for all stations in an area.
     Gbc,
+    /// A geoanycast, for one station in an area.
+    Gac,
 }

@@ -2,7 +2,7 @@
 
 ghost use Rattle.std.specs.Prelude.{◌≡◌, ◌∷◌, ◌++◌, ℕ, List, take, drop};
 ghost use Rattle.its_model.specs.Packet.{Pdu};
-ghost use Rattle.its_model.specs.declared.fault.Fault.{Fault};
+ghost use Rattle.its_faults.specs.declared.packet.Fault.{Fault};
 ghost use Rattle.its_headers.specs.Encoding.{Encodes, encoding, IsBytes};
 ghost use Rattle.its_headers.specs.FirstFault.{FirstFault};
 

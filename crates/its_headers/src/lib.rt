@@ -24,10 +24,10 @@ mod view;
 
 pub use decoding::{DecodeFault, decode};
 pub use encoding::encode_into;
-pub use its_model::{Fault, FaultKind};
+pub use its_faults::{Fault, FaultKind};
 pub use kind::Kind;
 pub use laws::{hops_in_one_octet, one_encoding, one_first_fault};
-pub use packet::{Geobroadcast, Header, Packet, SingleHopBroadcast};
+pub use packet::{AreaPacket, Header, Packet, SingleHopBroadcast};
 pub use payload::Payload;
 pub use view::{PacketView, relay_into};
 

@@ -12,20 +12,20 @@ pub const MEDIA: usize = 36;
 /// The payload of a single-hop broadcast.
 pub const SHB_PAYLOAD: usize = 40;
 
-/// The sequence number of a geobroadcast.
+/// The sequence number of a geobroadcast or geoanycast.
 pub const NUMBER: usize = 12;
 
 /// The reserved octets after the number.
 pub const NUMBER_RESERVED: usize = 14;
 
-/// The vector of a geobroadcast.
-pub const GBC_VECTOR: usize = 16;
+/// The vector of a geobroadcast or geoanycast.
+pub const AREA_VECTOR: usize = 16;
 
-/// The area of a geobroadcast.
+/// The area of a geobroadcast or geoanycast.
 pub const AREA: usize = 40;
 
 /// The reserved octets after the area.
 pub const AREA_RESERVED: usize = 54;
 
-/// The payload of a geobroadcast.
-pub const GBC_PAYLOAD: usize = 56;
+/// The payload of a geobroadcast or geoanycast.
+pub const AREA_PAYLOAD: usize = 56;

@@ -4,7 +4,7 @@ ghost use Rattle.std.specs.Prelude.{◌≡◌, ◌≤◌, ◌+◌, length};
 ghost use Rattle.its_headers.specs.Encoding.{encoding};
 ghost use Rattle.its_headers.specs.Packets.{pdu_of_packet, hops_left};
 
-use crate::offsets::{BEACON_END, GBC_PAYLOAD, MEDIA};
+use crate::offsets::{BEACON_END, AREA_PAYLOAD, MEDIA};
 use crate::payload::Payload;
 use its_geometry::Area;
 use its_gnvalue::{Hops, Lifetime, LongPv, TrafficClass};
@@ -35,9 +35,10 @@ pub struct SingleHopBroadcast {
     pub payload: Payload,
 }
 
-/// A packet to all stations in an area (GBC, EN 302 636-4-1 clause 9).
+/// What a geobroadcast and a geoanycast have: a packet to stations in an area (EN 302 636-4-1
+/// clause 9).
 #[derive(Debug, Drop)]
-pub struct Geobroadcast {
+pub struct AreaPacket {
     /// What each packet has.
     pub header: Header,
     /// The sequence number that its source gave it.
@@ -55,13 +56,15 @@ pub enum Packet {
     Beacon(Header),
     /// A single-hop broadcast.
     Shb(SingleHopBroadcast),
-    /// A geobroadcast.
-    Gbc(Geobroadcast),
+    /// A geobroadcast (GBC), to all stations in an area.
+    Gbc(AreaPacket),
+    /// A geoanycast (GAC), to one station in an area.
+    Gac(AreaPacket),
 }
 
 impl Packet {
     /// How many octets its encoding has: 36 for a beacon, 40 and those of the payload for a single-hop
-    /// broadcast, and 56 and those of the payload for a geobroadcast.
+    /// broadcast, and 56 and those of the payload for a geobroadcast or geoanycast.
     pub fn length(&self) -> usize
         ensures value { result ≡ length (encoding (pdu_of_packet self.now) (hops_left self.now)) }
         ensures bound { result ≤ 1454 }
@@ -71,7 +74,9 @@ impl Packet {
             Packet::Shb(packet) => {
                 MEDIA + media_length(&packet.media) + packet.payload.octets().len()
             }
-            Packet::Gbc(packet) => GBC_PAYLOAD + packet.payload.octets().len(),
+            Packet::Gbc(packet) | Packet::Gac(packet) => {
+                AREA_PAYLOAD + packet.payload.octets().len()
+            }
         }
     }
 }

@@ -7,7 +7,7 @@ ghost use Rattle.its_headers.specs.Layout.{vector_format, latitude_test, speed_o
 
 use crate::fields::{fault, u16_at, u32_at, u64_at};
 use its_gnvalue::{GnAddress, LongPv, Place};
-use its_model::{Fault, FaultKind};
+use its_faults::{Fault, FaultKind};
 
 /// Whether a latitude is in range. It is judged before the octets of the longitude are asked for.
 pub fn is_latitude(z: i32) -> bool

@@ -10,7 +10,7 @@ use crate::offsets::AREA;
 use crate::position::is_latitude;
 use its_geometry::{Area, Shape};
 use its_gnvalue::Place;
-use its_model::{Fault, FaultKind};
+use its_faults::{Fault, FaultKind};
 
 /// The area at octet 40, of a shape that the sub-type names. Each field is judged before the octets
 /// of the next are asked for. Inlined, as a packet that is only judged needs no area made.

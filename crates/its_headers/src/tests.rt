@@ -281,7 +281,7 @@ fn geobroadcast(rt: HostRuntime) -> Result<(), Fail> {
     assert_eq!(rt; view.media(), None);
     assert_eq!(rt; view.number(), Some(0));
     assert_eq!(rt; view.area(), Some(area));
-    let packet = Packet::Gbc(Geobroadcast {
+    let packet = Packet::Gbc(AreaPacket {
         header: header(10)?,
         number: 0,
         area,

@@ -3,8 +3,8 @@
 ghost use Rattle.std.specs.Prelude.{◌≡◌, ◌≤◌, ◌<◌, ◌-◌, ◌++◌, ℕ, List, length, take, IfOk, IfErr, IsOk, IsOkAnd, OnErr};
 ghost use Rattle.its_model.specs.Packet.{Pdu, number_in};
 ghost use Rattle.its_headers.specs.Encoding.{Encodes, encoding, payload_of};
-ghost use Rattle.its_headers.specs.Fields.{kind_of_body, shape_of_body, vector_place, IsLength, media_in, area_in, SaysMessage};
-ghost use Rattle.its_headers.specs.Packets.{pdu_of_packet, hops_left, IsHeaderOf};
+ghost use Rattle.its_headers.specs.Fields.{kind_of_body, shape_of_body, vector_place, IsLength, media_in, area_in, SaysMessage, IsForArea};
+ghost use Rattle.its_headers.specs.Packets.{pdu_of_packet, hops_left, IsHeaderOf, IsAreaPacketOf};
 ghost use Rattle.its_headers.specs.Decoding.{HasPayload};
 ghost use Rattle.its_headers.specs.Written.{WritesEncoding};
 ghost use Rattle.its_headers.specs.FirstFault.{FirstFault};
@@ -12,8 +12,8 @@ ghost use Rattle.its_headers.specs.FirstFault.{FirstFault};
 use crate::codes::{kind_of, shape_of};
 use crate::judging::packet_end;
 use crate::kind::Kind;
-use crate::offsets::{GBC_PAYLOAD, GBC_VECTOR, MEDIA, NUMBER, SHB_PAYLOAD, VECTOR};
-use crate::packet::{Geobroadcast, Header, Packet, SingleHopBroadcast};
+use crate::offsets::{AREA_PAYLOAD, AREA_VECTOR, MEDIA, NUMBER, SHB_PAYLOAD, VECTOR};
+use crate::packet::{AreaPacket, Header, Packet, SingleHopBroadcast};
 use crate::payload::Payload;
 use crate::position::vector;
 use crate::putting::put_slice;
@@ -21,7 +21,7 @@ use crate::region::area;
 use byteorder::{BigEndian, ByteOrder};
 use its_geometry::{Area, Shape};
 use its_gnvalue::{Hops, Lifetime, LongPv, NoMemory, NoRoom, TrafficClass};
-use its_model::Fault;
+use its_faults::Fault;
 use std::alloc::Global;
 use std::marker::Model;
 
@@ -121,7 +121,7 @@ impl<'a> PacketView<'a> {
     {
         match self.kind() {
             Kind::Beacon | Kind::Shb => VECTOR,
-            Kind::Gbc => GBC_VECTOR,
+            Kind::Gbc | Kind::Gac => AREA_VECTOR,
         }
     }
 
@@ -136,26 +136,26 @@ impl<'a> PacketView<'a> {
                 self.octets[MEDIA + 2],
                 self.octets[MEDIA + 3],
             ]),
-            Kind::Beacon | Kind::Gbc => None,
+            Kind::Beacon | Kind::Gbc | Kind::Gac => None,
         }
     }
 
-    /// The sequence number of a geobroadcast; the other kinds have none.
+    /// The sequence number of a geobroadcast or geoanycast; the other kinds have none.
     pub fn number(&self) -> Option<u16>
         ensures { result ≡ number_in self.now.pdu.body }
     {
         match self.kind() {
-            Kind::Gbc => Some(BigEndian::read_u16(&self.octets[NUMBER..])),
+            Kind::Gbc | Kind::Gac => Some(BigEndian::read_u16(&self.octets[NUMBER..])),
             Kind::Beacon | Kind::Shb => None,
         }
     }
 
-    /// The area of a geobroadcast; the other kinds have none.
+    /// The area of a geobroadcast or geoanycast; the other kinds have none.
     pub fn area(&self) -> Option<Area>
         ensures { result ≡ area_in self.now.pdu.body }
     {
         match self.kind() {
-            Kind::Gbc => {
+            Kind::Gbc | Kind::Gac => {
                 let Ok(area) = area(self.octets, self.shape()) else {
                     unreachable!()
                 };
@@ -182,7 +182,7 @@ impl<'a> PacketView<'a> {
         match self.kind() {
             Kind::Beacon => &[],
             Kind::Shb => &self.octets[SHB_PAYLOAD..],
-            Kind::Gbc => &self.octets[GBC_PAYLOAD..],
+            Kind::Gbc | Kind::Gac => &self.octets[AREA_PAYLOAD..],
         }
     }
 
@@ -211,6 +211,23 @@ impl<'a> PacketView<'a> {
         Ok(payload)
     }
 
+    // What a geobroadcast or a geoanycast has.
+    fn to_area_packet(&self, alloc: Global) -> Result<AreaPacket, NoMemory>
+        requires { IsForArea self.now.pdu.body }
+        ensures { IfOk result (λ g. IsAreaPacketOf g self.now) }
+    {
+        let (Some(number), Some(area)) = (self.number(), self.area()) else {
+            unreachable!()
+        };
+        let payload = self.to_payload(alloc)?;
+        Ok(AreaPacket {
+            header: self.header(),
+            number,
+            area,
+            payload,
+        })
+    }
+
     /// The packet, with a payload of its own. A beacon takes no memory; else `NoMemory` says that the one
     /// growth, for the payload, was refused.
     pub fn to_packet(&self, alloc: Global) -> Result<Packet, NoMemory>
@@ -231,18 +248,8 @@ impl<'a> PacketView<'a> {
                     payload,
                 }))
             }
-            Kind::Gbc => {
-                let (Some(number), Some(area)) = (self.number(), self.area()) else {
-                    unreachable!()
-                };
-                let payload = self.to_payload(alloc)?;
-                Ok(Packet::Gbc(Geobroadcast {
-                    header,
-                    number,
-                    area,
-                    payload,
-                }))
-            }
+            Kind::Gbc => Ok(Packet::Gbc(self.to_area_packet(alloc)?)),
+            Kind::Gac => Ok(Packet::Gac(self.to_area_packet(alloc)?)),
         }
     }
 }

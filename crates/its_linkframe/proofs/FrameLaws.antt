@@ -2,9 +2,9 @@
 use Rattle.std.proofs.Common.{◌≡◌, ◌≢◌, ℕ, ◌≤◌, ◌⊎◌, inl, inr, List, [], ◌∷◌, ◌++◌, length, drop, get_or, Result, Ok, Err, refl, sym, ap, subst, ◌∙◌, arith, append-nil, length-append}
 use Rattle.std.proofs.lemmas.Bool.{cases_eq, cases_lt}
 use Rattle.its_model.specs.Packet.{Pdu, Transmission}
-use Rattle.its_model.specs.declared.fault.Fault.{Fault}
-use Rattle.its_model.specs.declared.fault.FrameFault.{FrameFault}
-use Rattle.its_model.specs.declared.fault.FrameFault.TheVariants as faults
+use Rattle.its_faults.specs.declared.packet.Fault.{Fault}
+use Rattle.its_faults.specs.declared.frame.FrameFault.{FrameFault}
+use Rattle.its_faults.specs.declared.frame.FrameFault.TheVariants as faults
 use Rattle.its_headers.specs.Encoding.{IsBytes, Encodes}
 use Rattle.its_headers.specs.FirstFault.{FirstFault}
 use Rattle.its_headers.specs.Format.{walk}

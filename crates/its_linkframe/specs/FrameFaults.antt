@@ -1,8 +1,8 @@
 -- The first fault of octets that are no frame.
 use Rattle.std.specs.Prelude.{◌≡◌, ◌≢◌, ◌≤◌, ◌<◌, ℕ, List, [], ◌∷◌, ◌++◌, length, take, drop}
 use Rattle.its_model.specs.Packet.{Pdu}
-use Rattle.its_model.specs.declared.fault.FrameFault.{FrameFault}
-use Rattle.its_model.specs.declared.fault.FrameFault.TheVariants as faults
+use Rattle.its_faults.specs.declared.frame.FrameFault.{FrameFault}
+use Rattle.its_faults.specs.declared.frame.FrameFault.TheVariants as faults
 use Rattle.its_headers.specs.Encoding.{Encodes}
 use Rattle.its_headers.specs.FirstFault.{FirstFault}
 use Rattle.its_linkframe.specs.declared.record.TheConstants.{LONGEST_FRAME}

@@ -8,7 +8,7 @@ ghost use Rattle.its_linkframe.specs.FrameFaults.{IsFrameFault};
 use crate::record::LONGEST_FRAME;
 use its_gnvalue::Mac;
 use its_headers::PacketView;
-use its_model::FrameFault;
+use its_faults::FrameFault;
 
 /// The octets in front of a packet: two link addresses and the type.
 pub(crate) const LINK_HEADER: usize = 14;

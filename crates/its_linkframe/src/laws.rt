@@ -2,7 +2,7 @@
 
 ghost use Rattle.std.specs.Prelude.{◌≡◌, ℕ, List};
 ghost use Rattle.its_model.specs.Packet.{Transmission};
-ghost use Rattle.its_model.specs.declared.fault.FrameFault.{FrameFault};
+ghost use Rattle.its_faults.specs.declared.frame.FrameFault.{FrameFault};
 ghost use Rattle.its_headers.specs.Encoding.{IsBytes};
 ghost use Rattle.its_linkframe.specs.Captures.{Captured, EncodesCapture};
 ghost use Rattle.its_linkframe.specs.FrameFaults.{IsFrameFault};

@@ -14,7 +14,7 @@ mod writer;
 
 pub use counted::Counted;
 pub use frame::{FrameView, read_frame};
-pub use its_model::FrameFault;
+pub use its_faults::FrameFault;
 pub use laws::{one_capture, one_frame, one_frame_fault};
 pub use making::{relay_frame, retarget, write_frame};
 pub use reader::CaptureReader;

@@ -12,3 +12,7 @@ pub returns-clause-reading : goal.returns-clause-reading
 returns-clause-reading c =
     types_then c.args.left c.args.octets.now (c.in_ok-header_type.header_type, c.in_ok-header_type.sub_type) c.in_ok-header_type.ensures
     ∙ rw (c.kind_of.ensures, c.shape_of.ensures, c.from_octet.ensures) (search rules)
+
+pub returns-then-max-left-clause-reading : goal.returns-then-max-left-clause-reading
+returns-then-max-left-clause-reading c =
+    types_then c.args.left c.args.octets.now (c.in_ok-header_type.header_type, c.in_ok-header_type.sub_type) c.in_ok-header_type.ensures ∙ search rules

@@ -1,3 +1,4 @@
+use Rattle.std.proofs.Common.{refl}
 use Rattle.its_headers.proofs.encoding.encode_into.Goals as goal
 
 pub returns-in-Beacon-clause-written : goal.returns-in-Beacon-clause-written
@@ -7,4 +8,7 @@ pub returns-in-Shb-clause-written : goal.returns-in-Shb-clause-written
 returns-in-Shb-clause-written c = rw c.in-Shb.is c.put_shb.ensures
 
 pub returns-in-Gbc-clause-written : goal.returns-in-Gbc-clause-written
-returns-in-Gbc-clause-written c = rw c.in-Gbc.is c.put_gbc.ensures
+returns-in-Gbc-clause-written c = rw c.in-Gbc.is (c.put_area_packet.ensures.gbc refl)
+
+pub returns-in-Gac-clause-written : goal.returns-in-Gac-clause-written
+returns-in-Gac-clause-written c = rw c.in-Gac.is (c.put_area_packet-in-Gac.ensures.gac refl)
