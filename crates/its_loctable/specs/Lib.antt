@@ -1,6 +1,3 @@
 pub mod Content
 pub mod Heard
-pub mod Ordered
-pub mod Wanted
-pub mod Sorted
-pub mod Eager
+pub mod SourceReport

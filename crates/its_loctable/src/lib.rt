@@ -1,20 +1,10 @@
-//! The location table: what is known of each source that was heard lately.
+//! The trait alone, for working.
 #![tactic(auto)]
 
-mod numbers;
-mod ordered;
-mod ordered_slot;
-mod renewal;
-mod search;
-mod sorted;
-mod sorted_slot;
+mod heard;
+mod refused;
 mod store;
-mod sweep;
-mod wanted;
 
-pub use ordered::OrderedTable;
-pub use sorted::SortedTable;
-pub use store::{Heard, Known, LocationStore, StoreRefused, Verdict};
-
-#[cfg(test)]
-mod tests;
+pub use heard::{Heard, Known};
+pub use refused::StoreRefused;
+pub use store::{LocationStore, Verdict};

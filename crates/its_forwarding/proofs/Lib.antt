@@ -1,0 +1,4 @@
+pub mod Neighbours
+pub mod Walk
+pub mod Steps
+pub mod Decisions

@@ -1,0 +1,73 @@
+//! The rules of selection, of simple and of greedy forwarding (EN 302 636-4-1 clauses 8 and 10, in this
+//! profile).
+
+ghost use Rattle.std.specs.Prelude.{◌≡◌, ◌^◌, ◌≤◌, List};
+ghost use Rattle.its_model.specs.History.{Reception};
+ghost use Rattle.its_model.specs.Stations.{stations_at};
+ghost use Rattle.its_model.specs.Decision.{decision, is_sender_inside};
+ghost use Rattle.its_loctable.specs.Content.{Represents};
+ghost use Rattle.its_forwarding.specs.Chosen.{chosen};
+
+use crate::nearest::nearest_neighbour;
+use its_geometry::{Area, contains, distance2};
+use its_gnvalue::{Mac, Place};
+use its_loctable::LocationStore;
+
+/// To whom a packet goes.
+#[derive(Clone, Copy, Debug, PartialEq, Eq)]
+pub enum Choice {
+    /// To all stations in reach.
+    Broadcast,
+    /// To the station with this link address alone.
+    To(Mac),
+    /// To nobody.
+    Drop,
+}
+
+/// To whom a packet for this area goes from the own place, where it came from this sender, if it came
+/// from one: the first that applies. To all, where the area holds the own place (simple forwarding); to
+/// nobody, where the sender is known to stand in the area, by an accurate place; to the neighbour that
+/// is nearest to the area's centre, of equally near ones the one of least address, where one is nearer
+/// than the own place (greedy forwarding); to all. It takes no memory. `now` is in milliseconds, at most
+/// 2^62.
+pub fn choose<S: LocationStore>(
+    store: &S,
+    now: u64,
+    own: Place,
+    area: &Area,
+    sender: Option<Mac>,
+) -> Choice
+    requires { now ≤ 2 ^ 62 }
+    ensures { (history : List Reception) →
+        Represents (S.remember store.now) (S.content store.now) history now →
+        chosen result
+        ≡ decision (stations_at (S.remember store.now) now history) own area.now sender }
+{
+    if contains(area, own) {
+        return Choice::Broadcast;
+    }
+    if is_sender_inside(store, now, area, sender) {
+        return Choice::Drop;
+    }
+    let centre = area.centre();
+    match nearest_neighbour(store, now, centre, distance2(centre, own)) {
+        Some(address) => Choice::To(address.mid()),
+        None => Choice::Broadcast,
+    }
+}
+
+/// Whether the sender says that it is in the area, and that its place is accurate.
+fn is_sender_inside<S: LocationStore>(store: &S, now: u64, area: &Area, sender: Option<Mac>) -> bool
+    requires { now ≤ 2 ^ 62 }
+    ensures { (history : List Reception) →
+        Represents (S.remember store.now) (S.content store.now) history now →
+        result ≡ is_sender_inside area.now sender (stations_at (S.remember store.now) now history) }
+{
+    let Some(mid) = sender else {
+        return false;
+    };
+    match store.by_mid(now, mid) {
+        Some(known) => known.vector.pai() && contains(area, known.vector.place()),
+        None => false,
+    }
+}

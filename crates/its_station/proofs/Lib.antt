@@ -1,0 +1,5 @@
+pub mod Stations
+pub mod Hearing
+pub mod PortSets
+pub mod AreaCalls
+pub mod Runs

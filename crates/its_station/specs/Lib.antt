@@ -1,0 +1,5 @@
+pub mod State
+pub mod Steps
+pub mod Requests
+pub mod Receiving
+pub mod Runs

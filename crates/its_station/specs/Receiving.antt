@@ -1,0 +1,100 @@
+-- What a station answers to a frame.
+use Rattle.std.specs.Prelude.{◌≡◌, ℕ, not, ◌==◌, ◌&&◌, nat_le, if◌then◌else◌, Bool, true, false, List, Vec, Option, Some, None}
+use Rattle.std.specs.Option.{option_map}
+use Rattle.std.specs.declared.alloc.Global.{Global}
+use Rattle.its_gnvalue.specs.Values.{Position, PositionVector, broadcast, mid_of}
+use Rattle.its_geometry.specs.Area.{area_holds}
+use Rattle.its_model.specs.Packet.{Message, Body, beacon, shb, gbc, gac, Pdu, Transmission, number_in, relay}
+use Rattle.std.specs.Prelude.{◌⊎◌, IsTrue, IsFalse}
+use Rattle.its_model.specs.History.{Reception, is_live}
+use Rattle.its_model.specs.Calls as model
+use Rattle.its_model.specs.Calls.{Call, Answer, Why as ModelWhy}
+use Rattle.its_model.specs.Station.{StationModel, Step, is_for, is_sender_wrong, is_repeated, receive_step_by}
+use Rattle.its_model.specs.Station as station
+use Rattle.its_linkframe.specs.Frames.{EncodesFrame}
+use Rattle.its_linkframe.specs.FrameFaults.{IsFrameFault}
+use Rattle.its_loctable.specs.SourceReport.{SourceReport}
+use Rattle.its_station.specs.declared.outcome.Handed.{Handed}
+use Rattle.its_station.specs.declared.outcome.Outcome.{Outcome}
+use Rattle.its_station.specs.declared.outcome.Outcome.TheVariants as outcomes
+use Rattle.its_station.specs.declared.outcome.Why.{Why}
+use Rattle.its_station.specs.declared.outcome.Why.TheVariants as why
+
+-- The octets come to the model as this call: the frame that they are, or junk with their first fault.
+abbrev pub IsFrameCall : List ℕ → Call → Type 0
+IsFrameCall w (model.Call.Own call) = ⊥
+IsFrameCall w (model.Call.Receive t) = EncodesFrame t w
+IsFrameCall w (model.Call.Junk fault) = IsFrameFault w fault
+
+-- a reason, in the model
+abbrev pub why_of : Why → ModelWhy
+why_of why.NotForMe = model.Why.NotForMe
+why_of why.OwnSource = model.Why.OwnSource
+why_of why.SenderMismatch = model.Why.SenderMismatch
+why_of why.Duplicate = model.Why.Duplicate
+
+-- the message that is handed to a port
+abbrev pub said_by : Handed → Message
+said_by h = record { port = h.port; info = h.info; payload = h.payload.now }
+
+-- the octets are the frame that is sent on, and there are none where none is
+abbrev pub IsRelay : Option (Vec ℕ Global) → Option Transmission → Type 0
+IsRelay None None = Unit {0}
+IsRelay (Some w) (Some t) = EncodesFrame t w.items
+IsRelay None (Some t) = ⊥
+IsRelay (Some w) None = ⊥
+
+-- an accepted frame's answer: the message that is handed out, and the frame that is sent on
+pub record TellsAccepted (handed : Option Message) (sent : Option (Vec ℕ Global)) (answer : Answer Transmission) : Type 0 where
+  pub relayed : Option Transmission
+  pub is : answer ≡ model.Answer.Accepted handed relayed
+  pub frame : IsRelay sent relayed
+
+-- the outcome is this answer of the model
+abbrev pub Tells : Outcome → Answer Transmission → Type 0
+Tells (outcomes.Ignored why) answer = answer ≡ model.Answer.Ignored (why_of why)
+Tells (outcomes.Accepted handed sent) answer = TellsAccepted (option_map said_by handed) sent answer
+
+-- From this place, with so many hops left, a packet goes on: a geobroadcast that has another hop, and outside of its area a
+-- geoanycast.
+abbrev pub goes_on : Position → ℕ → Body → Bool
+goes_on place left beacon = false
+goes_on place left (shb media message) = false
+goes_on place left (gbc number area message) = nat_le 2 left
+goes_on place left (gac number area message) = not (area_holds area place) && nat_le 2 left
+
+-- An accepted packet takes memory only for a new entry and for the frame in which it goes on.
+abbrev pub TakesMemory : StationModel → ℕ → Transmission → Type 0
+TakesMemory s moment t =
+    IsFalse (is_live t.pdu.vector.address moment s.history) ⊎ IsTrue (goes_on s.vector.place t.hops_left t.pdu.body)
+
+-- ---- words of private functions
+
+-- why a frame is ignored, if it is
+abbrev pub why_found : StationModel → ℕ → Transmission → Option Why
+why_found s moment t =
+    if not (is_for s t) then Some why.NotForMe
+    else if t.pdu.vector.address == s.address then Some why.OwnSource
+    else if is_sender_wrong t t.pdu.body then Some why.SenderMismatch
+    else if is_repeated s.remember (number_in t.pdu.body) t.pdu.vector.address moment s.history then Some why.Duplicate
+    else None
+
+-- the step where a frame is accepted
+abbrev pub accept_step : StationModel → ℕ → Transmission → Step
+accept_step s moment t = receive_step_by s moment t station.Verdict.Accept
+
+-- the place is inside of the packet's area, if that has one
+abbrev pub is_inside : Position → Body → Bool
+is_inside place beacon = true
+is_inside place (shb media message) = true
+is_inside place (gbc number area message) = area_holds area place
+is_inside place (gac number area message) = area_holds area place
+
+-- the frame in which the packet would go on to all
+abbrev pub copy_of : PositionVector → Transmission → Body → Option Transmission
+copy_of own t body =
+    if goes_on own.place t.hops_left body then Some (relay t (mid_of own.address) broadcast) else None
+
+-- what the packet says of its source
+abbrev pub report_of : Pdu → SourceReport
+report_of p = record { vector = p.vector; number = number_in p.body }

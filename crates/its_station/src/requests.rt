@@ -1,0 +1,68 @@
+//! What an application asks a station to send.
+
+use its_geometry::Area;
+use its_gnvalue::{Lifetime, TrafficClass};
+
+/// A payload for the stations in an area, all of them (GBC) or any one (GAC).
+#[derive(Clone, Copy)]
+pub struct GbcRequest<'a> {
+    /// The destination port (BTP-B).
+    pub port: u16,
+    /// The destination port info.
+    pub info: u16,
+    /// The traffic class.
+    pub class: TrafficClass,
+    /// How long the packet lives.
+    pub lifetime: Lifetime,
+    /// How many hops the packet may take, from 1.
+    pub max_hops: u8,
+    /// The stations for which it is.
+    pub area: Area,
+    /// What is sent to the port, at most 1394 octets.
+    pub payload: &'a [u8],
+}
+
+/// A payload for all stations in reach (SHB).
+#[derive(Clone, Copy)]
+pub struct ShbRequest<'a> {
+    /// The destination port (BTP-B).
+    pub port: u16,
+    /// The destination port info.
+    pub info: u16,
+    /// The traffic class.
+    pub class: TrafficClass,
+    /// What is sent to the port, at most 1394 octets.
+    pub payload: &'a [u8],
+}
+
+/// A `GbcRequest` that owns its payload.
+#[derive(Drop)]
+pub struct OwnedGbcRequest {
+    /// The destination port (BTP-B).
+    pub port: u16,
+    /// The destination port info.
+    pub info: u16,
+    /// The traffic class.
+    pub class: TrafficClass,
+    /// How long the packet lives.
+    pub lifetime: Lifetime,
+    /// How many hops the packet may take, from 1.
+    pub max_hops: u8,
+    /// The stations for which it is.
+    pub area: Area,
+    /// What is sent to the port, at most 1394 octets.
+    pub payload: Vec<u8>,
+}
+
+/// An `ShbRequest` that owns its payload.
+#[derive(Drop)]
+pub struct OwnedShbRequest {
+    /// The destination port (BTP-B).
+    pub port: u16,
+    /// The destination port info.
+    pub info: u16,
+    /// The traffic class.
+    pub class: TrafficClass,
+    /// What is sent to the port, at most 1394 octets.
+    pub payload: Vec<u8>,
+}

@@ -1,0 +1,317 @@
+//! Many calls, one after the other.
+
+ghost use Rattle.std.specs.Prelude.{◌≡◌, ◌≤◌, ◌<◌, ℕ, Option, List, [], All, length, take};
+ghost use Rattle.std.specs.Prelude.{Err, IfOk, OnErr, IsTrue, IsFalse, IsSome, MatchResult, vec_len, vec_capacity};
+ghost use Rattle.std.specs.Option.{option_map};
+ghost use Rattle.its_model.specs.Packet.{Transmission};
+ghost use Rattle.its_model.specs.Calls.{Answer, Call as ModelCall};
+ghost use Rattle.its_model.specs.Station.{StationModel, Step, station_step};
+ghost use Rattle.its_station.specs.State.{StationState, RepresentsStation};
+ghost use Rattle.its_station.specs.Steps.{IsStepOf, Says, refusal_of};
+ghost use Rattle.its_station.specs.Requests.{gbc_request, shb_request, owned_gbc, owned_shb};
+ghost use Rattle.its_station.specs.Requests.{TellsSent, TellsTick};
+ghost use Rattle.its_station.specs.Receiving.{IsFrameCall, Tells, said_by};
+ghost use Rattle.its_station.specs.Runs.{IsCall, IsInRange, IsReplyTo, IsDone, TellsReply, IsRunOf, IsIsolatedRunOf};
+ghost use Rattle.its_station.specs.Runs.{IsShort, IsShortHanding, delivered};
+
+use crate::outcome::{Handed, Outcome, Why};
+use crate::refused::Refused;
+use crate::requests::{GbcRequest, OwnedGbcRequest, OwnedShbRequest, ShbRequest};
+use crate::sending::MAX_PAYLOAD;
+use crate::station::Station;
+use its_gnvalue::{NoMemory, Place};
+use its_loctable::LocationStore;
+use its_model::{calls_go_on, sources_are_isolated};
+use std::alloc::Global;
+
+/// A call of a station, with its arguments but for the moment. It owns its octets.
+#[derive(Drop)]
+pub enum Call {
+    /// `move_to`; the speed is in its range.
+    MoveTo {
+        /// Where the station stands.
+        place: Place,
+        /// Whether the place is accurate.
+        pai: bool,
+        /// In 0.01 m/s, from -16384 to 16383.
+        speed: i16,
+        /// In 0.1 degree.
+        heading: u16,
+    },
+    /// `open`, of this port.
+    Open(u16),
+    /// `close`, of this port.
+    Close(u16),
+    /// `tick`, with this jitter in milliseconds.
+    Tick(u16),
+    /// `send_shb`.
+    SendShb(OwnedShbRequest),
+    /// `send_geobroadcast`.
+    SendGeobroadcast(OwnedGbcRequest),
+    /// `send_geoanycast`.
+    SendGeoanycast(OwnedGbcRequest),
+    /// `restart`, with the next sequence number.
+    Restart(u16),
+    /// `receive`, of these octets.
+    Receive(Vec<u8>),
+}
+
+/// What was delivered to a port, with a payload of its own.
+#[derive(Drop)]
+pub struct Delivery {
+    /// The destination port (BTP-B).
+    pub port: u16,
+    /// The destination port info.
+    pub info: u16,
+    /// What was sent to the port.
+    pub payload: Vec<u8>,
+}
+
+/// The answer to a call.
+#[derive(Drop)]
+pub enum Reply {
+    /// The station moved, opened or closed a port, or restarted.
+    Done,
+    /// No beacon was due.
+    Quiet,
+    /// This frame is to be sent.
+    Sent(Vec<u8>),
+    /// A frame was ignored.
+    Ignored(Why),
+    /// A frame's packet was accepted.
+    Accepted {
+        /// What was delivered to a port, if anything was.
+        handed: Option<Delivery>,
+        /// The frame in which the packet goes on, if it does.
+        sent: Option<Vec<u8>>,
+    },
+    /// The call was refused, and changed nothing. It is never refused for memory here.
+    Refused(Refused),
+}
+
+/// What came of the calls: a reply for each that was made.
+#[derive(Drop)]
+pub struct Ran {
+    /// The replies, in order.
+    pub replies: Vec<Reply>,
+    /// Whether memory ran out, so that the calls after these weren't made.
+    pub out_of_memory: bool,
+}
+
+impl<S: LocationStore> Station<S> {
+    /// Makes the calls in order, each at its moment, until memory runs out: then neither the call that
+    /// met it nor any after it is made, and the station stands as after those before it. The speed of
+    /// each `MoveTo` has to be in its range. Sources are isolated: what the station's own applications
+    /// and one source see of the answers doesn't depend on the frames of other sources.
+    pub fn run(&mut self, calls: &[(u64, Call)]) -> Ran
+        requires { All (λ call. IsInRange call.1) calls.now }
+        ensures done { length result.replies.items ≤ length calls.now }
+        ensures all { IsFalse result.out_of_memory →
+            length result.replies.items ≡ length calls.now }
+        ensures some { IsTrue result.out_of_memory →
+            length result.replies.items < length calls.now }
+        ensures run { (s : StationModel) → RepresentsStation self.old s →
+            IsIsolatedRunOf s (take (length result.replies.items) calls.now)
+            result.replies.items self.new }
+    {
+        sources_are_isolated();
+        self.run_all(calls)
+    }
+
+    /// The loop of `run`.
+    fn run_all(&mut self, calls: &[(u64, Call)]) -> Ran
+        requires { All (λ call. IsInRange call.1) calls.now }
+        ensures done { length result.replies.items ≤ length calls.now }
+        ensures all { IsFalse result.out_of_memory →
+            length result.replies.items ≡ length calls.now }
+        ensures some { IsTrue result.out_of_memory →
+            length result.replies.items < length calls.now }
+        ensures run { (s : StationModel) → RepresentsStation self.old s →
+            IsRunOf s (take (length result.replies.items) calls.now)
+            result.replies.items self.new }
+    {
+        calls_go_on();
+        let mut replies = Vec::new(self.alloc());
+        for call in calls {
+            if replies.reserve(1).is_err() {
+                return Ran {
+                    replies,
+                    out_of_memory: true,
+                };
+            }
+            let Ok(reply) = self.make_call(call.0, &call.1) else {
+                return Ran {
+                    replies,
+                    out_of_memory: true,
+                };
+            };
+            let Ok(()) = replies.push(reply) else {
+                unreachable!()
+            };
+        }
+        Ran {
+            replies,
+            out_of_memory: false,
+        }
+    }
+
+    fn alloc(&self) -> Global {
+        self.alloc
+    }
+
+    /// One call.
+    fn make_call(&mut self, moment: u64, call: &Call) -> Result<Reply, NoMemory>
+        requires { IsInRange call.now }
+        ensures step { IfOk result (λ reply. (c : ModelCall) × IsCall call.now c
+            × ((s : StationModel) → RepresentsStation self.old s →
+            IsReplyTo reply self.new (station_step s moment c))) }
+        ensures unchanged { OnErr result (self.new ≡ self.old) }
+    {
+        match call {
+            Call::MoveTo {
+                place,
+                pai,
+                speed,
+                heading,
+            } => done(self.move_to(moment, *place, *pai, *speed, *heading)),
+            Call::Open(port) => done(self.open(moment, *port)),
+            Call::Close(port) => done(self.close(moment, *port)),
+            Call::Restart(number) => done(self.restart(moment, *number)),
+            Call::Tick(jitter) => ticked(self.tick(moment, *jitter)),
+            Call::SendShb(r) => sent(self.send_shb(moment, &shb_of(r))),
+            Call::SendGeobroadcast(r) => sent(self.send_geobroadcast(moment, &gbc_of(r))),
+            Call::SendGeoanycast(r) => sent(self.send_geoanycast(moment, &gbc_of(r))),
+            Call::Receive(frame) => self.call_receive(moment, frame),
+        }
+    }
+
+    /// A frame that came. The room of the reply is taken before it is received.
+    fn call_receive(&mut self, moment: u64, frame: &[u8]) -> Result<Reply, NoMemory>
+        ensures step { IfOk result (λ reply. (c : ModelCall) × IsFrameCall frame.now c
+            × ((s : StationModel) → RepresentsStation self.old s →
+            IsReplyTo reply self.new (station_step s moment c))) }
+        ensures unchanged { OnErr result (self.new ≡ self.old) }
+    {
+        let room = Vec::with_capacity(self.alloc(), MAX_PAYLOAD)?;
+        match self.receive(moment, frame) {
+            Ok(outcome) => Ok(reply_of(outcome, room)),
+            Err(refused) => refusal(refused),
+        }
+    }
+}
+
+/// The answer to a call that tells nothing.
+fn done(answer: Result<(), Refused>) -> Result<Reply, NoMemory>
+    ensures reply { (this : Answer Transmission) (new : StationState) (step : Step) →
+        IsDone this → IsStepOf (Says this) answer new step →
+        IfOk result (λ reply. IsReplyTo reply new step) }
+    ensures memory { OnErr result (answer ≡ Err Refused.NoMemory) }
+{
+    match answer {
+        Ok(()) => Ok(Reply::Done),
+        Err(refused) => refusal(refused),
+    }
+}
+
+/// The answer to a call for a beacon.
+fn ticked(answer: Result<Option<Vec<u8>>, Refused>) -> Result<Reply, NoMemory>
+    ensures reply { (new : StationState) (step : Step) → IsStepOf TellsTick answer new step →
+        IfOk result (λ reply. IsReplyTo reply new step) }
+    ensures memory { OnErr result (answer ≡ Err Refused.NoMemory) }
+{
+    match answer {
+        Ok(Some(frame)) => Ok(Reply::Sent(frame)),
+        Ok(None) => Ok(Reply::Quiet),
+        Err(refused) => refusal(refused),
+    }
+}
+
+/// The answer to a call that sends.
+fn sent(answer: Result<Vec<u8>, Refused>) -> Result<Reply, NoMemory>
+    ensures reply { (new : StationState) (step : Step) → IsStepOf TellsSent answer new step →
+        IfOk result (λ reply. IsReplyTo reply new step) }
+    ensures memory { OnErr result (answer ≡ Err Refused.NoMemory) }
+{
+    match answer {
+        Ok(frame) => Ok(Reply::Sent(frame)),
+        Err(refused) => refusal(refused),
+    }
+}
+
+/// The outcome as a reply, which takes the payload into the room that was made for it.
+fn reply_of(outcome: Outcome<'_>, room: Vec<u8>) -> Reply
+    requires empty { room.items ≡ [] }
+    requires size { vec_len room ≡ 0 }
+    requires room { 1394 ≤ vec_capacity room }
+    requires short { IsShort outcome }
+    ensures { (answer : Answer Transmission) → Tells outcome.entry answer → TellsReply result answer }
+{
+    match outcome {
+        Outcome::Ignored(why) => Reply::Ignored(why),
+        Outcome::Accepted { handed, sent } => Reply::Accepted {
+            handed: deliver(handed, room),
+            sent,
+        },
+    }
+}
+
+/// What was delivered, with a payload of its own in the room that was made for it.
+fn deliver(handed: Option<Handed<'_>>, room: Vec<u8>) -> Option<Delivery>
+    requires empty { room.items ≡ [] }
+    requires size { vec_len room ≡ 0 }
+    requires room { 1394 ≤ vec_capacity room }
+    requires short { IsShortHanding handed }
+    ensures { option_map delivered result ≡ option_map said_by handed.entry }
+{
+    let Some(handed) = handed else {
+        return None;
+    };
+    let mut payload = room;
+    let Ok(()) = payload.extend_from_slice(handed.payload) else {
+        unreachable!()
+    };
+    Some(Delivery {
+        port: handed.port,
+        info: handed.info,
+        payload,
+    })
+}
+
+/// A refusal is a reply, unless an allocation failed.
+fn refusal(refused: Refused) -> Result<Reply, NoMemory>
+    ensures { MatchResult result
+        (λ reply. (reply ≡ Reply.Refused refused) × IsSome (refusal_of refused))
+        (λ _. refused ≡ Refused.NoMemory) }
+{
+    match refused {
+        Refused::NoMemory => Err(NoMemory),
+        _ => Ok(Reply::Refused(refused)),
+    }
+}
+
+/// The same request, lent.
+fn shb_of(r: &OwnedShbRequest) -> ShbRequest<'_>
+    ensures { shb_request result ≡ owned_shb r.now }
+{
+    ShbRequest {
+        port: r.port,
+        info: r.info,
+        class: r.class,
+        payload: r.payload.as_slice(),
+    }
+}
+
+/// The same request, lent.
+fn gbc_of(r: &OwnedGbcRequest) -> GbcRequest<'_>
+    ensures { gbc_request result ≡ owned_gbc r.now }
+{
+    GbcRequest {
+        port: r.port,
+        info: r.info,
+        class: r.class,
+        lifetime: r.lifetime,
+        max_hops: r.max_hops,
+        area: r.area,
+        payload: r.payload.as_slice(),
+    }
+}

@@ -1,0 +1,205 @@
+//! A station, and the calls that need neither a port nor a frame.
+
+ghost use Rattle.std.specs.Prelude.{◌≡◌, ◌≢◌, ◌≤◌, ◌^◌, ◌+◌, ◌%◌, ℕ, [], List};
+ghost use Rattle.std.specs.Prelude.{Result, Option, Some, None, Err, IfOk, IfErr, OnErr, OnOk};
+ghost use Rattle.its_gnvalue.specs.Values.{IsSpeed, mid_of};
+ghost use Rattle.its_model.specs.Calls.{Moved, Restarted, Own};
+ghost use Rattle.its_model.specs.Calls.OwnCall.{Move, Restart};
+ghost use Rattle.its_model.specs.History.{Reception};
+ghost use Rattle.its_model.specs.Station.{StationModel, new_station, station_step, moment_refusal};
+ghost use Rattle.its_loctable.specs.Content.{Represents};
+ghost use Rattle.its_station.specs.State.{model_of, RepresentsStation};
+ghost use Rattle.its_station.specs.Steps.{IsStepOf, refusal_in, Says};
+
+use crate::refused::Refused;
+use its_btp::Ports;
+use its_gnvalue::{GnAddress, LongPv, Mac, Place};
+use its_loctable::LocationStore;
+use std::alloc::Global;
+use std::marker::Model;
+
+/// The last moment of a call, in milliseconds (profile).
+pub const LAST_MOMENT: u64 = 1 << 62;
+
+/// A station over a location table. Contracts see its fields and the content of its table
+/// (`StationState`), and each call's contract speaks of the stations of the model that it represents.
+#[derive(Drop)]
+pub struct Station<S: LocationStore> {
+    pub(crate) alloc: Global,
+    pub(crate) vector: LongPv,
+    pub(crate) clock: u64,
+    pub(crate) next_number: u16,
+    pub(crate) beacon_from: u64,
+    pub(crate) ports: Ports,
+    pub(crate) store: S,
+}
+
+impl<S: LocationStore> Model for Station<S> {
+    ghost use Rattle.std.specs.Prelude.{◌≤◌, ◌^◌, ◌+◌};
+    ghost use Rattle.its_station.specs.State.{StationState};
+
+    ghost Value = { StationState };
+
+    ghost view = { λ s. record {
+      vector = s.vector;
+      capacity = S.limit s.store;
+      remember = S.remember s.store;
+      clock = s.clock;
+      next_number = s.next_number;
+      beacon_from = s.beacon_from;
+      ports = s.ports;
+      content = S.content s.store;
+    } };
+
+    ghost invariant = { λ s. (s.clock ≤ 2 ^ 62) × (s.beacon_from ≤ 2 ^ 62 + 3000) };
+}
+
+impl<S: LocationStore> Station<S> {
+    /// A station to which nothing happened yet: at a place, with a location table for `capacity`
+    /// sources, 1 to 4096, that remembers the last `remember` sequence numbers of each, 1 to 64.
+    /// `NoMemory` (S5) is the one refusal.
+    pub fn new(
+        alloc: Global,
+        address: GnAddress,
+        place: Place,
+        capacity: u16,
+        remember: u8,
+    ) -> Result<Station<S>, Refused>
+        requires capacity { (1 ≤ capacity) × (capacity ≤ 4096) }
+        requires remember { (1 ≤ remember) × (remember ≤ 64) }
+        ensures represents { IfOk result (λ st.
+            RepresentsStation st (new_station address place capacity remember)) }
+        ensures memory { IfErr result (λ e. e ≡ Refused.NoMemory) }
+    {
+        let Ok(store) = S::empty(alloc, capacity, remember) else {
+            return Err(Refused::NoMemory);
+        };
+        let Ok(vector) = LongPv::new(address, 0, place, false, 0, 0) else {
+            unreachable!()
+        };
+        Ok(Station {
+            alloc,
+            vector,
+            clock: 0,
+            next_number: 0,
+            beacon_from: 0,
+            ports: Ports::new(),
+            store,
+        })
+    }
+
+    /// The station stands there from now on: its place, whether that is accurate (PAI), its speed in
+    /// 0.01 m/s, from -16384 to 16383, and its heading in 0.1 degree. Refused for its moment alone (S1,
+    /// S2). It takes no memory.
+    pub fn move_to(
+        &mut self,
+        now: u64,
+        place: Place,
+        pai: bool,
+        speed: i16,
+        heading: u16,
+    ) -> Result<(), Refused>
+        requires { IsSpeed speed }
+        ensures step { (s : StationModel) → RepresentsStation self.old s →
+            IsStepOf (Says Moved) result self.new
+            (station_step s now (Own (Move place pai speed heading))) }
+        ensures unchanged { OnErr result (self.new ≡ self.old) }
+        ensures memory { result ≢ Err Refused.NoMemory }
+    {
+        if let Err(refused) = self.check_moment(now) {
+            return Err(refused);
+        }
+        self.set_vector(now, place, pai, speed, heading);
+        Ok(())
+    }
+
+    /// The station forgets all that it heard and closes its ports, and gives its next packet for an
+    /// area this sequence number. Its address, its place and its capacity stay; its next beacon is due
+    /// at once. Refused for its moment alone (S1, S2). It takes no memory.
+    pub fn restart(&mut self, now: u64, number: u16) -> Result<(), Refused>
+        ensures step { (s : StationModel) → RepresentsStation self.old s →
+            IsStepOf (Says Restarted) result self.new
+            (station_step s now (Own (Restart number))) }
+        ensures unchanged { OnErr result (self.new ≡ self.old) }
+        ensures memory { result ≢ Err Refused.NoMemory }
+    {
+        if let Err(refused) = self.check_moment(now) {
+            return Err(refused);
+        }
+        self.begin_anew(now, number);
+        Ok(())
+    }
+
+    /// The moment of a call is judged first: S1, then S2.
+    pub(crate) fn check_moment(&self, now: u64) -> Result<(), Refused>
+        ensures refusal { (ports : List ℕ) (history : List Reception) →
+            refusal_in result ≡ moment_refusal (model_of self.now ports history) now }
+        ensures time { OnOk result ((self.now.clock ≤ now) × (now ≤ 2 ^ 62)) }
+        ensures memory { result ≢ Err Refused.NoMemory }
+    {
+        if now < self.clock {
+            return Err(Refused::MomentEarlier);
+        }
+        if now > LAST_MOMENT {
+            return Err(Refused::MomentTooLate);
+        }
+        Ok(())
+    }
+
+    /// The link address of the station.
+    pub(crate) fn mac(&self) -> Mac
+        ensures { result ≡ mid_of self.now.vector.address }
+    {
+        self.vector.address().mid()
+    }
+
+    pub(crate) fn set_clock(&mut self, now: u64)
+        requires { now ≤ 2 ^ 62 }
+        ensures { self.new ≡ record self.old { clock = now } }
+    {
+        self.clock = now;
+    }
+
+    /// The vector's time stamp is the moment, modulo 2^32 (profile).
+    fn set_vector(&mut self, now: u64, place: Place, pai: bool, speed: i16, heading: u16)
+        requires time { now ≤ 2 ^ 62 }
+        requires speed { IsSpeed speed }
+        ensures { self.new ≡ record self.old {
+          clock = now;
+          vector = record {
+            address = self.old.vector.address;
+            timestamp = now % 2 ^ 32;
+            place = place;
+            accurate = pai;
+            speed = speed;
+            heading = heading;
+          };
+        } }
+    {
+        let timestamp = (now % (1 << 32)) as u32;
+        let address = self.vector.address();
+        let Ok(vector) = LongPv::new(address, timestamp, place, pai, speed, heading) else {
+            unreachable!()
+        };
+        self.vector = vector;
+        self.clock = now;
+    }
+
+    fn begin_anew(&mut self, now: u64, number: u16)
+        requires { now ≤ 2 ^ 62 }
+        ensures fields { self.new ≡ record self.old {
+          clock = now;
+          next_number = number;
+          ports = [];
+          beacon_from = now;
+          content = self.new.content;
+        } }
+        ensures table { Represents self.new.remember self.new.content [] 0 }
+    {
+        self.store.clear();
+        self.ports.clear();
+        self.next_number = number;
+        self.beacon_from = now;
+        self.clock = now;
+    }
+}
