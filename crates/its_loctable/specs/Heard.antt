@@ -1,17 +1,16 @@
 -- What a packet says, as a reception, and what a store answers.
 use Rattle.std.specs.Prelude.{ℕ, Bool, false, if◌then◌else◌, List, Option, Some, None, Result, Ok, Err}
-use Rattle.its_loctable.specs.declared.store.Heard.{Heard}
-use Rattle.its_loctable.specs.declared.store.Known.{Known as Shown}
+use Rattle.its_loctable.specs.declared.heard.Known.{Known as Shown}
 use Rattle.its_loctable.specs.declared.store.Verdict.{Verdict}
 use Rattle.its_loctable.specs.declared.store.Verdict.TheVariants.{Accepted, Duplicate}
-use Rattle.its_loctable.specs.declared.store.StoreRefused.{StoreRefused}
-use Rattle.its_loctable.specs.declared.store.StoreRefused.TheVariants.{Full}
-use Rattle.its_model.specs.History.{Reception, Known, remembered_count, is_among}
+use Rattle.its_loctable.specs.declared.refused.StoreRefused.{StoreRefused}
+use Rattle.its_loctable.specs.declared.refused.StoreRefused.TheVariants.{Full}
+use Rattle.its_model.specs.History.{Reception, Known, is_among, is_remembered}
 use Rattle.its_model.specs.Stations.{stations_at, is_full}
-use Rattle.its_model.specs.Station.{is_repeated}
+use Rattle.its_loctable.specs.SourceReport.{SourceReport}
 
 -- a packet that was accepted at a moment
-abbrev pub reception : ℕ → Heard → Reception
+abbrev pub reception : ℕ → SourceReport → Reception
 reception now heard = record { moment = now; vector = heard.vector; number = heard.number }
 
 -- what a look-up shows of all that is known
@@ -28,9 +27,14 @@ abbrev pub is_noted : Option Known → Option ℕ → Bool
 is_noted k None = false
 is_noted k (Some number) = has_number k number
 
--- The answer that is owed, unless a growth was refused: a duplicate is one in a full store too.
-unfoldable pub verdict_at : ℕ → ℕ → Heard → List Reception → Result Verdict StoreRefused
-verdict_at capacity now heard history =
-    if is_repeated heard.number heard.vector.address now history then Ok Duplicate
-    else if is_full capacity heard.vector.address (stations_at remembered_count now history) then Err Full
+-- a packet's number is remembered of its source
+abbrev pub is_repeated : ℕ → Option ℕ → ℕ → ℕ → List Reception → Bool
+is_repeated remember None source moment history = false
+is_repeated remember (Some number) source moment history = is_remembered remember source number moment history
+
+-- The answer that is owed, unless an allocation failed: a duplicate is one in a full store too.
+unfoldable pub verdict_at : ℕ → ℕ → ℕ → SourceReport → List Reception → Result Verdict StoreRefused
+verdict_at remember capacity now heard history =
+    if is_repeated remember heard.number heard.vector.address now history then Ok Duplicate
+    else if is_full capacity heard.vector.address (stations_at remember now history) then Err Full
     else Ok Accepted

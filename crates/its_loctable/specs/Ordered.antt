@@ -1,22 +1,18 @@
 -- The content of a table in the order of insertion.
-use Rattle.std.specs.Prelude.{◌≡◌, ℕ, ◌≤◌, List, map, reverse, Some, nat_eq}
+use Rattle.std.specs.Prelude.{◌≡◌, ℕ, ◌≤◌, List, map, Some, nat_eq}
 use Rattle.std.specs.Map.{lookup}
-use Rattle.its_loctable.specs.declared.ordered_slot.OrderedSlot.{OrderedSlot}
-use Rattle.its_model.specs.History.{Known}
+use Rattle.its_loctable.specs.declared.slot.Slot.{Slot}
 use Rattle.its_loctable.specs.Content.{Entry}
+use Rattle.its_loctable.specs.Slots.{slot_known}
 
--- what a slot says of its source: its list of numbers has the newest last
-abbrev pub slot_known : OrderedSlot → Known
-slot_known s = record { vector = s.vector; neighbour = s.neighbour; numbers = reverse s.recent }
-
-abbrev pub slot_entry : ℕ × OrderedSlot → Entry
+abbrev pub slot_entry : ℕ × Slot → Entry
 slot_entry p = record { address = p.0; known = slot_known p.1; until = p.1.until }
 
-abbrev pub contained : List (ℕ × OrderedSlot) → List Entry
+abbrev pub contained : List (ℕ × Slot) → List Entry
 contained slots = map slot_entry slots
 
--- an address has a slot, which has ended
-pub record IsDead (slots : List (ℕ × OrderedSlot)) (address now : ℕ) : Type 0 where
-  pub slot : OrderedSlot
+-- an address has a slot, which has expired
+pub record IsExpired (slots : List (ℕ × Slot)) (address now : ℕ) : Type 0 where
+  pub slot : Slot
   pub there : lookup (nat_eq address) slots ≡ Some slot
-  pub dead : slot.until ≤ now
+  pub expired : slot.until ≤ now

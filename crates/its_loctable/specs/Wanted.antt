@@ -1,9 +1,9 @@
 -- A walk over entries in any order, for the source of least address that is wanted.
 use Rattle.std.specs.Prelude.{ℕ, Bool, ◌&&◌, ◌==◌, nat_lt, if◌then◌else◌, Option, Some, None}
 use Rattle.its_gnvalue.specs.Values.{PositionVector, mid_of}
-use Rattle.its_loctable.specs.declared.wanted.Wanted.{Wanted}
-use Rattle.its_loctable.specs.declared.wanted.Wanted.TheVariants.{HasMid, NeighbourAbove}
-use Rattle.its_loctable.specs.declared.store.Known.{Known as Shown}
+use Rattle.its_loctable.specs.declared.ordered.wanted.Wanted.{Wanted}
+use Rattle.its_loctable.specs.declared.ordered.wanted.Wanted.TheVariants.{HasMid, NeighbourAbove}
+use Rattle.its_loctable.specs.declared.heard.Known.{Known as Shown}
 use Rattle.its_model.specs.History.{Known}
 use Rattle.its_model.specs.Stations.{is_above}
 use Rattle.its_loctable.specs.Content.{Entry}

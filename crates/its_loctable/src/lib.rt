@@ -1,20 +1,16 @@
-//! The location table: what is known of each source that was heard lately.
+//! The location table: what is known of each source that was heard lately (EN 302 636-4-1 clause 8).
 #![tactic(auto)]
 
-mod numbers;
+mod heard;
 mod ordered;
-mod ordered_slot;
+mod refused;
 mod renewal;
-mod search;
+mod slot;
 mod sorted;
-mod sorted_slot;
 mod store;
-mod sweep;
-mod wanted;
 
+pub use heard::{Heard, Known};
 pub use ordered::OrderedTable;
+pub use refused::StoreRefused;
 pub use sorted::SortedTable;
-pub use store::{Heard, Known, LocationStore, StoreRefused, Verdict};
-
-#[cfg(test)]
-mod tests;
+pub use store::{LocationStore, Verdict};
