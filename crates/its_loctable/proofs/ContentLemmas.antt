@@ -27,11 +27,11 @@ abbrev Own : ℕ → List Entry → Type 0
 Own t [] = Unit {0}
 Own t (e ∷ es) = (ltb t e.until ≡ true → addr e.known ≡ e.address) × Own t es
 
-or_first : (a b : Bool) → (a || b) ≡ false → a ≡ false
+pub or_first : (a b : Bool) → (a || b) ≡ false → a ≡ false
 or_first true b e = absurd (true≢false e)
 or_first false b e = refl
 
-or_second : (a b : Bool) → (a || b) ≡ false → b ≡ false
+pub or_second : (a b : Bool) → (a || b) ≡ false → b ≡ false
 or_second true b e = absurd (true≢false e)
 or_second false b e = e
 

@@ -5,8 +5,8 @@ use Rattle.its_model.specs.History.{Reception, Known}
 use Rattle.its_model.specs.Stations.{stations_at, by_address, AllAbove, Rises}
 use Rattle.its_loctable.specs.Content.{Entry, Represents}
 use Rattle.its_loctable.specs.Wanted.{lesser, better}
-use Rattle.its_loctable.specs.declared.ordered_slot.OrderedSlot.{OrderedSlot}
-use Rattle.its_loctable.specs.declared.store.Known.{Known as Shown}
+use Rattle.its_loctable.specs.declared.slot.Slot.{Slot}
+use Rattle.its_loctable.specs.declared.heard.Known.{Known as Shown}
 use Rattle.its_loctable.specs.Heard.{shown}
 use Rattle.std.specs.Option.{option_map}
 use Rattle.its_loctable.specs.Ordered.{slot_entry, contained}
@@ -97,7 +97,7 @@ take_next xs i x at = rw add-one (by xs i at)
     by (y ∷ ys) (suc j) e = ap (λ l. y ∷ l) (by ys j e)
 
 -- one more slot of a table in the order of insertion
-pub walk_more : (p : Known → Bool) (t : ℕ) (es : List (ℕ × OrderedSlot)) (i : ℕ) (e : ℕ × OrderedSlot) → slice_get es i ≡ Some e
+pub walk_more : (p : Known → Bool) (t : ℕ) (es : List (ℕ × Slot)) (i : ℕ) (e : ℕ × Slot) → slice_get es i ≡ Some e
     → fold (better p t) None (contained (take (i + 1) es)) ≡ better p t (fold (better p t) None (contained (take i es))) (slot_entry e)
 walk_more p t es i e at = ap (λ l. fold (better p t) None (contained l)) (take_next es i e at)
     ∙ ap (fold (better p t) None) (map-append slot_entry (take i es) (e ∷ []))

@@ -6,5 +6,4 @@ pub mod ListLemmas
 pub mod NumberLemmas
 pub mod OrderedLemmas
 pub mod SortedLemmas
-pub mod SweepLemmas
 pub mod VerdictLemmas

@@ -5,4 +5,5 @@ pub mod Slots
 pub mod Ordered
 pub mod Wanted
 pub mod Sorted
+pub mod Spare
 pub mod Eager

@@ -2,7 +2,7 @@
 
 ghost use Rattle.std.specs.Prelude.{◌≡◌, is_none};
 
-use its_gnvalue::LongPv;
+use its_gnvalue::{GnAddress, LongPv};
 use std::marker::Model;
 
 /// What a packet says of its source: its position vector, and the sequence number of a multi-hop
@@ -37,6 +37,13 @@ impl Heard {
         ensures { result ≡ self.now.vector }
     {
         self.vector
+    }
+
+    /// The source's address.
+    pub fn address(&self) -> GnAddress
+        ensures { result ≡ self.now.vector.address }
+    {
+        self.vector.address()
     }
 
     /// The packet's sequence number, where it has one.

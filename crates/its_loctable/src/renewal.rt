@@ -1,7 +1,7 @@
 //! What a packet changes in its source's entry, in every store.
+
 ghost use Rattle.std.specs.Prelude.{◌≡◌, ◌+◌, ◌^◌, ◌≤◌, Some, length, take, reverse};
-ghost use Rattle.its_duplicates.specs.Numbers.{kept_count};
-ghost use Rattle.its_model.specs.History.{entry_life, remembered_count, fresher, with_number};
+ghost use Rattle.its_model.specs.History.{entry_life, fresher, with_number};
 
 use its_duplicates::Recent;
 use its_gnvalue::{LongPv, newer};
@@ -30,9 +30,11 @@ pub fn fresher(new: LongPv, old: LongPv) -> LongPv
 
 /// Notes the number of a packet, if it has one.
 pub fn note(recent: &mut Recent, number: Option<u16>)
-    requires { length recent.old ≤ kept_count }
-    ensures noted { reverse recent.new ≡ take remembered_count (with_number number (reverse recent.old)) }
-    ensures few { length recent.new ≤ kept_count }
+    requires { length recent.old.numbers ≤ recent.old.limit }
+    ensures noted { reverse recent.new.numbers
+        ≡ take recent.old.limit (with_number number (reverse recent.old.numbers)) }
+    ensures limit { recent.new.limit ≡ recent.old.limit }
+    ensures few { length recent.new.numbers ≤ recent.new.limit }
 {
     if let Some(number) = number {
         recent.note(number);

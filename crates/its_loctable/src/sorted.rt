@@ -1,42 +1,76 @@
-//! The table in ascending order of addresses. Ended slots are swept by each packet that is accepted.
+//! The table in ascending order of addresses. Expired slots are swept before a packet makes or renews one.
+
 ghost use Rattle.std.specs.Prelude.{◌≡◌, ◌≢◌, ◌+◌, ◌^◌, ◌≤◌, ◌<◌};
-ghost use Rattle.std.specs.Prelude.{All, IsTrue, is_none, is_some, nat_lt, vec_len, vec_capacity, count_by};
+ghost use Rattle.std.specs.Prelude.{All, IsTrue, IfOk, IfErr, is_some, length, nat_lt, vec_len, vec_capacity, count_by};
 ghost use Rattle.std.specs.Option.{option_map};
 ghost use Rattle.its_loctable.specs.Content.{entry_at};
-ghost use Rattle.its_loctable.specs.Sorted.{slot_known, slot_entry, held, IsFoundAt, IsGapFor};
+ghost use Rattle.its_loctable.specs.Slots.{slot_known};
+ghost use Rattle.its_loctable.specs.Sorted.{slot_entry, held, IsFoundAt, IsGapFor};
+ghost use Rattle.its_loctable.specs.Spare.{HasLimit, IsSpare};
 ghost use Rattle.its_loctable.specs.Eager.{swept, upsert, is_rising, judged, after_accept};
 
-use crate::search::{live_count, live_slot, live_with_mid, neighbour_above, search};
-use crate::sorted_slot::SortedSlot;
-use crate::store::{Heard, Known, LocationStore, StoreRefused, Verdict};
-use crate::sweep::{first_end, sweep, sweep_and_insert};
+mod search;
+mod sweep;
+
+use crate::heard::{Heard, Known};
+use crate::refused::StoreRefused;
+use crate::slot::Slot;
+use crate::store::{LocationStore, Verdict};
+use its_duplicates::Recent;
 use its_gnvalue::{GnAddress, LongPv, Mac, NoMemory};
+use search::{has_expired, live_with_mid, neighbour_above, search_from};
 use std::alloc::Global;
 use std::cell::Cell;
+use sweep::{first_end, retire, sweep};
 
 /// A location table in one vector, found by binary search. `empty` takes all of its memory, and
 /// `accept` none.
 #[derive(Drop)]
 pub struct SortedTable {
     capacity: u16,
-    slots: Vec<SortedSlot>,
-    /// No slot ends before this moment: until then there is nothing to sweep, and nothing to count.
+    remembered: u8,
+    slots: Vec<Slot>,
+    /// The lists of numbers for the slots that there is still room for.
+    spare: Vec<Recent>,
+    /// No slot expires before this moment: until then there is nothing to sweep.
     first_end: u64,
-    /// Where the last walk over the neighbours came to, for its next step: each use checks it.
-    walked_to: Cell<usize>,
+    /// Where a call found a slot or its gap last, which the next call tries first: each use checks it.
+    last_place: Cell<usize>,
     ghost rising: { IsTrue (is_rising (held slots.items)) },
-    ghost within: { vec_len slots ≤ capacity },
+    ghost total: { vec_len slots + vec_len spare ≡ capacity },
     ghost room: { capacity ≤ vec_capacity slots },
+    ghost spare_room: { capacity ≤ vec_capacity spare },
+    ghost limits: { All (HasLimit remembered) slots.items },
+    ghost empty: { All (IsSpare remembered) spare.items },
     ghost ends: { All (λ s. first_end ≤ s.until) slots.items },
 }
 
 impl SortedTable {
+    /// Where the slot of an address is, or else where it would go.
+    fn place_of(&self, address: GnAddress) -> Result<usize, usize>
+        ensures found { IfOk result (λ i. IsFoundAt self.now.slots.items address i × (i < vec_len self.now.slots)) }
+        ensures absent { IfErr result (λ i. IsGapFor self.now.slots.items address i × (i ≤ vec_len self.now.slots)) }
+    {
+        let place = search_from(&self.slots, self.last_place.get(), address);
+        match place {
+            Ok(i) => self.last_place.set(i),
+            Err(i) => self.last_place.set(i),
+        }
+        place
+    }
+
     /// The slot of a live source.
-    fn live_slot(&self, now: u64, address: GnAddress) -> Option<&SortedSlot>
+    fn live_slot(&self, now: u64, address: GnAddress) -> Option<&Slot>
         ensures { option_map (λ slot. slot_known slot.now) result
             ≡ entry_at (held self.now.slots.items) address now }
     {
-        live_slot(&self.slots, now, address)
+        match self.place_of(address) {
+            Ok(place) => {
+                let slot = &self.slots[place];
+                if now < slot.until { Some(slot) } else { None }
+            }
+            Err(_) => None,
+        }
     }
 
     /// Whether a source is live.
@@ -46,98 +80,105 @@ impl SortedTable {
         self.live_slot(now, address).is_some()
     }
 
-    /// How many slots are live.
-    fn live_count(&self, now: u64) -> usize
-        ensures { result ≡ count_by (λ s. nat_lt now s.until) self.now.slots.items }
-    {
-        if now < self.first_end {
-            self.slots.len()
-        } else {
-            live_count(&self.slots, now)
-        }
-    }
-
     /// Whether fewer slots are live than the capacity.
     fn has_place(&self, now: u64) -> bool
         ensures place { result ≡ nat_lt (count_by (λ s. nat_lt now s.until) self.now.slots.items) self.now.capacity }
         ensures rising { IsTrue (is_rising (held self.now.slots.items)) }
     {
-        self.live_count(now) < self.capacity as usize
+        !self.spare.is_empty() || self.first_end <= now && has_expired(&self.slots, now)
     }
 
-    /// Puts a slot in place of the one with its address, and sweeps the others.
-    fn replace(&mut self, now: u64, place: usize, slot: SortedSlot)
-        requires found { IsFoundAt self.old.slots.items slot.vector.address place }
-        requires within { place < vec_len self.old.slots }
-        requires live { now < slot.until }
-        ensures content { held self.new.slots.items ≡ upsert (swept now (held self.old.slots.items)) (slot_entry slot) }
+    /// Removes the slots that have expired.
+    fn sweep(&mut self, now: u64)
+        ensures content { held self.new.slots.items ≡ swept now (held self.old.slots.items) }
         ensures capacity { self.new.capacity ≡ self.old.capacity }
+        ensures remembered { self.new.remembered ≡ self.old.remembered }
     {
-        let end = slot.until;
-        self.slots[place] = slot;
+        sweep(&mut self.slots, &mut self.spare, now);
+        self.first_end = first_end(&self.slots);
+    }
+
+    /// Removes the slots that have expired, if there may be some.
+    fn sweep_if_due(&mut self, now: u64)
+        ensures content { held self.new.slots.items ≡ swept now (held self.old.slots.items) }
+        ensures capacity { self.new.capacity ≡ self.old.capacity }
+        ensures remembered { self.new.remembered ≡ self.old.remembered }
+    {
         if self.first_end <= now {
-            sweep(&mut self.slots, now);
-            self.first_end = first_end(&self.slots);
-        } else {
-            self.first_end = self.first_end.min(end);
+            self.sweep(now);
         }
     }
 
-    /// Puts a slot into the gap for it, and sweeps the others. There is room, so it takes no memory.
-    fn insert(&mut self, now: u64, place: usize, slot: SortedSlot)
-        requires gap { IsGapFor self.old.slots.items slot.vector.address place }
-        requires within { place ≤ vec_len self.old.slots }
-        requires room { count_by (λ s. nat_lt now s.until) self.old.slots.items < self.old.capacity }
-        ensures content { held self.new.slots.items ≡ upsert (swept now (held self.old.slots.items)) (slot_entry slot) }
-        ensures capacity { self.new.capacity ≡ self.old.capacity }
-    {
-        if self.first_end <= now {
-            sweep_and_insert(&mut self.slots, now, place, slot);
-            self.first_end = first_end(&self.slots);
-        } else {
-            self.first_end = self.first_end.min(slot.until);
-            let _ = self.slots.insert(place, slot);
-        }
-    }
-
-    /// A packet of a source that has a slot. If the slot has ended, there is room for the source.
+    /// A packet of a source that has a slot, whether it is live or not.
     fn hear_again(&mut self, now: u64, place: usize, heard: &Heard) -> Verdict
         requires moment { now ≤ 2 ^ 62 }
-        requires direct { heard.now.neighbour ≡ is_none heard.now.number }
         requires found { IsFoundAt self.old.slots.items heard.now.vector.address place }
         requires within { place < vec_len self.old.slots }
         ensures answer { Ok result ≡ judged self.old.capacity (held self.old.slots.items) now heard.now }
         ensures accepted { result ≡ Verdict.Accepted →
-            held self.new.slots.items ≡ after_accept (held self.old.slots.items) now heard.now }
+            held self.new.slots.items ≡ after_accept self.old.remembered (held self.old.slots.items) now heard.now }
         ensures unchanged { result ≢ Verdict.Accepted → held self.new.slots.items ≡ held self.old.slots.items }
         ensures capacity { self.new.capacity ≡ self.old.capacity }
+        ensures remembered { self.new.remembered ≡ self.old.remembered }
     {
-        let slot = &self.slots[place];
-        if slot.repeats(now, heard) {
+        if self.slots[place].repeats(now, heard) {
             return Verdict::Duplicate;
         }
-        let next = slot.after(now, heard);
-        self.replace(now, place, next);
+        self.renew(now, place, heard);
+        self.sweep_if_due(now);
         Verdict::Accepted
     }
 
-    /// A packet of a source that has no slot.
-    fn hear_first(&mut self, now: u64, place: usize, heard: &Heard) -> Result<Verdict, StoreRefused>
+    /// Puts a packet into the slot of its source.
+    fn renew(&mut self, now: u64, place: usize, heard: &Heard)
         requires moment { now ≤ 2 ^ 62 }
-        requires direct { heard.now.neighbour ≡ is_none heard.now.number }
-        requires gap { IsGapFor self.old.slots.items heard.now.vector.address place }
-        requires within { place ≤ vec_len self.old.slots }
+        requires found { IsFoundAt self.old.slots.items heard.now.vector.address place }
+        requires within { place < vec_len self.old.slots }
+        ensures content { swept now (held self.new.slots.items)
+            ≡ after_accept self.old.remembered (held self.old.slots.items) now heard.now }
+        ensures capacity { self.new.capacity ≡ self.old.capacity }
+        ensures remembered { self.new.remembered ≡ self.old.remembered }
+    {
+        let slot = &mut self.slots[place];
+        slot.renew(now, heard);
+        self.first_end = self.first_end.min(slot.until);
+    }
+
+    /// Where the slot of an address that has none would go.
+    fn gap_for(&self, address: GnAddress) -> usize
+        requires { All (λ s. s.vector.address ≢ address) self.now.slots.items }
+        ensures gap { IsGapFor self.now.slots.items address result }
+        ensures within { result ≤ vec_len self.now.slots }
+    {
+        match self.place_of(address) {
+            Ok(place) => place,
+            Err(place) => place,
+        }
+    }
+
+    /// A packet of a source that has no slot.
+    fn hear_first(&mut self, now: u64, heard: &Heard) -> Result<Verdict, StoreRefused>
+        requires moment { now ≤ 2 ^ 62 }
+        requires absent { All (λ s. s.vector.address ≢ heard.now.vector.address) self.old.slots.items }
         ensures answer { result ≡ judged self.old.capacity (held self.old.slots.items) now heard.now }
         ensures accepted { result ≡ Ok Verdict.Accepted →
-            held self.new.slots.items ≡ after_accept (held self.old.slots.items) now heard.now }
+            held self.new.slots.items ≡ after_accept self.old.remembered (held self.old.slots.items) now heard.now }
         ensures unchanged { result ≢ Ok Verdict.Accepted → held self.new.slots.items ≡ held self.old.slots.items }
         ensures capacity { self.new.capacity ≡ self.old.capacity }
+        ensures remembered { self.new.remembered ≡ self.old.remembered }
     {
-        if !self.has_place(now) {
-            return Err(StoreRefused::Full);
+        self.sweep_if_due(now);
+        let place = self.gap_for(heard.address());
+        match self.spare.pop() {
+            Some(recent) => {
+                let slot = Slot::first(recent, now, heard);
+                self.first_end = self.first_end.min(slot.until);
+                // There is room, so it takes no memory and succeeds.
+                let _ = self.slots.insert(place, slot);
+                Ok(Verdict::Accepted)
+            }
+            None => Err(StoreRefused::Full),
         }
-        self.insert(now, place, SortedSlot::first(now, heard));
-        Ok(Verdict::Accepted)
     }
 }
 
@@ -148,14 +189,27 @@ impl LocationStore for SortedTable {
 
     ghost limit = { λ table. table.capacity };
 
-    fn empty(alloc: Global, capacity: u16) -> Result<Self, NoMemory> {
+    ghost remember = { λ table. table.remembered };
+
+    fn empty(alloc: Global, capacity: u16, remembered: u8) -> Result<Self, NoMemory> {
         let slots = Vec::with_capacity(alloc, capacity as usize)?;
+        let mut spare = Vec::with_capacity(alloc, capacity as usize)?;
+        for _ in 0..capacity {
+            spare.push_reserved(Recent::new(alloc, remembered)?);
+        }
         Ok(SortedTable {
             capacity,
+            remembered,
             slots,
+            spare,
             first_end: u64::MAX,
-            walked_to: Cell::new(0),
+            last_place: Cell::new(0),
         })
+    }
+
+    fn clear(&mut self) {
+        retire(&mut self.slots, &mut self.spare, 0);
+        self.first_end = u64::MAX;
     }
 
     fn capacity(&self) -> u16 {
@@ -181,16 +235,16 @@ impl LocationStore for SortedTable {
     }
 
     fn accept(&mut self, now: u64, h: &Heard) -> Result<Verdict, StoreRefused> {
-        match search(&self.slots, h.vector.address()) {
+        match self.place_of(h.address()) {
             Ok(place) => Ok(self.hear_again(now, place, h)),
-            Err(place) => self.hear_first(now, place, h),
+            Err(_) => self.hear_first(now, h),
         }
     }
 
     fn next_neighbour(&self, now: u64, after: Option<GnAddress>) -> Option<LongPv> {
-        match neighbour_above(&self.slots, now, self.walked_to.get(), after) {
+        match neighbour_above(&self.slots, now, self.last_place.get(), after) {
             Some((place, slot)) => {
-                self.walked_to.set(place);
+                self.last_place.set(place);
                 Some(slot.vector)
             }
             None => None,

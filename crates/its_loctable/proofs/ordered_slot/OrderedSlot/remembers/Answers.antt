@@ -1,6 +1,0 @@
-use Rattle.std.proofs.Common.{sym, ◌∙◌}
-use Rattle.its_loctable.proofs.NumberLemmas.{is_among-reverse}
-use Rattle.its_loctable.proofs.ordered_slot.OrderedSlot.remembers.Goals as goal
-
-pub returns : goal.returns
-returns c = c.holds.ensures.found ∙ sym (is_among-reverse c.args.number c.args.self.now.recent)
