@@ -7,6 +7,7 @@ mod closest;
 mod distance;
 mod holds;
 pub mod laws;
+mod nearer;
 mod offsets;
 mod reach;
 mod table;
@@ -15,6 +16,8 @@ pub use area::{Area, AreaFault, Shape};
 pub use closest::nearest;
 pub use distance::distance2;
 pub use holds::contains;
+pub use nearer::Nearer;
+pub use offsets::Centre;
 
 #[cfg(test)]
 mod tests;

@@ -53,6 +53,13 @@ impl Reach {
         }
     }
 
+    /// The centre of the box.
+    pub(crate) fn centre(&self) -> Centre
+        ensures { result ≡ self.now.centre }
+    {
+        self.centre
+    }
+
     /// The distance of the nearest so far, squared.
     pub(crate) fn least(&self) -> u64
         ensures { result ≡ self.now.least }
@@ -72,7 +79,8 @@ impl Reach {
         false
     }
 
-    fn holds(&self, place: Place) -> bool
+    /// Whether the place is in the box.
+    pub(crate) fn holds(&self, place: Place) -> bool
         ensures { result ≡ false → IsNoNearer self.now.least (squared_distance self.now.centre.place place) }
     {
         let north = self.centre.latitude_difference(place).unsigned_abs();

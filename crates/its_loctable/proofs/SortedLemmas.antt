@@ -67,6 +67,19 @@ gap_for (x ∷ xs) a zero le below above = above 0 x (omega arith) (omega arith)
 gap_for (x ∷ xs) a (suc i) le below above =
     (below 0 x (omega arith), gap_for xs a i (omega arith) (λ k d lt. below (suc k) d (omega arith)) (λ k d from lt. above (suc k) d (omega arith) (omega arith)))
 
+-- a place is the gap where the slots on both sides say so
+pub gap_between : (xs : List Slot) (a i : ℕ) → IsRising (held xs) → i ≤ length xs → ((k : ℕ) (d : Slot) → suc k ≡ i → key (get_or xs k d) < a)
+    → ((d : Slot) → i < length xs → a < key (get_or xs i d)) → IsGapFor xs a i
+gap_between [] a zero h le below above = tt
+gap_between [] a (suc i) h le below above = absurd (omega arith)
+gap_between (x ∷ xs) a zero h le below above = above x (omega arith)
+gap_between (x ∷ xs) a (suc zero) h le below above =
+    (below zero x refl, gap_between xs a zero h.1 (omega arith) (λ k d e. absurd (omega (arith, e))) (λ d lt. above d (omega arith)))
+gap_between (x ∷ xs) a (suc (suc i)) h le below above = (
+  (let lt : key (get_or xs i x) < a = below (suc i) x refl in omega (arith, below_all (key x) xs i x h.0 (omega arith))),
+  gap_between xs a (suc i) h.1 (omega arith) (λ k d e. below (suc k) d (ap suc e)) (λ d lt. above d (omega arith)),
+)
+
 -- a binary search by address ends at the slot of the address, or at the gap for it
 pub searched : (xs : List Slot) (a : ℕ) (r : Result ℕ ℕ) → IsRising (held xs) → IsSearchInRange r (length xs) → IsBinarySearchResult (λ (s : Slot). nat_cmp (key s) a) xs r
     → IfOk r (λ i. IsFoundAt xs a i × (i < length xs)) × IfErr r (λ i. IsGapFor xs a i × (i ≤ length xs))

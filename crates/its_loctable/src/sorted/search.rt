@@ -29,7 +29,18 @@ pub fn has_expired(slots: &[Slot], now: u64) -> bool
     slots.iter().any(|slot| slot.until <= now)
 }
 
-/// As `search`, but a place is tried first, where the slot of the address may well be.
+/// Whether a place is the gap for an address: the slot below comes before it, and the one above after it.
+fn is_gap(slots: &[Slot], place: usize, address: GnAddress) -> bool
+    requires { IsTrue (is_rising (held slots.now)) }
+    ensures { IsTrue result → IsGapFor slots.now address place × (place ≤ length slots.now) }
+{
+    if place > slots.len() || place > 0 && slots[place - 1].address() >= address {
+        return false;
+    }
+    place == slots.len() || address < slots[place].address()
+}
+
+/// As `search`, but a place is tried first, where the slot of the address or its gap may well be.
 pub fn search_from(slots: &[Slot], place: usize, address: GnAddress) -> Result<usize, usize>
     requires { IsTrue (is_rising (held slots.now)) }
     ensures found { IfOk result (λ i. IsFoundAt slots.now address i × (i < length slots.now)) }
@@ -37,6 +48,7 @@ pub fn search_from(slots: &[Slot], place: usize, address: GnAddress) -> Result<u
 {
     match slots.get(place) {
         Some(slot) if slot.address() == address => Ok(place),
+        _ if is_gap(slots, place, address) => Err(place),
         _ => search(slots, address),
     }
 }
