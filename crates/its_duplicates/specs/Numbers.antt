@@ -1,9 +1,10 @@
 -- The numbers that came last from a source, the last of them last.
 use Rattle.std.specs.Prelude.{ℕ, ◌-◌, List, length, drop}
 
--- how many are kept (profile)
-abbrev pub kept_count : ℕ
-kept_count = 8
+-- the numbers that are kept, and how many are kept at most
+pub record LastNumbers : Type 0 where
+  pub numbers : List ℕ
+  pub limit : ℕ
 
 -- the last n of these
 abbrev pub keep_last : ℕ → List ℕ → List ℕ

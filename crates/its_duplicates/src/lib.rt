@@ -1,59 +1,64 @@
-//! The numbers that came last from one source, to tell a duplicate packet by.
+//! The sequence numbers that came last from one source, to tell a duplicate packet by.
 #![tactic(auto)]
 
 ghost use Rattle.std.specs.Prelude.{◌≡◌, ◌≤◌, ◌==◌, [], ◌∷◌, ◌++◌, length, IfOk};
 ghost use Rattle.std.specs.List.{list_any};
-ghost use Rattle.its_duplicates.specs.Numbers.{kept_count, keep_last};
+ghost use Rattle.its_duplicates.specs.Numbers.{keep_last};
 
 use circular_buffer::HeapCircularBuffer;
 use its_gnvalue::NoMemory;
 use std::alloc::Global;
 use std::marker::Model;
 
-#[cfg(test)]
-mod tests;
-
-/// How many numbers are kept (profile).
-pub const KEPT: usize = 8;
-
-/// The numbers that were noted last, eight at most. Contracts see them as a list, the last noted last.
+/// The numbers that were noted last, as many as its length at most. Contracts see them as a list, the
+/// last noted last, and see the length beside it.
 #[derive(Drop)]
 pub struct Recent {
     ring: HeapCircularBuffer<u16>,
 }
 
 impl Model for Recent {
-    ghost use Rattle.std.specs.Prelude.{List, ℕ, ◌≡◌, ◌≤◌, length};
-    ghost use Rattle.its_duplicates.specs.Numbers.{kept_count};
+    ghost use Rattle.std.specs.Prelude.{◌≤◌, length};
+    ghost use Rattle.its_duplicates.specs.Numbers.{LastNumbers};
 
-    ghost Value = { List ℕ };
+    ghost Value = { LastNumbers };
 
-    ghost view = { λ r. r.ring.items };
+    ghost view = { λ r. record { numbers = r.ring.items; limit = r.ring.capacity } };
 
-    ghost invariant = { λ r. (r.ring.capacity ≡ kept_count) × (length r.ring.items ≤ kept_count) };
+    ghost invariant = { λ r. length r.ring.items ≤ r.ring.capacity };
 }
 
 impl Recent {
-    /// No number yet, with room for all that will be kept.
-    pub fn new(alloc: Global) -> Result<Recent, NoMemory>
-        ensures { IfOk result (λ recent. recent ≡ []) }
+    /// No number yet, and memory for all that will be kept: `limit` of them, 1 to 64.
+    pub fn new(alloc: Global, limit: u8) -> Result<Recent, NoMemory>
+        requires { (1 ≤ limit) × (limit ≤ 64) }
+        ensures { IfOk result (λ recent. recent ≡ record { numbers = []; limit = limit }) }
     {
-        let ring = HeapCircularBuffer::with_capacity(alloc, KEPT)?;
+        let ring = HeapCircularBuffer::with_capacity(alloc, limit as usize)?;
         Ok(Recent { ring })
     }
 
     /// Whether the number is among those that are kept.
     pub fn holds(&self, number: u16) -> bool
-        ensures found { result ≡ list_any (λ kept. kept == number) self.now }
-        ensures few { length self.now ≤ kept_count }
+        ensures found { result ≡ list_any (λ kept. kept == number) self.now.numbers }
+        ensures few { length self.now.numbers ≤ self.now.limit }
     {
         self.ring.iter().any(|kept| *kept == number)
     }
 
     /// Puts a number last; where as many as are kept were there, the first goes. Takes no memory.
     pub fn note(&mut self, number: u16)
-        ensures { self.new ≡ keep_last kept_count (self.old ++ number ∷ []) }
+        ensures numbers { self.new.numbers ≡ keep_last self.old.limit (self.old.numbers ++ number ∷ []) }
+        ensures limit { self.new.limit ≡ self.old.limit }
+        ensures few { length self.new.numbers ≤ self.new.limit }
     {
         self.ring.push_back(number);
+    }
+
+    /// Forgets all numbers. Takes no memory.
+    pub fn clear(&mut self)
+        ensures { self.new ≡ record self.old { numbers = [] } }
+    {
+        self.ring.clear();
     }
 }

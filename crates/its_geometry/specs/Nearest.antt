@@ -22,6 +22,11 @@ least_of (x ∷ xs) = min x (least_of xs)
 abbrev pub AllAbove : ℕ → ℕ → List ℕ → Type 0
 AllAbove least n xs = (k : ℕ) → k < n → least < slice_index xs k
 
+-- a centre, and the square of the least distance from it so far
+pub record LeastDistance : Type 0 where
+  pub centre : Position
+  pub least : ℕ
+
 -- at least as far as the least, and no farther than a distance can be
 abbrev pub IsNoNearer : ℕ → ℕ → Type 0
 IsNoNearer least distance = (least ≤ distance) × (distance < 2 ^ 63)

@@ -17,6 +17,7 @@ pub use closest::nearest;
 pub use distance::distance2;
 pub use holds::contains;
 pub use nearer::Nearer;
+pub use offsets::Centre;
 
 #[cfg(test)]
 mod tests;

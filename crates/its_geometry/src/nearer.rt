@@ -8,39 +8,37 @@ use crate::reach::Reach;
 use its_gnvalue::Place;
 use std::marker::Model;
 
-/// A centre, and the square of the least distance from it so far, in square centimetres. The centre's
-/// scale is computed once, and a place outside a box round the centre is passed over by its latitude
-/// and longitude alone.
+/// A centre, and the square of the least distance from it so far, in square centimetres. Most places
+/// that are no nearer are told by their differences of latitude and longitude alone.
 #[derive(Drop)]
 pub struct Nearer {
     reach: Reach,
 }
 
 impl Model for Nearer {
-    ghost use Rattle.its_geometry.specs.Nearness.{Nearness};
+    ghost use Rattle.its_geometry.specs.Nearest.{LeastDistance};
 
-    ghost Value = { Nearness };
+    ghost Value = { LeastDistance };
 
     ghost view = { λ n. record { centre = n.reach.centre.place; least = n.reach.least } };
 }
 
 impl Nearer {
-    /// Where no place is met yet, and only those nearer than the limit count: the square of a distance,
-    /// in square centimetres.
-    pub fn than(centre: Place, limit: u64) -> Nearer
-        ensures centre { result.centre ≡ centre }
-        ensures limit { result.least ≡ limit }
+    /// No place is met yet, and only those count whose squared distance is below the limit, in square
+    /// centimetres.
+    pub fn than(centre: Centre, limit: u64) -> Nearer
+        ensures { result ≡ record { centre = centre.place; least = limit } }
     {
         Nearer {
-            reach: Reach::whole(Centre::new(centre)).narrowed(limit),
+            reach: Reach::whole(centre).narrowed(limit),
         }
     }
 
-    /// Whether the place is nearer than the limit and than all places before it. From then on it is the
-    /// limit.
+    /// Whether the place is nearer than the limit and all places before it. If so, its distance is the
+    /// least from now on.
     pub fn take(&mut self, place: Place) -> bool
         ensures nearer { result ≡ nat_lt (squared_distance self.old.centre place) self.old.least }
-        ensures limit { self.new.least ≡ min self.old.least (squared_distance self.old.centre place) }
+        ensures least { self.new.least ≡ min self.old.least (squared_distance self.old.centre place) }
         ensures centre { self.new.centre ≡ self.old.centre }
     {
         if !self.reach.holds(place) {

@@ -5,10 +5,10 @@ ghost use Rattle.its_geometry.specs.Offsets.{longitude_scale, wrap_longitude, no
 use crate::table::{cosine, quarter_sine, sine};
 use its_gnvalue::Place;
 
-/// A place from which offsets and distances are measured, with the scale of longitudes at its
-/// latitude: the one part of them that depends on it alone.
+/// A place from which distances are measured. It is made once and asked for the distance of many
+/// places: the scale of longitudes at its latitude, which depends on it alone, is found when it is made.
 #[derive(Clone, Copy)]
-pub(crate) struct Centre {
+pub struct Centre {
     place: Place,
     scale: u64,
     ghost scaled: { scale ≡ longitude_scale place.latitude },
@@ -16,7 +16,8 @@ pub(crate) struct Centre {
 }
 
 impl Centre {
-    pub(crate) fn new(place: Place) -> Centre
+    /// The centre at this place.
+    pub fn new(place: Place) -> Centre
         ensures { result.place ≡ place }
     {
         Centre {
@@ -81,8 +82,9 @@ impl Centre {
         self.scale
     }
 
-    /// The square of the distance, in square centimetres.
-    pub(crate) fn squared_distance(&self, place: Place) -> u64
+    /// The square of the distance from the centre to the place, in square centimetres (profile). It is
+    /// measured at the centre's latitude, so the way back may differ.
+    pub fn squared_distance(&self, place: Place) -> u64
         ensures value { result ≡ squared_distance self.now.place place }
         ensures bound { result < 2 ^ 63 }
     {

@@ -53,6 +53,7 @@ impl Reach {
         }
     }
 
+    /// The centre of the box.
     pub(crate) fn centre(&self) -> Centre
         ensures { result ≡ self.now.centre }
     {
@@ -78,6 +79,7 @@ impl Reach {
         false
     }
 
+    /// Whether the place is in the box.
     pub(crate) fn holds(&self, place: Place) -> bool
         ensures { result ≡ false → IsNoNearer self.now.least (squared_distance self.now.centre.place place) }
     {

@@ -1,0 +1,9 @@
+pub mod Accepted
+pub mod ContentLemmas
+pub mod EagerLemmas
+pub mod LeastLemmas
+pub mod ListLemmas
+pub mod NumberLemmas
+pub mod OrderedLemmas
+pub mod SortedLemmas
+pub mod VerdictLemmas

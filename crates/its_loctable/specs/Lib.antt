@@ -1,3 +1,9 @@
+pub mod SourceReport
 pub mod Content
 pub mod Heard
-pub mod SourceReport
+pub mod Slots
+pub mod Ordered
+pub mod Wanted
+pub mod Sorted
+pub mod Spare
+pub mod Eager

@@ -1,0 +1,12 @@
+-- What is kept of a source, as what is known of it.
+use Rattle.std.specs.Prelude.{ℕ, nat_lt, if◌then◌else◌, reverse, Option, Some, None}
+use Rattle.its_loctable.specs.declared.slot.Slot.{Slot}
+use Rattle.its_model.specs.History.{Known}
+
+-- what a slot says of its source: its list of numbers has the newest last
+abbrev pub slot_known : Slot → Known
+slot_known s = record { vector = s.vector; neighbour = s.neighbour; numbers = reverse s.recent.numbers }
+
+-- the same at a moment: nothing from the slot's end on
+abbrev pub live_slot_part : ℕ → Slot → Option Known
+live_slot_part now s = if nat_lt now s.until then Some (slot_known s) else None
