@@ -4,8 +4,8 @@ ghost use Rattle.std.specs.Prelude.{◌≡◌, ◌≤◌, ◌+◌, length};
 ghost use Rattle.its_headers.specs.Encoding.{encoding};
 ghost use Rattle.its_headers.specs.Packets.{pdu_of_packet, hops_left};
 
-use crate::offsets::{BEACON_END, AREA_PAYLOAD, MEDIA};
 use crate::payload::Payload;
+use crate::wire::fields::{AREA_PAYLOAD, BEACON_END, MEDIA};
 use its_geometry::Area;
 use its_gnvalue::{Hops, Lifetime, LongPv, TrafficClass};
 

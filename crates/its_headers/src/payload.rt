@@ -4,7 +4,14 @@ ghost use Rattle.std.specs.Prelude.{◌≡◌, ◌≤◌, ◌<◌, ◌⊎◌, le
 
 use std::marker::Model;
 
-/// The payload of a packet: 4 to 1398 octets (profile), which begin with the BTP-B header (EN 302 636-5-1).
+/// The fewest octets of a payload: a BTP-B header (EN 302 636-5-1).
+pub const SHORTEST_PAYLOAD: usize = 4;
+
+/// The most octets of a payload (profile).
+pub const LONGEST_PAYLOAD: usize = 1398;
+
+/// The payload of a packet: 4 to 1398 octets (profile), which begin with the BTP-B header
+/// (EN 302 636-5-1).
 #[derive(Debug, Drop)]
 pub struct Payload {
     octets: Vec<u8>,
@@ -27,10 +34,19 @@ impl Payload {
             (λ p. (p ≡ octets.items) × (4 ≤ length octets.items) × (length octets.items ≤ 1398))
             (λ v. (v ≡ octets) × ((length octets.items < 4) ⊎ (1398 < length octets.items))) }
     {
-        if octets.len() < 4 || octets.len() > 1398 {
+        if octets.len() < SHORTEST_PAYLOAD || octets.len() > LONGEST_PAYLOAD {
             return Err(octets);
         }
         Ok(Payload { octets })
+    }
+
+    /// The payload of octets of which it is known that they are 4 to 1398.
+    pub(crate) fn of(octets: Vec<u8>) -> Payload
+        requires low { 4 ≤ length octets.items }
+        requires high { length octets.items ≤ 1398 }
+        ensures { result ≡ octets.items }
+    {
+        Payload { octets }
     }
 
     /// The octets, 4 to 1398: the BTP-B header first.

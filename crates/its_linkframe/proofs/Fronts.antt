@@ -3,7 +3,7 @@ use Rattle.std.proofs.Common.{◌≡◌, ℕ, ◌^◌, ◌<◌, ◌≤◌, List,
 use Rattle.std.proofs.lemmas.List.{take_all, take-append-drop}
 use Rattle.byteorder.specs.Endian.{big_bytes, big_number}
 use Rattle.byteorder.specs.Numbers.{big_from-lt, big_number-reads_back}
-use Rattle.its_model.specs.Packet.{Pdu, Body, beacon, shb, gbc, Transmission}
+use Rattle.its_model.specs.Packet.{Pdu, Body, beacon, shb, gbc, gac, Transmission}
 use Rattle.its_gnvalue.specs.Values.{PositionVector}
 use Rattle.its_headers.specs.Encoding.{IsBytes, Encodes, IsPacket, IsBody, encoding, extended_header, message_octets}
 use Rattle.its_headers.specs.Seen.{Seen}
@@ -91,6 +91,7 @@ extended_bound v (shb media message) fits =
     let tail = length-append media (message_octets message) in
     omega (arith, fits.0.size, fits.1.size, tail)
 extended_bound v (gbc number area message) fits = omega (arith, fits.2.size)
+extended_bound v (gac number area message) fits = omega (arith, fits.2.size)
 
 encoding_bound : (p : Pdu) (left : ℕ) → IsPacket p left → length (encoding p left) ≤ 1454
 encoding_bound p left fits = omega (arith, extended_bound p.vector p.body fits.body)
