@@ -27,6 +27,26 @@ impl Model for Payload {
     ghost invariant = { λ p. (4 ≤ length p.octets.items) × (length p.octets.items ≤ 1398) };
 }
 
+impl PartialEq for Payload {
+    ghost use Rattle.std.specs.Cmp.Lexicographic.{pointwise, nat_list_eq_equiv};
+    ghost use Rattle.std.specs.Prelude.{nat_eq};
+    ghost use Rattle.std.specs.Cmp;
+
+    ghost eq = { λ a b. pointwise nat_eq a b };
+
+    ghost laws = { Cmp.partial_equiv_from_equiv nat_list_eq_equiv };
+
+    fn eq(&self, other: &Payload) -> bool {
+        self.octets == other.octets
+    }
+}
+
+impl Eq for Payload {
+    ghost use Rattle.std.specs.Cmp.Lexicographic.{nat_list_eq_equiv};
+
+    ghost laws = { nat_list_eq_equiv };
+}
+
 impl Payload {
     /// The payload of these octets, or the vector back exactly where they are under 4 or over 1398.
     pub fn new(octets: Vec<u8>) -> Result<Payload, Vec<u8>>
