@@ -1,7 +1,7 @@
 use Rattle.std.proofs.Common.{◌≡◌, length, sym, subst, arith}
 use Rattle.std.proofs.lemmas.List.{take_at}
 use Rattle.its_linkframe.specs.Frames.{EncodesFrame, sent_packet}
-use Rattle.its_linkframe.proofs.making.write_frame.Goals as goal
+use Rattle.its_linkframe.proofs.building.write_frame.Goals as goal
 
 pub returns : goal.returns
 returns c =

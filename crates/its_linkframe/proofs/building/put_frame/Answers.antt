@@ -1,7 +1,7 @@
 use Rattle.std.proofs.Common.{List, ℕ, ◌++◌, ap, ◌∙◌, arith, length-append, length-drop, length-take, drop}
 use Rattle.its_linkframe.specs.Frames.{sent_packet}
 use Rattle.its_linkframe.proofs.Makings.{EncodesFrame-put}
-use Rattle.its_linkframe.proofs.making.put_frame.Goals as goal
+use Rattle.its_linkframe.proofs.building.put_frame.Goals as goal
 
 pub returns : goal.returns
 returns c =
