@@ -1,4 +1,7 @@
-//! What is wrong with octets that are no packet (EN 302 636-4-1 clause 9).
+//! Why octets are no packet (EN 302 636-4-1 clause 9).
+
+ghost use Rattle.std.specs.Prelude.{◌≡◌};
+ghost use Rattle.its_faults.specs.Codes.{code_of};
 
 use std::error::Error;
 use std::fmt;
@@ -32,24 +35,81 @@ pub enum FaultKind {
     Area,
 }
 
-impl fmt::Display for FaultKind {
-    fn fmt<W: fmt::Write>(&self, f: &mut fmt::Formatter<W>) -> fmt::Result {
-        write!(f, "G{}", *self as u8 + 1)
+impl FaultKind {
+    /// What logs and the program's lines show: `G1` to `G12`.
+    pub fn code(&self) -> &'static str
+        ensures { result.now ≡ code_of self.now }
+    {
+        match self {
+            FaultKind::Truncated => "G1",
+            FaultKind::Version => "G2",
+            FaultKind::BasicNext => "G3",
+            FaultKind::Reserved => "G4",
+            FaultKind::HopZero => "G5",
+            FaultKind::CommonNext => "G6",
+            FaultKind::HeaderType => "G7",
+            FaultKind::SubType => "G8",
+            FaultKind::HopAboveMax => "G9",
+            FaultKind::PayloadLength => "G10",
+            FaultKind::Position => "G11",
+            FaultKind::Area => "G12",
+        }
     }
 }
 
-/// The first fault of octets that are no packet.
+impl fmt::Display for FaultKind {
+    fn fmt<W: fmt::Write>(&self, f: &mut fmt::Formatter<W>) -> fmt::Result {
+        let sentence = match self {
+            FaultKind::Truncated => "the octets end in a field or before it",
+            FaultKind::Version => "a version other than 1",
+            FaultKind::BasicNext => "no Common Header after the Basic Header",
+            FaultKind::Reserved => "a reserved bit that is set",
+            FaultKind::HopZero => "no hop left",
+            FaultKind::CommonNext => "neither nothing nor BTP-B after the headers",
+            FaultKind::HeaderType => "a header type that is not read",
+            FaultKind::SubType => "a sub-type that the header type does not have",
+            FaultKind::HopAboveMax => "more hops left than the maximum",
+            FaultKind::PayloadLength => "a payload length out of range",
+            FaultKind::Position => "a group address or a place out of range",
+            FaultKind::Area => "an area out of range",
+        };
+        write!(f, "{sentence}")
+    }
+}
+
+/// The first fault of octets that are no packet. It prints as `more hops left than the maximum, at
+/// octet 10`.
 #[derive(Clone, Copy, Debug, PartialEq, Eq)]
 pub struct Fault {
     /// The octet at which the field begins, or the input's length at G1.
     pub at: usize,
+    /// What is wrong with that field.
     pub kind: FaultKind,
+}
+
+impl Fault {
+    /// What logs and the program's lines show, as `G9 at 10`.
+    pub fn code(&self) -> FaultCode
+        ensures { result ≡ record { 0 = self.now } }
+    {
+        FaultCode(*self)
+    }
 }
 
 impl fmt::Display for Fault {
     fn fmt<W: fmt::Write>(&self, f: &mut fmt::Formatter<W>) -> fmt::Result {
-        write!(f, "{} at {}", self.kind, self.at)
+        write!(f, "{}, at octet {}", self.kind, self.at)
     }
 }
 
 impl Error for Fault {}
+
+/// A packet's fault that prints as its code and place, as `G9 at 10`.
+#[derive(Clone, Copy, Debug, PartialEq, Eq)]
+pub struct FaultCode(pub Fault);
+
+impl fmt::Display for FaultCode {
+    fn fmt<W: fmt::Write>(&self, f: &mut fmt::Formatter<W>) -> fmt::Result {
+        write!(f, "{} at {}", self.0.kind.code(), self.0.at)
+    }
+}

@@ -13,7 +13,7 @@ use Rattle.its_headers.specs.Format.{Format, ends, number, halves, octets, walk,
 use Rattle.its_headers.specs.FirstFault.{Row, half, whole, half_octets, IsSound, front_to, FaultAmong}
 use Rattle.its_headers.proofs.Spells.{Spells}
 use Rattle.its_headers.proofs.Numbers.{IsBytes-big_bytes, IsBytes-append, IsBytes-take, IsBytes-drop}
-use Rattle.its_headers.proofs.Found.{again, number_at-here, octets_at-here, bind_ok, judged_ok, number_at-ok, octets_at-ok}
+use Rattle.its_headers.proofs.Found.{again, number_at-here, octets_at-here, judged_ok, number_read, octets_read}
 
 abbrev reads : {A : Type 0} → A → Result A Fault
 reads x = Ok x
@@ -357,18 +357,6 @@ faults r (octets n next) at start w e rules path inh fits le is h =
     ]
 
 -- ---- what is a packet has no fault
-
-number_read : {A : Type 0} (n at : ℕ) (w : List ℕ) (g : ℕ → Result A Fault) (y : A) → (number_at n at w >>= g) ≡ Ok y → (at + n ≤ length w) × (g (big_number n (drop at w)) ≡ Ok y)
-number_read n at w g y e =
-    let a = bind_ok (number_at n at w) g y e in
-    let h = number_at-ok n at w a.0 a.1 in
-    (h.0, ap g h.1 ∙ a.2)
-
-octets_read : {A : Type 0} (n at : ℕ) (w : List ℕ) (g : List ℕ → Result A Fault) (y : A) → (octets_at n at w >>= g) ≡ Ok y → (at + n ≤ length w) × (g (take n (drop at w)) ≡ Ok y)
-octets_read n at w g y e =
-    let a = bind_ok (octets_at n at w) g y e in
-    let h = octets_at-ok n at w a.0 a.1 in
-    (h.0, ap g h.1 ∙ a.2)
 
 pub faultless : (r f : Format (Pdu × ℕ)) (at start : ℕ) (w : List ℕ) (x : Pdu × ℕ) (end : ℕ) (e : Fault) → Rules r → Path r f at w → IsInhabited f → IsBytes w → at ≤ length w → start ≡ 2 * at → walk f at w ≡ Ok (x, end) → FaultAmong (rows_in f at w) start w e → ⊥
 faultless r (ends y) at start w x end e rules path inh fits le is h no_fault = no_fault

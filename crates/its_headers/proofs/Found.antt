@@ -46,6 +46,18 @@ pub octets_at-here : (n at : ℕ) (w : List ℕ) → at + n ≤ length w → oct
 unfolding octets_at
 octets_at-here n at w le = rw (le-ltb _ _ le) refl
 
+pub number_read : {A : Type 0} (n at : ℕ) (w : List ℕ) (g : ℕ → Result A Fault) (y : A) → (number_at n at w >>= g) ≡ Ok y → (at + n ≤ length w) × (g (big_number n (drop at w)) ≡ Ok y)
+number_read n at w g y e =
+    let a = bind_ok (number_at n at w) g y e in
+    let h = number_at-ok n at w a.0 a.1 in
+    (h.0, ap g h.1 ∙ a.2)
+
+pub octets_read : {A : Type 0} (n at : ℕ) (w : List ℕ) (g : List ℕ → Result A Fault) (y : A) → (octets_at n at w >>= g) ≡ Ok y → (at + n ≤ length w) × (g (take n (drop at w)) ≡ Ok y)
+octets_read n at w g y e =
+    let a = bind_ok (octets_at n at w) g y e in
+    let h = octets_at-ok n at w a.0 a.1 in
+    (h.0, ap g h.1 ∙ a.2)
+
 -- what stands at a place, in two parts
 pub split_at : (n at : ℕ) (w : List ℕ) → drop at w ≡ take n (drop at w) ++ drop (at + n) w
 split_at n at w = sym (take-append-drop n (drop at w)) ∙ ap (λ (t : List ℕ). take n (drop at w) ++ t) (drop-drop n at w)

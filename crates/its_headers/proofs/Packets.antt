@@ -15,7 +15,7 @@ use Rattle.its_geometry.specs.Area.{GeoArea}
 use Rattle.its_model.specs.Packet.{Pdu, Body, beacon, shb, gbc, gac, AreaKind, geobroadcast, geoanycast, area_body, Message}
 use Rattle.its_headers.specs.Encoding.{IsVector, IsArea, IsBody, IsMessage, IsBytes, IsPacket, Encodes, vector_octets, area_octets, message_octets, basic_header, common_header, extended_header, encoding, area_packet_octets, common_next, header_type, payload_length, shape_code}
 use Rattle.its_headers.specs.Format.{Format, after, ends, number, octets}
-use Rattle.its_headers.specs.Layout.{Common, basic_format, type_format, common_format, vector_format, area_format, beacon_format, body_format, packet_format, is_next, is_type, is_subtype, is_length, kind_of, shape_of, is_zero, shb_format, area_packet_format}
+use Rattle.its_headers.specs.Layout.{Common, basic_format, type_format, common_format, vector_format, area_format, beacon_format, body_format, packet_format, is_next, is_type, is_subtype, is_length, kind_of, shape_of, next_of, type_of, is_zero, shb_format, area_packet_format, area_packet_rest}
 use Rattle.its_headers.specs.Fields.{message_of, IsLength, kind_of_body, shape_of_body}
 use Rattle.its_headers.proofs.Spells.{Spells, Spells-after, after-Spells}
 use Rattle.its_headers.proofs.Spelled.{vector_spelled, spells_vector, area_spelled, spells_area}
@@ -71,18 +71,6 @@ spells_basic x fl some fleft = (
 )
 
 -- ---- the common header
-
-abbrev pub next_of : Kind → ℕ
-next_of Beacon = 0
-next_of Shb = 2
-next_of Gbc = 2
-next_of Gac = 2
-
-abbrev pub type_of : Kind → ℕ
-type_of Beacon = 1
-type_of Shb = 5
-type_of Gbc = 4
-type_of Gac = 3
 
 -- only a geobroadcast and a geoanycast have a sub-type other than 0
 abbrev pub IsSubtype : Kind → Shape → Type 0
@@ -332,9 +320,6 @@ IsBytes-message m fits = IsBytes-append (big_bytes 2 m.port ++ big_bytes 2 m.inf
 
 -- ---- what follows the common header
 
-abbrev area_packet_end : AreaKind → PositionVector → ℕ → GeoArea → ℕ → Format (PositionVector × Body)
-area_packet_end kind v sequence area size = number 2 Reserved is_zero λ _. octets size λ payload. ends (v, area_body kind sequence area (message_of payload))
-
 abbrev shb_end : PositionVector → ℕ → Format (PositionVector × Body)
 shb_end v size = octets 4 λ media. octets size λ payload. ends (v, shb media (message_of payload))
 
@@ -436,10 +421,10 @@ subtype_of_body (gac sequence area message) = tt
 spells_area_packet : (kind : AreaKind) (v : PositionVector) (sequence : ℕ) (area : GeoArea) (message : Message) → IsVector v → (sequence < 2 ^ 16) × IsArea area × IsMessage message
     → Spells (area_packet_format kind area.shape (4 + length message.payload)) (v, area_body kind sequence area message) (area_packet_octets v sequence area message)
 spells_area_packet kind v sequence area message fv fb =
-    let last : Spells (area_packet_end kind v sequence area (4 + length message.payload)) (v, area_body kind sequence area message) (big_bytes 2 0 ++ message_octets message) =
+    let last : Spells (area_packet_rest kind v sequence area (4 + length message.payload)) (v, area_body kind sequence area message) (big_bytes 2 0 ++ message_octets message) =
     (0, message_octets message, omega arith, refl, refl, (message_octets message, [], omega arith, IsBytes-message message fb.2, sym (append-nil (message_octets message)), (ap (λ (m : Message). (v, area_body kind sequence area m)) (message_again message fb.2), refl))) in
-    let two = after-Spells (area_format area.shape) (λ a. area_packet_end kind v sequence a (4 + length message.payload)) area (v, area_body kind sequence area message) (area_octets area) (big_bytes 2 0 ++ message_octets message) (spells_area area fb.1) last in
-    let one = after-Spells vector_format (λ w. after (area_format area.shape) λ a. area_packet_end kind w sequence a (4 + length message.payload)) v (v, area_body kind sequence area message) (vector_octets v) (area_octets area ++ (big_bytes 2 0 ++ message_octets message)) (spells_vector v fv) two in (
+    let two = after-Spells (area_format area.shape) (λ a. area_packet_rest kind v sequence a (4 + length message.payload)) area (v, area_body kind sequence area message) (area_octets area) (big_bytes 2 0 ++ message_octets message) (spells_area area fb.1) last in
+    let one = after-Spells vector_format (λ w. after (area_format area.shape) λ a. area_packet_rest kind w sequence a (4 + length message.payload)) v (v, area_body kind sequence area message) (vector_octets v) (area_octets area ++ (big_bytes 2 0 ++ message_octets message)) (spells_vector v fv) two in (
       sequence,
       big_bytes 2 0 ++ (vector_octets v ++ (area_octets area ++ (big_bytes 2 0 ++ message_octets message))),
       fb.0,

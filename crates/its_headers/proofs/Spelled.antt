@@ -9,15 +9,12 @@ use Rattle.its_geometry.specs.declared.area.Shape.{Shape}
 use Rattle.its_geometry.specs.declared.area.Shape.TheVariants.{Circle, Rectangle, Ellipse}
 use Rattle.its_geometry.specs.Area.{GeoArea, HasMeasures}
 use Rattle.its_headers.specs.Encoding.{IsVector, vector_octets, area_octets, speed_bits, motion, IsArea}
-use Rattle.its_headers.specs.Layout.{latitude_test, longitude_test, speed_of, is_individual, vector_format, area_format, is_second, is_angle}
+use Rattle.its_headers.specs.Layout.{latitude_test, longitude_test, speed_of, is_individual, vector_format, vector_from, area_format, area_from, is_second, is_angle}
 use Rattle.its_headers.proofs.Spells.{Spells}
 use Rattle.its_headers.proofs.FieldTests.{latitude_from_test, test_from_latitude, longitude_from_test, test_from_longitude, speed_fits, speed_bits-speed_of, speed_bits-lt, speed_of-speed_bits, signed_back, unsigned-lt, longitude_from_latitude, accurate_back, bits_back, motion-lt}
 
 motion_back : (m : ℕ) → m < 2 ^ 16 → motion (nat_le (2 ^ 15) m) (speed_of (m % 2 ^ 15)) ≡ m
 motion_back m h = let e = speed_bits-speed_of (m % 2 ^ 15) (omega arith) in rw e (grind arith)
-
-abbrev vector_from : ℕ → ℕ → ℕ → ℕ → ℕ → ℕ → PositionVector
-vector_from address timestamp latitude longitude move heading = record { address = address; timestamp = timestamp; place = record { latitude = cast_signed w32 latitude; longitude = cast_signed w32 longitude }; accurate = nat_le (2 ^ 15) move; speed = speed_of (move % 2 ^ 15); heading = heading }
 
 vector_from_fits : (a t la lo m h : ℕ) → a < 2 ^ 64 → is_individual a ≡ true → t < 2 ^ 32 → latitude_test (cast_signed w32 la) ≡ true → longitude_test (cast_signed w32 lo) ≡ true → m < 2 ^ 16 → h < 2 ^ 16 → IsVector (vector_from a t la lo m h)
 vector_from_fits a t la lo m h fa ra ft rla rlo fm fh = record { address = fa; individual = eqb-true _ _ ra; timestamp = ft; latitude = latitude_from_test _ rla; longitude = longitude_from_test _ rlo; speed = speed_fits (m % 2 ^ 15) (omega arith); heading = fh }
@@ -107,9 +104,6 @@ fits_second : (shape : Shape) (a b angle : ℕ) → HasMeasures shape a b angle 
 fits_second Circle a b angle h = (h.0, eq-eqb _ _ h.1, eq-eqb _ _ h.2, omega arith)
 fits_second Rectangle a b angle h = (h.0, lt-ltb _ _ h.1, lt-ltb _ _ h.2, omega arith)
 fits_second Ellipse a b angle h = (h.0, lt-ltb _ _ h.1, lt-ltb _ _ h.2, omega arith)
-
-abbrev area_from : Shape → ℕ → ℕ → ℕ → ℕ → ℕ → GeoArea
-area_from shape la lo a b g = record { shape = shape; centre = record { latitude = cast_signed w32 la; longitude = cast_signed w32 lo }; a = a; b = b; angle = g }
 
 pub area_spelled : (shape : Shape) (x : GeoArea) (s : List ℕ) → Spells (area_format shape) x s → IsArea x × (s ≡ area_octets x) × (x.shape ≡ shape)
 unfolding area_format

@@ -27,6 +27,10 @@ written_from p left old new s n put is fits size =
 abbrev pub heads : Header → ℕ → ℕ → ℕ → List ℕ
 heads h next kind size = 17 ∷ 0 ∷ h.lifetime ∷ h.hops.left ∷ next ∷ kind ∷ h.class ∷ cond h.mobile 128 0 ∷ (big_bytes 2 size ++ h.hops.max ∷ 0 ∷ [])
 
+-- the Basic Header and then the Common Header
+pub heads_put : (h : Header) (next type size : ℕ) (old m new : List ℕ) → Puts old m 0 (17 ∷ 0 ∷ h.lifetime ∷ h.hops.left ∷ []) → Puts m new 4 (next ∷ type ∷ h.class ∷ cond h.mobile 128 0 ∷ (big_bytes 2 size ++ h.hops.max ∷ 0 ∷ [])) → 12 ≤ length old → Puts old new 0 (heads h next type size)
+heads_put h next type size old m new p q room = Puts-then old m new 0 4 (17 ∷ 0 ∷ h.lifetime ∷ h.hops.left ∷ []) (next ∷ type ∷ h.class ∷ cond h.mobile 128 0 ∷ (big_bytes 2 size ++ h.hops.max ∷ 0 ∷ [])) p q refl room
+
 pub record HeaderFits (h : Header) : Type 0 where
   pub octets : (h.lifetime < 256) × (h.class < 256) × (h.hops.max < 256)
   pub hops : (0 < h.hops.left) × (h.hops.left ≤ h.hops.max)

@@ -1,6 +1,7 @@
 -- The formats of packets: each field with its width, its fault and its test, in the order of the wire. Contracts of private
 -- functions cite them; public clauses cite Encoding and FirstFault.
-use Rattle.std.specs.Prelude.{ℕ, ◌-◌, ◌/◌, ◌%◌, ◌^◌, ℤ, pos, negsuc, suc, int_lt, Bool, true, ◌&&◌, nat_lt, nat_le, ◌==◌, ◌||◌, if◌then◌else◌}
+use Rattle.std.specs.Prelude.{ℕ, ◌+◌, ◌-◌, ◌/◌, ◌%◌, ◌^◌, ℤ, pos, negsuc, suc, int_lt, Bool, true, ◌&&◌, nat_lt, nat_le, ◌==◌, ◌||◌, if◌then◌else◌, List, drop}
+use Rattle.byteorder.specs.Endian.{big_number}
 use Rattle.std.specs.Int.{w32, cast_signed}
 use Rattle.its_gnvalue.specs.Values.{PositionVector}
 use Rattle.its_faults.specs.declared.packet.FaultKind.TheVariants.{Truncated, Version, BasicNext, Reserved, HopZero, CommonNext, HeaderType, SubType, HopAboveMax, PayloadLength, Position as BadPosition, Area as BadArea}
@@ -55,6 +56,20 @@ is_subtype type s = if type == 3 || type == 4 then nat_le s 2 else s == 0
 abbrev pub is_length : ℕ → ℕ → Bool
 is_length type n = if type == 1 then n == 0 else nat_le 4 n && nat_le n 1398
 
+-- the next header of a kind
+abbrev pub next_of : Kind → ℕ
+next_of Beacon = 0
+next_of Shb = 2
+next_of Gbc = 2
+next_of Gac = 2
+
+-- the header type of a kind
+abbrev pub type_of : Kind → ℕ
+type_of Beacon = 1
+type_of Shb = 5
+type_of Gbc = 4
+type_of Gac = 3
+
 -- the kind that a header type names
 abbrev pub kind_of : ℕ → Kind
 kind_of type = if type == 1 then Beacon else if type == 5 then Shb else if type == 3 then Gac else Gbc
@@ -108,6 +123,14 @@ is_longitude n = longitude_test (cast_signed w32 n)
 abbrev pub speed_of : ℕ → ℤ
 speed_of n = if nat_lt n (2 ^ 14) then pos n else negsuc (2 ^ 15 - suc n)
 
+-- the vector of which these numbers stand on the wire
+abbrev pub vector_from : ℕ → ℕ → ℕ → ℕ → ℕ → ℕ → PositionVector
+vector_from address timestamp latitude longitude motion heading = record { address = address; timestamp = timestamp; place = record { latitude = cast_signed w32 latitude; longitude = cast_signed w32 longitude }; accurate = nat_le (2 ^ 15) motion; speed = speed_of (motion % 2 ^ 15); heading = heading }
+
+-- the vector of which the octets begin at a place
+abbrev pub vector_at : ℕ → List ℕ → PositionVector
+vector_at at w = vector_from (big_number 8 (drop at w)) (big_number 4 (drop (at + 8) w)) (big_number 4 (drop (at + 12) w)) (big_number 4 (drop (at + 16) w)) (big_number 2 (drop (at + 20) w)) (big_number 2 (drop (at + 22) w))
+
 -- a long position vector
 unfoldable pub vector_format : Format PositionVector
 vector_format =
@@ -117,7 +140,7 @@ vector_format =
     number 4 BadPosition is_longitude λ longitude.
     number 2 Truncated any λ motion.
     number 2 Truncated any λ heading.
-    ends (record { address = address; timestamp = timestamp; place = record { latitude = cast_signed w32 latitude; longitude = cast_signed w32 longitude }; accurate = nat_le (2 ^ 15) motion; speed = speed_of (motion % 2 ^ 15); heading = heading })
+    ends (vector_from address timestamp latitude longitude motion heading)
 
 -- a circle has b 0, and the other shapes have another
 abbrev pub is_second : Shape → ℕ → Bool
@@ -131,6 +154,14 @@ is_angle Circle angle = is_zero angle
 is_angle Rectangle angle = nat_lt angle 360
 is_angle Ellipse angle = nat_lt angle 360
 
+-- the area of this shape of which these numbers stand on the wire
+abbrev pub area_from : Shape → ℕ → ℕ → ℕ → ℕ → ℕ → GeoArea
+area_from shape latitude longitude a b angle = record { shape = shape; centre = record { latitude = cast_signed w32 latitude; longitude = cast_signed w32 longitude }; a = a; b = b; angle = angle }
+
+-- the area, of this shape, of the octets of a packet
+abbrev pub area_at : Shape → List ℕ → GeoArea
+area_at shape w = area_from shape (big_number 4 (drop 40 w)) (big_number 4 (drop 44 w)) (big_number 2 (drop 48 w)) (big_number 2 (drop 50 w)) (big_number 2 (drop 52 w))
+
 -- the area of a geobroadcast or geoanycast
 unfoldable pub area_format : Shape → Format GeoArea
 area_format shape =
@@ -139,7 +170,7 @@ area_format shape =
     number 2 BadArea (λ a. nat_lt 0 a) λ a.
     number 2 BadArea (is_second shape) λ b.
     number 2 BadArea (is_angle shape) λ angle.
-    ends (record { shape = shape; centre = record { latitude = cast_signed w32 latitude; longitude = cast_signed w32 longitude }; a = a; b = b; angle = angle })
+    ends (area_from shape latitude longitude a b angle)
 
 -- what follows the Common Header: a vector and what the kind has beside it
 abbrev pub beacon_format : Format (PositionVector × Body)
@@ -153,6 +184,13 @@ shb_format length =
     octets length λ payload.
     ends (vector, shb media (message_of payload))
 
+-- what follows the area: two reserved octets, and a payload of so many
+abbrev pub area_packet_rest : AreaKind → PositionVector → ℕ → GeoArea → ℕ → Format (PositionVector × Body)
+area_packet_rest kind vector sequence area length =
+    number 2 Reserved is_zero λ _.
+    octets length λ payload.
+    ends (vector, area_body kind sequence area (message_of payload))
+
 -- a packet for an area of this shape, and a payload of so many octets
 abbrev pub area_packet_format : AreaKind → Shape → ℕ → Format (PositionVector × Body)
 area_packet_format kind shape length =
@@ -160,9 +198,7 @@ area_packet_format kind shape length =
     number 2 Reserved is_zero λ _.
     after vector_format λ vector.
     after (area_format shape) λ area.
-    number 2 Reserved is_zero λ _.
-    octets length λ payload.
-    ends (vector, area_body kind sequence area (message_of payload))
+    area_packet_rest kind vector sequence area length
 
 -- what follows the Common Header, by the kind that it names
 abbrev pub body_format : Kind → Shape → ℕ → Format (PositionVector × Body)

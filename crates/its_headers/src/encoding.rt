@@ -7,64 +7,22 @@ ghost use Rattle.its_headers.specs.Fields.{message_of};
 ghost use Rattle.its_headers.specs.Packets.{with_body, pdu_of_packet, pdu_for_area, hops_left};
 ghost use Rattle.its_headers.specs.Written.{WritesEncoding};
 
-use crate::codes::{NEXT_BTP_B, NEXT_NONE, TYPE_BEACON, TYPE_GAC, TYPE_GBC, TYPE_SHB, sub_type};
-use crate::offsets::{
-    AREA, AREA_RESERVED, BEACON_END, AREA_PAYLOAD, AREA_VECTOR, MEDIA, NUMBER, NUMBER_RESERVED,
-    SHB_PAYLOAD, VECTOR,
-};
+use crate::kind::Kind;
 use crate::packet::{AreaPacket, Header, Packet, SingleHopBroadcast};
-use crate::putting::{put_area, put_headers, put_media, put_slice, put_u16, put_vector};
+use crate::wire::area::put_area;
+use crate::wire::basic::put_basic;
+use crate::wire::common::put_common;
+use crate::wire::fields::{
+    AREA_PAYLOAD, AREA_RESERVED, AREA_VECTOR, BEACON_END, NUMBER, NUMBER_RESERVED, SHB_PAYLOAD,
+    VECTOR, put_u16,
+};
+use crate::wire::media::put_media;
+use crate::wire::payload::put_payload;
+use crate::wire::position::put_vector;
+use its_geometry::Shape;
 use its_gnvalue::NoRoom;
 
-/// Writes a beacon into a slice with room for it, and says how long it is.
-fn put_beacon(header: &Header, out: &mut [u8]) -> usize
-    requires { 36 ≤ length out.old }
-    ensures { WritesEncoding (with_body header.now beacon) header.now.hops.left out.old out.new result }
-{
-    put_headers(out, header, 16 * NEXT_NONE, 16 * TYPE_BEACON, 0);
-    put_vector(out, VECTOR, header.vector);
-    BEACON_END
-}
-
-/// Writes a single-hop broadcast into a slice with room for it, and says how long it is.
-fn put_shb(packet: &SingleHopBroadcast, out: &mut [u8]) -> usize
-    requires { length (encoding (with_body packet.now.header (shb packet.now.media (message_of packet.now.payload)))
-        packet.now.header.hops.left) ≤ length out.old }
-    ensures { WritesEncoding (with_body packet.now.header (shb packet.now.media (message_of packet.now.payload)))
-        packet.now.header.hops.left out.old out.new result }
-{
-    let payload = packet.payload.octets();
-    let size = payload.len() as u16;
-    put_headers(out, &packet.header, 16 * NEXT_BTP_B, 16 * TYPE_SHB, size);
-    put_vector(out, VECTOR, packet.header.vector);
-    put_media(out, MEDIA, packet.media);
-    put_slice(out, SHB_PAYLOAD, payload);
-    SHB_PAYLOAD + payload.len()
-}
-
-/// Writes a packet for an area, of this header type, into a slice with room for it, and says how long it is.
-fn put_area_packet(header_type: u8, packet: &AreaPacket, out: &mut [u8]) -> usize
-    requires known { header_type ≤ 4 }
-    requires room { 56 + length packet.now.payload ≤ length out.old }
-    ensures gbc { header_type ≡ 4 → WritesEncoding (pdu_for_area geobroadcast packet.now)
-        packet.now.header.hops.left out.old out.new result }
-    ensures gac { header_type ≡ 3 → WritesEncoding (pdu_for_area geoanycast packet.now)
-        packet.now.header.hops.left out.old out.new result }
-{
-    let payload = packet.payload.octets();
-    let size = payload.len() as u16;
-    let kind = 16 * header_type + sub_type(packet.area.shape());
-    put_headers(out, &packet.header, 16 * NEXT_BTP_B, kind, size);
-    put_u16(out, NUMBER, packet.number);
-    put_u16(out, NUMBER_RESERVED, 0);
-    put_vector(out, AREA_VECTOR, packet.header.vector);
-    put_area(out, AREA, packet.area);
-    put_u16(out, AREA_RESERVED, 0);
-    put_slice(out, AREA_PAYLOAD, payload);
-    AREA_PAYLOAD + payload.len()
-}
-
-/// Writes the encoding of the packet at the front of the slice, and says how long it is. The rest of
+/// Writes the encoding of the packet at the beginning of the slice, and returns its length. The rest of
 /// the slice stays; on `NoRoom`, exactly where the slice is too short, all of it does.
 pub fn encode_into(packet: &Packet, out: &mut [u8]) -> Result<usize, NoRoom>
     ensures written { IfOk result (λ n. WritesEncoding
@@ -79,7 +37,52 @@ pub fn encode_into(packet: &Packet, out: &mut [u8]) -> Result<usize, NoRoom>
     Ok(match packet {
         Packet::Beacon(header) => put_beacon(header, out),
         Packet::Shb(packet) => put_shb(packet, out),
-        Packet::Gbc(packet) => put_area_packet(TYPE_GBC, packet, out),
-        Packet::Gac(packet) => put_area_packet(TYPE_GAC, packet, out),
+        Packet::Gbc(packet) => put_area_packet(Kind::Gbc, packet, out),
+        Packet::Gac(packet) => put_area_packet(Kind::Gac, packet, out),
     })
+}
+
+/// Writes a beacon into a slice with room for it, and returns its length.
+fn put_beacon(header: &Header, out: &mut [u8]) -> usize
+    requires { 36 ≤ length out.old }
+    ensures { WritesEncoding (with_body header.now beacon) header.now.hops.left out.old out.new result }
+{
+    put_basic(out, header);
+    put_common(out, header, Kind::Beacon, Shape::Circle, 0);
+    put_vector(out, VECTOR, header.vector);
+    BEACON_END
+}
+
+/// Writes a single-hop broadcast into a slice with room for it, and returns its length.
+fn put_shb(packet: &SingleHopBroadcast, out: &mut [u8]) -> usize
+    requires { length (encoding (with_body packet.now.header (shb packet.now.media (message_of packet.now.payload)))
+        packet.now.header.hops.left) ≤ length out.old }
+    ensures { WritesEncoding (with_body packet.now.header (shb packet.now.media (message_of packet.now.payload)))
+        packet.now.header.hops.left out.old out.new result }
+{
+    let size = packet.payload.octets().len() as u16;
+    put_basic(out, &packet.header);
+    put_common(out, &packet.header, Kind::Shb, Shape::Circle, size);
+    put_vector(out, VECTOR, packet.header.vector);
+    put_media(out, packet.media);
+    put_payload(out, SHB_PAYLOAD, &packet.payload)
+}
+
+/// Writes a packet for an area, of this kind, into a slice with room for it, and returns its length.
+fn put_area_packet(kind: Kind, packet: &AreaPacket, out: &mut [u8]) -> usize
+    requires { 56 + length packet.now.payload ≤ length out.old }
+    ensures gbc { kind ≡ Kind.Gbc → WritesEncoding (pdu_for_area geobroadcast packet.now)
+        packet.now.header.hops.left out.old out.new result }
+    ensures gac { kind ≡ Kind.Gac → WritesEncoding (pdu_for_area geoanycast packet.now)
+        packet.now.header.hops.left out.old out.new result }
+{
+    let size = packet.payload.octets().len() as u16;
+    put_basic(out, &packet.header);
+    put_common(out, &packet.header, kind, packet.area.shape(), size);
+    put_u16(out, NUMBER, packet.number);
+    put_u16(out, NUMBER_RESERVED, 0);
+    put_vector(out, AREA_VECTOR, packet.header.vector);
+    put_area(out, packet.area);
+    put_u16(out, AREA_RESERVED, 0);
+    put_payload(out, AREA_PAYLOAD, &packet.payload)
 }

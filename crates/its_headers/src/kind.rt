@@ -1,4 +1,4 @@
-//! The kinds of packet.
+//! The kinds of packet (EN 302 636-4-1 clause 9).
 
 /// The kinds of packet that are read and written (EN 302 636-4-1 clause 9).
 #[derive(Clone, Copy, Debug, PartialEq, Eq)]

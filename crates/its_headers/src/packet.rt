@@ -4,8 +4,8 @@ ghost use Rattle.std.specs.Prelude.{◌≡◌, ◌≤◌, ◌+◌, length};
 ghost use Rattle.its_headers.specs.Encoding.{encoding};
 ghost use Rattle.its_headers.specs.Packets.{pdu_of_packet, hops_left};
 
-use crate::offsets::{BEACON_END, AREA_PAYLOAD, MEDIA};
 use crate::payload::Payload;
+use crate::wire::fields::{AREA_PAYLOAD, BEACON_END, MEDIA};
 use its_geometry::Area;
 use its_gnvalue::{Hops, Lifetime, LongPv, TrafficClass};
 
@@ -25,7 +25,7 @@ pub struct Header {
 }
 
 /// A packet to all neighbours (SHB, EN 302 636-4-1 clause 9).
-#[derive(Debug, Drop)]
+#[derive(Debug, Drop, PartialEq, Eq)]
 pub struct SingleHopBroadcast {
     /// What each packet has.
     pub header: Header,
@@ -37,7 +37,7 @@ pub struct SingleHopBroadcast {
 
 /// What a geobroadcast and a geoanycast have: a packet to stations in an area (EN 302 636-4-1
 /// clause 9).
-#[derive(Debug, Drop)]
+#[derive(Debug, Drop, PartialEq, Eq)]
 pub struct AreaPacket {
     /// What each packet has.
     pub header: Header,
@@ -50,7 +50,7 @@ pub struct AreaPacket {
 }
 
 /// A packet that owns its payload (EN 302 636-4-1 clause 9).
-#[derive(Debug, Drop)]
+#[derive(Debug, Drop, PartialEq, Eq)]
 pub enum Packet {
     /// Tells the neighbours of a station, and nothing more.
     Beacon(Header),

@@ -1,33 +1,35 @@
 //! A packet read in place.
 
-ghost use Rattle.std.specs.Prelude.{◌≡◌, ◌≤◌, ◌<◌, ◌-◌, ◌++◌, ℕ, List, length, take, IfOk, IfErr, IsOk, IsOkAnd, OnErr};
+ghost use Rattle.std.specs.Prelude.{◌≡◌, ◌≤◌, ◌<◌, ◌++◌, ℕ, List, length, take, IfOk, IfErr, IsOkAnd, OnErr};
 ghost use Rattle.its_model.specs.Packet.{Pdu, number_in};
-ghost use Rattle.its_headers.specs.Encoding.{Encodes, encoding, payload_of};
+ghost use Rattle.its_headers.specs.Encoding.{Encodes, payload_of};
 ghost use Rattle.its_headers.specs.Fields.{kind_of_body, shape_of_body, vector_place, IsLength, media_in, area_in, SaysMessage, IsForArea};
 ghost use Rattle.its_headers.specs.Packets.{pdu_of_packet, hops_left, IsHeaderOf, IsAreaPacketOf};
 ghost use Rattle.its_headers.specs.Decoding.{HasPayload};
-ghost use Rattle.its_headers.specs.Written.{WritesEncoding};
 ghost use Rattle.its_headers.specs.FirstFault.{FirstFault};
 
-use crate::codes::{kind_of, shape_of};
-use crate::judging::packet_end;
 use crate::kind::Kind;
-use crate::offsets::{AREA_PAYLOAD, AREA_VECTOR, MEDIA, NUMBER, SHB_PAYLOAD, VECTOR};
 use crate::packet::{AreaPacket, Header, Packet, SingleHopBroadcast};
 use crate::payload::Payload;
-use crate::position::vector;
-use crate::putting::put_slice;
-use crate::region::area;
+use crate::wire::area::area_in;
+use crate::wire::common::{is_mobile, kind_of, shape_of};
+use crate::wire::fields::{
+    AREA_PAYLOAD, AREA_VECTOR, CLASS, FLAGS, HOPS_LEFT, LIFETIME, MAX_HOPS, NUMBER, SHB_PAYLOAD,
+    TYPE, VECTOR,
+};
+use crate::wire::media::media_in;
+use crate::wire::packet_end;
+use crate::wire::position::vector_in;
 use byteorder::{BigEndian, ByteOrder};
-use its_geometry::{Area, Shape};
-use its_gnvalue::{Hops, Lifetime, LongPv, NoMemory, NoRoom, TrafficClass};
 use its_faults::Fault;
+use its_geometry::{Area, Shape};
+use its_gnvalue::{Hops, Lifetime, LongPv, NoMemory, TrafficClass};
 use std::alloc::Global;
 use std::marker::Model;
 
 /// A packet in the octets that it was read from: a slice that is an encoding by its type. Contracts
 /// see the packet and the hops that it has left.
-#[derive(Drop)]
+#[derive(Debug, Drop)]
 pub struct PacketView<'a> {
     octets: &'a [u8],
 }
@@ -43,7 +45,7 @@ impl<'a> Model for PacketView<'a> {
 }
 
 impl<'a> PacketView<'a> {
-    /// The packet at the front of the octets, and its length, or the first fault: fields are judged in
+    /// The packet that begins the octets, and its length, or the first fault: fields are judged in
     /// the order of the wire, each together with those before it. What follows the packet is not judged.
     pub fn read(octets: &'a [u8]) -> Result<(PacketView<'a>, usize), Fault>
         ensures found { IfOk result (λ x. (x.1 ≤ length octets.now) × Encodes x.0.pdu x.0.left (take x.1 octets.now)) }
@@ -71,14 +73,14 @@ impl<'a> PacketView<'a> {
     pub fn kind(&self) -> Kind
         ensures { result ≡ kind_of_body self.now.pdu.body }
     {
-        kind_of(self.octets[5] / 16)
+        kind_of(self.octets[TYPE] / 16)
     }
 
     /// The hops that are left (RHL, from 1), and how many there were at most (MHL).
     pub fn hops(&self) -> Hops
         ensures { result ≡ record { left = self.now.left; max = self.now.pdu.max_hops } }
     {
-        let Some(hops) = Hops::new(self.octets[3], self.octets[10]) else {
+        let Some(hops) = Hops::new(self.octets[HOPS_LEFT], self.octets[MAX_HOPS]) else {
             unreachable!()
         };
         hops
@@ -88,31 +90,28 @@ impl<'a> PacketView<'a> {
     pub fn lifetime(&self) -> Lifetime
         ensures { result ≡ self.now.pdu.lifetime }
     {
-        Lifetime::from_octet(self.octets[2])
+        Lifetime::from_octet(self.octets[LIFETIME])
     }
 
     /// The traffic class (TC).
     pub fn class(&self) -> TrafficClass
         ensures { result ≡ self.now.pdu.class }
     {
-        TrafficClass::from_octet(self.octets[6])
+        TrafficClass::from_octet(self.octets[CLASS])
     }
 
     /// Whether the source is mobile.
     pub fn mobile(&self) -> bool
         ensures { result ≡ self.now.pdu.mobile }
     {
-        self.octets[7] >= 128
+        is_mobile(self.octets[FLAGS])
     }
 
     /// The source's address, place and movement: the long position vector.
     pub fn vector(&self) -> LongPv
         ensures { result ≡ self.now.pdu.vector }
     {
-        let Ok(vector) = vector(self.octets, self.vector_at()) else {
-            unreachable!()
-        };
-        vector
+        vector_in(self.octets, self.vector_at())
     }
 
     // Where the vector begins.
@@ -130,12 +129,7 @@ impl<'a> PacketView<'a> {
         ensures { result ≡ media_in self.now.pdu.body }
     {
         match self.kind() {
-            Kind::Shb => Some([
-                self.octets[MEDIA],
-                self.octets[MEDIA + 1],
-                self.octets[MEDIA + 2],
-                self.octets[MEDIA + 3],
-            ]),
+            Kind::Shb => Some(media_in(self.octets)),
             Kind::Beacon | Kind::Gbc | Kind::Gac => None,
         }
     }
@@ -155,12 +149,7 @@ impl<'a> PacketView<'a> {
         ensures { result ≡ area_in self.now.pdu.body }
     {
         match self.kind() {
-            Kind::Gbc | Kind::Gac => {
-                let Ok(area) = area(self.octets, self.shape()) else {
-                    unreachable!()
-                };
-                Some(area)
-            }
+            Kind::Gbc | Kind::Gac => Some(area_in(self.octets, self.shape())),
             Kind::Beacon | Kind::Shb => None,
         }
     }
@@ -169,7 +158,7 @@ impl<'a> PacketView<'a> {
     fn shape(&self) -> Shape
         ensures { result ≡ shape_of_body self.now.pdu.body }
     {
-        shape_of(self.octets[5] % 16)
+        shape_of(self.octets[TYPE] % 16)
     }
 
     /// The payload, which lies in the octets that were read: a BTP-B header and what is sent to the
@@ -205,10 +194,7 @@ impl<'a> PacketView<'a> {
         ensures { IfOk result (SaysMessage self.now.pdu.body) }
     {
         let octets = Vec::from_slice(alloc, self.payload())?;
-        let Ok(payload) = Payload::new(octets) else {
-            unreachable!()
-        };
-        Ok(payload)
+        Ok(Payload::of(octets))
     }
 
     // What a geobroadcast or a geoanycast has.
@@ -252,23 +238,4 @@ impl<'a> PacketView<'a> {
             Kind::Gac => Ok(Packet::Gac(self.to_area_packet(alloc)?)),
         }
     }
-}
-
-/// Writes the packet that was read, with one hop fewer left, at the front of the slice, and says how
-/// long it is. The packet has to have at least two hops left. Nothing else of it changes. The rest of
-/// the slice stays; on `NoRoom`, exactly where the slice is too short, all of it does.
-pub fn relay_into(view: &PacketView<'_>, out: &mut [u8]) -> Result<usize, NoRoom>
-    requires { 2 ≤ view.now.left }
-    ensures written { IfOk result (λ n. WritesEncoding view.now.pdu (view.now.left - 1) out.old out.new n) }
-    ensures room { length (encoding view.now.pdu view.now.left) ≤ length out.old → IsOk result }
-    ensures no_room { OnErr result ((out.new ≡ out.old)
-        × (length out.old < length (encoding view.now.pdu view.now.left))) }
-{
-    let octets = view.octets;
-    if out.len() < octets.len() {
-        return Err(NoRoom);
-    }
-    put_slice(out, 0, octets);
-    out[3] = octets[3] - 1;
-    Ok(octets.len())
 }

@@ -10,7 +10,7 @@ use Rattle.its_linkframe.specs.declared.record.Record.{Record}
 use Rattle.its_linkframe.specs.declared.record.CaptureFault.{CaptureFault}
 use Rattle.its_linkframe.specs.declared.record.CaptureFault.TheVariants as faults
 use Rattle.its_linkframe.specs.Captures.{Captured, IsCaptured, head_octets, record_octets, capture_octets, EncodesCapture, captured, captured_at, announced_length, AnnouncesNoFrame, EndsInRecord, IsFrameLength}
-use Rattle.its_linkframe.specs.Reading.{MeetsEnd, IsReadFault, ReadsFirst}
+use Rattle.its_linkframe.specs.Reading.{MeetsEnd, IsReadFault, ReadsFirst, ReadsFirstInto}
 use Rattle.its_linkframe.proofs.Heads.{length-head_octets, announced_length-head_octets}
 
 moment-head_octets : (m n : ℕ) (w : List ℕ) → m < 2 ^ 64 → big_number 8 (head_octets m n ++ w) ≡ m
@@ -91,9 +91,58 @@ ReadsFirst-of (Some u) new (Err faults.NoMemory) given ends fault good [] w is e
 ReadsFirst-of (Some u) new (Err faults.NoMemory) given ends fault good (first ∷ others) w is enc = inr refl
 ReadsFirst-of (Some u) new (Err faults.Failed) given ends fault good records w is enc = absurd (good refl)
 
+abbrev no_record : CaptureFault → Result (Option Record) CaptureFault
+no_record e = Err e
+
+abbrev no_moment : CaptureFault → Result (Option ℕ) CaptureFault
+no_moment e = Err e
+
+failed_as : (e : CaptureFault) → (no_moment e ≡ Err faults.Failed → ⊥) → no_record e ≡ Err faults.Failed → ⊥
+failed_as e good is = let same : e ≡ faults.Failed = cc in good (ap no_moment same)
+
+-- the same of a moment and a frame in a buffer
+pub ReadsFirst-into : (old new : Option (List ℕ)) (frame : List ℕ) (result : Result (Option ℕ) CaptureFault)
+    → IfOk result (λ found. IfSome found (λ moment. IsCaptured (captured_at moment frame) × Consumes old new (record_octets (captured_at moment frame))))
+    → IfOk result (λ found. IfNone found (MeetsEnd old new))
+    → IfErr result (IsReadFault old new)
+    → (result ≡ Err faults.Failed → ⊥)
+    → (records : List Captured) (w : List ℕ) → old ≡ Some w → EncodesCapture records w → ReadsFirstInto records new frame result
+ReadsFirst-into None new frame result given ends fault good records w is enc = absurd cc
+ReadsFirst-into (Some u) None frame (Ok None) given ends fault good records w is enc = absurd ends.2
+ReadsFirst-into (Some u) (Some v) frame (Ok None) given ends fault good [] w is enc = ap Some (sym ends.2 ∙ ends.0)
+ReadsFirst-into (Some u) (Some v) frame (Ok None) given ends fault good (first ∷ others) w is enc =
+    let same : u ≡ w = cc in
+    absurd (omega (arith, ap length (sym ends.0 ∙ same ∙ enc.octets), length-record_octets first (capture_octets others)))
+ReadsFirst-into (Some u) None frame (Ok (Some m)) given ends fault good records w is enc = absurd given.1
+ReadsFirst-into (Some u) (Some v) frame (Ok (Some m)) given ends fault good [] w is enc =
+    let same : u ≡ w = cc in
+    absurd (omega (arith, ap length (sym given.1 ∙ same ∙ enc.octets), length-record_octets (captured_at m frame) v))
+ReadsFirst-into (Some u) (Some v) frame (Ok (Some m)) given ends fault good (first ∷ others) w is enc =
+    let same : u ≡ w = cc in
+    let one = one_record (captured_at m frame) first v (capture_octets others) given.0 (All-head IsCaptured first others enc.fields) (sym given.1 ∙ same ∙ enc.octets) in
+    (one.0, record { fields = All-tail IsCaptured first others enc.fields; octets = one.1 })
+ReadsFirst-into (Some u) new frame (Err e) given ends fault good [] w is enc = ReadsFirst-of (Some u) new (Err e) tt tt fault (failed_as e good) [] w is enc
+ReadsFirst-into (Some u) new frame (Err e) given ends fault good (first ∷ others) w is enc = ReadsFirst-of (Some u) new (Err e) tt tt fault (failed_as e good) (first ∷ others) w is enc
+
 -- at the end of a source nothing but the capture of no record is left
 pub ReadsFirst-at_end : (rest : Option (List ℕ)) → IsAtEnd rest → (records : List Captured) (w : List ℕ) → rest ≡ Some w → EncodesCapture records w → ReadsFirst records rest (Ok None)
 ReadsFirst-at_end rest end = ReadsFirst-of rest rest (Ok None) tt (end, end, Consumes-nil rest) tt (λ e. cc)
+
+-- a record of a moment and a buffer
+pub ReadsFirst-record : (records : List Captured) (new : Option (List ℕ)) (r : Record) → ReadsFirstInto records new r.frame.items (Ok (Some r.moment)) → ReadsFirst records new (Ok (Some r))
+ReadsFirst-record [] new r h = h
+ReadsFirst-record (first ∷ others) new r h = h
+
+pub ReadsFirst-none : (records : List Captured) (new : Option (List ℕ)) (frame : List ℕ) → ReadsFirstInto records new frame (Ok None) → ReadsFirst records new (Ok None)
+ReadsFirst-none [] new frame h = h
+ReadsFirst-none (first ∷ others) new frame h = h
+
+pub ReadsFirst-fault : (records : List Captured) (new : Option (List ℕ)) (frame : List ℕ) (e : CaptureFault) → ReadsFirstInto records new frame (Err e) → ReadsFirst records new (Err e)
+ReadsFirst-fault [] new frame e h = h
+ReadsFirst-fault (first ∷ others) new frame e h = h
+
+pub ReadsFirst-into_end : (rest : Option (List ℕ)) (frame : List ℕ) → IsAtEnd rest → (records : List Captured) (w : List ℕ) → rest ≡ Some w → EncodesCapture records w → ReadsFirstInto records rest frame (Ok None)
+ReadsFirst-into_end rest frame end = ReadsFirst-into rest rest frame (Ok None) tt (end, end, Consumes-nil rest) tt (λ e. cc)
 
 -- octets are a capture of one list of records at most
 pub one_capture_lem : (records others : List Captured) (w : List ℕ) → EncodesCapture records w → EncodesCapture others w → records ≡ others

@@ -28,6 +28,9 @@ ether_type-get_or : (w : List ℕ) → 14 ≤ length w → ether_type w ≡ get_
 ether_type-get_or (a ∷ b ∷ c ∷ d ∷ e ∷ f ∷ g ∷ h ∷ i ∷ j ∷ k ∷ l ∷ m ∷ n ∷ w) le = refl
 ether_type-get_or _ le = absurd (omega arith)
 
+pub ether_type-is : (w : List ℕ) → 14 ≤ length w → get_or w 12 0 ≡ 137 → get_or w 13 0 ≡ 71 → ether_type w ≡ 137 ∷ 71 ∷ []
+ether_type-is w le high low = ether_type-get_or w le ∙ rw (high, low) refl
+
 ether_type-frame : (t : Transmission) (w : List ℕ) → EncodesFrame t w → ether_type w ≡ 137 ∷ 71 ∷ []
 unfolding link_header
 ether_type-frame t w enc = ap ether_type enc.octets

@@ -18,11 +18,11 @@ first_six w = get_or w 0 0 ∷ get_or w 1 0 ∷ get_or w 2 0 ∷ get_or w 3 0 �
 abbrev pub next_six : List ℕ → List ℕ
 next_six w = get_or w 6 0 ∷ get_or w 7 0 ∷ get_or w 8 0 ∷ get_or w 9 0 ∷ get_or w 10 0 ∷ get_or w 11 0 ∷ []
 
-take-first_six : (w : List ℕ) → 14 ≤ length w → take 6 w ≡ first_six w
+pub take-first_six : (w : List ℕ) → 14 ≤ length w → take 6 w ≡ first_six w
 take-first_six (a ∷ b ∷ c ∷ d ∷ e ∷ f ∷ w) le = refl
 take-first_six _ le = absurd (omega arith)
 
-take-next_six : (w : List ℕ) → 14 ≤ length w → take 6 (drop 6 w) ≡ next_six w
+pub take-next_six : (w : List ℕ) → 14 ≤ length w → take 6 (drop 6 w) ≡ next_six w
 take-next_six (a ∷ b ∷ c ∷ d ∷ e ∷ f ∷ g ∷ h ∷ i ∷ j ∷ k ∷ l ∷ w) le = refl
 take-next_six _ le = absurd (omega arith)
 

@@ -1,4 +1,5 @@
 pub mod Captures
+pub mod Codes
 pub mod Devices
 pub mod FrameFaults
 pub mod Frames

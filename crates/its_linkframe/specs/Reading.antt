@@ -7,7 +7,7 @@ use Rattle.its_linkframe.specs.declared.record.CaptureFault.{CaptureFault}
 use Rattle.its_linkframe.specs.declared.record.CaptureFault.TheVariants as faults
 use Rattle.its_linkframe.specs.declared.reader.Stage.{Stage}
 use Rattle.its_linkframe.specs.declared.reader.Stage.TheVariants as stages
-use Rattle.its_linkframe.specs.Captures.{Captured, EncodesCapture, AnnouncesFrame, AnnouncesNoFrame, EndsInRecord, captured}
+use Rattle.its_linkframe.specs.Captures.{Captured, EncodesCapture, AnnouncesFrame, AnnouncesNoFrame, EndsInRecord, captured, captured_at}
 use Rattle.its_linkframe.specs.Devices.{ConsumesFront}
 
 -- A reader: whether it met a fault or the end, what octets its source has left, where they are known, and how many calls
@@ -71,3 +71,12 @@ ReadsFirst (first ∷ others) new (Ok None) = ⊥
 ReadsFirst (first ∷ others) new (Ok (Some r)) = (captured r ≡ first) × IsSomeAnd new (EncodesCapture others)
 ReadsFirst [] new (Err fault) = fault ≡ faults.Io
 ReadsFirst (first ∷ others) new (Err fault) = (fault ≡ faults.Io) ⊎ (fault ≡ faults.NoMemory)
+
+-- The same of a call that gives a moment, and the frame in a buffer.
+abbrev pub ReadsFirstInto : List Captured → Option (List ℕ) → List ℕ → Result (Option ℕ) CaptureFault → Type 0
+ReadsFirstInto [] new frame (Ok None) = new ≡ Some []
+ReadsFirstInto [] new frame (Ok (Some moment)) = ⊥
+ReadsFirstInto (first ∷ others) new frame (Ok None) = ⊥
+ReadsFirstInto (first ∷ others) new frame (Ok (Some moment)) = (captured_at moment frame ≡ first) × IsSomeAnd new (EncodesCapture others)
+ReadsFirstInto [] new frame (Err fault) = fault ≡ faults.Io
+ReadsFirstInto (first ∷ others) new frame (Err fault) = (fault ≡ faults.Io) ⊎ (fault ≡ faults.NoMemory)

@@ -1,25 +1,25 @@
 //! Frames read in place.
 
-ghost use Rattle.std.specs.Prelude.{◌≡◌, IfOk, IfErr, IsOkAnd};
+ghost use Rattle.std.specs.Prelude.{◌≡◌, ◌≤◌, ◌+◌, length, take, drop, IfOk, IfErr, IsOkAnd};
+ghost use Rattle.byteorder.specs.Endian.{big_bytes, big_number};
 ghost use Rattle.its_model.specs.Packet.{Transmission};
 ghost use Rattle.its_linkframe.specs.Frames.{EncodesFrame, transmission_of};
 ghost use Rattle.its_linkframe.specs.FrameFaults.{IsFrameFault};
 
+use crate::fields::{ETHER_TYPE, PACKET, SOURCE, TARGET};
 use crate::record::LONGEST_FRAME;
+use its_faults::FrameFault;
 use its_gnvalue::Mac;
 use its_headers::PacketView;
-use its_faults::FrameFault;
 
-/// The octets in front of a packet: two link addresses and the type.
-pub(crate) const LINK_HEADER: usize = 14;
-
-/// The type of GeoNetworking is 0x8947.
+/// The type of GeoNetworking is 0x8947: its first octet.
 pub(crate) const TYPE_HIGH: u8 = 0x89;
 
+/// Its second octet.
 pub(crate) const TYPE_LOW: u8 = 0x47;
 
 /// A frame in the octets that it was read from.
-#[derive(Drop)]
+#[derive(Debug, Drop)]
 pub struct FrameView<'a> {
     /// The link address that it goes to.
     pub to: Mac,
@@ -29,34 +29,40 @@ pub struct FrameView<'a> {
     pub packet: PacketView<'a>,
 }
 
-/// The frame that the octets are, or their first fault, judged in this order: L1 under 14 octets, L2
-/// another type than 0x8947, L3 over 1468 octets, L5 no packet after the type, L4 octets after the packet.
+/// The frame that the octets are, or their first fault, in this order: L1 under 14 octets, L2 another
+/// type than 0x8947, L3 over 1468 octets, L5 no packet after the type, L4 octets after the packet.
 pub fn read_frame(octets: &[u8]) -> Result<FrameView<'_>, FrameFault>
     ensures found { IfOk result (λ v. EncodesFrame (transmission_of v) octets.now) }
     ensures only { (t : Transmission) → EncodesFrame t octets.now → IsOkAnd result (λ v. transmission_of v ≡ t) }
     ensures fault { IfErr result (IsFrameFault octets.now) }
 {
-    if octets.len() < LINK_HEADER {
+    if octets.len() < PACKET {
         return Err(FrameFault::Short);
     }
-    if octets[12] != TYPE_HIGH || octets[13] != TYPE_LOW {
+    if octets[ETHER_TYPE] != TYPE_HIGH || octets[ETHER_TYPE + 1] != TYPE_LOW {
         return Err(FrameFault::EtherType);
     }
     if octets.len() > LONGEST_FRAME {
         return Err(FrameFault::TooLong);
     }
-    let (packet, length) = match PacketView::read(&octets[LINK_HEADER..]) {
-        Ok(read) => read,
-        Err(fault) => return Err(FrameFault::Packet(fault)),
-    };
-    if LINK_HEADER + length < octets.len() {
+    let (packet, length) = PacketView::read(&octets[PACKET..])?;
+    if PACKET + length < octets.len() {
         return Err(FrameFault::Trailing);
     }
-    let to = Mac::from_octets([
-        octets[0], octets[1], octets[2], octets[3], octets[4], octets[5],
-    ]);
-    let from = Mac::from_octets([
-        octets[6], octets[7], octets[8], octets[9], octets[10], octets[11],
-    ]);
-    Ok(FrameView { to, from, packet })
+    Ok(FrameView {
+        to: mac_at(octets, TARGET),
+        from: mac_at(octets, SOURCE),
+        packet,
+    })
+}
+
+/// The link address that begins at this octet.
+fn mac_at(octets: &[u8], at: usize) -> Mac
+    requires { at + 6 ≤ length octets.now }
+    ensures number { result ≡ big_number 6 (take 6 (drop at octets.now)) }
+    ensures octets { big_bytes 6 result ≡ take 6 (drop at octets.now) }
+{
+    let mut address = [0; 6];
+    address.copy_from_slice(&octets[at..at + 6]);
+    Mac::from_octets(address)
 }

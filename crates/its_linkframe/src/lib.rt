@@ -1,10 +1,11 @@
 //! Frames of the link layer, and captures of them.
 #![tactic(auto)]
 
+mod building;
 mod counted;
+mod fields;
 mod frame;
 mod laws;
-mod making;
 mod reader;
 mod record;
 mod sink;
@@ -14,14 +15,11 @@ mod writer;
 
 pub use counted::Counted;
 pub use frame::{FrameView, read_frame};
-pub use its_faults::FrameFault;
+pub use its_faults::{FrameCode, FrameFault};
 pub use laws::{one_capture, one_frame, one_frame_fault};
-pub use making::{relay_frame, retarget, write_frame};
+pub use building::{relay_frame, retarget, write_frame};
 pub use reader::CaptureReader;
 pub use record::{CaptureFault, LONGEST_FRAME, Record};
 pub use sink::Sink;
 pub use source::Source;
 pub use writer::CaptureWriter;
-
-#[cfg(test)]
-mod tests;

@@ -8,6 +8,7 @@ ghost use Rattle.its_linkframe.specs.Devices.{counted, AppendsFront};
 ghost use Rattle.its_linkframe.specs.Reading.{is_io};
 ghost use Rattle.its_linkframe.specs.Writing.{IsWriteFault, HoldsCapture, HoldsAfter};
 
+use crate::fields::{FRAME, LENGTH};
 use crate::record::{CaptureFault, LONGEST_FRAME};
 use crate::sink::Sink;
 use crate::transfer::store;
@@ -107,11 +108,11 @@ fn store_record<S: Sink>(sink: &mut S, moment: u64, frame: &[u8]) -> Option<()>
     store(sink, frame)
 }
 
-fn head_for(moment: u64, size: u16) -> [u8; 10]
+fn head_for(moment: u64, size: u16) -> [u8; FRAME]
     ensures { result ≡ head_octets moment size }
 {
-    let mut head = [0; 10];
+    let mut head = [0; FRAME];
     BigEndian::write_u64(&mut head, moment);
-    BigEndian::write_u16(&mut head[8..], size);
+    BigEndian::write_u16(&mut head[LENGTH..], size);
     head
 }

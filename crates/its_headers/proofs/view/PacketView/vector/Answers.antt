@@ -1,17 +1,12 @@
-use Rattle.std.proofs.Common.{ap, sym, ◌∙◌}
-use Rattle.its_headers.specs.Seen.{Seen}
-use Rattle.its_headers.specs.Fields.{vector_place}
-use Rattle.its_headers.proofs.Places.{vector_read, same_vector, vector_not_refused}
+use Rattle.std.proofs.Common.{◌∙◌}
+use Rattle.its_headers.proofs.Places.{view_vector}
 use Rattle.its_headers.proofs.view.PacketView.vector.Goals as goal
 
-pub unreachable-requires : goal.unreachable-requires
-unreachable-requires c =
-    let e = c.self.invariant in
-    let at = c.vector_at.ensures ∙ ap (λ (s : Seen). vector_place s.pdu.body) (sym c.self.view_is) in
-    vector_not_refused _ _ _ (sym c.in_default.ensures ∙ vector_read _ _ _ _ e at)
+pub vector_in-requires-clause-here : goal.vector_in-requires-clause-here
+vector_in-requires-clause-here c = (view_vector _ _ _ c.self.invariant c.self.view_is c.vector_at.ensures).here
+
+pub vector_in-requires-clause-fits : goal.vector_in-requires-clause-fits
+vector_in-requires-clause-fits c = (view_vector _ _ _ c.self.invariant c.self.view_is c.vector_at.ensures).fits
 
 pub returns : goal.returns
-returns c =
-    let e = c.self.invariant in
-    let at = c.vector_at.ensures ∙ ap (λ (s : Seen). vector_place s.pdu.body) (sym c.self.view_is) in
-    same_vector _ _ _ _ (sym c.in-Ok.ensures ∙ vector_read _ _ _ _ e at) ∙ ap (λ (s : Seen). s.pdu.vector) c.self.view_is
+returns c = c.vector_in.ensures ∙ (view_vector _ _ _ c.self.invariant c.self.view_is c.vector_at.ensures).is

@@ -1,0 +1,29 @@
+//! The media-dependent data of a single-hop broadcast (EN 302 636-4-1 clause 9).
+
+ghost use Rattle.std.specs.Prelude.{◌≡◌, ◌≤◌, ◌+◌, length, take, drop};
+ghost use Rattle.its_headers.specs.Encoding.{IsMedia};
+ghost use Rattle.its_headers.specs.Puts.{Puts};
+
+use crate::wire::fields::{MEDIA, put_slice};
+
+/// The media-dependent data, which was judged to be there.
+pub(crate) fn media_in(octets: &[u8]) -> [u8; 4]
+    requires { 40 ≤ length octets.now }
+    ensures { result ≡ take 4 (drop 36 octets.now) }
+{
+    [
+        octets[MEDIA],
+        octets[MEDIA + 1],
+        octets[MEDIA + 2],
+        octets[MEDIA + 3],
+    ]
+}
+
+/// Writes the media-dependent data, four octets.
+pub(crate) fn put_media(out: &mut [u8], media: [u8; 4])
+    requires { 40 ≤ length out.old }
+    ensures puts { Puts out.old out.new 36 media }
+    ensures fits { IsMedia media }
+{
+    put_slice(out, MEDIA, &media);
+}
