@@ -2,7 +2,7 @@
 
 ghost use Rattle.std.specs.Prelude.{◌≡◌, ◌<◌, ◌≤◌, ◌^◌, ◌⊎◌, MatchResult};
 ghost use Rattle.its_geometry.specs.Area.{HasMeasures, IsMade};
-ghost use Rattle.its_geometry.specs.Refusals.{IsRefused};
+ghost use Rattle.its_geometry.specs.Refusals.{IsRefused, area_code};
 ghost use Rattle.its_geometry.specs.declared.area.Shape.TheVariants as shapes;
 
 use its_gnvalue::Place;
@@ -30,11 +30,23 @@ pub enum AreaFault {
     AngleRange,
 }
 
+impl AreaFault {
+    /// The code of the fault, A1 or A2: what logs show.
+    pub fn code(self) -> &'static str
+        ensures { result.now ≡ area_code self }
+    {
+        match self {
+            AreaFault::ZeroDistance => "A1",
+            AreaFault::AngleRange => "A2",
+        }
+    }
+}
+
 impl fmt::Display for AreaFault {
     fn fmt<W: fmt::Write>(&self, f: &mut fmt::Formatter<W>) -> fmt::Result {
         match self {
-            AreaFault::ZeroDistance => write!(f, "A1"),
-            AreaFault::AngleRange => write!(f, "A2"),
+            AreaFault::ZeroDistance => write!(f, "a distance of 0 m"),
+            AreaFault::AngleRange => write!(f, "an angle over 359 degrees"),
         }
     }
 }

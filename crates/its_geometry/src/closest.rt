@@ -1,4 +1,5 @@
 //! The nearest of many places.
+
 ghost use Rattle.std.specs.Prelude.{◌≡◌, ◌↔◌, ◌⊎◌, ◌+◌, ◌*◌, ◌^◌, ◌<◌, ◌≤◌, min, length, IsNone, IfSome, slice_index};
 ghost use Rattle.std.specs.Simd.Lanes.{zip2, Each1};
 ghost use Rattle.its_geometry.specs.Nearest.{distances, least_of, IsFirstLeast, AllAbove};

@@ -1,4 +1,5 @@
 //! Which places an area holds.
+
 ghost use Rattle.std.specs.Prelude.{◌≡◌, ◌↔◌, ◌*◌, ◌^◌, ◌<◌, ◌≤◌, IsTrue, unsigned_abs};
 ghost use Rattle.its_geometry.specs.Area.{AreaHolds, area_holds, offset_holds, is_near, is_within, is_in_ellipse};
 

@@ -15,6 +15,3 @@ pub use area::{Area, AreaFault, Shape};
 pub use closest::nearest;
 pub use distance::distance2;
 pub use holds::contains;
-
-#[cfg(test)]
-mod tests;

@@ -1,4 +1,5 @@
 //! Where a place lies, seen from a centre.
+
 ghost use Rattle.std.specs.Prelude.{◌≡◌, ◌+◌, ◌-◌, ◌*◌, ◌/◌, ◌^◌, ◌<◌, ◌≤◌, pos, negsuc, ◌-ℤ◌, ◌*ℤ◌, ◌≤ℤ◌, int_div, unsigned_abs};
 ghost use Rattle.its_geometry.specs.Offsets.{longitude_scale, wrap_longitude, northward, eastward, square, squared_distance, along, across};
 

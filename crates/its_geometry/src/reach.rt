@@ -1,4 +1,5 @@
 //! Which places may be nearer than the nearest so far.
+
 ghost use Rattle.std.specs.Prelude.{◌≡◌, ◌+◌, ◌*◌, ◌/◌, ◌^◌, ◌<◌, ◌≤◌, All, false};
 ghost use Rattle.its_geometry.specs.Offsets.{square, squared_distance};
 ghost use Rattle.its_geometry.specs.Nearest.{distances, IsNoNearer};

@@ -1,3 +1,5 @@
+//! The hops of a packet: how many are left, of how many (EN 302 636-4-1, RHL and MHL).
+
 ghost use Rattle.std.specs.Prelude.{◌≡◌, ◌≤◌, ◌<◌, ◌^◌, ◌⊎◌, MatchOption};
 
 use std::marker::Model;

@@ -1,3 +1,5 @@
+//! A place on the earth.
+
 ghost use Rattle.std.specs.Prelude.{◌≡◌, IfOk, IfErr, ◌⊎◌};
 ghost use Rattle.its_gnvalue.specs.Values.{IsLatitude, IsLongitude};
 
