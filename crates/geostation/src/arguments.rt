@@ -55,8 +55,8 @@ fn matched<'a>(matches: &ArgMatches<'a>) -> Option<Subcommand<'a>> {
     }
 }
 
-/// Reads the arguments, the program's own name first. An error is help that was asked for, or why they
-/// were refused.
+/// Reads the arguments, the program's own name first. An error is help that was asked for, or why
+/// they were refused.
 pub fn read<'a>(alloc: Global, arguments: &'a [String]) -> Result<Subcommand<'a>, Error> {
     let mut command = command(alloc)?;
     let matches = command.try_get_matches_from_mut(arguments)?;

@@ -9,8 +9,8 @@ use std::io;
 use std::io::{BufWriter, ErrorKind, Read, Write};
 use std::rt::Files;
 
-/// Runs the command that the arguments name, the program's own name being the first of them, and writes
-/// out all that it prints. Gives the exit status.
+/// Runs the command that the arguments name, the program's own name being the first of them, and
+/// writes out all that it prints. Gives the exit status.
 ///
 /// Arguments that could not be taken are refused where one is not UTF-8; else memory ran out.
 pub fn run<R: Files + AllocGlobal, W: Write + Drop, E: Write>(

@@ -1,9 +1,11 @@
 -- How the program and its commands end.
 use Rattle.std.specs.Prelude.{ℕ, ◌≡◌, ◌≢◌, ◌⊎◌, ◌||◌, nat_lt, if◌then◌else◌}
 use Rattle.its_commands.specs.declared.status.Status.{Status}
-use Rattle.its_commands.specs.declared.status.Status.TheVariants.{Done, Refused, BadArguments, Failed}
+use Rattle.its_commands.specs.declared.status.Status.TheVariants.{Done, Refused, BadArguments}
+use Rattle.its_commands.specs.declared.status.Status.TheVariants.{Failed}
 use Rattle.its_commands.specs.declared.fault.Fault.{Fault}
-use Rattle.its_commands.specs.declared.fault.Fault.TheVariants.{CannotRead, CannotWrite, OutOfMemory, Line, NoOutput}
+use Rattle.its_commands.specs.declared.fault.Fault.TheVariants.{CannotRead, CannotWrite}
+use Rattle.its_commands.specs.declared.fault.Fault.TheVariants.{OutOfMemory, Line, NoOutput}
 use Rattle.its_commands.specs.declared.walk.Walked.{Walked}
 
 -- done; a refused record, line or capture; refused arguments; a file that failed, or no memory

@@ -61,7 +61,8 @@ impl Fault<'_> {
         }
     }
 
-    /// Writes the line on standard error, and gives the exit status. What fails there is passed over.
+    /// Writes the line on standard error, and gives the exit status. What fails there is passed
+    /// over.
     pub fn report<E: Write>(self, err: &mut E) -> Status
         ensures { result ≡ fault_status self.entry }
     {
@@ -74,7 +75,9 @@ impl Fault<'_> {
 
 /// The exit status of a command that ended so, once a fault is reported.
 pub(crate) fn status_of<E: Write>(ended: Result<Status, Fault<'_>>, err: &mut E) -> Status
-    ensures { MatchResult ended.entry (λ status. result ≡ status) (λ fault. result ≡ fault_status fault) }
+    ensures { MatchResult ended.entry
+        (λ status. result ≡ status)
+        (λ fault. result ≡ fault_status fault) }
 {
     match ended {
         Ok(status) => status,

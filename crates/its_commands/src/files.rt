@@ -33,7 +33,8 @@ where
     }
 }
 
-/// Prints a line for each refused record of the capture in the file, and how many records there were.
+/// Prints a line for each refused record of the capture in the file, and how many records there
+/// were.
 ///
 /// `Refused` where a frame or the capture was refused, `Failed` where the file could not be read or
 /// standard output not written, or memory ran out.
@@ -73,8 +74,8 @@ where
     }
 }
 
-/// Reads the lines, and only then creates the capture. An `Err` is the status of what stopped it before
-/// the first record was written.
+/// Reads the lines, and only then creates the capture. An `Err` is the status of what stopped it
+/// before the first record was written.
 fn import_lines<R: Files + AllocGlobal, E: Write>(
     rt: &R,
     file: &str,

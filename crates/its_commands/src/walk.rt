@@ -48,8 +48,8 @@ impl Walked {
     }
 }
 
-/// Reads the records of the capture that the reader gives, one at a time, and prints the lines of each.
-/// `file` is its name.
+/// Reads the records of the capture that the reader gives, one at a time, and prints the lines of
+/// each. `file` is its name.
 pub(crate) fn each_record<'a, R: Read + Drop, L: RecordLines, W: Write>(
     alloc: Global,
     file: &'a str,
@@ -65,8 +65,8 @@ pub(crate) fn each_record<'a, R: Read + Drop, L: RecordLines, W: Write>(
         refused: 0,
         broken: false,
     };
-    // The range is there so that the walk ends on any reader. No capture reaches its end: a record has
-    // 11 octets at least, so that many are over 2^67 octets.
+    // The range is there so that the walk ends on any reader. No capture reaches its end: a record
+    // has 11 octets at least, so that many are over 2^67 octets.
     for place in 0..u64::MAX {
         match capture.next() {
             Ok(Some(record)) => {

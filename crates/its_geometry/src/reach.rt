@@ -8,8 +8,9 @@ use crate::offsets::Centre;
 use its_gnvalue::Place;
 
 /// A box round a centre: no place outside it is nearer than the nearest so far. Its half sides are
-/// differences of latitude and of longitude, in tenths of a microdegree. The breadth is a difference
-/// of longitude that makes a centimetre or more; near a pole, where none does, more than half round.
+/// differences of latitude and of longitude, in tenths of a microdegree. The breadth is a
+/// difference of longitude that makes a centimetre or more; near a pole, where none does, more than
+/// half round.
 #[derive(Clone, Copy)]
 pub(crate) struct Reach {
     centre: Centre,
@@ -20,7 +21,8 @@ pub(crate) struct Reach {
     ghost small: { breadth ≤ 1800000001 },
     ghost broad: { breadth ≤ 1800000000 → 100000000 ≤ breadth * (11132 * centre.scale) },
     ghost covers_north: { least ≤ square north },
-    ghost covers_east: { east ≤ 1800000000 → least ≤ square (east * (11132 * centre.scale) / 100000000) },
+    ghost covers_east: { east ≤ 1800000000
+        → least ≤ square (east * (11132 * centre.scale) / 100000000) },
 }
 
 impl Reach {
@@ -63,7 +65,8 @@ impl Reach {
 
     /// Whether one of the places is in the box.
     pub(crate) fn meets(&self, places: &[Place]) -> bool
-        ensures { result ≡ false → All (IsNoNearer self.now.least) (distances self.now.centre.place places.now) }
+        ensures { result ≡ false
+            → All (IsNoNearer self.now.least) (distances self.now.centre.place places.now) }
     {
         for place in places {
             if self.holds(*place) {
@@ -74,7 +77,8 @@ impl Reach {
     }
 
     fn holds(&self, place: Place) -> bool
-        ensures { result ≡ false → IsNoNearer self.now.least (squared_distance self.now.centre.place place) }
+        ensures { result ≡ false
+            → IsNoNearer self.now.least (squared_distance self.now.centre.place place) }
     {
         let north = self.centre.latitude_difference(place).unsigned_abs();
         let east = self.centre.longitude_difference(place).unsigned_abs();

@@ -1,7 +1,8 @@
 -- The codes of the faults of values.
 use Rattle.std.specs.Prelude.{ℕ, List, codes}
 use Rattle.its_gnvalue.specs.declared.fault.ValueFault.{ValueFault}
-use Rattle.its_gnvalue.specs.declared.fault.ValueFault.TheVariants.{LatitudeRange, LongitudeRange, SpeedRange, GroupMid}
+use Rattle.its_gnvalue.specs.declared.fault.ValueFault.TheVariants.{LatitudeRange, LongitudeRange}
+use Rattle.its_gnvalue.specs.declared.fault.ValueFault.TheVariants.{SpeedRange, GroupMid}
 
 abbrev pub value_code : ValueFault → List ℕ
 value_code LatitudeRange = codes "V1"

@@ -4,7 +4,8 @@ ghost use Rattle.std.specs.Prelude.{◌≡◌, ◌≤◌, ◌<◌, ◌^◌, ◌�
 
 use std::marker::Model;
 
-/// How many hops a packet has left (RHL) and how many it had at most (MHL): 1 <= left <= max <= 255.
+/// How many hops a packet has left (RHL) and how many it had at most (MHL): 1 <= left <= max <=
+/// 255.
 #[derive(Clone, Copy, Debug, PartialEq, Eq)]
 pub struct Hops {
     left: u8,

@@ -6,6 +6,8 @@ mod commands;
 #[cfg(test)]
 mod geometry;
 #[cfg(test)]
+mod scenarios;
+#[cfg(test)]
 mod shortage;
 #[cfg(test)]
 mod values;

@@ -8,15 +8,15 @@ fn nothing_is_left(rt: HostRuntime) -> Result<(), Fail> {
     let mut shortage = Shortage::new(rt.alloc())?;
     assert!(rt; shortage.leave(0));
     for size in 1..5000 {
-        let growth = Vec::<u8>::with_capacity(rt.alloc(), size);
-        assert!(rt; growth.is_err(), "{size}");
+        let piece = Vec::<u8>::with_capacity(rt.alloc(), size);
+        assert!(rt; piece.is_err(), "{size}");
     }
     Ok(())
 }
 
-/// Of two growths of 76 octets the first is refused, then the second, then none.
+/// Of two allocations of 76 octets the first fails, then the second, then none.
 #[test]
-fn each_growth_is_refused_in_turn(rt: HostRuntime) -> Result<(), Fail> {
+fn each_allocation_fails_in_turn(rt: HostRuntime) -> Result<(), Fail> {
     let mut shortage = Shortage::new(rt.alloc())?;
     let mut before = 0;
     let mut rises = 0u32;
@@ -35,7 +35,8 @@ fn each_growth_is_refused_in_turn(rt: HostRuntime) -> Result<(), Fail> {
     Ok(())
 }
 
-/// What a test still has of the last budget is missing for the next one; a budget of 0 holds nevertheless.
+/// What a test still has of the last budget is missing for the next one; a budget of 0 holds
+/// nevertheless.
 #[test]
 fn a_budget_that_is_still_held_is_told(rt: HostRuntime) -> Result<(), Fail> {
     let mut shortage = Shortage::new(rt.alloc())?;
@@ -51,7 +52,8 @@ fn a_budget_that_is_still_held_is_told(rt: HostRuntime) -> Result<(), Fail> {
     Ok(())
 }
 
-/// Memory from before the shortage that is let go after adds to the budget, until a budget of 0 takes it.
+/// Memory from before the shortage that is let go after adds to the budget, until a budget of 0
+/// takes it.
 #[test]
 fn memory_beside_the_budget_is_told(rt: HostRuntime) -> Result<(), Fail> {
     let older = Vec::<u8>::with_capacity(rt.alloc(), MOST / 2)?;

@@ -49,7 +49,8 @@ impl Write for Failing {
     }
 }
 
-/// All that the program prints goes to standard output at its end: there it fails by a write or a flush.
+/// All that the program prints goes to standard output at its end: there it fails by a write or a
+/// flush.
 #[test]
 fn the_program_fails_where_its_output_does(rt: HostRuntime) -> Result<(), Fail> {
     for (room, flushes) in [(0, true), (100, true), (usize::MAX, false)] {
@@ -65,8 +66,8 @@ fn the_program_fails_where_its_output_does(rt: HostRuntime) -> Result<(), Fail> 
     Ok(())
 }
 
-/// Runs the program under each budget: it does all that it does with ample memory, or it prints nothing
-/// and ends with the status and the line of out of memory. Both come about.
+/// Runs the program under each budget: it does all that it does with ample memory, or it prints
+/// nothing and ends with the status and the line of out of memory. Both come about.
 fn runs_short_of_memory(rt: &HostRuntime, line: &[u8], whole: &[u8]) -> Result<bool, AllocError> {
     let mut shortage = Shortage::new(rt.alloc())?;
     let (mut refused, mut done, mut wrong) = (false, false, false);
@@ -97,7 +98,8 @@ fn helps_short_of_memory(rt: HostRuntime) -> Result<(), Fail> {
     Ok(())
 }
 
-/// Arguments, their reading, the buffers of the file and of standard output: each is refused in turn.
+/// Arguments, their reading, the buffers of the file and of standard output: each is refused in
+/// turn.
 #[test]
 fn checks_short_of_memory(rt: HostRuntime) -> Result<(), Fail> {
     let folder = env::temp_dir(&rt)?;

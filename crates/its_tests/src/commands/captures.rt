@@ -36,7 +36,8 @@ static REFUSED: [(&str, &str); 8] = [
         "5 refused L5 G9 at 10\n",
     ),
     (
-        "00000000000000000033ffffffffffff020000000001894711001a01001000800000010014000200000000010000000000000000000000000000000000",
+        "00000000000000000033ffffffffffff020000000001894711001a0100100080000001001400020000000001\
+        0000000000000000000000000000000000",
         "0 refused L4\n",
     ),
     ("00000000000003e80000", "capture: C2 at record 0\n"),
@@ -87,7 +88,8 @@ fn checks(rt: HostRuntime) -> Result<(), Fail> {
             Status::Refused,
         ),
         (
-            "00000000000000050001000000000000000005000effffffffffff020000000001894700000000000000050000",
+            "00000000000000050001000000000000000005000effffffffffff020000000001894700000000000000\
+            050000",
             "record 0: L1\nrecord 1: L5 G1 at 0\ncapture: C2 at record 2\n2 records, 2 refused\n",
             Status::Refused,
         ),
@@ -102,7 +104,8 @@ fn checks(rt: HostRuntime) -> Result<(), Fail> {
     Ok(())
 }
 
-/// Against the mistake `empty_input_refused`: a command that gives up on an input with nothing in it.
+/// Against the mistake `empty_input_refused`: a command that gives up on an input with nothing in
+/// it.
 #[test]
 fn an_empty_input_is_no_refusal(rt: HostRuntime) -> Result<(), Fail> {
     let nothing = b"".as_slice();

@@ -7,7 +7,8 @@ use std::{env, fs};
 
 /// A beacon of station 1400020000000001 at moment 0, as a line.
 static BEACON_TEXT: &str =
-    "0 ffffffffffff020000000001894711001a010010008000000100140002000000000100000000000000000000000000000000\n";
+    "0 ffffffffffff020000000001894711001a01001000800000010014000200000000010000000000000000000000\
+    0000000000\n";
 
 fn show_named(rt: &HostRuntime, file: &str) -> Left {
     let (mut out, mut err) = (Vec::new(rt.alloc()), Vec::new(rt.alloc()));

@@ -177,8 +177,8 @@ fn imports_a_file_short_of_memory(rt: HostRuntime) -> Result<(), Fail> {
     Ok(())
 }
 
-/// The buffer of a file that is created is as large as that of the file that was read before, so only a
-/// call by itself finds no memory for it.
+/// The buffer of a file that is created is as large as that of the file that was read before, so
+/// only a call by itself finds no memory for it.
 #[test]
 fn creates_a_file_short_of_memory(rt: HostRuntime) -> Result<(), Fail> {
     let alloc = rt.alloc();
