@@ -1,21 +1,15 @@
 //! The program `geostation`: it shows, checks and makes captures of GeoNetworking frames.
 #![tactic(auto)]
 
-mod check;
-mod fault;
-mod import;
-mod line;
+mod arguments;
 mod program;
-mod show;
-mod status;
 #[cfg(test)]
 mod tests;
-mod walk;
-mod words;
 
+use std::env;
 use std::process::ExitCode;
 
 fn main(rt: HostRuntime) -> ExitCode {
-    let status = program::run(&rt, rt.stdout(), &mut rt.stderr());
+    let status = program::run(&rt, env::args(&rt), rt.stdout(), &mut rt.stderr());
     ExitCode::from(status.code())
 }

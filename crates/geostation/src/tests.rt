@@ -1,54 +1,51 @@
-//! The commands, over readers, writers and files that the tests make.
+//! The program over arguments, files and outputs that the tests make.
 
-mod captures;
-mod command_line;
-mod devices;
-mod files;
-mod imports;
-mod memory;
+mod arguments;
+mod failures;
 
-use crate::status::Status;
-use crate::{check, import, program, show};
-use std::alloc::{AllocError, Global};
-use std::io::Read;
+use crate::program;
+use its_commands::Status;
+use std::alloc::Global;
+use std::env;
+use std::env::{Env, FillError};
 
-// Each capture is in hexadecimal digits: moment, length, target, source and type, packet.
+/// Arguments with a space between each two, the program's own name first.
+#[derive(Drop)]
+struct Given<'a> {
+    rt: &'a HostRuntime,
+    line: &'a [u8],
+}
 
-/// A beacon of station 1400020000000001 at moment 0.
-static BEACON: &str =
-    "00000000000000000032ffffffffffff020000000001894711001a010010008000000100140002000000000100000000000000000000000000000000";
+impl Env for Given<'_> {
+    fn arg(&self, i: usize, buf: &mut [u8]) -> Result<usize, FillError> {
+        let Some(argument) = self.line.split(|octet| *octet == b' ').nth(i) else {
+            return Err(FillError::NotPresent);
+        };
+        let Some(start) = buf.get_mut(..argument.len()) else {
+            return Err(FillError::TooLong);
+        };
+        start.copy_from_slice(argument);
+        Ok(argument.len())
+    }
 
-static BEACON_LINE: &str =
-    "0 020000000001 ffffffffffff beacon 1400020000000001 tst 0 lat 0 lon 0 pai 0 speed 0 heading 0 lt 1a tc 00 mobile 1 hops 1/1\n";
+    fn var(&self, _name: &str, _buf: &mut [u8]) -> Result<usize, FillError> {
+        Err(FillError::NotPresent)
+    }
 
-/// A geobroadcast of that station at moment 1000.
-static GBC: &str =
-    "00000000000003e8004cffffffffffff020000000001894711001a0a2040008000060a00000000001400020000000001000000000000000000000000000000000000000000000000006400000000000007d200006869";
+    fn var_at(&self, _i: usize, _buf: &mut [u8]) -> Result<usize, FillError> {
+        Err(FillError::NotPresent)
+    }
+}
 
-static GBC_LINE: &str =
-    "1000 020000000001 ffffffffffff gbc 1400020000000001 tst 0 lat 0 lon 0 pai 0 speed 0 heading 0 lt 1a tc 00 mobile 1 hops 10/10 number 0 circle 0 0 100 0 0 port 2002 info 0 6869\n";
+impl Alloc for Given<'_> {
+    type A = Global;
 
-/// A single-hop broadcast of that station at moment 1000.
-static SHB: &str =
-    "00000000000003e8003cffffffffffff020000000001894711001a0120500080000601001400020000000001000000000000000000000000000000000000000007d200006869";
+    fn alloc(&self) -> Global {
+        self.rt.alloc()
+    }
+}
 
-static SHB_LINE: &str =
-    "1000 020000000001 ffffffffffff shb 1400020000000001 tst 0 lat 0 lon 0 pai 0 speed 0 heading 0 lt 1a tc 00 mobile 1 hops 1/1 port 2002 info 0 6869\n";
-
-/// A geobroadcast with every field other than 0, for an ellipse, with nothing for the port.
-static ELLIPSE: &str =
-    "0000000000000001004a0200000000020200000000018947110005022042c10000040300fffe00009402020000000001fffffffffffffffe00000003ffffffffcb17f80094fc2f000001000201670000ffff0001";
-
-static ELLIPSE_LINE: &str =
-    "1 020000000001 020000000002 gbc 9402020000000001 tst 4294967295 lat -2 lon 3 pai 1 speed -1 heading 65535 lt 05 tc c1 mobile 0 hops 2/3 number 65534 ellipse -887621632 -1795412224 1 2 359 port 65535 info 1 -\n";
-
-/// A record whose frame is of one octet, at moment 5.
-static SHORT: &str = "0000000000000005000100";
-
-/// A record of no octet, at moment 5.
-static EMPTY: &str = "00000000000000050000";
-
-/// What a command left: its status, standard output and standard error.
+/// What the program left: its status, standard output and standard error.
 #[derive(Drop)]
 struct Left {
     status: Status,
@@ -56,48 +53,9 @@ struct Left {
     err: Vec<u8>,
 }
 
-fn show_of<R: Read + Drop>(alloc: Global, reader: R) -> Left {
-    let (mut out, mut err) = (Vec::new(alloc), Vec::new(alloc));
-    let status = show::show(alloc, "a.cap", reader, &mut out, &mut err);
-    Left { status, out, err }
-}
-
-fn check_of<R: Read + Drop>(alloc: Global, reader: R) -> Left {
-    let (mut out, mut err) = (Vec::new(alloc), Vec::new(alloc));
-    let status = check::check(alloc, "a.cap", reader, &mut out, &mut err);
-    Left { status, out, err }
-}
-
-fn joined(alloc: Global, parts: &[&str]) -> Result<String, AllocError> {
-    let mut whole = String::new(alloc);
-    for part in parts {
-        whole.push_str(part)?;
-    }
-    Ok(whole)
-}
-
-/// What `import` makes of lines: the capture, and what it left.
-fn import_of(alloc: Global, text: &[u8]) -> Left {
-    let (mut out, mut err) = (Vec::new(alloc), Vec::new(alloc));
-    let status = match import::read_lines(alloc, "a.txt", text, &mut err) {
-        Ok(records) => import::write_records("a.cap", records.as_slice(), &mut out, &mut err),
-        Err(status) => status,
-    };
-    Left { status, out, err }
-}
-
-/// What the program answers to words.
-fn answer_of(rt: &HostRuntime, words: &[String]) -> Left {
+/// What the program leaves when it is run with these arguments.
+fn left_by(rt: &HostRuntime, line: &[u8]) -> Left {
     let (mut out, mut err) = (Vec::new(rt.alloc()), Vec::new(rt.alloc()));
-    let status = program::answer(rt, words, &mut out, &mut err);
+    let status = program::run(rt, env::args(&Given { rt, line }), &mut out, &mut err);
     Left { status, out, err }
-}
-
-/// The words of a line, with a space between each two.
-fn words_of(alloc: Global, line: &str) -> Result<Vec<String>, AllocError> {
-    let mut words = Vec::new(alloc);
-    for word in line.split(' ') {
-        words.push(word.to_string(alloc)?)?;
-    }
-    Ok(words)
 }

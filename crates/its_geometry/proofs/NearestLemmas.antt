@@ -1,9 +1,12 @@
 -- Lanes of squares, and the least of lists.
-use Rattle.std.proofs.Common.{◌≡◌, ℕ, suc, zero, ◌+◌, ◌-◌, ◌*◌, ◌^◌, ◌≤◌, ◌<◌, min, Bool, true, false, cond, List, [], ◌∷◌, ◌++◌, refl, sym, ap, ◌∙◌, ltb, map, take, drop, length, get_or, set, ⊎_elim, ◌⊎◌, arith, w64, Fits}
+use Rattle.std.proofs.Common.{◌≡◌, ℕ, suc, zero, ◌+◌, ◌-◌, ◌*◌, ◌^◌, ◌≤◌, ◌<◌, min, Bool, true}
+use Rattle.std.proofs.Common.{false, cond, List, [], ◌∷◌, ◌++◌, refl, sym, ap, ◌∙◌, ltb, map, take}
+use Rattle.std.proofs.Common.{drop, length, get_or, set, ⊎_elim, ◌⊎◌, arith, w64, Fits}
 use Rattle.std.specs.Simd.Lanes.{zip2, Each1, Each2}
 use lib.Lanes.{sel_l, top}
 use Rattle.std.proofs.lemmas.Simd.{Each2-of, Each1-zip2, tops_compared}
-use Rattle.std.proofs.lemmas.List.{take_more, take_more_set, map-append, length-take, get_or-take, take-map, drop-map}
+use Rattle.std.proofs.lemmas.List.{take_more, take_more_set, map-append, length-take, get_or-take}
+use Rattle.std.proofs.lemmas.List.{take-map, drop-map}
 use Rattle.std.proofs.Math.Seq.{take-add}
 use Rattle.its_gnvalue.specs.Values.{Position}
 use Rattle.std.proofs.lemmas.Bool.{ltb-true, ltb-false, cases_lt}

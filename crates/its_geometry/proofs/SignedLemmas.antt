@@ -2,7 +2,8 @@
 use Rattle.std.proofs.Common.{◌≡◌, ℕ, zero, suc, ◌*◌, ◌/◌, ◌^◌, ◌≤◌, ◌<◌, refl, ap, ◌∙◌, arith, w64}
 use Rattle.std.specs.Prelude.{ℤ, pos, negsuc, neg_ℤ, ◌-ℤ◌, ◌*ℤ◌, int_div, unsigned_abs, FitsSigned}
 use mir.Val.{to_z, of_z}
-use Rattle.std.proofs.lemmas.Int.{to_z-of_z, fits_signed_mul, fits_signed_from_abs, unsigned_abs-mul}
+use Rattle.std.proofs.lemmas.Int.{to_z-of_z, fits_signed_mul, fits_signed_from_abs}
+use Rattle.std.proofs.lemmas.Int.{unsigned_abs-mul}
 use Rattle.its_gnvalue.specs.Values.{Position}
 use Rattle.its_geometry.specs.Offsets.{longitude_scale, wrap_longitude, northward, eastward}
 

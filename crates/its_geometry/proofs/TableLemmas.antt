@@ -1,9 +1,11 @@
 -- The sine table: its range and its rules.
-use Rattle.std.proofs.Common.{◌≡◌, ℕ, zero, suc, ◌-◌, ◌<◌, ◌≤◌, Bool, true, false, cond, List, [], ◌∷◌, refl, sym, ap, ◌∙◌, subst, leb, get_or, arith}
+use Rattle.std.proofs.Common.{◌≡◌, ℕ, zero, suc, ◌-◌, ◌<◌, ◌≤◌, Bool, true, false, cond, List, []}
+use Rattle.std.proofs.Common.{◌∷◌, refl, sym, ap, ◌∙◌, subst, leb, get_or, arith}
 use Rattle.std.specs.Prelude.{pos, neg_ℤ, unsigned_abs}
 use Rattle.std.specs.List.{list_all}
 use Rattle.std.proofs.lemmas.Bool.{leb-true, le-leb, lt-leb, and_parts}
-use Rattle.its_geometry.specs.Table.{quarter_sines, quarter_sine, half_sine, sine, IsMirrored, IsOpposite, IsAtMostOne}
+use Rattle.its_geometry.specs.Table.{quarter_sines, quarter_sine, half_sine, sine, IsMirrored}
+use Rattle.its_geometry.specs.Table.{IsOpposite, IsAtMostOne}
 
 get_or-le : (m : ℕ) (xs : List ℕ) (i : ℕ) → list_all (λ n. leb n m) xs ≡ true → get_or xs i 0 ≤ m
 get_or-le m [] i h = omega arith

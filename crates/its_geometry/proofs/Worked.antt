@@ -3,7 +3,8 @@ use Rattle.std.proofs.Common.{◌≡◌, true, false, refl}
 use Rattle.std.specs.Prelude.{ℤ, pos, negsuc}
 use Rattle.its_gnvalue.specs.Values.{Position}
 use Rattle.its_geometry.specs.declared.area.Shape.TheVariants.{Circle, Rectangle, Ellipse}
-use Rattle.its_geometry.specs.Offsets.{longitude_scale, northward, eastward, across, squared_distance}
+use Rattle.its_geometry.specs.Offsets.{longitude_scale, northward, eastward, across}
+use Rattle.its_geometry.specs.Offsets.{squared_distance}
 use Rattle.its_geometry.specs.Area.{GeoArea, area_holds}
 
 abbrev at : ℤ → ℤ → Position

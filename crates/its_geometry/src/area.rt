@@ -2,7 +2,7 @@
 
 ghost use Rattle.std.specs.Prelude.{◌≡◌, ◌<◌, ◌≤◌, ◌^◌, ◌⊎◌, MatchResult};
 ghost use Rattle.its_geometry.specs.Area.{HasMeasures, IsMade};
-ghost use Rattle.its_geometry.specs.Refusals.{IsRefused};
+ghost use Rattle.its_geometry.specs.Refusals.{IsRefused, area_code};
 ghost use Rattle.its_geometry.specs.declared.area.Shape.TheVariants as shapes;
 
 use its_gnvalue::Place;
@@ -30,11 +30,23 @@ pub enum AreaFault {
     AngleRange,
 }
 
+impl AreaFault {
+    /// The code of the fault, A1 or A2: what logs show.
+    pub fn code(self) -> &'static str
+        ensures { result.now ≡ area_code self }
+    {
+        match self {
+            AreaFault::ZeroDistance => "A1",
+            AreaFault::AngleRange => "A2",
+        }
+    }
+}
+
 impl fmt::Display for AreaFault {
     fn fmt<W: fmt::Write>(&self, f: &mut fmt::Formatter<W>) -> fmt::Result {
         match self {
-            AreaFault::ZeroDistance => write!(f, "A1"),
-            AreaFault::AngleRange => write!(f, "A2"),
+            AreaFault::ZeroDistance => write!(f, "a distance of 0 m"),
+            AreaFault::AngleRange => write!(f, "an angle over 359 degrees"),
         }
     }
 }
@@ -56,18 +68,36 @@ impl Model for Area {
 
     ghost Value = { GeoArea };
 
-    ghost view = { λ area. record { shape = area.shape; centre = area.centre; a = area.a; b = area.b; angle = area.angle } };
+    ghost view = { λ area. record {
+      shape = area.shape;
+      centre = area.centre;
+      a = area.a;
+      b = area.b;
+      angle = area.angle;
+    } };
 
     ghost invariant = { λ area. HasMeasures area.shape area.a area.b area.angle };
 
-    ghost inverse = { λ area. record { shape = area.shape; centre = area.centre; a = area.a; b = area.b; angle = area.angle } };
+    ghost inverse = { λ area. record {
+      shape = area.shape;
+      centre = area.centre;
+      a = area.a;
+      b = area.b;
+      angle = area.angle;
+    } };
 }
 
 impl Area {
     /// The circle of this radius in metres, or A1 where it is 0.
     pub fn circle(centre: Place, r: u16) -> Result<Area, AreaFault>
         ensures { MatchResult result
-            (λ area. (area ≡ record { shape = shapes.Circle; centre = centre; a = r; b = 0; angle = 0 }) × (0 < r))
+            (λ area. (area ≡ record {
+              shape = shapes.Circle;
+              centre = centre;
+              a = r;
+              b = 0;
+              angle = 0;
+            }) × (0 < r))
             (λ f. (f ≡ AreaFault.ZeroDistance) × (r ≡ 0)) }
     {
         if r == 0 {
@@ -82,10 +112,11 @@ impl Area {
         })
     }
 
-    /// The rectangle of these half lengths in metres, the first along the angle: in degrees, clockwise
-    /// from north. A1 where a half length is 0, else A2 where the angle is over 359.
+    /// The rectangle of these half lengths in metres, the first along the angle: in degrees,
+    /// clockwise from north. A1 where a half length is 0, else A2 where the angle is over 359.
     pub fn rectangle(centre: Place, a: u16, b: u16, angle: u16) -> Result<Area, AreaFault>
-        ensures { MatchResult result (IsMade shapes.Rectangle centre a b angle) (IsRefused a b angle) }
+        ensures { MatchResult result
+            (IsMade shapes.Rectangle centre a b angle) (IsRefused a b angle) }
     {
         refuse(a, b, angle)?;
         Ok(Area {
@@ -99,7 +130,8 @@ impl Area {
 
     /// The ellipse of these half axes in metres, under the rules of a rectangle.
     pub fn ellipse(centre: Place, a: u16, b: u16, angle: u16) -> Result<Area, AreaFault>
-        ensures { MatchResult result (IsMade shapes.Ellipse centre a b angle) (IsRefused a b angle) }
+        ensures { MatchResult result
+            (IsMade shapes.Ellipse centre a b angle) (IsRefused a b angle) }
     {
         refuse(a, b, angle)?;
         Ok(Area {

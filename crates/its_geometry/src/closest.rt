@@ -1,5 +1,7 @@
 //! The nearest of many places.
-ghost use Rattle.std.specs.Prelude.{◌≡◌, ◌↔◌, ◌⊎◌, ◌+◌, ◌*◌, ◌^◌, ◌<◌, ◌≤◌, min, length, IsNone, IfSome, slice_index};
+
+ghost use Rattle.std.specs.Prelude.{◌≡◌, ◌↔◌, ◌⊎◌, ◌+◌, ◌*◌, ◌^◌, ◌<◌, ◌≤◌, min, length, IsNone};
+ghost use Rattle.std.specs.Prelude.{IfSome, slice_index};
 ghost use Rattle.std.specs.Simd.Lanes.{zip2, Each1};
 ghost use Rattle.its_geometry.specs.Nearest.{distances, least_of, IsFirstLeast, AllAbove};
 
@@ -8,8 +10,8 @@ use crate::reach::Reach;
 use its_gnvalue::Place;
 use std::simd::prelude::*;
 
-/// The index of the place that is nearest to the centre, by `distance2`: the least index of those at
-/// equal distance. None exactly where there are no places.
+/// The index of the place that is nearest to the centre, by `distance2`: the least index of those
+/// at equal distance. None exactly where there are no places.
 pub fn nearest(centre: Place, places: &[Place]) -> Option<usize>
     ensures empty { IsNone result ↔ (length places.now ≡ 0) }
     ensures nearest { IfSome result (IsFirstLeast (distances centre places.now)) }

@@ -1,6 +1,8 @@
 //! Which places an area holds.
+
 ghost use Rattle.std.specs.Prelude.{◌≡◌, ◌↔◌, ◌*◌, ◌^◌, ◌<◌, ◌≤◌, IsTrue, unsigned_abs};
-ghost use Rattle.its_geometry.specs.Area.{AreaHolds, area_holds, offset_holds, is_near, is_within, is_in_ellipse};
+ghost use Rattle.its_geometry.specs.Area.{AreaHolds, area_holds, offset_holds, is_near, is_within};
+ghost use Rattle.its_geometry.specs.Area.{is_in_ellipse};
 
 use crate::area::{Area, Shape};
 use crate::offsets::{Centre, across, along, squared_length};

@@ -1,6 +1,9 @@
 //! Where a place lies, seen from a centre.
-ghost use Rattle.std.specs.Prelude.{◌≡◌, ◌+◌, ◌-◌, ◌*◌, ◌/◌, ◌^◌, ◌<◌, ◌≤◌, pos, negsuc, ◌-ℤ◌, ◌*ℤ◌, ◌≤ℤ◌, int_div, unsigned_abs};
-ghost use Rattle.its_geometry.specs.Offsets.{longitude_scale, wrap_longitude, northward, eastward, square, squared_distance, along, across};
+
+ghost use Rattle.std.specs.Prelude.{◌≡◌, ◌+◌, ◌-◌, ◌*◌, ◌/◌, ◌^◌, ◌<◌, ◌≤◌, pos, negsuc, ◌-ℤ◌};
+ghost use Rattle.std.specs.Prelude.{◌*ℤ◌, ◌≤ℤ◌, int_div, unsigned_abs};
+ghost use Rattle.its_geometry.specs.Offsets.{longitude_scale, wrap_longitude, northward, eastward};
+ghost use Rattle.its_geometry.specs.Offsets.{square, squared_distance, along, across};
 
 use crate::table::{cosine, quarter_sine, sine};
 use its_gnvalue::Place;

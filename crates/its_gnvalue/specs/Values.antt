@@ -1,13 +1,16 @@
--- What the values are, apart from how they lie in memory: whole numbers, with signs where the field has one.
-use Rattle.std.specs.Prelude.{◌≡◌, ℕ, ◌+◌, ◌-◌, ◌*◌, ◌/◌, ◌%◌, ◌^◌, ℤ, pos, negsuc, ◌≤ℤ◌, Bool, ◌&&◌, nat_lt, slice_index, ◌∷◌, []}
+-- What the values are, apart from how they lie in memory: whole numbers, with signs where the field
+-- has one.
+use Rattle.std.specs.Prelude.{◌≡◌, ℕ, ◌+◌, ◌-◌, ◌*◌, ◌/◌, ◌%◌, ◌^◌, ℤ, pos, negsuc, ◌≤ℤ◌, Bool}
+use Rattle.std.specs.Prelude.{◌&&◌, nat_lt, slice_index, ◌∷◌, []}
 
 -- A place on the earth, in tenths of a microdegree: north and east are positive.
 pub record Position : Type 0 where
   pub latitude : ℤ
   pub longitude : ℤ
 
--- What a station says of itself: its address, at which moment (ms modulo 2^32) it was where, whether that place is
--- accurate (PAI), its speed (0.01 m/s, negative backwards) and its heading (0.1 degree clockwise from north).
+-- What a station says of itself: its address, at which moment (ms modulo 2^32) it was where,
+-- whether that place is accurate (PAI), its speed (0.01 m/s, negative backwards) and its heading
+-- (0.1 degree clockwise from north).
 pub record PositionVector : Type 0 where
   pub address : ℕ
   pub timestamp : ℕ
@@ -21,7 +24,8 @@ pub record HopPair : Type 0 where
   pub left : ℕ
   pub max : ℕ
 
--- The parts of a GN address, from the highest bit: configured by hand (1 bit), station type (5), reserved (10), MID (48).
+-- The parts of a GN address, from the highest bit: configured by hand (1 bit), station type (5),
+-- reserved (10), MID (48).
 abbrev pub manual_of : ℕ → ℕ
 manual_of address = address / 2 ^ 63 % 2
 
@@ -35,7 +39,8 @@ reserved_of address = address / 2 ^ 48 % 2 ^ 10
 abbrev pub mid_of : ℕ → ℕ
 mid_of address = address % 2 ^ 48
 
--- The lowest bit of the first octet of a MAC, or of a MID in its address, says whether it is a group.
+-- The lowest bit of the first octet of a MAC, or of a MID in its address, says whether it is a
+-- group.
 abbrev pub group_bit_of : ℕ → ℕ
 group_bit_of mac = mac / 2 ^ 40 % 2
 

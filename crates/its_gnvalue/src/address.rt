@@ -2,7 +2,8 @@
 
 ghost use Rattle.std.specs.Prelude.{◌≡◌, ◌<◌, ◌^◌, ◌↔◌, IsTrue, MatchResult};
 ghost use Rattle.byteorder.specs.Endian.{big_number, big_bytes};
-ghost use Rattle.its_gnvalue.specs.Values.{IsGroup, IsIndividual, manual_of, station_type_of, reserved_of, mid_of};
+ghost use Rattle.its_gnvalue.specs.Values.{IsGroup, IsIndividual, manual_of, station_type_of};
+ghost use Rattle.its_gnvalue.specs.Values.{reserved_of, mid_of};
 
 use crate::fault::ValueFault;
 use byteorder::{BigEndian, ByteOrder};

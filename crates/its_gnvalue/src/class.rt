@@ -1,3 +1,5 @@
+//! The traffic class of a packet (EN 302 636-4-1, TC).
+
 ghost use Rattle.std.specs.Prelude.{◌≡◌, ◌<◌};
 
 use std::marker::Model;

@@ -1,8 +1,13 @@
+//! Why a value, memory or room is refused.
+
+ghost use Rattle.std.specs.Prelude.{◌≡◌};
+ghost use Rattle.its_gnvalue.specs.Codes.{value_code};
+
 use std::alloc::{AllocError, AllocFailed};
 use std::error::Error;
 use std::fmt;
 
-/// A growth was refused.
+/// Out of memory: an allocation failed.
 #[derive(Clone, Copy, Debug, PartialEq, Eq)]
 pub struct NoMemory;
 
@@ -51,13 +56,27 @@ pub enum ValueFault {
     GroupMid,
 }
 
+impl ValueFault {
+    /// The code of the fault, V1 to V4: what logs show.
+    pub fn code(self) -> &'static str
+        ensures { result.now ≡ value_code self }
+    {
+        match self {
+            ValueFault::LatitudeRange => "V1",
+            ValueFault::LongitudeRange => "V2",
+            ValueFault::SpeedRange => "V3",
+            ValueFault::GroupMid => "V4",
+        }
+    }
+}
+
 impl fmt::Display for ValueFault {
     fn fmt<W: fmt::Write>(&self, f: &mut fmt::Formatter<W>) -> fmt::Result {
         match self {
-            ValueFault::LatitudeRange => write!(f, "V1"),
-            ValueFault::LongitudeRange => write!(f, "V2"),
-            ValueFault::SpeedRange => write!(f, "V3"),
-            ValueFault::GroupMid => write!(f, "V4"),
+            ValueFault::LatitudeRange => write!(f, "latitude outside -90 to 90 degrees"),
+            ValueFault::LongitudeRange => write!(f, "longitude outside -180 to 180 degrees"),
+            ValueFault::SpeedRange => write!(f, "speed outside -163.84 to 163.83 m/s"),
+            ValueFault::GroupMid => write!(f, "the MID of an address is a group MAC"),
         }
     }
 }

@@ -1,8 +1,11 @@
+//! The hops of a packet: how many are left, of how many (EN 302 636-4-1, RHL and MHL).
+
 ghost use Rattle.std.specs.Prelude.{◌≡◌, ◌≤◌, ◌<◌, ◌^◌, ◌⊎◌, MatchOption};
 
 use std::marker::Model;
 
-/// How many hops a packet has left (RHL) and how many it had at most (MHL): 1 <= left <= max <= 255.
+/// How many hops a packet has left (RHL) and how many it had at most (MHL): 1 <= left <= max <=
+/// 255.
 #[derive(Clone, Copy, Debug, PartialEq, Eq)]
 pub struct Hops {
     left: u8,

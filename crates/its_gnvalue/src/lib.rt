@@ -19,6 +19,3 @@ pub use lifetime::Lifetime;
 pub use place::Place;
 pub use timestamp::newer;
 pub use vector::LongPv;
-
-#[cfg(test)]
-mod tests;

@@ -1,3 +1,5 @@
+//! The lifetime of a packet (EN 302 636-4-1, LT).
+
 ghost use Rattle.std.specs.Prelude.{◌≡◌, ◌<◌, ◌≤◌};
 ghost use Rattle.its_gnvalue.specs.Values.{lifetime_millis};
 

@@ -1,3 +1,5 @@
+//! A place on the earth.
+
 ghost use Rattle.std.specs.Prelude.{◌≡◌, IfOk, IfErr, ◌⊎◌};
 ghost use Rattle.its_gnvalue.specs.Values.{IsLatitude, IsLongitude};
 
@@ -29,10 +31,13 @@ impl Place {
     /// longitude is.
     pub fn new(lat: i32, lon: i32) -> Result<Place, ValueFault>
         ensures made { IfOk result
-            (λ p. (p ≡ record { latitude = lat; longitude = lon }) × IsLatitude lat × IsLongitude lon) }
+            (λ p. (p ≡ record { latitude = lat; longitude = lon })
+            × IsLatitude lat × IsLongitude lon) }
         ensures latitude { result ≡ Err ValueFault.LatitudeRange → ¬ IsLatitude lat }
-        ensures longitude { result ≡ Err ValueFault.LongitudeRange → IsLatitude lat × ¬ IsLongitude lon }
-        ensures only { IfErr result (λ f. (f ≡ ValueFault.LatitudeRange) ⊎ (f ≡ ValueFault.LongitudeRange)) }
+        ensures longitude { result ≡ Err ValueFault.LongitudeRange
+            → IsLatitude lat × ¬ IsLongitude lon }
+        ensures only { IfErr result
+            (λ f. (f ≡ ValueFault.LatitudeRange) ⊎ (f ≡ ValueFault.LongitudeRange)) }
     {
         if lat < -900_000_000 || lat > 900_000_000 {
             return Err(ValueFault::LatitudeRange);

@@ -1,3 +1,5 @@
+//! Which of two timestamps is newer.
+
 ghost use Rattle.std.specs.Prelude.{◌≡◌};
 ghost use Rattle.its_gnvalue.specs.Values.{is_newer};
 

@@ -1,3 +1,5 @@
+//! The long position vector of a station (EN 302 636-4-1).
+
 ghost use Rattle.std.specs.Prelude.{◌≡◌, ◌<◌, ◌^◌, MatchResult};
 ghost use Rattle.its_gnvalue.specs.Values.{IsSpeed};
 

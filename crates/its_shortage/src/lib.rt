@@ -1,31 +1,29 @@
-//! Want of memory, for tests: a process with no memory left but the budget that a test leaves it.
+//! Out of memory, for tests: a process with no memory left but the budget that a test leaves it.
 //!
-//! `Shortage::new` takes all memory that the process can get, and `leave` gives a budget of it back.
-//! From then on the heap itself refuses what goes past the budget: in the code under test, in std and
-//! in the libraries below. Where `leave` answers false more is left, and the test shows nothing.
+//! `Shortage::new` takes all memory that the process can get, and `leave` gives a budget of it
+//! back. From then on each allocation that goes past the budget fails: in the code under test, in
+//! std and in the libraries below. Where `leave` answers false more is left, and the test shows
+//! nothing.
 //!
-//! **What a budget stands for.** Code that stops at the first growth that is refused is tried with
-//! budgets of 0, 16, 32, .. octets until it answers as with ample memory. Each of its growths is then,
-//! under some of these budgets, the first that is refused: the budgets stand for 'the Nth growth is
-//! refused', for N = 1, 2, .. . A call that answers under the budget 0 takes no memory. Where the lowest
-//! budget at which a call succeeds is that of a single piece as large as its result, it has one growth
-//! and no second.
+//! **What a budget stands for.** Code that stops at the first allocation that fails is tried with
+//! budgets of 0, 16, 32, .. octets until it answers as with ample memory. Each of its allocations
+//! is then, under some of these budgets, the first that fails: the budgets stand for 'the Nth
+//! allocation fails', for N = 1, 2, .. . A call that answers under the budget 0 takes no memory.
+//! Where the lowest budget at which a call succeeds is that of a single piece as large as its
+//! result, it has one allocation and no second.
 //!
-//! - A piece costs more than its octets (on glibc 8 more, rounded up to 16), so compare budgets, and
-//!   do not take them for lengths.
+//! - A piece costs more than its octets (on glibc 8 more, rounded up to 16), so compare budgets,
+//!   and do not take them for lengths.
 //! - Make all that a test needs before `Shortage::new`, and let go what a call gave before the next
 //!   `leave`.
-//! - Let the budgets of a test rise. A lower one finds what was let go in pieces that the heap keeps
-//!   apart, and `leave` may answer false; 0 may come last.
+//! - Let the budgets of a test rise. A lower one finds what was let go in pieces that the heap
+//!   keeps apart, and `leave` may answer false; 0 may come last.
 //! - One `Shortage` in a test. Each test runs in a process of its own, so no other sees it.
-//! - It acts on the heap of a built test. An allocator that only watches for errors, as that of a run
-//!   without proof, has memory elsewhere.
+//! - It acts on the heap of a built test. An allocator that only watches for errors, as that of a
+//!   run without proof, has memory elsewhere.
 #![tactic(auto)]
 
 use std::alloc::{AllocError, Global};
-
-#[cfg(test)]
-mod tests;
 
 /// The largest budget, in octets.
 pub const MOST: usize = 100_000;
@@ -54,8 +52,8 @@ pub struct Shortage {
 }
 
 impl Shortage {
-    /// Takes all memory that is left, with the `MOST` octets out of which `leave` makes its budgets.
-    /// An error says that there was no room to note all that is held.
+    /// Takes all memory that is left, with the `MOST` octets out of which `leave` makes its
+    /// budgets. An error says that there was no room to note all that is held.
     pub fn new(alloc: Global) -> Result<Shortage, AllocError> {
         let held = Vec::with_capacity(alloc, PIECES)?;
         let plug = Some(Vec::with_capacity(alloc, MOST)?);
@@ -70,7 +68,8 @@ impl Shortage {
     }
 
     /// Leaves a budget of about that many octets, `MOST` at most, in one piece; no octet at 0.
-    /// Answers whether it holds: false where the rest cannot be taken back, or a far larger piece is left.
+    /// Answers whether it holds: false where the rest cannot be taken back, or a far larger piece
+    /// is left.
     #[must_use]
     pub fn leave(&mut self, octets: usize) -> bool {
         self.plug = None;

@@ -1,9 +1,12 @@
-use Rattle.std.proofs.Common.{◌≡◌, ℕ, List, ◌+◌, ◌-◌, ◌<◌, ◌≤◌, ◌^◌, length, take, drop, get_or, min, sym, ap, ◌∙◌, subst, arith}
+use Rattle.std.proofs.Common.{◌≡◌, ℕ, List, ◌+◌, ◌-◌, ◌<◌, ◌≤◌, ◌^◌, length, take, drop, get_or}
+use Rattle.std.proofs.Common.{min, sym, ap, ◌∙◌, subst, arith}
 use Rattle.std.proofs.lemmas.List.{length-map, get_or-map, length-take, length-drop}
 use Rattle.its_geometry.specs.declared.closest.Found.{Found}
 use Rattle.its_geometry.specs.Offsets.{squared_distance}
 use Rattle.its_geometry.specs.Nearest.{least_of, distances, AllAbove}
-use Rattle.its_geometry.proofs.NearestLemmas.{least_of-le, least_of-more, least_of-eight, least_of-zip2, least_of-no_nearer, least_of-small, met_more, distances-eight}
+use Rattle.its_geometry.proofs.NearestLemmas.{least_of-le, least_of-more, least_of-eight}
+use Rattle.its_geometry.proofs.NearestLemmas.{least_of-zip2, least_of-no_nearer, least_of-small}
+use Rattle.its_geometry.proofs.NearestLemmas.{met_more, distances-eight}
 use Rattle.its_geometry.proofs.closest.walk.Goals as goal
 use Rattle.its_geometry.proofs.closest.walk.Goals.{then-meets, else-meets}
 

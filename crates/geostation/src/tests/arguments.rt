@@ -1,0 +1,169 @@
+//! Whole texts: help on standard output, refused arguments on standard error.
+
+use super::left_by;
+use its_commands::Status;
+use std::test::Fail;
+use std::{env, fs};
+
+pub static HELP: &str = "\
+Shows, checks and makes captures of GeoNetworking frames
+
+Usage: geostation <COMMAND>
+
+Commands:
+  show    Prints a line for each record of a capture
+  check   Prints a line for each refused record of a capture, and a count
+  import  Makes a capture of lines of a moment and hexadecimal digits
+  help    Print this message or the help of the given subcommand(s)
+
+Options:
+  -h, --help  Print help
+";
+
+static SHOW_HELP: &str = "\
+Prints a line for each record of a capture
+
+Usage: geostation show <FILE>
+
+Arguments:
+  <FILE>  The capture
+
+Options:
+  -h, --help  Print help
+";
+
+static CHECK_HELP: &str = "\
+Prints a line for each refused record of a capture, and a count
+
+Usage: geostation check <FILE>
+
+Arguments:
+  <FILE>  The capture
+
+Options:
+  -h, --help  Print help
+";
+
+static IMPORT_HELP: &str = "\
+Makes a capture of lines of a moment and hexadecimal digits
+
+Usage: geostation import <FILE> <OUT>
+
+Arguments:
+  <FILE>  The lines
+  <OUT>   The capture that is made
+
+Options:
+  -h, --help  Print help
+";
+
+static NO_COMMAND: &str = "\
+error: 'geostation' requires a subcommand but one was not provided
+  [subcommands: show, check, import, help]
+
+Usage: geostation <COMMAND>
+
+For more information, try '--help'.
+";
+
+static NO_SUCH_COMMAND: &str = "\
+error: unrecognized subcommand 'nonsense'
+
+Usage: geostation <COMMAND>
+
+For more information, try '--help'.
+";
+
+static NO_FILE: &str = "\
+error: the following required arguments were not provided:
+  <FILE>
+
+Usage: geostation show <FILE>
+
+For more information, try '--help'.
+";
+
+static NO_OUT: &str = "\
+error: the following required arguments were not provided:
+  <OUT>
+
+Usage: geostation import <FILE> <OUT>
+
+For more information, try '--help'.
+";
+
+static ONE_TOO_MANY: &str = "\
+error: unexpected argument 'b' found
+
+Usage: geostation show <FILE>
+
+For more information, try '--help'.
+";
+
+static NO_TEXT: &str = "error: an argument is not UTF-8\n";
+
+#[test]
+fn help_that_was_asked_for_is_output(rt: HostRuntime) -> Result<(), Fail> {
+    let cases = [
+        ("geostation --help", HELP),
+        ("geostation help", HELP),
+        ("geostation show --help", SHOW_HELP),
+        ("geostation check --help", CHECK_HELP),
+        ("geostation import --help", IMPORT_HELP),
+    ];
+    for (line, help) in cases {
+        let left = left_by(&rt, line.as_bytes());
+        assert_eq!(rt; left.out.as_slice(), help.as_bytes(), "{line}");
+        assert!(rt; left.err.is_empty(), "{line}");
+        assert_eq!(rt; left.status, Status::Done, "{line}");
+    }
+    Ok(())
+}
+
+#[test]
+fn refused_arguments_are_told(rt: HostRuntime) -> Result<(), Fail> {
+    let cases: [(&[u8], &str); 6] = [
+        (b"geostation", NO_COMMAND),
+        (b"geostation nonsense", NO_SUCH_COMMAND),
+        (b"geostation show", NO_FILE),
+        (b"geostation import a", NO_OUT),
+        (b"geostation show a b", ONE_TOO_MANY),
+        (b"geostation show \xff", NO_TEXT),
+    ];
+    for (line, said) in cases {
+        let left = left_by(&rt, line);
+        assert_eq!(rt; left.err.as_slice(), said.as_bytes());
+        assert!(rt; left.out.is_empty(), "{said}");
+        assert_eq!(rt; left.status, Status::BadArguments, "{said}");
+    }
+    Ok(())
+}
+
+/// Each command runs on the files that its arguments name.
+#[test]
+fn commands_are_dispatched(rt: HostRuntime) -> Result<(), Fail> {
+    let alloc = rt.alloc();
+    let folder = env::temp_dir(&rt)?;
+    let lines = folder.join(alloc, "geostation-run.txt")?;
+    let made = folder.join(alloc, "geostation-run.cap")?;
+    let (from, to) = (lines.as_str(), made.as_str());
+    fs::write(&rt, from, "5 00\n")?;
+    let import = format!(in alloc; "geostation import {from} {to}")?;
+    let show = format!(in alloc; "geostation show {to}")?;
+    let check = format!(in alloc; "geostation check {to}")?;
+    let imported = left_by(&rt, import.as_bytes());
+    let shown = left_by(&rt, show.as_bytes());
+    let checked = left_by(&rt, check.as_bytes());
+    fs::remove_file(&rt, from)?;
+    fs::remove_file(&rt, to)?;
+    assert_eq!(rt; imported.status, Status::Done);
+    assert!(rt; imported.out.is_empty() && imported.err.is_empty());
+    assert_eq!(rt; shown.status, Status::Refused);
+    assert_eq!(rt; shown.out.as_slice(), b"5 refused L1\n".as_slice());
+    assert_eq!(rt; checked.status, Status::Refused);
+    assert_eq!(rt;
+        checked.out.as_slice(),
+        b"record 0: L1\n1 records, 1 refused\n".as_slice()
+    );
+    Ok(())
+}

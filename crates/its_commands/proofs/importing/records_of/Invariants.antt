@@ -1,0 +1,7 @@
+use Rattle.std.specs.Prelude.{All}
+use Rattle.its_commands.specs.Lines.{HasFrame}
+use Rattle.its_commands.proofs.importing.records_of.Given as goal
+
+-- each line so far has a frame
+abbrev pub invariant-loop-number : goal.invariant-loop-number
+invariant-loop-number g l = All HasFrame l.records.items

@@ -1,0 +1,86 @@
+//! What ends a command before it is done.
+
+ghost use Rattle.std.specs.Prelude.{◌≡◌, MatchResult};
+ghost use Rattle.its_commands.specs.Statuses.{fault_status};
+
+use crate::importing::LineFault;
+use crate::status::Status;
+use std::alloc::AllocError;
+use std::io;
+use std::io::Write;
+use thiserror::Error;
+
+/// Why a command ended before it was done. Its text is the line on standard error.
+#[derive(Debug, Drop, Error)]
+pub enum Fault<'a> {
+    /// The file could not be opened, or a read of it failed.
+    #[error("geostation: cannot read {0}")]
+    CannotRead(&'a str),
+    /// The file could not be created, or a write of it failed.
+    #[error("geostation: cannot write {0}")]
+    CannotWrite(&'a str),
+    /// An allocation failed.
+    #[error("geostation: out of memory")]
+    OutOfMemory(#[from(alloc)] AllocError),
+    /// A line, counted from 1, is no record.
+    #[error("geostation: line {0}: {1}")]
+    Line(u64, LineFault),
+    /// Standard output could not be written. There is no line for it.
+    #[error("")]
+    NoOutput(#[from] io::Error),
+}
+
+impl Fault<'_> {
+    /// The fault of a failed call on the file that is read: out of memory is told apart.
+    pub(crate) fn of_read<'a>(error: &io::Error, file: &'a str) -> Fault<'a>
+        ensures { fault_status result ≡ Status.Failed }
+    {
+        match error.kind() {
+            io::ErrorKind::OutOfMemory => Fault::OutOfMemory(AllocError),
+            _ => Fault::CannotRead(file),
+        }
+    }
+
+    /// The fault of a failed call on the file that is written: out of memory is told apart.
+    pub(crate) fn of_write<'a>(error: &io::Error, file: &'a str) -> Fault<'a>
+        ensures { fault_status result ≡ Status.Failed }
+    {
+        match error.kind() {
+            io::ErrorKind::OutOfMemory => Fault::OutOfMemory(AllocError),
+            _ => Fault::CannotWrite(file),
+        }
+    }
+
+    /// The exit status: `Refused` for a line, else `Failed`.
+    pub fn status(&self) -> Status
+        ensures { result ≡ fault_status self.now }
+    {
+        match self {
+            Fault::Line(..) => Status::Refused,
+            _ => Status::Failed,
+        }
+    }
+
+    /// Writes the line on standard error, and gives the exit status. What fails there is passed
+    /// over.
+    pub fn report<E: Write>(self, err: &mut E) -> Status
+        ensures { result ≡ fault_status self.entry }
+    {
+        if !matches!(&self, Fault::NoOutput(_)) {
+            let _ = writeln!(err, "{self}");
+        }
+        self.status()
+    }
+}
+
+/// The exit status of a command that ended so, once a fault is reported.
+pub(crate) fn status_of<E: Write>(ended: Result<Status, Fault<'_>>, err: &mut E) -> Status
+    ensures { MatchResult ended.entry
+        (λ status. result ≡ status)
+        (λ fault. result ≡ fault_status fault) }
+{
+    match ended {
+        Ok(status) => status,
+        Err(fault) => fault.report(err),
+    }
+}

@@ -1,0 +1,134 @@
+//! The commands over named files.
+
+ghost use Rattle.std.specs.Prelude.{◌≡◌, IfOk, IfErr};
+ghost use Rattle.its_commands.specs.Statuses.{IsCommandStatus, IsStopped, IsWriterStatus};
+
+use crate::checking::check;
+use crate::fault::Fault;
+use crate::importing::{read_lines, write_records};
+use crate::showing::show;
+use crate::status::Status;
+use std::alloc::AllocError;
+use std::fs;
+use std::io::{BufReader, BufWriter, Read, Write};
+use std::rt::Files;
+
+/// Prints a line for each record of the capture in the file.
+///
+/// `Refused` where a frame or the capture was refused, `Failed` where the file could not be read or
+/// standard output not written, or memory ran out.
+pub fn show_file<R: Files + AllocGlobal, W: Write, E: Write>(
+    rt: &R,
+    file: &str,
+    out: &mut W,
+    err: &mut E,
+) -> Status
+where
+    R::File: Read + Drop,
+    ensures { IsCommandStatus result }
+{
+    match open(rt, file, err) {
+        Ok(reader) => show(rt.alloc(), file, reader, out, err),
+        Err(status) => status,
+    }
+}
+
+/// Prints a line for each refused record of the capture in the file, and how many records there
+/// were.
+///
+/// `Refused` where a frame or the capture was refused, `Failed` where the file could not be read or
+/// standard output not written, or memory ran out.
+pub fn check_file<R: Files + AllocGlobal, W: Write, E: Write>(
+    rt: &R,
+    file: &str,
+    out: &mut W,
+    err: &mut E,
+) -> Status
+where
+    R::File: Read + Drop,
+    ensures { IsCommandStatus result }
+{
+    match open(rt, file, err) {
+        Ok(reader) => check(rt.alloc(), file, reader, out, err),
+        Err(status) => status,
+    }
+}
+
+/// Makes the capture `target` of the lines in the file. All lines are read before it is created.
+///
+/// `Refused` for a bad line, `Failed` where a file could not be read, created or written, or memory
+/// ran out.
+pub fn import_file<R: Files + AllocGlobal, E: Write>(
+    rt: &R,
+    file: &str,
+    target: &str,
+    err: &mut E,
+) -> Status
+where
+    R::File: Read + Write + Drop,
+    ensures { IsCommandStatus result }
+{
+    match import_lines(rt, file, target, err) {
+        Ok(status) => status,
+        Err(status) => status,
+    }
+}
+
+/// Reads the lines, and only then creates the capture. An `Err` is the status of what stopped it
+/// before the first record was written.
+fn import_lines<R: Files + AllocGlobal, E: Write>(
+    rt: &R,
+    file: &str,
+    target: &str,
+    err: &mut E,
+) -> Result<Status, Status>
+where
+    R::File: Read + Write + Drop,
+    ensures written { IfOk result IsWriterStatus }
+    ensures stopped { IfErr result IsStopped }
+{
+    let reader = open(rt, file, err)?;
+    let records = read_lines(rt.alloc(), file, reader, err)?;
+    let created = create(rt, target, err)?;
+    Ok(write_records(target, records.as_slice(), created, err))
+}
+
+/// Opens a file for reading, with a buffer, or reports that it cannot be read or memory ran out.
+pub fn open<R: Files + AllocGlobal, E: Write>(
+    rt: &R,
+    file: &str,
+    err: &mut E,
+) -> Result<BufReader<R::File>, Status>
+where
+    R::File: Read + Drop,
+    ensures { IfErr result (λ status. status ≡ Status.Failed) }
+{
+    match fs::open(rt, file) {
+        Ok(opened) => {
+            BufReader::new(rt.alloc(), opened).map_err(|_| Fault::OutOfMemory(AllocError).report(
+                err,
+            ))
+        }
+        Err(error) => Err(Fault::of_read(&error, file).report(err)),
+    }
+}
+
+/// Creates a file, with a buffer, or reports that it cannot be written or memory ran out.
+pub fn create<R: Files + AllocGlobal, E: Write>(
+    rt: &R,
+    file: &str,
+    err: &mut E,
+) -> Result<BufWriter<R::File>, Status>
+where
+    R::File: Write + Drop,
+    ensures { IfErr result (λ status. status ≡ Status.Failed) }
+{
+    match fs::create(rt, file) {
+        Ok(created) => {
+            BufWriter::new(rt.alloc(), created).map_err(|_| Fault::OutOfMemory(AllocError).report(
+                err,
+            ))
+        }
+        Err(error) => Err(Fault::of_write(&error, file).report(err)),
+    }
+}

@@ -1,0 +1,148 @@
+//! The command `import`: lines of a moment and hexadecimal digits become a capture.
+
+ghost use Rattle.std.specs.Prelude.{◌≡◌, IfOk, IfErr, All};
+ghost use Rattle.its_commands.specs.Lines.{HasFrame};
+ghost use Rattle.its_commands.specs.Statuses.{IsStopped, IsWriterStatus};
+
+use crate::fault::{Fault, status_of};
+use crate::status::Status;
+use its_linkframe::{CaptureWriter, Counted, LONGEST_FRAME, Record};
+use std::alloc::{AllocError, Global};
+use std::io::{BufRead, Write};
+use std::str;
+use thiserror::Error;
+
+/// Why a line is no record, in the order in which it is judged.
+#[derive(Clone, Copy, Debug, PartialEq, Eq, Error)]
+pub enum LineFault {
+    /// No decimal moment of 1 to 20 digits that fits 64 bits stands before a space.
+    #[error("moment")]
+    Moment,
+    /// What follows the space is no even number of hexadecimal digits.
+    #[error("hex")]
+    Hex,
+    /// The digits are those of no octet, or of more than 1468.
+    #[error("length")]
+    Length,
+}
+
+/// Why a line was not read.
+#[derive(Drop)]
+enum LineError {
+    Refused(LineFault),
+    OutOfMemory(AllocError),
+}
+
+impl LineError {
+    /// The fault of the line of this number, from 1.
+    fn at_line<'a>(self, number: u64) -> Fault<'a> {
+        match self {
+            LineError::Refused(fault) => Fault::Line(number, fault),
+            LineError::OutOfMemory(error) => Fault::OutOfMemory(error),
+        }
+    }
+}
+
+/// Reads 1 to 20 decimal digits that fit 64 bits: a sign is no digit.
+fn read_moment(digits: &[u8]) -> Option<u64> {
+    if digits.len() > 20 || !digits.iter().all(|digit| digit.is_ascii_digit()) {
+        return None;
+    }
+    str::from_utf8(digits).ok()?.parse::<u64>().ok()
+}
+
+/// Reads an even number of hexadecimal digits.
+fn read_octets(alloc: Global, digits: &[u8]) -> Result<Vec<u8>, LineError> {
+    match hex::decode(alloc, digits) {
+        Ok(octets) => Ok(octets),
+        Err(hex::FromHexError::OutOfMemory) => Err(LineError::OutOfMemory(AllocError)),
+        Err(_) => Err(LineError::Refused(LineFault::Hex)),
+    }
+}
+
+/// Reads a line: a moment, one space, and the digits of 1 to 1468 octets.
+fn read_line(alloc: Global, line: &[u8]) -> Result<Record, LineError>
+    ensures { IfOk result HasFrame }
+{
+    let Some(space) = line.iter().position(|octet| *octet == b' ') else {
+        return Err(LineError::Refused(LineFault::Moment));
+    };
+    let (digits, rest) = line.split_at(space);
+    let Some(moment) = read_moment(digits) else {
+        return Err(LineError::Refused(LineFault::Moment));
+    };
+    let frame = read_octets(alloc, &rest[1..])?;
+    if frame.is_empty() || frame.len() > LONGEST_FRAME {
+        return Err(LineError::Refused(LineFault::Length));
+    }
+    Ok(Record { moment, frame })
+}
+
+/// Reads all lines that the reader gives, or reports the first that is bad. `file` is their name.
+/// Empty lines are passed over.
+///
+/// `Refused` for a bad line, `Failed` where a read failed or memory ran out.
+pub fn read_lines<R: BufRead + Drop, E: Write>(
+    alloc: Global,
+    file: &str,
+    reader: R,
+    err: &mut E,
+) -> Result<Vec<Record>, Status>
+    ensures frames { IfOk result (λ records. All HasFrame records.items) }
+    ensures stopped { IfErr result IsStopped }
+{
+    match records_of(alloc, file, reader) {
+        Ok(records) => Ok(records),
+        Err(fault) => Err(fault.report(err)),
+    }
+}
+
+fn records_of<'a, R: BufRead + Drop>(
+    alloc: Global,
+    file: &'a str,
+    reader: R,
+) -> Result<Vec<Record>, Fault<'a>>
+    ensures { IfOk result (λ records. All HasFrame records.items) }
+{
+    let mut records = Vec::new(alloc);
+    for (number, line) in (1..u64::MAX).zip(reader.split(alloc, b'\n')) {
+        let line = match line {
+            Ok(line) => line,
+            Err(error) => return Err(Fault::of_read(&error, file)),
+        };
+        if line.is_empty() {
+            continue;
+        }
+        match read_line(alloc, line.as_slice()) {
+            Ok(record) => records.push(record)?,
+            Err(error) => return Err(error.at_line(number)),
+        }
+    }
+    Ok(records)
+}
+
+/// Writes the records as a capture, and flushes it. `file` is the name of what the writer makes.
+///
+/// `Failed` where a write or the flush failed.
+pub fn write_records<W: Write + Drop, E: Write>(
+    file: &str,
+    records: &[Record],
+    out: W,
+    err: &mut E,
+) -> Status
+    ensures { IsWriterStatus result }
+{
+    match write_capture(records, out) {
+        Some(()) => Status::Done,
+        None => Fault::CannotWrite(file).report(err),
+    }
+}
+
+/// Writes the records, one after the other: `None` where one was not written.
+fn write_capture<W: Write + Drop>(records: &[Record], out: W) -> Option<()> {
+    let mut capture = CaptureWriter::new(Counted::new(out));
+    for record in records {
+        capture.put(record.moment, record.frame.as_slice()).ok()?;
+    }
+    capture.into_inner().flush().ok()
+}

@@ -1,0 +1,61 @@
+//! The command `show`.
+
+ghost use Rattle.std.specs.Prelude.{IfOk};
+ghost use Rattle.its_commands.specs.Statuses.{IsCommandStatus};
+
+use crate::codes::FrameCode;
+use crate::fault::{Fault, status_of};
+use crate::line::FrameLine;
+use crate::status::Status;
+use crate::walk::{RecordLines, each_record};
+use its_linkframe::{FrameFault, FrameView};
+use std::alloc::Global;
+use std::io;
+use std::io::{Read, Write};
+
+/// A line for each record.
+struct AllRecords;
+
+impl RecordLines for AllRecords {
+    fn print<W: Write>(
+        &self,
+        _place: u64,
+        moment: u64,
+        frame: Result<FrameView<'_>, FrameFault>,
+        out: &mut W,
+    ) -> io::Result<()> {
+        match frame {
+            Ok(frame) => writeln!(out, "{}", FrameLine { moment, frame }),
+            Err(fault) => writeln!(out, "{moment} refused {}", FrameCode(fault)),
+        }
+    }
+}
+
+/// Prints a line for each record of the capture that the reader gives. `file` is its name.
+///
+/// `Refused` where a frame or the capture was refused, `Failed` where a read or a write failed or
+/// memory ran out.
+pub fn show<R: Read + Drop, W: Write, E: Write>(
+    alloc: Global,
+    file: &str,
+    reader: R,
+    out: &mut W,
+    err: &mut E,
+) -> Status
+    ensures { IsCommandStatus result }
+{
+    let ended = show_capture(alloc, file, reader, out);
+    status_of(ended, err)
+}
+
+fn show_capture<'a, R: Read + Drop, W: Write>(
+    alloc: Global,
+    file: &'a str,
+    reader: R,
+    out: &mut W,
+) -> Result<Status, Fault<'a>>
+    ensures { IfOk result IsCommandStatus }
+{
+    let walked = each_record(alloc, file, reader, &AllRecords, out)?;
+    Ok(walked.status())
+}

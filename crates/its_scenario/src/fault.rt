@@ -1,0 +1,63 @@
+//! Why a document is no scenario.
+
+use crate::key::Key;
+use std::alloc::AllocError;
+use thiserror::Error;
+
+/// The first fault of a scenario, in the order in which faults are judged. Its text is what follows
+/// `geostation: ` on standard error.
+#[derive(Clone, Copy, Debug, PartialEq, Eq, Error)]
+pub enum ScenarioFault {
+    /// The text is no TOML document.
+    #[error("scenario: not TOML")]
+    NotToml,
+    /// `station` is there and no array of tables.
+    #[error("scenario: station")]
+    Stations,
+    /// `event` is there and no array of tables.
+    #[error("scenario: event")]
+    Events,
+    /// There are more stations than are taken.
+    #[error("scenario: too many stations")]
+    TooManyStations,
+    /// A key of a station, counted from 0, is missing, of another kind or out of range.
+    #[error("scenario: station {0}: {1}")]
+    Station(usize, Key),
+    /// A key of an event, counted from 0, is missing, of another kind or out of range.
+    #[error("scenario: event {0}: {1}")]
+    Event(usize, Key),
+    /// Two stations, counted from 0, have the same MID: the second is the first that has one of
+    /// before.
+    #[error("scenario: stations {0} and {1} share a MID")]
+    SharedMid(usize, usize),
+    /// An allocation failed.
+    #[error("out of memory")]
+    OutOfMemory(#[from(alloc)] AllocError),
+}
+
+/// Why the value of a key was not taken.
+#[derive(Clone, Copy, Debug)]
+pub(crate) enum KeyFault {
+    /// The key is missing, or its value is of another kind or out of range.
+    Refused(Key),
+    /// An allocation failed.
+    OutOfMemory(AllocError),
+}
+
+impl KeyFault {
+    /// The fault of the scenario whose station of this number has the key.
+    pub(crate) fn of_station(self, number: usize) -> ScenarioFault {
+        match self {
+            KeyFault::Refused(key) => ScenarioFault::Station(number, key),
+            KeyFault::OutOfMemory(error) => ScenarioFault::OutOfMemory(error),
+        }
+    }
+
+    /// The fault of the scenario whose event of this number has the key.
+    pub(crate) fn of_event(self, number: usize) -> ScenarioFault {
+        match self {
+            KeyFault::Refused(key) => ScenarioFault::Event(number, key),
+            KeyFault::OutOfMemory(error) => ScenarioFault::OutOfMemory(error),
+        }
+    }
+}

@@ -1,0 +1,223 @@
+//! Readers and writers that fail.
+
+use super::{BEACON, BEACON_LINE, EMPTY, SHORT, check_of, joined, show_of};
+use its_commands::{Status, check, read_lines, show, write_records};
+use its_linkframe::Record;
+use std::alloc::Global;
+use std::io;
+use std::io::{BufReader, Read, Write};
+use std::test::Fail;
+
+/// A reader that gives one octet a call, and fails at the call `fails_at`, counted from 1.
+#[derive(Drop)]
+struct Failing<'a> {
+    octets: &'a [u8],
+    fails_at: u64,
+}
+
+impl Read for Failing<'_> {
+    fn read(&mut self, buf: &mut [u8]) -> io::Result<usize> {
+        if self.fails_at <= 1 {
+            return Err(io::Error::from(io::ErrorKind::Other));
+        }
+        self.fails_at -= 1;
+        if buf.is_empty() {
+            return Ok(0);
+        }
+        match self.octets.split_first() {
+            Some((octet, rest)) => {
+                self.octets = rest;
+                buf[0] = *octet;
+                Ok(1)
+            }
+            None => Ok(0),
+        }
+    }
+}
+
+#[test]
+fn a_capture_ends_at_the_read_that_fails(rt: HostRuntime) -> Result<(), Fail> {
+    let alloc = rt.alloc();
+    let capture = hex::decode(alloc, BEACON)?;
+    for fails_at in 1..62u64 {
+        let octets = capture.as_slice();
+        let printed = if fails_at == 61 { BEACON_LINE } else { "" };
+        let shown = show_of(alloc, Failing { octets, fails_at });
+        let checked = check_of(alloc, Failing { octets, fails_at });
+        assert_eq!(rt; shown.out.as_slice(), printed.as_bytes(), "{fails_at}");
+        assert!(rt; checked.out.is_empty(), "{fails_at}");
+        assert_eq!(rt; shown.status, Status::Failed, "{fails_at}");
+        assert_eq!(rt; checked.status, Status::Failed, "{fails_at}");
+        let said = b"geostation: cannot read a.cap\n".as_slice();
+        assert_eq!(rt; shown.err.as_slice(), said);
+        assert_eq!(rt; checked.err.as_slice(), said);
+    }
+    Ok(())
+}
+
+#[test]
+fn an_import_ends_at_the_read_that_fails(rt: HostRuntime) -> Result<(), Fail> {
+    let alloc = rt.alloc();
+    let octets = b"7 00ff\n8 aabbcc\n".as_slice();
+    for fails_at in 1..18u64 {
+        let mut err = Vec::new(alloc);
+        let reader = BufReader::new(alloc, Failing { octets, fails_at })?;
+        let read = read_lines(alloc, "a.txt", reader, &mut err);
+        assert_eq!(rt; read.err(), Some(Status::Failed), "{fails_at}");
+        assert_eq!(rt;
+            err.as_slice(),
+            b"geostation: cannot read a.txt\n".as_slice()
+        );
+    }
+    let mut err = Vec::new(alloc);
+    let reader = BufReader::new(
+        alloc,
+        Failing {
+            octets,
+            fails_at: 18,
+        },
+    )?;
+    assert!(rt; read_lines(alloc, "a.txt", reader, &mut err).is_ok());
+    assert!(rt; err.is_empty());
+    Ok(())
+}
+
+/// A writer that takes so many octets and then fails, or that fails only at a flush.
+#[derive(Drop)]
+struct Full {
+    taken: Vec<u8>,
+    room: usize,
+    flushes: bool,
+}
+
+impl Full {
+    fn with_room(alloc: Global, room: usize) -> Full {
+        Full {
+            taken: Vec::new(alloc),
+            room,
+            flushes: true,
+        }
+    }
+
+    /// A writer with room for all, whose flush fails.
+    fn that_never_flushes(alloc: Global) -> Full {
+        Full {
+            taken: Vec::new(alloc),
+            room: usize::MAX,
+            flushes: false,
+        }
+    }
+}
+
+impl Write for Full {
+    fn write(&mut self, buf: &[u8]) -> io::Result<usize> {
+        if self.room == 0 && !buf.is_empty() {
+            return Err(io::Error::from(io::ErrorKind::Other));
+        }
+        let count = self.room.min(buf.len());
+        self.taken.extend_from_slice(&buf[..count])?;
+        self.room -= count;
+        Ok(count)
+    }
+
+    fn flush(&mut self) -> io::Result<()> {
+        if self.flushes {
+            Ok(())
+        } else {
+            Err(io::Error::from(io::ErrorKind::Other))
+        }
+    }
+}
+
+#[test]
+fn show_ends_at_the_write_that_fails(rt: HostRuntime) -> Result<(), Fail> {
+    let alloc = rt.alloc();
+    let digits = joined(alloc, &[BEACON, SHORT, EMPTY])?;
+    let capture = hex::decode(alloc, digits.as_str())?;
+    let whole = joined(
+        alloc,
+        &[BEACON_LINE, "5 refused L1\ncapture: C2 at record 2\n"],
+    )?;
+    for room in 0..whole.len() {
+        let (mut out, mut err) = (Full::with_room(alloc, room), Vec::new(alloc));
+        let status = show(alloc, "a.cap", capture.as_slice(), &mut out, &mut err);
+        assert_eq!(rt; status, Status::Failed, "{room}");
+        assert_eq!(rt; out.taken.len(), room);
+        assert!(rt;
+            whole.as_bytes().starts_with(out.taken.as_slice()),
+            "{room}"
+        );
+        assert!(rt; err.is_empty(), "{room}");
+    }
+    let left = show_of(alloc, capture.as_slice());
+    assert_eq!(rt; left.out.as_slice(), whole.as_bytes());
+    assert_eq!(rt; left.status, Status::Refused);
+    Ok(())
+}
+
+#[test]
+fn check_ends_at_the_write_that_fails(rt: HostRuntime) -> Result<(), Fail> {
+    let alloc = rt.alloc();
+    let digits = joined(alloc, &[BEACON, SHORT, EMPTY])?;
+    let capture = hex::decode(alloc, digits.as_str())?;
+    let whole = "record 1: L1\ncapture: C2 at record 2\n2 records, 1 refused\n";
+    for room in 0..whole.len() {
+        let (mut out, mut err) = (Full::with_room(alloc, room), Vec::new(alloc));
+        let status = check(alloc, "a.cap", capture.as_slice(), &mut out, &mut err);
+        assert_eq!(rt; status, Status::Failed, "{room}");
+        assert_eq!(rt; out.taken.len(), room);
+        assert!(rt;
+            whole.as_bytes().starts_with(out.taken.as_slice()),
+            "{room}"
+        );
+        assert!(rt; err.is_empty(), "{room}");
+    }
+    let left = check_of(alloc, capture.as_slice());
+    assert_eq!(rt; left.out.as_slice(), whole.as_bytes());
+    assert_eq!(rt; left.status, Status::Refused);
+    Ok(())
+}
+
+/// The records of two lines, and the capture that they make.
+fn two_records(alloc: Global) -> Result<(Vec<Record>, Vec<u8>), Fail> {
+    let lines = b"7 00ff\n8 aabbcc\n".as_slice();
+    let mut err: Vec<u8> = Vec::new(alloc);
+    let Ok(records) = read_lines(alloc, "a.txt", lines, &mut err) else {
+        return Err("refused")?;
+    };
+    let capture = hex::decode(alloc, "0000000000000007000200ff00000000000000080003aabbcc")?;
+    Ok((records, capture))
+}
+
+#[test]
+fn import_ends_at_the_write_that_fails(rt: HostRuntime) -> Result<(), Fail> {
+    let alloc = rt.alloc();
+    let (records, whole) = two_records(alloc)?;
+    for room in 0..whole.len() {
+        let (mut out, mut err) = (Full::with_room(alloc, room), Vec::new(alloc));
+        let status = write_records("a.cap", records.as_slice(), &mut out, &mut err);
+        assert_eq!(rt; status, Status::Failed, "{room}");
+        assert_eq!(rt; out.taken.len(), room);
+        assert!(rt; whole.starts_with(out.taken.as_slice()), "{room}");
+        assert_eq!(rt;
+            err.as_slice(),
+            b"geostation: cannot write a.cap\n".as_slice()
+        );
+    }
+    Ok(())
+}
+
+#[test]
+fn import_ends_at_the_flush_that_fails(rt: HostRuntime) -> Result<(), Fail> {
+    let alloc = rt.alloc();
+    let (records, whole) = two_records(alloc)?;
+    let (mut out, mut err) = (Full::that_never_flushes(alloc), Vec::new(alloc));
+    let status = write_records("a.cap", records.as_slice(), &mut out, &mut err);
+    assert_eq!(rt; status, Status::Failed);
+    assert_eq!(rt; out.taken.as_slice(), whole.as_slice());
+    assert_eq!(rt;
+        err.as_slice(),
+        b"geostation: cannot write a.cap\n".as_slice()
+    );
+    Ok(())
+}

@@ -1,0 +1,13 @@
+//! Tests of the libraries through their public calls, a module for each subject.
+#![tactic(auto)]
+
+#[cfg(test)]
+mod commands;
+#[cfg(test)]
+mod geometry;
+#[cfg(test)]
+mod scenarios;
+#[cfg(test)]
+mod shortage;
+#[cfg(test)]
+mod values;
