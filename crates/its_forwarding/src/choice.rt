@@ -9,7 +9,7 @@ ghost use Rattle.its_loctable.specs.Content.{Represents};
 ghost use Rattle.its_forwarding.specs.Chosen.{chosen};
 
 use crate::nearest::nearest_neighbour;
-use its_geometry::{Area, contains, distance2};
+use its_geometry::{Area, Centre, contains};
 use its_gnvalue::{Mac, Place};
 use its_loctable::LocationStore;
 
@@ -49,8 +49,8 @@ pub fn choose<S: LocationStore>(
     if is_sender_inside(store, now, area, sender) {
         return Choice::Drop;
     }
-    let centre = area.centre();
-    match nearest_neighbour(store, now, centre, distance2(centre, own)) {
+    let centre = Centre::new(area.centre());
+    match nearest_neighbour(store, now, centre, centre.squared_distance(own)) {
         Some(address) => Choice::To(address.mid()),
         None => Choice::Broadcast,
     }

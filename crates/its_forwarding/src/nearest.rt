@@ -8,8 +8,8 @@ ghost use Rattle.its_model.specs.Stations.{stations_at};
 ghost use Rattle.its_model.specs.Decision.{next_hop};
 ghost use Rattle.its_loctable.specs.Content.{Represents};
 
-use its_geometry::Nearer;
-use its_gnvalue::{GnAddress, Place};
+use its_geometry::{Centre, Nearer};
+use its_gnvalue::GnAddress;
 use its_loctable::LocationStore;
 
 /// The address of the neighbour that is nearest to the centre, of equally near ones the one of least
@@ -17,14 +17,14 @@ use its_loctable::LocationStore;
 pub(crate) fn nearest_neighbour<S: LocationStore>(
     store: &S,
     now: u64,
-    centre: Place,
+    centre: Centre,
     limit: u64,
 ) -> Option<GnAddress>
     requires { now ≤ 2 ^ 62 }
     ensures { (history : List Reception) →
         Represents (S.remember store.now) (S.content store.now) history now →
         result ≡ option_map (λ k. k.vector.address)
-            (next_hop centre limit (stations_at (S.remember store.now) now history)) }
+        (next_hop centre.place limit (stations_at (S.remember store.now) now history)) }
 {
     let mut nearer = Nearer::than(centre, limit);
     let mut best = None;

@@ -25,8 +25,8 @@ returns-in-Some g c = λ history rep.
     (sym c.contains.ensures.value ∙ c.if-contains.false) (sym (c.is_sender_inside.ensures history rep) ∙ c.if-is_sender_inside.false)
     ∙ toward-some (next_hop area.centre (squared_distance area.centre c.args.own) all) c.in-Some.address
     (c.in-Some.ensures history rep
-    ∙ (λ i. option_map (λ (k : Known). k.vector.address) (next_hop (c.centre-centre.ensures i)
-    ((c.distance2.ensures.value ∙ ap (λ p. squared_distance p c.args.own) c.centre-centre.ensures) i) all)))
+    ∙ (λ i. option_map (λ (k : Known). k.vector.address) (next_hop ((c.new-centre.ensures ∙ c.centre.ensures) i)
+    ((c.squared_distance.ensures.value ∙ ap (λ p. squared_distance p c.args.own) (c.new-centre.ensures ∙ c.centre.ensures)) i) all)))
     ∙ ap To (sym c.mid.ensures.value))
 
 pub returns-in-None : goal.returns-in-None
@@ -37,5 +37,5 @@ returns-in-None g c = λ history rep.
     (sym c.contains.ensures.value ∙ c.if-contains.false) (sym (c.is_sender_inside.ensures history rep) ∙ c.if-is_sender_inside.false)
     ∙ toward-none (next_hop area.centre (squared_distance area.centre c.args.own) all)
     (c.in-None.ensures history rep
-    ∙ (λ i. option_map (λ (k : Known). k.vector.address) (next_hop (c.centre-centre.ensures i)
-    ((c.distance2.ensures.value ∙ ap (λ p. squared_distance p c.args.own) c.centre-centre.ensures) i) all))))
+    ∙ (λ i. option_map (λ (k : Known). k.vector.address) (next_hop ((c.new-centre.ensures ∙ c.centre.ensures) i)
+    ((c.squared_distance.ensures.value ∙ ap (λ p. squared_distance p c.args.own) (c.new-centre.ensures ∙ c.centre.ensures)) i) all))))

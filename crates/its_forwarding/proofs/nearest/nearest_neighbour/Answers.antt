@@ -10,18 +10,18 @@ use Rattle.its_forwarding.proofs.nearest.nearest_neighbour.Goals as goal
 use Rattle.its_forwarding.proofs.nearest.nearest_neighbour.Goals.{then-take, else-take}
 
 pub loop-vector-init : goal.loop-vector-init
-loop-vector-init g c = record { centre = c.than-nearer.ensures.centre; walked = λ history rep. ap (λ n. walk c.args.centre n None (neighbours_above None (stations_at (g.S.LocationStore.remember c.args.store.now) c.args.now history))) c.than-nearer.ensures.limit }
+loop-vector-init g c = record { centre = ap (λ n. n.centre) c.than-nearer.ensures; walked = λ history rep. ap (λ n. walk c.args.centre.place n None (neighbours_above None (stations_at (g.S.LocationStore.remember c.args.store.now) c.args.now history))) (ap (λ n. n.least) c.than-nearer.ensures) }
 
 pub loop-vector-preserved : goal.loop-vector-preserved
 loop-vector-preserved g c =
-    let here = c.args.centre in
+    let here = c.args.centre.place in
     let v = c.in-Some.vector in
     let limit = c.loop-vector.nearer.least in
     let d = squared_distance here v.place in
     let met : squared_distance c.loop-vector.nearer.centre c.place.result ≡ d =
     λ i. squared_distance (c.loop-vector.invariant.centre i) (c.place.ensures i) in
     let a : c.address-address.result ≡ v.address = c.address-address.ensures in
-    let least : c.take.new.self.least ≡ min limit d = c.take.ensures.limit ∙ ap (min limit) met in
+    let least : c.take.new.self.least ≡ min limit d = c.take.ensures.least ∙ ap (min limit) met in
     let test : c.take.result ≡ ltb d limit = c.take.ensures.nearer ∙ ap (λ n. ltb n limit) met in
     record {
       centre = c.take.ensures.centre ∙ c.loop-vector.invariant.centre;
@@ -48,6 +48,6 @@ loop-vector-preserved g c =
 pub returns : goal.returns
 returns g c = λ history rep.
     let all = stations_at (g.S.LocationStore.remember c.args.store.now) c.args.now history in
-    sym (ap (walk c.args.centre c.loop-vector.nearer.least c.loop-vector.best) (is_last c.loop-vector.after all (c.in_default.ensures.next history rep)))
+    sym (ap (walk c.args.centre.place c.loop-vector.nearer.least c.loop-vector.best) (is_last c.loop-vector.after all (c.in_default.ensures.next history rep)))
     ∙ c.loop-vector.invariant.walked history rep
-    ∙ walk-next_hop c.args.centre c.args.limit all
+    ∙ walk-next_hop c.args.centre.place c.args.limit all
