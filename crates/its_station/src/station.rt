@@ -1,10 +1,10 @@
-//! A station, and the calls that need neither a port nor a frame.
+//! A station, how it is made, and how it moves.
 
 ghost use Rattle.std.specs.Prelude.{◌≡◌, ◌≢◌, ◌≤◌, ◌^◌, ◌+◌, ◌%◌, ℕ, [], List};
 ghost use Rattle.std.specs.Prelude.{Result, Option, Some, None, Err, IfOk, IfErr, OnErr, OnOk};
 ghost use Rattle.its_gnvalue.specs.Values.{IsSpeed, mid_of};
-ghost use Rattle.its_model.specs.Calls.{Moved, Restarted, Own};
-ghost use Rattle.its_model.specs.Calls.OwnCall.{Move, Restart};
+ghost use Rattle.its_model.specs.Calls.{Moved, Own};
+ghost use Rattle.its_model.specs.Calls.OwnCall.{Move};
 ghost use Rattle.its_model.specs.History.{Reception};
 ghost use Rattle.its_model.specs.Station.{StationModel, new_station, station_step, moment_refusal};
 ghost use Rattle.its_loctable.specs.Content.{Represents};
@@ -113,23 +113,6 @@ impl<S: LocationStore> Station<S> {
         Ok(())
     }
 
-    /// The station forgets all that it heard and closes its ports, and gives its next packet for an
-    /// area this sequence number. Its address, its place and its capacity stay; its next beacon is due
-    /// at once. Refused for its moment alone (S1, S2). It takes no memory.
-    pub fn restart(&mut self, now: u64, number: u16) -> Result<(), Refused>
-        ensures step { (s : StationModel) → RepresentsStation self.old s →
-            IsStepOf (Says Restarted) result self.new
-            (station_step s now (Own (Restart number))) }
-        ensures unchanged { OnErr result (self.new ≡ self.old) }
-        ensures memory { result ≢ Err Refused.NoMemory }
-    {
-        if let Err(refused) = self.check_moment(now) {
-            return Err(refused);
-        }
-        self.begin_anew(now, number);
-        Ok(())
-    }
-
     /// The moment of a call is judged first: S1, then S2.
     pub(crate) fn check_moment(&self, now: u64) -> Result<(), Refused>
         ensures refusal { (ports : List ℕ) (history : List Reception) →
@@ -182,24 +165,6 @@ impl<S: LocationStore> Station<S> {
             unreachable!()
         };
         self.vector = vector;
-        self.clock = now;
-    }
-
-    fn begin_anew(&mut self, now: u64, number: u16)
-        requires { now ≤ 2 ^ 62 }
-        ensures fields { self.new ≡ record self.old {
-          clock = now;
-          next_number = number;
-          ports = [];
-          beacon_from = now;
-          content = self.new.content;
-        } }
-        ensures table { Represents self.new.remember self.new.content [] 0 }
-    {
-        self.store.clear();
-        self.ports.clear();
-        self.next_number = number;
-        self.beacon_from = now;
         self.clock = now;
     }
 }
