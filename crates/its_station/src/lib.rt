@@ -44,4 +44,5 @@ pub use outcome::{Handed, Outcome, Why};
 pub use refused::Refused;
 pub use requests::{GbcRequest, OwnedGbcRequest, OwnedShbRequest, ShbRequest};
 pub use run::{Call, Delivery, Ran, Reply};
+pub use sending::MAX_PAYLOAD;
 pub use station::{LAST_MOMENT, Station};

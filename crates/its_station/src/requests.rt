@@ -1,5 +1,8 @@
 //! What an application asks a station to send.
 
+ghost use Rattle.std.specs.Prelude.{◌≡◌};
+ghost use Rattle.its_station.specs.Requests.{gbc_request, shb_request, owned_gbc, owned_shb};
+
 use its_geometry::Area;
 use its_gnvalue::{Lifetime, TrafficClass};
 
@@ -65,4 +68,35 @@ pub struct OwnedShbRequest {
     pub class: TrafficClass,
     /// What is sent to the port, at most 1394 octets.
     pub payload: Vec<u8>,
+}
+
+impl OwnedGbcRequest {
+    /// The same request, with the payload lent.
+    pub fn lend(&self) -> GbcRequest<'_>
+        ensures { gbc_request result ≡ owned_gbc self.now }
+    {
+        GbcRequest {
+            port: self.port,
+            info: self.info,
+            class: self.class,
+            lifetime: self.lifetime,
+            max_hops: self.max_hops,
+            area: self.area,
+            payload: self.payload.as_slice(),
+        }
+    }
+}
+
+impl OwnedShbRequest {
+    /// The same request, with the payload lent.
+    pub fn lend(&self) -> ShbRequest<'_>
+        ensures { shb_request result ≡ owned_shb self.now }
+    {
+        ShbRequest {
+            port: self.port,
+            info: self.info,
+            class: self.class,
+            payload: self.payload.as_slice(),
+        }
+    }
 }

@@ -8,7 +8,6 @@ ghost use Rattle.its_model.specs.Calls.{Answer, Call as ModelCall};
 ghost use Rattle.its_model.specs.Station.{StationModel, Step, station_step};
 ghost use Rattle.its_station.specs.State.{StationState, RepresentsStation};
 ghost use Rattle.its_station.specs.Steps.{IsStepOf, Says, refusal_of};
-ghost use Rattle.its_station.specs.Requests.{gbc_request, shb_request, owned_gbc, owned_shb};
 ghost use Rattle.its_station.specs.Requests.{TellsSent, TellsTick};
 ghost use Rattle.its_station.specs.Receiving.{IsFrameCall, Tells, said_by};
 ghost use Rattle.its_station.specs.Runs.{IsCall, IsInRange, IsReplyTo, IsDone, TellsReply, IsRunOf, IsIsolatedRunOf};
@@ -16,7 +15,7 @@ ghost use Rattle.its_station.specs.Runs.{IsShort, IsShortHanding, delivered};
 
 use crate::outcome::{Handed, Outcome, Why};
 use crate::refused::Refused;
-use crate::requests::{GbcRequest, OwnedGbcRequest, OwnedShbRequest, ShbRequest};
+use crate::requests::{OwnedGbcRequest, OwnedShbRequest};
 use crate::sending::MAX_PAYLOAD;
 use crate::station::Station;
 use its_gnvalue::{NoMemory, Place};
@@ -173,20 +172,20 @@ impl<S: LocationStore> Station<S> {
                 pai,
                 speed,
                 heading,
-            } => done(self.move_to(moment, *place, *pai, *speed, *heading)),
-            Call::Open(port) => done(self.open(moment, *port)),
-            Call::Close(port) => done(self.close(moment, *port)),
-            Call::Restart(number) => done(self.restart(moment, *number)),
-            Call::Tick(jitter) => ticked(self.tick(moment, *jitter)),
-            Call::SendShb(r) => sent(self.send_shb(moment, &shb_of(r))),
-            Call::SendGeobroadcast(r) => sent(self.send_geobroadcast(moment, &gbc_of(r))),
-            Call::SendGeoanycast(r) => sent(self.send_geoanycast(moment, &gbc_of(r))),
-            Call::Receive(frame) => self.call_receive(moment, frame),
+            } => Reply::of_done(self.move_to(moment, *place, *pai, *speed, *heading)),
+            Call::Open(port) => Reply::of_done(self.open(moment, *port)),
+            Call::Close(port) => Reply::of_done(self.close(moment, *port)),
+            Call::Restart(number) => Reply::of_done(self.restart(moment, *number)),
+            Call::Tick(jitter) => Reply::of_tick(self.tick(moment, *jitter)),
+            Call::SendShb(r) => Reply::of_send(self.send_shb(moment, &r.lend())),
+            Call::SendGeobroadcast(r) => Reply::of_send(self.send_geobroadcast(moment, &r.lend())),
+            Call::SendGeoanycast(r) => Reply::of_send(self.send_geoanycast(moment, &r.lend())),
+            Call::Receive(frame) => self.receive_owned(moment, frame),
         }
     }
 
     /// A frame that came. The room of the reply is taken before it is received.
-    fn call_receive(&mut self, moment: u64, frame: &[u8]) -> Result<Reply, NoMemory>
+    fn receive_owned(&mut self, moment: u64, frame: &[u8]) -> Result<Reply, NoMemory>
         ensures step { IfOk result (λ reply. (c : ModelCall) × IsFrameCall frame.now c
             × ((s : StationModel) → RepresentsStation self.old s →
             IsReplyTo reply self.new (station_step s moment c))) }
@@ -200,41 +199,44 @@ impl<S: LocationStore> Station<S> {
     }
 }
 
-/// The answer to a call that tells nothing.
-fn done(answer: Result<(), Refused>) -> Result<Reply, NoMemory>
-    ensures reply { (this : Answer Transmission) (new : StationState) (step : Step) →
-        IsDone this → IsStepOf (Says this) answer new step →
-        IfOk result (λ reply. IsReplyTo reply new step) }
-    ensures memory { OnErr result (answer ≡ Err Refused.NoMemory) }
-{
-    match answer {
-        Ok(()) => Ok(Reply::Done),
-        Err(refused) => refusal(refused),
+impl Reply {
+    /// The reply to a call that tells nothing: `move_to`, `open`, `close` or `restart`. `NoMemory` where
+    /// an allocation failed.
+    fn of_done(answer: Result<(), Refused>) -> Result<Reply, NoMemory>
+        ensures reply { (this : Answer Transmission) (new : StationState) (step : Step) →
+            IsDone this → IsStepOf (Says this) answer new step →
+            IfOk result (λ reply. IsReplyTo reply new step) }
+        ensures memory { OnErr result (answer ≡ Err Refused.NoMemory) }
+    {
+        match answer {
+            Ok(()) => Ok(Reply::Done),
+            Err(refused) => refusal(refused),
+        }
     }
-}
 
-/// The answer to a call for a beacon.
-fn ticked(answer: Result<Option<Vec<u8>>, Refused>) -> Result<Reply, NoMemory>
-    ensures reply { (new : StationState) (step : Step) → IsStepOf TellsTick answer new step →
-        IfOk result (λ reply. IsReplyTo reply new step) }
-    ensures memory { OnErr result (answer ≡ Err Refused.NoMemory) }
-{
-    match answer {
-        Ok(Some(frame)) => Ok(Reply::Sent(frame)),
-        Ok(None) => Ok(Reply::Quiet),
-        Err(refused) => refusal(refused),
+    /// The reply to `tick`. `NoMemory` where an allocation failed.
+    fn of_tick(answer: Result<Option<Vec<u8>>, Refused>) -> Result<Reply, NoMemory>
+        ensures reply { (new : StationState) (step : Step) → IsStepOf TellsTick answer new step →
+            IfOk result (λ reply. IsReplyTo reply new step) }
+        ensures memory { OnErr result (answer ≡ Err Refused.NoMemory) }
+    {
+        match answer {
+            Ok(Some(frame)) => Ok(Reply::Sent(frame)),
+            Ok(None) => Ok(Reply::Quiet),
+            Err(refused) => refusal(refused),
+        }
     }
-}
 
-/// The answer to a call that sends.
-fn sent(answer: Result<Vec<u8>, Refused>) -> Result<Reply, NoMemory>
-    ensures reply { (new : StationState) (step : Step) → IsStepOf TellsSent answer new step →
-        IfOk result (λ reply. IsReplyTo reply new step) }
-    ensures memory { OnErr result (answer ≡ Err Refused.NoMemory) }
-{
-    match answer {
-        Ok(frame) => Ok(Reply::Sent(frame)),
-        Err(refused) => refusal(refused),
+    /// The reply to a call that sends. `NoMemory` where an allocation failed.
+    fn of_send(answer: Result<Vec<u8>, Refused>) -> Result<Reply, NoMemory>
+        ensures reply { (new : StationState) (step : Step) → IsStepOf TellsSent answer new step →
+            IfOk result (λ reply. IsReplyTo reply new step) }
+        ensures memory { OnErr result (answer ≡ Err Refused.NoMemory) }
+    {
+        match answer {
+            Ok(frame) => Ok(Reply::Sent(frame)),
+            Err(refused) => refusal(refused),
+        }
     }
 }
 
@@ -263,18 +265,32 @@ fn deliver(handed: Option<Handed<'_>>, room: Vec<u8>) -> Option<Delivery>
     requires short { IsShortHanding handed }
     ensures { option_map delivered result ≡ option_map said_by handed.entry }
 {
-    let Some(handed) = handed else {
-        return None;
-    };
-    let mut payload = room;
-    let Ok(()) = payload.extend_from_slice(handed.payload) else {
-        unreachable!()
-    };
-    Some(Delivery {
-        port: handed.port,
-        info: handed.info,
-        payload,
-    })
+    match handed {
+        Some(handed) => Some(Delivery::new(handed, room)),
+        None => None,
+    }
+}
+
+impl Delivery {
+    /// The same, with a payload of its own in this room: an empty vector in which 1394 octets have
+    /// place.
+    pub fn new(handed: Handed<'_>, room: Vec<u8>) -> Delivery
+        requires empty { room.items ≡ [] }
+        requires size { vec_len room ≡ 0 }
+        requires room { 1394 ≤ vec_capacity room }
+        requires short { length handed.payload.now ≤ 1394 }
+        ensures { delivered result ≡ said_by handed.entry }
+    {
+        let mut payload = room;
+        let Ok(()) = payload.extend_from_slice(handed.payload) else {
+            unreachable!()
+        };
+        Delivery {
+            port: handed.port,
+            info: handed.info,
+            payload,
+        }
+    }
 }
 
 /// A refusal is a reply, unless an allocation failed.
@@ -286,32 +302,5 @@ fn refusal(refused: Refused) -> Result<Reply, NoMemory>
     match refused {
         Refused::NoMemory => Err(NoMemory),
         _ => Ok(Reply::Refused(refused)),
-    }
-}
-
-/// The same request, lent.
-fn shb_of(r: &OwnedShbRequest) -> ShbRequest<'_>
-    ensures { shb_request result ≡ owned_shb r.now }
-{
-    ShbRequest {
-        port: r.port,
-        info: r.info,
-        class: r.class,
-        payload: r.payload.as_slice(),
-    }
-}
-
-/// The same request, lent.
-fn gbc_of(r: &OwnedGbcRequest) -> GbcRequest<'_>
-    ensures { gbc_request result ≡ owned_gbc r.now }
-{
-    GbcRequest {
-        port: r.port,
-        info: r.info,
-        class: r.class,
-        lifetime: r.lifetime,
-        max_hops: r.max_hops,
-        area: r.area,
-        payload: r.payload.as_slice(),
     }
 }

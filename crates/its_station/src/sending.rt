@@ -32,7 +32,7 @@ use its_loctable::LocationStore;
 use std::alloc::Global;
 
 /// The longest payload of a request, in octets.
-pub(crate) const MAX_PAYLOAD: usize = 1394;
+pub const MAX_PAYLOAD: usize = 1394;
 
 /// How much later than due a beacon may be asked for, in milliseconds (profile).
 const MAX_JITTER: u16 = 750;

@@ -1,0 +1,4 @@
+pub mod Walks
+pub mod Worlds
+pub mod Logs
+pub mod Giving

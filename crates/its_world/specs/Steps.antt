@@ -1,0 +1,19 @@
+-- What an event asks of its station.
+use Rattle.std.specs.Prelude.{◌≡◌, ℕ, List, Option, IsSome, Vec, slice_get}
+use Rattle.std.specs.Option.{option_map}
+use Rattle.std.specs.declared.alloc.Global.{Global}
+use Rattle.its_model.specs.Calls as model
+use Rattle.its_model.specs.Calls.{Call}
+use Rattle.its_model.specs.World.{What}
+use Rattle.its_model.specs.World.What.{Calls, Deliver}
+use Rattle.its_station.specs.Receiving.{IsFrameCall}
+
+-- a call of its own, or the frame that these octets are
+abbrev pub IsAskedBy : What → List ℕ → Call → Type 0
+IsAskedBy (Calls call) w asked = asked ≡ model.Call.Own call
+IsAskedBy (Deliver k) w asked = IsFrameCall w asked
+
+-- the octets that an event delivers, if there are such ones; those of an own call are of no account
+abbrev pub IsDelivered : List (Vec ℕ Global) → What → Option (List ℕ) → Type 0
+IsDelivered frames (Calls call) octets = IsSome octets
+IsDelivered frames (Deliver k) octets = octets ≡ option_map (λ (w : Vec ℕ Global). w.items) (slice_get frames k)

@@ -1,0 +1,51 @@
+//! How the stations of a world begin.
+
+use its_gnvalue::{GnAddress, Place};
+use std::error::Error;
+use std::fmt;
+
+/// How a station begins.
+#[derive(Clone, Copy, Debug, PartialEq, Eq)]
+pub struct Config {
+    /// Its address.
+    pub address: GnAddress,
+    /// Where it stands.
+    pub place: Place,
+    /// For how many sources its location table has room, 1 to 4096.
+    pub capacity: u16,
+    /// How many sequence numbers it remembers of a source, 1 to 64.
+    pub remember: u8,
+}
+
+/// Why a world isn't made.
+#[derive(Clone, Copy, Debug, PartialEq, Eq)]
+pub enum WorldFault {
+    /// M1: the second of these stations is the first that has the MID of an earlier one, the first of
+    /// these.
+    SameMid(usize, usize),
+    /// M2: an allocation failed.
+    NoMemory,
+}
+
+impl WorldFault {
+    /// The code that logs show.
+    pub fn code(self) -> &'static str {
+        match self {
+            WorldFault::SameMid(_, _) => "M1",
+            WorldFault::NoMemory => "M2",
+        }
+    }
+}
+
+impl fmt::Display for WorldFault {
+    fn fmt<W: fmt::Write>(&self, f: &mut fmt::Formatter<W>) -> fmt::Result {
+        match self {
+            WorldFault::SameMid(first, second) => {
+                write!(f, "stations {first} and {second} share a MID")
+            }
+            WorldFault::NoMemory => write!(f, "out of memory"),
+        }
+    }
+}
+
+impl Error for WorldFault {}

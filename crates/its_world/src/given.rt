@@ -1,0 +1,154 @@
+//! What a station of a world gives for an event, before its frame has a number.
+
+ghost use Rattle.std.specs.Prelude.{◌≡◌, ◌<◌, ◌≤◌, ◌++◌, ◌∷◌, [], List, Option, Some};
+ghost use Rattle.std.specs.Prelude.{Err, IfOk, OnErr, MatchResult, IsSome, length, vec_len, vec_capacity};
+ghost use Rattle.its_model.specs.Packet.{Transmission};
+ghost use Rattle.its_model.specs.Calls.{Answer};
+ghost use Rattle.its_model.specs.Station.{Step};
+ghost use Rattle.its_model.specs.World.{entry_of, frame_of, numbered, with_one_more};
+ghost use Rattle.its_station.specs.State.{StationState};
+ghost use Rattle.its_station.specs.Steps.{IsStepOf, Says, refusal_of};
+ghost use Rattle.its_station.specs.Requests.{TellsSent, TellsTick};
+ghost use Rattle.its_station.specs.Receiving.{Tells, IsRelay};
+ghost use Rattle.its_station.specs.Runs.{IsShort};
+ghost use Rattle.its_world.specs.Frames.{AreFrames};
+ghost use Rattle.its_world.specs.Entries.{TellsEntry, TellsGiven, IsToldBy, IsGivenBy};
+
+use crate::entry::{Entry, EntryFault};
+use its_gnvalue::NoMemory;
+use its_station::{Delivery, Outcome, Refused};
+
+/// An entry whose frame, if it has one, has no number yet.
+#[derive(Drop)]
+pub(crate) enum Given {
+    Told(Entry),
+    Sent(Vec<u8>),
+    Accepted {
+        handed: Option<Delivery>,
+        sent: Option<Vec<u8>>,
+    },
+}
+
+impl Given {
+    /// For a call that tells nothing but that it was done.
+    pub(crate) fn of_done(entry: Entry, answer: Result<(), Refused>) -> Result<Given, NoMemory>
+        ensures given { (this : Answer Transmission) (new : StationState) (step : Step) →
+            IsToldBy entry this → IsStepOf (Says this) answer new step →
+            IfOk result (λ given. IsGivenBy given new step) }
+        ensures memory { OnErr result (answer ≡ Err Refused.NoMemory) }
+    {
+        match answer {
+            Ok(()) => Ok(Given::Told(entry)),
+            Err(refused) => refusal(refused),
+        }
+    }
+
+    /// For a call for a beacon.
+    pub(crate) fn of_tick(answer: Result<Option<Vec<u8>>, Refused>) -> Result<Given, NoMemory>
+        ensures given { (new : StationState) (step : Step) → IsStepOf TellsTick answer new step →
+            IfOk result (λ given. IsGivenBy given new step) }
+        ensures memory { OnErr result (answer ≡ Err Refused.NoMemory) }
+    {
+        match answer {
+            Ok(Some(frame)) => Ok(Given::Sent(frame)),
+            Ok(None) => Ok(Given::Told(Entry::Quiet)),
+            Err(refused) => refusal(refused),
+        }
+    }
+
+    /// For a call that sends.
+    pub(crate) fn of_send(answer: Result<Vec<u8>, Refused>) -> Result<Given, NoMemory>
+        ensures given { (new : StationState) (step : Step) → IsStepOf TellsSent answer new step →
+            IfOk result (λ given. IsGivenBy given new step) }
+        ensures memory { OnErr result (answer ≡ Err Refused.NoMemory) }
+    {
+        match answer {
+            Ok(frame) => Ok(Given::Sent(frame)),
+            Err(refused) => refusal(refused),
+        }
+    }
+
+    /// For a frame that came. The room is for the payload of what was delivered.
+    pub(crate) fn of_frame(
+        answer: Result<Outcome<'_>, Refused>,
+        room: Vec<u8>,
+    ) -> Result<Given, NoMemory>
+        requires empty { room.items ≡ [] }
+        requires size { vec_len room ≡ 0 }
+        requires room { 1394 ≤ vec_capacity room }
+        requires short { IfOk answer IsShort }
+        ensures given { (new : StationState) (step : Step) → IsStepOf Tells answer.entry new step →
+            IfOk result (λ given. IsGivenBy given new step) }
+        ensures memory { OnErr result (answer.entry ≡ Err Refused.NoMemory) }
+    {
+        match answer {
+            Ok(Outcome::Ignored(why)) => Ok(Given::Told(Entry::Ignored(why))),
+            Ok(Outcome::Accepted { handed, sent }) => Ok(Given::Accepted {
+                handed: match handed {
+                    Some(handed) => Some(Delivery::new(handed, room)),
+                    None => None,
+                },
+                sent,
+            }),
+            Err(refused) => refusal(refused),
+        }
+    }
+
+    /// The entry. A frame becomes the next of the world's, for which there has to be room.
+    pub(crate) fn enter(self, air: &mut Vec<Vec<u8>>) -> Entry
+        requires { vec_len air.old < vec_capacity air.old }
+        ensures { (answer : Answer Transmission) (frames : List Transmission) →
+            AreFrames air.old.items frames → TellsGiven self answer →
+            TellsEntry result (entry_of (length frames) answer)
+            × AreFrames air.new.items (with_one_more frames (frame_of answer)) }
+    {
+        match self {
+            Given::Told(entry) => entry,
+            Given::Sent(frame) => Entry::Sent(give(air, frame)),
+            Given::Accepted { handed, sent } => Entry::Accepted {
+                handed,
+                sent: give_relay(air, sent),
+            },
+        }
+    }
+}
+
+/// Gives a frame the next number.
+fn give(air: &mut Vec<Vec<u8>>, frame: Vec<u8>) -> usize
+    requires { vec_len air.old < vec_capacity air.old }
+    ensures number { result ≡ length air.old.items }
+    ensures given { air.new.items ≡ air.old.items ++ frame ∷ [] }
+{
+    let number = air.len();
+    let Ok(()) = air.push(frame) else {
+        unreachable!()
+    };
+    number
+}
+
+/// Gives a relayed frame the next number, if there is one.
+fn give_relay(air: &mut Vec<Vec<u8>>, sent: Option<Vec<u8>>) -> Option<usize>
+    requires { vec_len air.old < vec_capacity air.old }
+    ensures { (relayed : Option Transmission) (frames : List Transmission) →
+        AreFrames air.old.items frames → IsRelay sent relayed →
+        (result ≡ numbered (length frames) relayed)
+        × AreFrames air.new.items (with_one_more frames relayed) }
+{
+    match sent {
+        Some(frame) => Some(give(air, frame)),
+        None => None,
+    }
+}
+
+/// A refusal is an entry, unless an allocation failed.
+fn refusal(refused: Refused) -> Result<Given, NoMemory>
+    ensures { MatchResult result
+        (λ given. (given ≡ Given.Told (Entry.Refused (EntryFault.Station refused)))
+        × IsSome (refusal_of refused))
+        (λ _. refused ≡ Refused.NoMemory) }
+{
+    match refused {
+        Refused::NoMemory => Err(NoMemory),
+        _ => Ok(Given::Told(Entry::Refused(EntryFault::Station(refused)))),
+    }
+}

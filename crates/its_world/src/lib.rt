@@ -1,0 +1,17 @@
+//! A world of stations, and all frames that they gave: calls and deliveries in any order, and laws
+//! that hold after every one of them.
+#![tactic(auto)]
+
+mod config;
+mod entry;
+mod event;
+mod given;
+mod run;
+mod shared;
+mod world;
+
+pub use config::{Config, WorldFault};
+pub use entry::{Entry, EntryFault};
+pub use event::{Event, What};
+pub use run::Run;
+pub use world::World;

@@ -1,0 +1,101 @@
+//! Many events, one after the other: the headline.
+
+ghost use Rattle.std.specs.Prelude.{◌≡◌, ◌<◌, ◌≤◌, List, All, map, take, length, IsTrue, IsFalse};
+ghost use Rattle.its_model.specs.World.{WorldModel, Config, Event as Happening, opening, world_run};
+ghost use Rattle.its_world.specs.State.{RepresentsWorld};
+ghost use Rattle.its_world.specs.Events.{IsInRange, event_of};
+ghost use Rattle.its_world.specs.Runs.{IsRunOf, IsLawfulRunOf};
+
+use crate::entry::Entry;
+use crate::event::Event;
+use crate::world::World;
+use its_model::{every_schedule, runs_go_on};
+use std::alloc::Global;
+
+/// What came of the events.
+#[derive(Drop)]
+pub struct Run {
+    /// An entry for each event that was done, in order.
+    pub log: Vec<Entry>,
+    /// How many events were done.
+    pub done: usize,
+    /// Whether memory ran out, so that the events after these weren't done.
+    pub out_of_memory: bool,
+}
+
+impl World {
+    /// Does the events in order, until memory runs out: then neither the event that met it nor any
+    /// after it is done, the world stands as after those before it, and `run` may be called again. The
+    /// speed of each `MoveTo` has to be in its range.
+    ///
+    /// For every run at whose end the world stood, these events continue it as the model does, and of
+    /// the longer run hold the laws over every schedule of losses, repeats and reorderings: what is
+    /// delivered of a packet for an area was sent earlier to that port for an area that holds the
+    /// receiver then; a relay is the received packet, one hop fewer; no station delivers a send twice
+    /// unless, between, as many others came as it remembers, its source's session broke or it
+    /// restarted.
+    pub fn run(&mut self, events: &[Event]) -> Run
+        requires { All (λ event. IsInRange event.what) events.now }
+        ensures log { length result.log.items ≡ result.done }
+        ensures done { result.done ≤ length events.now }
+        ensures all { IsFalse result.out_of_memory → result.done ≡ length events.now }
+        ensures some { IsTrue result.out_of_memory → result.done < length events.now }
+        ensures run { (configs : List Config) (past : List Happening) →
+            RepresentsWorld self.old (world_run (opening configs) past) →
+            IsLawfulRunOf configs past (map event_of (take result.done events.now))
+            result.log.items self.new }
+    {
+        every_schedule();
+        runs_go_on();
+        self.run_all(events)
+    }
+
+    /// The loop of `run`.
+    fn run_all(&mut self, events: &[Event]) -> Run
+        requires { All (λ event. IsInRange event.what) events.now }
+        ensures log { length result.log.items ≡ result.done }
+        ensures done { result.done ≤ length events.now }
+        ensures all { IsFalse result.out_of_memory → result.done ≡ length events.now }
+        ensures some { IsTrue result.out_of_memory → result.done < length events.now }
+        ensures run { (w : WorldModel) → RepresentsWorld self.old w →
+            IsRunOf w (map event_of (take result.done events.now)) result.log.items self.new }
+    {
+        runs_go_on();
+        let mut log = Vec::new(self.alloc());
+        for event in events {
+            if log.reserve(1).is_err() {
+                return stopped(log);
+            }
+            let Ok(entry) = self.step(event) else {
+                return stopped(log);
+            };
+            let Ok(()) = log.push(entry) else {
+                unreachable!()
+            };
+        }
+        let done = log.len();
+        Run {
+            log,
+            done,
+            out_of_memory: false,
+        }
+    }
+
+    fn alloc(&self) -> Global {
+        self.alloc
+    }
+}
+
+/// What came of the events until memory ran out.
+fn stopped(log: Vec<Entry>) -> Run
+    ensures log { result.log ≡ log }
+    ensures done { result.done ≡ length log.items }
+    ensures stopped { IsTrue result.out_of_memory }
+{
+    let done = log.len();
+    Run {
+        log,
+        done,
+        out_of_memory: true,
+    }
+}

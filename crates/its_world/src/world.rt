@@ -1,0 +1,183 @@
+//! A world, and one event in it.
+
+ghost use Rattle.std.specs.Prelude.{◌≡◌, ◌<◌, ◌≤◌, ◌++◌, ◌∷◌, [], ℕ, List, All, map, length};
+ghost use Rattle.std.specs.Prelude.{IfOk, IfErr, OnOk, OnErr, Some, slice_get};
+ghost use Rattle.std.specs.Option.{option_map};
+ghost use Rattle.its_model.specs.Calls.{Answer, Call};
+ghost use Rattle.its_model.specs.Station.{StationModel, station_step};
+ghost use Rattle.its_model.specs.World.{WorldModel, opening, world_step, entries};
+ghost use Rattle.its_headers.specs.Encoding.{IsBytes};
+ghost use Rattle.its_station.specs.State.{StationState, RepresentsStation};
+ghost use Rattle.its_world.specs.State.{RepresentsWorld, RepresentStations};
+ghost use Rattle.its_world.specs.Events.{IsConfig, IsInRange, config_of, event_of, what_of};
+ghost use Rattle.its_world.specs.Entries.{TellsEntry, IsGivenBy};
+ghost use Rattle.its_world.specs.Mids.{AreApart, IsMidFault};
+ghost use Rattle.its_world.specs.Steps.{IsAskedBy, IsDelivered};
+
+use crate::config::{Config, WorldFault};
+use crate::entry::{Entry, EntryFault};
+use crate::event::{Event, What};
+use crate::given::Given;
+use crate::shared::refuse_shared;
+use its_gnvalue::NoMemory;
+use its_linkframe::{one_frame, one_frame_fault};
+use its_loctable::SortedTable;
+use its_station::{MAX_PAYLOAD, Station};
+use std::alloc::Global;
+use std::marker::Model;
+
+/// Stations, and all frames that they gave, numbered from 0 in the order in which they were given. A
+/// frame that is delivered to nobody is lost; one may be delivered often, late, and to any station.
+#[derive(Drop)]
+pub struct World {
+    pub(crate) alloc: Global,
+    stations: Vec<Station<SortedTable>>,
+    air: Vec<Vec<u8>>,
+}
+
+impl Model for World {
+    ghost use Rattle.its_world.specs.State.{WorldState};
+
+    ghost Value = { WorldState };
+
+    ghost view = { λ w. record { stations = w.stations.items; frames = w.air.items } };
+}
+
+impl World {
+    /// The world of these configs, at most 65535, in which nothing happened yet. Refused by `SameMid`
+    /// (M1) exactly where two stations share a MID, and else by `NoMemory` (M2).
+    pub fn new(alloc: Global, configs: &[Config]) -> Result<World, WorldFault>
+        requires ranges { All IsConfig configs.now }
+        requires count { length configs.now ≤ 65535 }
+        ensures opens { IfOk result (λ w. RepresentsWorld w (opening (map config_of configs.now))) }
+        ensures apart { OnOk result (AreApart configs.now) }
+        ensures refused { IfErr result (λ fault. IsMidFault fault configs.now) }
+    {
+        refuse_shared(alloc, configs)?;
+        let Ok(stations) = stations_of(alloc, configs) else {
+            return Err(WorldFault::NoMemory);
+        };
+        Ok(World {
+            alloc,
+            stations,
+            air: Vec::new(alloc),
+        })
+    }
+
+    /// How many frames there are.
+    pub fn frames(&self) -> usize
+        ensures { result ≡ length self.now.frames }
+    {
+        self.air.len()
+    }
+
+    /// The octets of a frame, by its number, which has to be below `frames()`.
+    pub fn frame(&self, number: usize) -> &[u8]
+        requires { number < length self.now.frames }
+        ensures { option_map (λ w. w.items) (slice_get self.now.frames number) ≡ Some result.now }
+    {
+        self.air[number].as_slice()
+    }
+
+    /// One event. Where an allocation failed nothing changed.
+    pub(crate) fn step(&mut self, event: &Event) -> Result<Entry, NoMemory>
+        requires { IsInRange event.now.what }
+        ensures step { IfOk result (λ entry. (w : WorldModel) → RepresentsWorld self.old w →
+            RepresentsWorld self.new (world_step w (event_of event.now))
+            × (answer : Answer ℕ) × TellsEntry entry answer
+            × (entries (world_step w (event_of event.now)).log ≡ entries w.log ++ answer ∷ [])) }
+        ensures unchanged { OnErr result (self.new ≡ self.old) }
+    {
+        if event.station >= self.stations.len() {
+            return Ok(Entry::Refused(EntryFault::NoSuchStation));
+        }
+        self.air.reserve(1)?;
+        let Some(frame) = delivered(&self.air, &event.what) else {
+            return Ok(Entry::Refused(EntryFault::NoSuchFrame));
+        };
+        one_frame();
+        one_frame_fault();
+        let station = &mut self.stations[event.station];
+        let given = ask(self.alloc, station, event.moment, &event.what, frame)?;
+        Ok(given.enter(&mut self.air))
+    }
+}
+
+/// The frame that an event delivers, or no octets where it delivers none; `None` where there is no
+/// frame of its number.
+fn delivered<'a>(air: &'a [Vec<u8>], what: &What) -> Option<&'a [u8]>
+    ensures { IsDelivered air.now (what_of what.now) (option_map (λ frame. frame.now) result) }
+{
+    match what {
+        What::Deliver(number) => match air.get(*number) {
+            Some(frame) => Some(frame.as_slice()),
+            None => None,
+        },
+        _ => Some(&[]),
+    }
+}
+
+/// What a station gives for a call or, where it is a delivery, for this frame.
+fn ask(
+    alloc: Global,
+    station: &mut Station<SortedTable>,
+    moment: u64,
+    what: &What,
+    frame: &[u8],
+) -> Result<Given, NoMemory>
+    requires { IsInRange what.now }
+    ensures step { IfOk result (λ given. (call : Call) × IsAskedBy (what_of what.now) frame.now call
+        × ((s : StationModel) → RepresentsStation station.old s →
+        IsGivenBy given station.new (station_step s moment call))) }
+    ensures unchanged { OnErr result (station.new ≡ station.old) }
+    ensures bytes { IsBytes frame.now }
+{
+    match what {
+        What::MoveTo {
+            place,
+            pai,
+            speed,
+            heading,
+        } => Given::of_done(
+            Entry::Moved,
+            station.move_to(moment, *place, *pai, *speed, *heading),
+        ),
+        What::Open(port) => Given::of_done(Entry::Opened, station.open(moment, *port)),
+        What::Close(port) => Given::of_done(Entry::Closed, station.close(moment, *port)),
+        What::Restart(number) => {
+            Given::of_done(Entry::Restarted, station.restart(moment, *number))
+        }
+        What::Tick(jitter) => Given::of_tick(station.tick(moment, *jitter)),
+        What::SendShb(r) => Given::of_send(station.send_shb(moment, &r.lend())),
+        What::SendGeobroadcast(r) => {
+            Given::of_send(station.send_geobroadcast(moment, &r.lend()))
+        }
+        What::SendGeoanycast(r) => Given::of_send(station.send_geoanycast(moment, &r.lend())),
+        What::Deliver(_) => {
+            let room = Vec::with_capacity(alloc, MAX_PAYLOAD)?;
+            Given::of_frame(station.receive(moment, frame), room)
+        }
+    }
+}
+
+/// New stations of these configs.
+fn stations_of(alloc: Global, configs: &[Config]) -> Result<Vec<Station<SortedTable>>, NoMemory>
+    requires { All IsConfig configs.now }
+    ensures { IfOk result (λ stations.
+        RepresentStations stations.items (opening (map config_of configs.now)).stations) }
+{
+    let mut stations = Vec::with_capacity(alloc, configs.len())?;
+    for config in configs {
+        let Ok(station) = Station::new(
+            alloc,
+            config.address,
+            config.place,
+            config.capacity,
+            config.remember,
+        ) else {
+            return Err(NoMemory);
+        };
+        stations.push(station)?;
+    }
+    Ok(stations)
+}
