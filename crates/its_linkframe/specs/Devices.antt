@@ -1,6 +1,8 @@
 -- What one call of a device that counts its failures does to the octets that are known.
-use Rattle.std.specs.Prelude.{◌≡◌, ℕ, ◌+◌, ◌-◌, ◌^◌, ◌<◌, ◌==◌, nat_lt, min, Bool, true, ◌&&◌, if◌then◌else◌}
-use Rattle.std.specs.Prelude.{List, ◌++◌, length, take, Option, None, Some, MatchOption, Result, Ok, Err}
+use Rattle.std.specs.Prelude.{◌≡◌, ℕ, ◌+◌, ◌-◌, ◌^◌, ◌<◌, ◌==◌, nat_lt, min, Bool, true, ◌&&◌}
+use Rattle.std.specs.Prelude.{if◌then◌else◌}
+use Rattle.std.specs.Prelude.{List, ◌++◌, length, take, Option, None, Some, MatchOption, Result, Ok}
+use Rattle.std.specs.Prelude.{Err}
 use Rattle.std.specs.Io.KnownBytes.{Keeps, Consumes, Appends, IsAtEnd}
 
 -- a reader or writer, and how many of its calls failed
@@ -8,9 +10,12 @@ pub record CountedDevice (T : Type 0) : Type 0 where
   pub device : T
   pub failures : ℕ
 
--- `pull` took the n octets that it gave at `Some n`, none only at the end or with no room, and nothing at `None`
+-- `pull` took the n octets that it gave at `Some n`, none only at the end or with no room, and
+-- nothing at `None`
 abbrev pub Pulls : Option (List ℕ) → Option (List ℕ) → Option ℕ → List ℕ → Type 0
-Pulls old new r buf = MatchOption r (Keeps old new) (λ n. Consumes old new (take n buf) × (n ≡ 0 → 0 < length buf → IsAtEnd new))
+Pulls old new r buf =
+    MatchOption r (Keeps old new)
+    (λ n. Consumes old new (take n buf) × (n ≡ 0 → 0 < length buf → IsAtEnd new))
 
 -- `push` appended the n octets that it took at `Some n`, and nothing at `None`
 abbrev pub Pushes : Option (List ℕ) → Option (List ℕ) → Option ℕ → List ℕ → Type 0

@@ -21,8 +21,8 @@ pub record Trails (w : List ℕ) : Type 0 where
   pub is : w ≡ text ++ rest
   pub more : 0 < length rest
 
--- Octets that are long enough for addresses and type, that have the type of GeoNetworking, and that are not too long: what
--- each fault says of those above it.
+-- Octets that are long enough for addresses and type, that have the type of GeoNetworking, and that
+-- are not too long: what each fault says of those above it.
 abbrev pub IsLong : List ℕ → Type 0
 IsLong w = 14 ≤ length w
 
@@ -32,8 +32,8 @@ IsGeoNetworking w = IsLong w × (ether_type w ≡ 137 ∷ 71 ∷ [])
 abbrev pub IsJudgedOn : List ℕ → Type 0
 IsJudgedOn w = IsGeoNetworking w × (length w ≤ LONGEST_FRAME)
 
--- Judged in this order: under 14 octets; another type; over 1468 octets; no packet after the type, whose first fault is
--- that of the packet; a packet with octets after it.
+-- Judged in this order: under 14 octets; another type; over 1468 octets; no packet after the type,
+-- whose first fault is that of the packet; a packet with octets after it.
 abbrev pub IsFrameFault : List ℕ → FrameFault → Type 0
 IsFrameFault w faults.Short = length w < 14
 IsFrameFault w faults.EtherType = IsLong w × (ether_type w ≢ 137 ∷ 71 ∷ [])

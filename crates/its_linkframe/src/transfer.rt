@@ -8,8 +8,8 @@ ghost use Rattle.its_linkframe.specs.Devices.{counted, ConsumesFront, AppendsFro
 use crate::sink::Sink;
 use crate::source::Source;
 
-/// Reads until the buffer is full or the input ends, and says how many octets came. `None` is a failed
-/// call, after which no other is made.
+/// Reads until the buffer is full or the input ends, and says how many octets came. `None` is a
+/// failed call, after which no other is made.
 pub(crate) fn fill<S: Source>(source: &mut S, buf: &mut [u8]) -> Option<usize>
     requires { S.failed source.old < 2 ^ 64 - 1 }
     ensures bound { IfSome result (λ n. n ≤ length buf.new) }
@@ -30,8 +30,8 @@ pub(crate) fn fill<S: Source>(source: &mut S, buf: &mut [u8]) -> Option<usize>
     Some(at)
 }
 
-/// Writes all octets. `None` is a failed call, after which no other is made: the sink then has a front
-/// of the octets.
+/// Writes all octets. `None` is a failed call, after which no other is made: the sink then has a
+/// prefix of the octets.
 pub(crate) fn store<S: Sink>(sink: &mut S, octets: &[u8]) -> Option<()>
     requires { S.failed sink.old < 2 ^ 64 - 1 }
     ensures counts { S.failed sink.new ≡ counted (S.failed sink.old) result }
