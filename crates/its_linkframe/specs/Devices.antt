@@ -35,14 +35,14 @@ abbrev pub is_failed_write : {E : Type 0} → Result ℕ E → ℕ → Bool
 is_failed_write (Ok n) size = n == 0 && nat_lt 0 size
 is_failed_write (Err e) size = true
 
--- a front of the known octets went, empty or whole
-abbrev pub ConsumesFront : Option (List ℕ) → Option (List ℕ) → Type 0
-ConsumesFront old new = (gone : List ℕ) × Consumes old new gone
+-- a prefix of the known octets went, empty or whole
+abbrev pub ConsumesPrefix : Option (List ℕ) → Option (List ℕ) → Type 0
+ConsumesPrefix old new = (gone : List ℕ) × Consumes old new gone
 
--- a front of the text was appended, and not all of it
-pub record AppendsFront (old new : Option (List ℕ)) (text : List ℕ) : Type 0 where
-  pub front : List ℕ
+-- a prefix of the text was appended, and not all of it
+pub record AppendsPrefix (old new : Option (List ℕ)) (text : List ℕ) : Type 0 where
+  pub taken : List ℕ
   pub rest : List ℕ
-  pub parts : text ≡ front ++ rest
+  pub parts : text ≡ taken ++ rest
   pub missing : 0 < length rest
-  pub appends : Appends old new front
+  pub appends : Appends old new taken

@@ -9,7 +9,7 @@ use Rattle.its_linkframe.specs.declared.reader.Stage.{Stage}
 use Rattle.its_linkframe.specs.declared.reader.Stage.TheVariants as stages
 use Rattle.its_linkframe.specs.Captures.{Captured, EncodesCapture, AnnouncesFrame, AnnouncesNoFrame}
 use Rattle.its_linkframe.specs.Captures.{EndsInRecord, captured, captured_at}
-use Rattle.its_linkframe.specs.Devices.{ConsumesFront}
+use Rattle.its_linkframe.specs.Devices.{ConsumesPrefix}
 
 -- A reader: whether it met a fault or the end, what octets its source has left, where they are
 -- known, and how many calls of the source failed.
@@ -49,18 +49,18 @@ MeetsEnd old new = IsAtEnd old × IsAtEnd new × Consumes old new []
 -- What a fault says of the octets that the source had, and what it leaves of them: none (C1), all
 -- after the length (C2, C4), some end (C3), all (C5).
 abbrev pub IsReadFault : Option (List ℕ) → Option (List ℕ) → CaptureFault → Type 0
-IsReadFault old new faults.CutRecord = IfSome old EndsInRecord × ConsumesFront old new × IsAtEnd new
+IsReadFault old new faults.CutRecord = IfSome old EndsInRecord × ConsumesPrefix old new × IsAtEnd new
 IsReadFault old new faults.Length = IfSome old AnnouncesNoFrame × ConsumesHead old new
-IsReadFault old new faults.Io = ConsumesFront old new
+IsReadFault old new faults.Io = ConsumesPrefix old new
 IsReadFault old new faults.NoMemory = IfSome old AnnouncesFrame × ConsumesHead old new
 IsReadFault old new faults.Failed = Consumes old new []
 
 -- The same of a frame of a known length, after its head.
 abbrev pub IsCutShort : ℕ → Option (List ℕ) → Option (List ℕ) → CaptureFault → Type 0
 IsCutShort size old new faults.CutRecord =
-    IfSome old (λ w. length w < size) × ConsumesFront old new × IsAtEnd new
+    IfSome old (λ w. length w < size) × ConsumesPrefix old new × IsAtEnd new
 IsCutShort size old new faults.Length = ⊥
-IsCutShort size old new faults.Io = ConsumesFront old new
+IsCutShort size old new faults.Io = ConsumesPrefix old new
 IsCutShort size old new faults.NoMemory = Consumes old new []
 IsCutShort size old new faults.Failed = ⊥
 

@@ -5,7 +5,7 @@ ghost use Rattle.std.specs.Prelude.{MatchOption, OnOk, IfErr, IsTrue, if◌then�
 ghost use Rattle.std.specs.Io.KnownBytes.{Appends};
 ghost use Rattle.its_linkframe.specs.Captures.{Captured, IsFrameLength, captured_at, head_octets};
 ghost use Rattle.its_linkframe.specs.Captures.{record_octets};
-ghost use Rattle.its_linkframe.specs.Devices.{counted, AppendsFront};
+ghost use Rattle.its_linkframe.specs.Devices.{counted, AppendsPrefix};
 ghost use Rattle.its_linkframe.specs.Reading.{is_io};
 ghost use Rattle.its_linkframe.specs.Writing.{IsWriteFault, HoldsCapture, HoldsAfter};
 
@@ -106,7 +106,7 @@ fn store_record<S: Sink>(sink: &mut S, moment: u64, frame: &[u8]) -> Option<()>
     requires fits { length frame.now < 2 ^ 16 }
     ensures counts { S.failed sink.new ≡ counted (S.failed sink.old) result }
     ensures octets { MatchOption result
-        (AppendsFront (S.contents sink.old) (S.contents sink.new)
+        (AppendsPrefix (S.contents sink.old) (S.contents sink.new)
         (record_octets (captured_at moment frame.now)))
         (λ _. Appends (S.contents sink.old) (S.contents sink.new)
         (record_octets (captured_at moment frame.now))) }
