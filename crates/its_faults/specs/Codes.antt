@@ -1,7 +1,10 @@
 -- The codes of faults, as ASCII text: the letter G, and the number of the kind.
 use Rattle.std.specs.Prelude.{ℕ, List, [], ◌∷◌}
 use Rattle.its_faults.specs.declared.packet.FaultKind.{FaultKind}
-use Rattle.its_faults.specs.declared.packet.FaultKind.TheVariants.{Truncated, Version, BasicNext, Reserved, HopZero, CommonNext, HeaderType, SubType, HopAboveMax, PayloadLength, Position, Area}
+use Rattle.its_faults.specs.declared.packet.FaultKind.TheVariants.{Truncated, Version, BasicNext}
+use Rattle.its_faults.specs.declared.packet.FaultKind.TheVariants.{Reserved, HopZero, CommonNext}
+use Rattle.its_faults.specs.declared.packet.FaultKind.TheVariants.{HeaderType, SubType, HopAboveMax}
+use Rattle.its_faults.specs.declared.packet.FaultKind.TheVariants.{PayloadLength, Position, Area}
 
 -- G1 to G12
 abbrev pub code_of : FaultKind → List ℕ

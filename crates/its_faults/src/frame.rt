@@ -7,7 +7,7 @@ use crate::packet::Fault;
 use std::error::Error;
 use std::fmt;
 
-/// The first fault of octets that are no frame, in the order in which faults are judged.
+/// The first fault of octets that are no frame, in the order in which faults are checked.
 #[derive(Clone, Copy, Debug, PartialEq, Eq)]
 pub enum FrameFault {
     /// L1: under 14 octets.

@@ -77,7 +77,7 @@ area_packet_text kind h type number a w typed low fits =
     let size : length w ≡ 4 + length (drop 4 w) = omega (arith, length-drop 4 w) in
     let back = sym (message_back w low fits) in
     let same : heads h 32 type (length w) ++ big_bytes 2 number ++ big_bytes 2 0 ++ vector_octets h.vector ++ area_octets a ++ big_bytes 2 0 ++ w
-        ≡ heads h 32 (header_type (area_body kind number a (message_of w))) (4 + length (drop 4 w)) ++ big_bytes 2 number ++ big_bytes 2 0 ++ vector_octets h.vector ++ area_octets a ++ big_bytes 2 0 ++ message_octets (message_of w) =
+    ≡ heads h 32 (header_type (area_body kind number a (message_of w))) (4 + length (drop 4 w)) ++ big_bytes 2 number ++ big_bytes 2 0 ++ vector_octets h.vector ++ area_octets a ++ big_bytes 2 0 ++ message_octets (message_of w) =
     ap (λ (k : ℕ). heads h 32 k (length w) ++ big_bytes 2 number ++ big_bytes 2 0 ++ vector_octets h.vector ++ area_octets a ++ big_bytes 2 0 ++ w) typed
     ∙ ap (λ (n : ℕ). heads h 32 (header_type (area_body kind number a (message_of w))) n ++ big_bytes 2 number ++ big_bytes 2 0 ++ vector_octets h.vector ++ area_octets a ++ big_bytes 2 0 ++ w) size
     ∙ ap (λ (t : List ℕ). heads h 32 (header_type (area_body kind number a (message_of w))) (4 + length (drop 4 w)) ++ big_bytes 2 number ++ big_bytes 2 0 ++ vector_octets h.vector ++ area_octets a ++ big_bytes 2 0 ++ t) back in

@@ -1,5 +1,7 @@
--- The octets of a packet on the wire (EN 302 636-4-1 clause 9, EN 302 636-5-1). All numbers of several octets go highest first.
-use Rattle.std.specs.Prelude.{◌≡◌, ◌≤◌, ◌<◌, ℕ, ◌+◌, ◌*◌, ◌-◌, ◌^◌, suc, ℤ, pos, negsuc, Bool, List, length, [], ◌∷◌, ◌++◌, if◌then◌else◌}
+-- The octets of a packet on the wire (EN 302 636-4-1 clause 9, EN 302 636-5-1). All numbers of
+-- several octets go highest first.
+use Rattle.std.specs.Prelude.{◌≡◌, ◌≤◌, ◌<◌, ℕ, ◌+◌, ◌*◌, ◌-◌, ◌^◌, suc, ℤ, pos, negsuc, Bool, List}
+use Rattle.std.specs.Prelude.{length, [], ◌∷◌, ◌++◌, if◌then◌else◌}
 use Rattle.std.specs.Int.{w32, cast_unsigned}
 use Rattle.byteorder.specs.Endian.{big_bytes}
 use Rattle.its_gnvalue.specs.Values.{PositionVector, IsIndividual, IsLatitude, IsLongitude, IsSpeed}
@@ -22,7 +24,8 @@ shape_code Circle = 0
 shape_code Rectangle = 1
 shape_code Ellipse = 2
 
--- header type and sub-type, a half octet each: BEACON 1 0, TSB 5 0 (single-hop), GBC 4 and the shape, GAC 3 and the shape
+-- header type and sub-type, a half octet each: BEACON 1 0, TSB 5 0 (single-hop), GBC 4 and the
+-- shape, GAC 3 and the shape
 abbrev pub header_type : Body → ℕ
 header_type beacon = 16
 header_type (shb media message) = 80
@@ -40,10 +43,12 @@ payload_length (gac number area message) = 4 + length message.payload
 abbrev pub basic_header : Pdu → ℕ → List ℕ
 basic_header p left = 17 ∷ 0 ∷ p.lifetime ∷ left ∷ []
 
--- Common Header: next header and a reserved half octet, type and sub-type, class, flags (mobile is the highest), payload
--- length, greatest hops, a reserved octet
+-- Common Header: next header and a reserved half octet, type and sub-type, class, flags (mobile is
+-- the highest), payload length, greatest hops, a reserved octet
 abbrev pub common_header : Pdu → List ℕ
-common_header p = (16 * common_next p.body) ∷ header_type p.body ∷ p.class ∷ (if p.mobile then 128 else 0) ∷ (big_bytes 2 (payload_length p.body) ++ p.max_hops ∷ 0 ∷ [])
+common_header p =
+    (16 * common_next p.body) ∷ header_type p.body ∷ p.class ∷ (if p.mobile then 128 else 0)
+    ∷ (big_bytes 2 (payload_length p.body) ++ p.max_hops ∷ 0 ∷ [])
 
 -- a speed in 15 bits, as two's complement
 abbrev pub speed_bits : ℤ → ℕ
@@ -56,11 +61,18 @@ motion accurate speed = (if accurate then 2 ^ 15 else 0) + speed_bits speed
 
 -- a long position vector: address, timestamp, latitude and longitude, accuracy and speed, heading
 abbrev pub vector_octets : PositionVector → List ℕ
-vector_octets v = big_bytes 8 v.address ++ big_bytes 4 v.timestamp ++ big_bytes 4 (cast_unsigned w32 v.place.latitude) ++ big_bytes 4 (cast_unsigned w32 v.place.longitude) ++ big_bytes 2 (motion v.accurate v.speed) ++ big_bytes 2 v.heading
+vector_octets v =
+    big_bytes 8 v.address ++ big_bytes 4 v.timestamp
+    ++ big_bytes 4 (cast_unsigned w32 v.place.latitude)
+    ++ big_bytes 4 (cast_unsigned w32 v.place.longitude) ++ big_bytes 2 (motion v.accurate v.speed)
+    ++ big_bytes 2 v.heading
 
 -- latitude and longitude of the centre, distances a and b, angle
 abbrev pub area_octets : GeoArea → List ℕ
-area_octets a = big_bytes 4 (cast_unsigned w32 a.centre.latitude) ++ big_bytes 4 (cast_unsigned w32 a.centre.longitude) ++ big_bytes 2 a.a ++ big_bytes 2 a.b ++ big_bytes 2 a.angle
+area_octets a =
+    big_bytes 4 (cast_unsigned w32 a.centre.latitude)
+    ++ big_bytes 4 (cast_unsigned w32 a.centre.longitude) ++ big_bytes 2 a.a ++ big_bytes 2 a.b
+    ++ big_bytes 2 a.angle
 
 -- BTP-B: destination port, destination port info, and what is sent to the port
 abbrev pub message_octets : Message → List ℕ
@@ -75,9 +87,12 @@ payload_of (gac number area message) = message_octets message
 
 -- of a packet for an area: number, two reserved octets, vector, area, two reserved octets, payload
 abbrev pub area_packet_octets : PositionVector → ℕ → GeoArea → Message → List ℕ
-area_packet_octets v number area message = big_bytes 2 number ++ big_bytes 2 0 ++ vector_octets v ++ area_octets area ++ big_bytes 2 0 ++ message_octets message
+area_packet_octets v number area message =
+    big_bytes 2 number ++ big_bytes 2 0 ++ vector_octets v ++ area_octets area ++ big_bytes 2 0
+    ++ message_octets message
 
--- What follows the Common Header. An SHB: vector, media-dependent data, payload. A GBC and a GAC are laid out alike.
+-- What follows the Common Header. An SHB: vector, media-dependent data, payload. A GBC and a GAC
+-- are laid out alike.
 abbrev pub extended_header : PositionVector → Body → List ℕ
 extended_header v beacon = vector_octets v
 extended_header v (shb media message) = vector_octets v ++ media ++ message_octets message

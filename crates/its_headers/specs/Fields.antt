@@ -43,12 +43,16 @@ area_in (shb media message) = None
 area_in (gbc number area message) = Some area
 area_in (gac number area message) = Some area
 
+-- a BTP-B header and its payload: 4 to 1398 octets (profile)
+abbrev pub IsPayloadLength : ℕ → Type 0
+IsPayloadLength n = (4 ≤ n) × (n ≤ 1398)
+
 -- the payload lengths of a kind (PL)
 abbrev pub IsLength : Kind → ℕ → Type 0
 IsLength Beacon n = n ≡ 0
-IsLength Shb n = (4 ≤ n) × (n ≤ 1398)
-IsLength Gbc n = (4 ≤ n) × (n ≤ 1398)
-IsLength Gac n = (4 ≤ n) × (n ≤ 1398)
+IsLength Shb n = IsPayloadLength n
+IsLength Gbc n = IsPayloadLength n
+IsLength Gac n = IsPayloadLength n
 
 -- the message of a payload: two octets of port, two of info (BTP-B), and the rest
 abbrev pub message_of : List ℕ → Message

@@ -1,14 +1,20 @@
--- The first fault of octets that no packet begins: at the first field that no packet's encoding has after the fields
--- before it, with the kind of that field, or at the end of the octets where they end before or in a field.
-use Rattle.std.specs.Prelude.{◌≡◌, ◌≤◌, ◌<◌, ℕ, ◌+◌, ◌*◌, ◌/◌, ◌%◌, List, [], ◌∷◌, ◌++◌, length, take, drop, ◌⊎◌, ◌==◌, if◌then◌else◌}
+-- The first fault of octets that no packet begins: at the first field that no packet's encoding has
+-- after the fields before it, with the kind of that field, or at the end of the octets where they
+-- end before or in a field.
+use Rattle.std.specs.Prelude.{◌≡◌, ◌≤◌, ◌<◌, ℕ, ◌+◌, ◌*◌, ◌/◌, ◌%◌, List, [], ◌∷◌, ◌++◌, length}
+use Rattle.std.specs.Prelude.{take, drop, ◌⊎◌, ◌==◌, if◌then◌else◌}
 use Rattle.byteorder.specs.Endian.{big_number}
 use Rattle.its_faults.specs.declared.packet.Fault.{Fault}
 use Rattle.its_faults.specs.declared.packet.FaultKind.{FaultKind}
-use Rattle.its_faults.specs.declared.packet.FaultKind.TheVariants.{Truncated, Version, BasicNext, Reserved, HopZero, CommonNext, HeaderType, SubType, HopAboveMax, PayloadLength, Position, Area}
+use Rattle.its_faults.specs.declared.packet.FaultKind.TheVariants.{Truncated, Version, BasicNext}
+use Rattle.its_faults.specs.declared.packet.FaultKind.TheVariants.{Reserved, HopZero, CommonNext}
+use Rattle.its_faults.specs.declared.packet.FaultKind.TheVariants.{HeaderType, SubType, HopAboveMax}
+use Rattle.its_faults.specs.declared.packet.FaultKind.TheVariants.{PayloadLength, Position, Area}
 use Rattle.its_model.specs.Packet.{Pdu}
 use Rattle.its_headers.specs.Encoding.{Encodes}
 
--- a field: how many half octets it takes, and which fault it is where it is wrong (a field that is never wrong has Truncated)
+-- a field: how many half octets it takes, and which fault it is where it is wrong (a field that is
+-- never wrong has Truncated)
 pub record Row : Type 0 where
   pub halves : ℕ
   pub kind : FaultKind
@@ -21,16 +27,18 @@ half kind = record { halves = 1; kind = kind }
 abbrev pub whole : ℕ → FaultKind → Row
 whole octets kind = record { halves = 2 * octets; kind = kind }
 
--- Basic Header: version, next header, reserved, lifetime, hops left. Common Header: next header, reserved, header type,
--- sub-type, traffic class, flags, payload length, greatest hops, reserved.
+-- Basic Header: version, next header, reserved, lifetime, hops left. Common Header: next header,
+-- reserved, header type, sub-type, traffic class, flags, payload length, greatest hops, reserved.
 abbrev pub common_rows : List Row
 common_rows =
     half Version ∷ half BasicNext ∷ whole 1 Reserved ∷ whole 1 Truncated ∷ whole 1 HopZero
-    ∷ half CommonNext ∷ half Reserved ∷ half HeaderType ∷ half SubType ∷ whole 1 Truncated ∷ whole 1 Reserved ∷ whole 2 PayloadLength ∷ whole 1 HopAboveMax ∷ whole 1 Reserved ∷ []
+    ∷ half CommonNext ∷ half Reserved ∷ half HeaderType ∷ half SubType ∷ whole 1 Truncated
+    ∷ whole 1 Reserved ∷ whole 2 PayloadLength ∷ whole 1 HopAboveMax ∷ whole 1 Reserved ∷ []
 
 -- a position vector: address, timestamp, latitude, longitude, accuracy with speed, heading
 abbrev pub vector_rows : List Row
-vector_rows = whole 8 Position ∷ whole 4 Truncated ∷ whole 4 Position ∷ whole 4 Position ∷ whole 2 Truncated ∷ whole 2 Truncated ∷ []
+vector_rows = whole 8 Position ∷ whole 4 Truncated ∷ whole 4 Position ∷ whole 4 Position
+    ∷ whole 2 Truncated ∷ whole 2 Truncated ∷ []
 
 -- an area: latitude, longitude, distances a and b, angle
 abbrev pub area_rows : List Row
@@ -42,14 +50,18 @@ shb_rows payload = vector_rows ++ whole 4 Truncated ∷ whole payload Truncated 
 
 -- a geobroadcast or geoanycast: sequence number, reserved, vector, area, reserved, payload
 abbrev pub area_packet_rows : ℕ → List Row
-area_packet_rows payload = whole 2 Truncated ∷ whole 2 Reserved ∷ (vector_rows ++ area_rows ++ whole 2 Reserved ∷ whole payload Truncated ∷ [])
+area_packet_rows payload =
+    whole 2 Truncated ∷ whole 2 Reserved
+    ∷ (vector_rows ++ area_rows ++ whole 2 Reserved ∷ whole payload Truncated ∷ [])
 
 -- the fields of a packet with the type and the payload length that the octets name
 abbrev pub rows_of : List ℕ → List Row
 rows_of w =
     let type = big_number 1 (drop 5 w) / 16 in
     let payload = big_number 2 (drop 8 w) in
-    common_rows ++ (if type == 1 then vector_rows else if type == 5 then shb_rows payload else area_packet_rows payload)
+    common_rows ++
+    (if type == 1 then vector_rows else if type == 5
+    then shb_rows payload else area_packet_rows payload)
 
 -- each octet as two halves, the high one first
 abbrev pub half_octets : List ℕ → List ℕ
@@ -69,16 +81,19 @@ pub record IsSound (front : List ℕ) : Type 0 where
 abbrev pub front_to : ℕ → List ℕ → List ℕ
 front_to end w = take end (half_octets w)
 
--- the fault among these fields, the first of which starts at this half octet, where the front before it is sound
+-- the fault among these fields, the first of which starts at this half octet, where the front
+-- before it is sound
 abbrev pub FaultAmong : List Row → ℕ → List ℕ → Fault → Type 0
 FaultAmong [] start w f = ⊥
 FaultAmong (row ∷ rows) start w f =
     -- the field is not wholly there
     ((2 * length w < start + row.halves) × (f ≡ record { at = length w; kind = Truncated }))
     -- with it the front is not sound any more
-    ⊎ ((start + row.halves ≤ 2 * length w) × (¬ IsSound (front_to (start + row.halves) w)) × (f ≡ record { at = start / 2; kind = row.kind }))
+    ⊎ ((start + row.halves ≤ 2 * length w) × (¬ IsSound (front_to (start + row.halves) w))
+    × (f ≡ record { at = start / 2; kind = row.kind }))
     -- with it the front is sound, and the fault comes later
-    ⊎ ((start + row.halves ≤ 2 * length w) × IsSound (front_to (start + row.halves) w) × FaultAmong rows (start + row.halves) w f)
+    ⊎ ((start + row.halves ≤ 2 * length w) × IsSound (front_to (start + row.halves) w)
+    × FaultAmong rows (start + row.halves) w f)
 
 -- the fault among all fields
 unfoldable pub FirstFault : List ℕ → Fault → Type 0

@@ -1,5 +1,6 @@
 -- A format says which fields follow one another, and judges each together with those before it.
-use Rattle.std.specs.Prelude.{◌≡◌, ℕ, ◌+◌, ◌/◌, ◌%◌, List, length, drop, take, Bool, Result, Ok, Err, nat_lt, if◌then◌else◌}
+use Rattle.std.specs.Prelude.{◌≡◌, ℕ, ◌+◌, ◌/◌, ◌%◌, List, length, drop, take, Bool, Result, Ok}
+use Rattle.std.specs.Prelude.{Err, nat_lt, if◌then◌else◌}
 use Rattle.byteorder.specs.Endian.{big_number}
 use Rattle.its_faults.specs.declared.packet.Fault.{Fault}
 use Rattle.its_faults.specs.declared.packet.FaultKind.{FaultKind}
@@ -26,7 +27,8 @@ pub data Format (A : Type 0) : Type 0 where
   -- a number of so many octets
   number : (octets : ℕ) (kind : FaultKind) (right : ℕ → Bool) (next : ℕ → Format A) → Format A
   -- two fields of half an octet
-  halves : (high : FaultKind) (is_high : ℕ → Bool) (low : FaultKind) (is_low : ℕ → ℕ → Bool) (next : ℕ → ℕ → Format A) → Format A
+  halves : (high : FaultKind) (is_high : ℕ → Bool) (low : FaultKind) (is_low : ℕ → ℕ → Bool)
+      (next : ℕ → ℕ → Format A) → Format A
   -- so many octets
   octets : (count : ℕ) (next : List ℕ → Format A) → Format A
 
@@ -34,16 +36,21 @@ pub data Format (A : Type 0) : Type 0 where
 abbrev pub after : {A B : Type 0} → Format A → (A → Format B) → Format B
 after (ends x) g = g x
 after (number n kind right next) g = number n kind right (λ v. after (next v) g)
-after (halves high is_high low is_low next) g = halves high is_high low is_low (λ h l. after (next h l) g)
+after (halves high is_high low is_low next) g =
+    halves high is_high low is_low (λ h l. after (next h l) g)
 after (octets n next) g = octets n (λ bytes. after (next bytes) g)
 
 -- the number of so many octets at a place
 unfoldable pub number_at : ℕ → ℕ → List ℕ → Result ℕ Fault
-number_at n at w = if nat_lt (length w) (at + n) then Err (record { at = length w; kind = Truncated }) else Ok (big_number n (drop at w))
+number_at n at w =
+    if nat_lt (length w) (at + n)
+    then Err (record { at = length w; kind = Truncated }) else Ok (big_number n (drop at w))
 
 -- so many octets at a place
 unfoldable pub octets_at : ℕ → ℕ → List ℕ → Result (List ℕ) Fault
-octets_at n at w = if nat_lt (length w) (at + n) then Err (record { at = length w; kind = Truncated }) else Ok (take n (drop at w))
+octets_at n at w =
+    if nat_lt (length w) (at + n)
+    then Err (record { at = length w; kind = Truncated }) else Ok (take n (drop at w))
 
 abbrev pub fault : {A : Type 0} → ℕ → FaultKind → Result A Fault
 fault at kind = Err (record { at = at; kind = kind })
@@ -54,5 +61,7 @@ walk (ends x) at w = Ok (x, at)
 walk (number n kind right next) at w = number_at n at w >>= λ v.
     if right v then walk (next v) (at + n) w else fault at kind
 walk (halves high is_high low is_low next) at w = number_at 1 at w >>= λ v.
-    if is_high (v / 16) then (if is_low (v / 16) (v % 16) then walk (next (v / 16) (v % 16)) (at + 1) w else fault at low) else fault at high
+    if is_high (v / 16)
+    then (if is_low (v / 16) (v % 16)
+    then walk (next (v / 16) (v % 16)) (at + 1) w else fault at low) else fault at high
 walk (octets n next) at w = octets_at n at w >>= λ bytes. walk (next bytes) (at + n) w

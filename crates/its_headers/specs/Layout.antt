@@ -1,15 +1,22 @@
--- The formats of packets: each field with its width, its fault and its test, in the order of the wire. Contracts of private
--- functions cite them; public clauses cite Encoding and FirstFault.
-use Rattle.std.specs.Prelude.{ℕ, ◌+◌, ◌-◌, ◌/◌, ◌%◌, ◌^◌, ℤ, pos, negsuc, suc, int_lt, Bool, true, ◌&&◌, nat_lt, nat_le, ◌==◌, ◌||◌, if◌then◌else◌, List, drop}
+-- The formats of packets: each field with its width, its fault and its test, in the order of the
+-- wire. Contracts of private functions cite them; public clauses cite Encoding and FirstFault.
+use Rattle.std.specs.Prelude.{ℕ, ◌+◌, ◌-◌, ◌/◌, ◌%◌, ◌^◌, ℤ, pos, negsuc, suc, int_lt, Bool, true}
+use Rattle.std.specs.Prelude.{◌&&◌, nat_lt, nat_le, ◌==◌, ◌||◌, if◌then◌else◌, List, drop}
 use Rattle.byteorder.specs.Endian.{big_number}
 use Rattle.std.specs.Int.{w32, cast_signed}
 use Rattle.its_gnvalue.specs.Values.{PositionVector}
-use Rattle.its_faults.specs.declared.packet.FaultKind.TheVariants.{Truncated, Version, BasicNext, Reserved, HopZero, CommonNext, HeaderType, SubType, HopAboveMax, PayloadLength, Position as BadPosition, Area as BadArea}
+use Rattle.its_faults.specs.declared.packet.FaultKind.TheVariants.{Truncated, Version, BasicNext}
+use Rattle.its_faults.specs.declared.packet.FaultKind.TheVariants.{Reserved, HopZero, CommonNext}
+use Rattle.its_faults.specs.declared.packet.FaultKind.TheVariants.{HeaderType, SubType, HopAboveMax}
+use Rattle.its_faults.specs.declared.packet.FaultKind.TheVariants.{PayloadLength}
+use Rattle.its_faults.specs.declared.packet.FaultKind.TheVariants.{Position as BadPosition}
+use Rattle.its_faults.specs.declared.packet.FaultKind.TheVariants.{Area as BadArea}
 use Rattle.its_headers.specs.Format.{Format, ends, number, halves, octets, after}
 use Rattle.its_geometry.specs.declared.area.Shape.{Shape}
 use Rattle.its_geometry.specs.declared.area.Shape.TheVariants.{Circle, Rectangle, Ellipse}
 use Rattle.its_geometry.specs.Area.{GeoArea}
-use Rattle.its_model.specs.Packet.{Pdu, Body, beacon, shb, AreaKind, geobroadcast, geoanycast, area_body}
+use Rattle.its_model.specs.Packet.{Pdu, Body, beacon, shb, AreaKind, geobroadcast, geoanycast}
+use Rattle.its_model.specs.Packet.{area_body}
 use Rattle.its_headers.specs.Fields.{message_of}
 use Rattle.its_headers.specs.declared.kind.Kind.{Kind}
 use Rattle.its_headers.specs.declared.kind.Kind.TheVariants.{Beacon, Shb, Gbc, Gac}
@@ -72,7 +79,8 @@ type_of Gac = 3
 
 -- the kind that a header type names
 abbrev pub kind_of : ℕ → Kind
-kind_of type = if type == 1 then Beacon else if type == 5 then Shb else if type == 3 then Gac else Gbc
+kind_of type =
+    if type == 1 then Beacon else if type == 5 then Shb else if type == 3 then Gac else Gbc
 
 -- the shape that a sub-type names
 abbrev pub shape_of : ℕ → Shape
@@ -93,7 +101,14 @@ rest_format left types =
     number 2 PayloadLength (is_length types.0) λ length.
     number 1 HopAboveMax (λ max. nat_le left max) λ max.
     number 1 Reserved is_zero λ _.
-    ends (record { kind = kind_of types.0; shape = shape_of types.1; class = class; mobile = nat_le 128 flags; length = length; max_hops = max })
+    ends (record {
+      kind = kind_of types.0;
+      shape = shape_of types.1;
+      class = class;
+      mobile = nat_le 128 flags;
+      length = length;
+      max_hops = max;
+    })
 
 -- the Common Header of a packet with so many hops left
 unfoldable pub common_format : ℕ → Format Common
@@ -125,11 +140,22 @@ speed_of n = if nat_lt n (2 ^ 14) then pos n else negsuc (2 ^ 15 - suc n)
 
 -- the vector of which these numbers stand on the wire
 abbrev pub vector_from : ℕ → ℕ → ℕ → ℕ → ℕ → ℕ → PositionVector
-vector_from address timestamp latitude longitude motion heading = record { address = address; timestamp = timestamp; place = record { latitude = cast_signed w32 latitude; longitude = cast_signed w32 longitude }; accurate = nat_le (2 ^ 15) motion; speed = speed_of (motion % 2 ^ 15); heading = heading }
+vector_from address timestamp latitude longitude motion heading =
+    record {
+      address = address;
+      timestamp = timestamp;
+      place = record { latitude = cast_signed w32 latitude; longitude = cast_signed w32 longitude };
+      accurate = nat_le (2 ^ 15) motion;
+      speed = speed_of (motion % 2 ^ 15);
+      heading = heading;
+    }
 
 -- the vector of which the octets begin at a place
 abbrev pub vector_at : ℕ → List ℕ → PositionVector
-vector_at at w = vector_from (big_number 8 (drop at w)) (big_number 4 (drop (at + 8) w)) (big_number 4 (drop (at + 12) w)) (big_number 4 (drop (at + 16) w)) (big_number 2 (drop (at + 20) w)) (big_number 2 (drop (at + 22) w))
+vector_at at w =
+    vector_from (big_number 8 (drop at w)) (big_number 4 (drop (at + 8) w))
+    (big_number 4 (drop (at + 12) w)) (big_number 4 (drop (at + 16) w))
+    (big_number 2 (drop (at + 20) w)) (big_number 2 (drop (at + 22) w))
 
 -- a long position vector
 unfoldable pub vector_format : Format PositionVector
@@ -156,11 +182,20 @@ is_angle Ellipse angle = nat_lt angle 360
 
 -- the area of this shape of which these numbers stand on the wire
 abbrev pub area_from : Shape → ℕ → ℕ → ℕ → ℕ → ℕ → GeoArea
-area_from shape latitude longitude a b angle = record { shape = shape; centre = record { latitude = cast_signed w32 latitude; longitude = cast_signed w32 longitude }; a = a; b = b; angle = angle }
+area_from shape latitude longitude a b angle =
+    record {
+      shape = shape;
+      centre = record { latitude = cast_signed w32 latitude; longitude = cast_signed w32 longitude };
+      a = a;
+      b = b;
+      angle = angle;
+    }
 
 -- the area, of this shape, of the octets of a packet
 abbrev pub area_at : Shape → List ℕ → GeoArea
-area_at shape w = area_from shape (big_number 4 (drop 40 w)) (big_number 4 (drop 44 w)) (big_number 2 (drop 48 w)) (big_number 2 (drop 50 w)) (big_number 2 (drop 52 w))
+area_at shape w =
+    area_from shape (big_number 4 (drop 40 w)) (big_number 4 (drop 44 w))
+    (big_number 2 (drop 48 w)) (big_number 2 (drop 50 w)) (big_number 2 (drop 52 w))
 
 -- the area of a geobroadcast or geoanycast
 unfoldable pub area_format : Shape → Format GeoArea
@@ -185,7 +220,8 @@ shb_format length =
     ends (vector, shb media (message_of payload))
 
 -- what follows the area: two reserved octets, and a payload of so many
-abbrev pub area_packet_rest : AreaKind → PositionVector → ℕ → GeoArea → ℕ → Format (PositionVector × Body)
+abbrev pub area_packet_rest : AreaKind → PositionVector → ℕ → GeoArea → ℕ
+    → Format (PositionVector × Body)
 area_packet_rest kind vector sequence area length =
     number 2 Reserved is_zero λ _.
     octets length λ payload.
@@ -213,4 +249,14 @@ packet_format =
     after basic_format λ basic.
     after (common_format basic.1) λ common.
     after (body_format common.kind common.shape common.length) λ x.
-    ends (record { vector = x.0; lifetime = basic.0; class = common.class; mobile = common.mobile; max_hops = common.max_hops; body = x.1 }, basic.1)
+    ends (
+      record {
+        vector = x.0;
+        lifetime = basic.0;
+        class = common.class;
+        mobile = common.mobile;
+        max_hops = common.max_hops;
+        body = x.1;
+      },
+      basic.1,
+    )

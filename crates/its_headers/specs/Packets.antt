@@ -4,13 +4,22 @@ use Rattle.its_headers.specs.declared.packet.Packet.{Packet}
 use Rattle.its_headers.specs.declared.packet.Packet.TheVariants as packets
 use Rattle.its_headers.specs.declared.packet.Header.{Header}
 use Rattle.its_headers.specs.declared.packet.AreaPacket.{AreaPacket}
-use Rattle.its_model.specs.Packet.{Pdu, Body, beacon, shb, AreaKind, geobroadcast, geoanycast, area_body, number_in}
+use Rattle.its_model.specs.Packet.{Pdu, Body, beacon, shb, AreaKind, geobroadcast, geoanycast}
+use Rattle.its_model.specs.Packet.{area_body, number_in}
 use Rattle.its_headers.specs.Fields.{message_of, area_in, SaysMessage}
 use Rattle.its_headers.specs.Seen.{Seen}
 
 -- what a packet with this header and body says
 abbrev pub with_body : Header → Body → Pdu
-with_body h body = record { vector = h.vector; lifetime = h.lifetime; class = h.class; mobile = h.mobile; max_hops = h.hops.max; body = body }
+with_body h body =
+    record {
+      vector = h.vector;
+      lifetime = h.lifetime;
+      class = h.class;
+      mobile = h.mobile;
+      max_hops = h.hops.max;
+      body = body;
+    }
 
 -- what a packet for an area says
 abbrev pub pdu_for_area : AreaKind → AreaPacket → Pdu

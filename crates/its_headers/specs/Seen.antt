@@ -13,7 +13,21 @@ pub record Seen : Type 0 where
 
 -- a filler: octets of which this would be said are no view's
 abbrev nothing : Pdu
-nothing = record { vector = record { address = 0; timestamp = 0; place = record { latitude = pos 0; longitude = pos 0 }; accurate = false; speed = pos 0; heading = 0 }; lifetime = 0; class = 0; mobile = false; max_hops = 0; body = beacon }
+nothing = record {
+  vector = record {
+    address = 0;
+    timestamp = 0;
+    place = record { latitude = pos 0; longitude = pos 0 };
+    accurate = false;
+    speed = pos 0;
+    heading = 0;
+  };
+  lifetime = 0;
+  class = 0;
+  mobile = false;
+  max_hops = 0;
+  body = beacon;
+}
 
 -- what was read, or the filler
 abbrev pub seen : Result ((Pdu × ℕ) × ℕ) Fault → Seen

@@ -1,6 +1,7 @@
 //! Octets to packets that own what they say.
 
-ghost use Rattle.std.specs.Prelude.{◌≡◌, ◌≤◌, ◌++◌, ℕ, List, length, take, IfOk, IfErr, MatchResult};
+ghost use Rattle.std.specs.Prelude.{◌≡◌, ◌≤◌, ◌++◌, ℕ, List, length, take, IfOk, IfErr};
+ghost use Rattle.std.specs.Prelude.{MatchResult};
 ghost use Rattle.its_model.specs.Packet.{Pdu};
 ghost use Rattle.its_headers.specs.declared.decoding.DecodeFault.TheVariants as reasons;
 ghost use Rattle.its_headers.specs.Encoding.{Encodes};
@@ -73,14 +74,15 @@ impl fmt::Display for DecodeCode {
     }
 }
 
-/// The packet that begins the octets, and its length. What follows it is not judged. A failed allocation
-/// never hides a fault, and a beacon takes no memory.
+/// The packet that begins the octets, and its length. What follows it is not checked. A failed
+/// allocation never hides a fault, and a beacon takes no memory.
 pub fn decode(alloc: Global, octets: &[u8]) -> Result<(Packet, usize), DecodeFault>
     ensures found { IfOk result (λ x. (x.1 ≤ length octets.now)
         × Encodes (pdu_of_packet x.0) (hops_left x.0) (take x.1 octets.now)) }
 
     // Each packet is read, whatever follows it, unless the allocation of its payload fails.
-    ensures only { (p : Pdu) (left : ℕ) (w rest : List ℕ) → Encodes p left w → octets.now ≡ w ++ rest
+    ensures only { (p : Pdu) (left : ℕ) (w rest : List ℕ) → Encodes p left w
+        → octets.now ≡ w ++ rest
         → MatchResult result
         (λ x. (pdu_of_packet x.0 ≡ p) × (hops_left x.0 ≡ left) × (x.1 ≡ length w))
         (λ e. (e ≡ DecodeFault.NoMemory) × HasPayload p.body) }

@@ -22,12 +22,13 @@ use crate::wire::position::put_vector;
 use its_geometry::Shape;
 use its_gnvalue::NoRoom;
 
-/// Writes the encoding of the packet at the beginning of the slice, and returns its length. The rest of
-/// the slice stays; on `NoRoom`, exactly where the slice is too short, all of it does.
+/// Writes the encoding of the packet at the beginning of the slice, and returns its length. The
+/// rest of the slice stays; on `NoRoom`, exactly where the slice is too short, all of it does.
 pub fn encode_into(packet: &Packet, out: &mut [u8]) -> Result<usize, NoRoom>
     ensures written { IfOk result (λ n. WritesEncoding
         (pdu_of_packet packet.now) (hops_left packet.now) out.old out.new n) }
-    ensures room { length (encoding (pdu_of_packet packet.now) (hops_left packet.now)) ≤ length out.old → IsOk result }
+    ensures room { length (encoding (pdu_of_packet packet.now) (hops_left packet.now))
+        ≤ length out.old → IsOk result }
     ensures no_room { OnErr result ((out.new ≡ out.old)
         × (length out.old < length (encoding (pdu_of_packet packet.now) (hops_left packet.now)))) }
 {
@@ -45,7 +46,8 @@ pub fn encode_into(packet: &Packet, out: &mut [u8]) -> Result<usize, NoRoom>
 /// Writes a beacon into a slice with room for it, and returns its length.
 fn put_beacon(header: &Header, out: &mut [u8]) -> usize
     requires { 36 ≤ length out.old }
-    ensures { WritesEncoding (with_body header.now beacon) header.now.hops.left out.old out.new result }
+    ensures { WritesEncoding
+        (with_body header.now beacon) header.now.hops.left out.old out.new result }
 {
     put_basic(out, header);
     put_common(out, header, Kind::Beacon, Shape::Circle, 0);
@@ -55,9 +57,12 @@ fn put_beacon(header: &Header, out: &mut [u8]) -> usize
 
 /// Writes a single-hop broadcast into a slice with room for it, and returns its length.
 fn put_shb(packet: &SingleHopBroadcast, out: &mut [u8]) -> usize
-    requires { length (encoding (with_body packet.now.header (shb packet.now.media (message_of packet.now.payload)))
+    requires { length
+        (encoding (with_body packet.now.header
+        (shb packet.now.media (message_of packet.now.payload)))
         packet.now.header.hops.left) ≤ length out.old }
-    ensures { WritesEncoding (with_body packet.now.header (shb packet.now.media (message_of packet.now.payload)))
+    ensures { WritesEncoding
+        (with_body packet.now.header (shb packet.now.media (message_of packet.now.payload)))
         packet.now.header.hops.left out.old out.new result }
 {
     let size = packet.payload.octets().len() as u16;
@@ -68,7 +73,8 @@ fn put_shb(packet: &SingleHopBroadcast, out: &mut [u8]) -> usize
     put_payload(out, SHB_PAYLOAD, &packet.payload)
 }
 
-/// Writes a packet for an area, of this kind, into a slice with room for it, and returns its length.
+/// Writes a packet for an area, of this kind, into a slice with room for it, and returns its
+/// length.
 fn put_area_packet(kind: Kind, packet: &AreaPacket, out: &mut [u8]) -> usize
     requires { 56 + length packet.now.payload ≤ length out.old }
     ensures gbc { kind ≡ Kind.Gbc → WritesEncoding (pdu_for_area geobroadcast packet.now)

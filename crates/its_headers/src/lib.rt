@@ -1,5 +1,5 @@
-//! Packets of GeoNetworking (EN 302 636-4-1): BEACON, SHB (single-hop broadcast), GBC (geobroadcast)
-//! and GAC (geoanycast), to and from octets.
+//! Packets of GeoNetworking (EN 302 636-4-1): BEACON, SHB (single-hop broadcast), GBC
+//! (geobroadcast) and GAC (geoanycast), to and from octets.
 //!
 //! [`PacketView`] reads a packet in place, [`Packet`] owns one. What is read or written is the one
 //! encoding of the packet, and nothing else is read: other octets have one first fault, with the

@@ -29,7 +29,8 @@ pub struct Header {
 pub struct SingleHopBroadcast {
     /// What each packet has.
     pub header: Header,
-    /// Media-dependent data, carried as it is; whoever originates the packet writes zeros (profile).
+    /// Media-dependent data, carried as it is; whoever originates the packet writes zeros
+    /// (profile).
     pub media: [u8; 4],
     /// What is sent: a BTP-B header and its payload.
     pub payload: Payload,
@@ -63,8 +64,8 @@ pub enum Packet {
 }
 
 impl Packet {
-    /// How many octets its encoding has: 36 for a beacon, 40 and those of the payload for a single-hop
-    /// broadcast, and 56 and those of the payload for a geobroadcast or geoanycast.
+    /// How many octets its encoding has: 36 for a beacon, 40 and those of the payload for a
+    /// single-hop broadcast, and 56 and those of the payload for a geobroadcast or geoanycast.
     pub fn length(&self) -> usize
         ensures value { result ≡ length (encoding (pdu_of_packet self.now) (hops_left self.now)) }
         ensures bound { result ≤ 1454 }

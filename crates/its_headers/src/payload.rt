@@ -37,7 +37,7 @@ impl PartialEq for Payload {
     ghost laws = { Cmp.partial_equiv_from_equiv nat_list_eq_equiv };
 
     fn eq(&self, other: &Payload) -> bool {
-        self.octets == other.octets
+        other.octets == self.octets
     }
 }
 

@@ -1,9 +1,11 @@
 //! A packet read in place.
 
-ghost use Rattle.std.specs.Prelude.{◌≡◌, ◌≤◌, ◌<◌, ◌++◌, ℕ, List, length, take, IfOk, IfErr, IsOkAnd, OnErr};
+ghost use Rattle.std.specs.Prelude.{◌≡◌, ◌≤◌, ◌<◌, ◌++◌, ℕ, List, length, take, IfOk, IfErr};
+ghost use Rattle.std.specs.Prelude.{IsOkAnd, OnErr};
 ghost use Rattle.its_model.specs.Packet.{Pdu, number_in};
 ghost use Rattle.its_headers.specs.Encoding.{Encodes, payload_of};
-ghost use Rattle.its_headers.specs.Fields.{kind_of_body, shape_of_body, vector_place, IsLength, media_in, area_in, SaysMessage, IsForArea};
+ghost use Rattle.its_headers.specs.Fields.{kind_of_body, shape_of_body, vector_place, IsLength};
+ghost use Rattle.its_headers.specs.Fields.{media_in, area_in, SaysMessage, IsForArea};
 ghost use Rattle.its_headers.specs.Packets.{pdu_of_packet, hops_left, IsHeaderOf, IsAreaPacketOf};
 ghost use Rattle.its_headers.specs.Decoding.{HasPayload};
 ghost use Rattle.its_headers.specs.FirstFault.{FirstFault};
@@ -45,13 +47,16 @@ impl<'a> Model for PacketView<'a> {
 }
 
 impl<'a> PacketView<'a> {
-    /// The packet that begins the octets, and its length, or the first fault: fields are judged in
-    /// the order of the wire, each together with those before it. What follows the packet is not judged.
+    /// The packet that begins the octets, and its length, or the first fault: fields are checked in
+    /// the order of the wire, each together with those before it. What follows the packet is not
+    /// checked.
     pub fn read(octets: &'a [u8]) -> Result<(PacketView<'a>, usize), Fault>
-        ensures found { IfOk result (λ x. (x.1 ≤ length octets.now) × Encodes x.0.pdu x.0.left (take x.1 octets.now)) }
+        ensures found { IfOk result
+            (λ x. (x.1 ≤ length octets.now) × Encodes x.0.pdu x.0.left (take x.1 octets.now)) }
 
         // Each packet is read, whatever follows it.
-        ensures only { (p : Pdu) (left : ℕ) (w rest : List ℕ) → Encodes p left w → octets.now ≡ w ++ rest
+        ensures only { (p : Pdu) (left : ℕ) (w rest : List ℕ) → Encodes p left w
+            → octets.now ≡ w ++ rest
             → IsOkAnd result (λ x. (x.0 ≡ record { pdu = p; left = left }) × (x.1 ≡ length w)) }
         ensures fault { IfErr result (λ f. FirstFault octets.now f) }
     {
@@ -214,10 +219,11 @@ impl<'a> PacketView<'a> {
         })
     }
 
-    /// The packet, with a payload of its own. A beacon takes no memory; else `NoMemory` says that the one
-    /// growth, for the payload, was refused.
+    /// The packet, with a payload of its own. A beacon takes no memory; else `NoMemory` says that
+    /// the one allocation, of the payload, failed.
     pub fn to_packet(&self, alloc: Global) -> Result<Packet, NoMemory>
-        ensures packet { IfOk result (λ p. (pdu_of_packet p ≡ self.now.pdu) × (hops_left p ≡ self.now.left)) }
+        ensures packet { IfOk result
+            (λ p. (pdu_of_packet p ≡ self.now.pdu) × (hops_left p ≡ self.now.left)) }
         ensures memory { OnErr result (HasPayload self.now.pdu.body) }
     {
         let header = self.header();

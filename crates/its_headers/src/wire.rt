@@ -1,10 +1,11 @@
-//! The octets of a packet (EN 302 636-4-1 clause 9): each header has a module, in which it is read and
-//! written; `fields` is the table of their fields.
+//! The octets of a packet (EN 302 636-4-1 clause 9): each header has a module, in which it is read
+//! and written; `fields` is the table of their fields.
 
 ghost use Rattle.std.specs.Prelude.{◌≡◌, ◌≤◌};
 ghost use Rattle.its_model.specs.Packet.{geobroadcast, geoanycast};
 ghost use Rattle.its_headers.specs.Format.{walk, end_of};
-ghost use Rattle.its_headers.specs.Layout.{beacon_format, shb_format, area_packet_format, packet_format};
+ghost use Rattle.its_headers.specs.Layout.{beacon_format, shb_format, area_packet_format};
+ghost use Rattle.its_headers.specs.Layout.{packet_format};
 
 pub(crate) mod area;
 pub(crate) mod basic;
@@ -27,8 +28,8 @@ use its_geometry::Shape;
 use payload::check_payload;
 use position::check_vector;
 
-/// Where the packet at the front of the octets ends, or the first fault. Each field is judged once, in
-/// the order of the wire, and no value is made of it.
+/// Where the packet that begins the octets ends, or the first fault. Each field is checked once,
+/// in the order of the wire, and no value is made of it.
 #[tactic(auto, using(crate::proofs::Walks::walk_after))]
 pub(crate) fn packet_end(octets: &[u8]) -> Result<usize, Fault>
     ensures { result ≡ end_of (walk packet_format 0 octets.now) }
@@ -42,7 +43,7 @@ pub(crate) fn packet_end(octets: &[u8]) -> Result<usize, Fault>
     }
 }
 
-/// Where the beacon ends whose headers were judged.
+/// Where the beacon ends whose headers were checked.
 #[tactic(auto, using(crate::proofs::Walks::walk_after))]
 fn beacon_end(octets: &[u8]) -> Result<usize, Fault>
     ensures { result ≡ end_of (walk beacon_format 12 octets.now) }
@@ -65,7 +66,8 @@ fn shb_end(octets: &[u8], size: u16) -> Result<usize, Fault>
 /// Where the packet for an area of this shape, with a payload of this length, ends.
 #[tactic(auto, using(crate::proofs::Walks::walk_after))]
 fn area_packet_end(octets: &[u8], shape: Shape, size: u16) -> Result<usize, Fault>
-    ensures gbc { result ≡ end_of (walk (area_packet_format geobroadcast shape size) 12 octets.now) }
+    ensures gbc { result
+        ≡ end_of (walk (area_packet_format geobroadcast shape size) 12 octets.now) }
     ensures gac { result ≡ end_of (walk (area_packet_format geoanycast shape size) 12 octets.now) }
 {
     pass_number(octets, NUMBER, 2)?;

@@ -1,5 +1,6 @@
 -- Captures: frames with the moments at which they were taken, one after the other (profile).
-use Rattle.std.specs.Prelude.{◌≡◌, ℕ, ◌+◌, ◌^◌, ◌<◌, ◌≤◌, ◌⊎◌, List, [], ◌∷◌, ◌++◌, length, drop, All}
+use Rattle.std.specs.Prelude.{◌≡◌, ℕ, ◌+◌, ◌^◌, ◌<◌, ◌≤◌, ◌⊎◌, List, [], ◌∷◌, ◌++◌, length, drop}
+use Rattle.std.specs.Prelude.{All}
 use Rattle.byteorder.specs.Endian.{big_bytes, big_number}
 use Rattle.its_linkframe.specs.declared.record.Record.{Record}
 use Rattle.its_linkframe.specs.declared.record.TheConstants.{LONGEST_FRAME}
@@ -55,4 +56,5 @@ AnnouncesNoFrame w = (10 ≤ length w) × ¬ IsFrameLength (announced_length w)
 
 -- the octets end in a record's moment or length, or in a frame that was announced
 abbrev pub EndsInRecord : List ℕ → Type 0
-EndsInRecord w = (0 < length w) × ((length w < 10) ⊎ (AnnouncesFrame w × (length w < 10 + announced_length w)))
+EndsInRecord w =
+    (0 < length w) × ((length w < 10) ⊎ (AnnouncesFrame w × (length w < 10 + announced_length w)))

@@ -21,22 +21,22 @@ pub record Trails (w : List ℕ) : Type 0 where
   pub is : w ≡ text ++ rest
   pub more : 0 < length rest
 
--- Octets that are long enough for addresses and type, that have the type of GeoNetworking, and that are not too long: what
--- each fault says of those above it.
+-- Octets that are long enough for addresses and type, that have the type of GeoNetworking, and that
+-- are not too long: what each fault says of those above it.
 abbrev pub IsLong : List ℕ → Type 0
 IsLong w = 14 ≤ length w
 
 abbrev pub IsGeoNetworking : List ℕ → Type 0
 IsGeoNetworking w = IsLong w × (ether_type w ≡ 137 ∷ 71 ∷ [])
 
-abbrev pub IsJudgedOn : List ℕ → Type 0
-IsJudgedOn w = IsGeoNetworking w × (length w ≤ LONGEST_FRAME)
+abbrev pub IsCheckedOn : List ℕ → Type 0
+IsCheckedOn w = IsGeoNetworking w × (length w ≤ LONGEST_FRAME)
 
--- Judged in this order: under 14 octets; another type; over 1468 octets; no packet after the type, whose first fault is
--- that of the packet; a packet with octets after it.
+-- Judged in this order: under 14 octets; another type; over 1468 octets; no packet after the type,
+-- whose first fault is that of the packet; a packet with octets after it.
 abbrev pub IsFrameFault : List ℕ → FrameFault → Type 0
 IsFrameFault w faults.Short = length w < 14
 IsFrameFault w faults.EtherType = IsLong w × (ether_type w ≢ 137 ∷ 71 ∷ [])
 IsFrameFault w faults.TooLong = IsGeoNetworking w × (LONGEST_FRAME < length w)
-IsFrameFault w (faults.Packet f) = IsJudgedOn w × FirstFault (drop 14 w) f
-IsFrameFault w faults.Trailing = IsJudgedOn w × Trails (drop 14 w)
+IsFrameFault w (faults.Packet f) = IsCheckedOn w × FirstFault (drop 14 w) f
+IsFrameFault w faults.Trailing = IsCheckedOn w × Trails (drop 14 w)

@@ -1,4 +1,5 @@
--- Frames of the link layer (profile): target, source, the type 0x8947 of GeoNetworking, a packet, and nothing more.
+-- Frames of the link layer (profile): target, source, the type 0x8947 of GeoNetworking, a packet,
+-- and nothing more.
 use Rattle.std.specs.Prelude.{◌≡◌, ℕ, ◌^◌, ◌<◌, List, [], ◌∷◌, ◌++◌}
 use Rattle.byteorder.specs.Endian.{big_bytes}
 use Rattle.its_model.specs.Packet.{Transmission}
@@ -33,7 +34,8 @@ pub record IsFrame (w : List ℕ) : Type 0 where
 
 -- a packet, with the hops that it has left, from one link address to another
 abbrev pub sent_from_to : ℕ → ℕ → Seen → Transmission
-sent_from_to source target s = record { pdu = s.pdu; hops_left = s.left; link_source = source; link_target = target }
+sent_from_to source target s =
+    record { pdu = s.pdu; hops_left = s.left; link_source = source; link_target = target }
 
 -- what a frame that was read says
 abbrev pub transmission_of : FrameView → Transmission
@@ -41,4 +43,5 @@ transmission_of v = sent_from_to v.from v.to v.packet
 
 -- what the frame of a packet says
 abbrev pub sent_packet : ℕ → ℕ → Packet → Transmission
-sent_packet source target p = sent_from_to source target (record { pdu = pdu_of_packet p; left = hops_left p })
+sent_packet source target p =
+    sent_from_to source target (record { pdu = pdu_of_packet p; left = hops_left p })

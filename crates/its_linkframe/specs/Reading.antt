@@ -7,11 +7,12 @@ use Rattle.its_linkframe.specs.declared.record.CaptureFault.{CaptureFault}
 use Rattle.its_linkframe.specs.declared.record.CaptureFault.TheVariants as faults
 use Rattle.its_linkframe.specs.declared.reader.Stage.{Stage}
 use Rattle.its_linkframe.specs.declared.reader.Stage.TheVariants as stages
-use Rattle.its_linkframe.specs.Captures.{Captured, EncodesCapture, AnnouncesFrame, AnnouncesNoFrame, EndsInRecord, captured, captured_at}
-use Rattle.its_linkframe.specs.Devices.{ConsumesFront}
+use Rattle.its_linkframe.specs.Captures.{Captured, EncodesCapture, AnnouncesFrame, AnnouncesNoFrame}
+use Rattle.its_linkframe.specs.Captures.{EndsInRecord, captured, captured_at}
+use Rattle.its_linkframe.specs.Devices.{ConsumesPrefix}
 
--- A reader: whether it met a fault or the end, what octets its source has left, where they are known, and how many calls
--- of the source failed.
+-- A reader: whether it met a fault or the end, what octets its source has left, where they are
+-- known, and how many calls of the source failed.
 pub record Reading : Type 0 where
   pub failed : Bool
   pub ended : Bool
@@ -45,38 +46,45 @@ ConsumesHead old new = (head : List ℕ) × (length head ≡ 10) × Consumes old
 abbrev pub MeetsEnd : Option (List ℕ) → Option (List ℕ) → Type 0
 MeetsEnd old new = IsAtEnd old × IsAtEnd new × Consumes old new []
 
--- What a fault says of the octets that the source had, and what it leaves of them: none (C1), all after the length (C2,
--- C4), some end (C3), all (C5).
+-- What a fault says of the octets that the source had, and what it leaves of them: none (C1), all
+-- after the length (C2, C4), some end (C3), all (C5).
 abbrev pub IsReadFault : Option (List ℕ) → Option (List ℕ) → CaptureFault → Type 0
-IsReadFault old new faults.CutRecord = IfSome old EndsInRecord × ConsumesFront old new × IsAtEnd new
+IsReadFault old new faults.CutRecord = IfSome old EndsInRecord × ConsumesPrefix old new × IsAtEnd new
 IsReadFault old new faults.Length = IfSome old AnnouncesNoFrame × ConsumesHead old new
-IsReadFault old new faults.Io = ConsumesFront old new
+IsReadFault old new faults.Io = ConsumesPrefix old new
 IsReadFault old new faults.NoMemory = IfSome old AnnouncesFrame × ConsumesHead old new
 IsReadFault old new faults.Failed = Consumes old new []
 
 -- The same of a frame of a known length, after its head.
 abbrev pub IsCutShort : ℕ → Option (List ℕ) → Option (List ℕ) → CaptureFault → Type 0
-IsCutShort size old new faults.CutRecord = IfSome old (λ w. length w < size) × ConsumesFront old new × IsAtEnd new
+IsCutShort size old new faults.CutRecord =
+    IfSome old (λ w. length w < size) × ConsumesPrefix old new × IsAtEnd new
 IsCutShort size old new faults.Length = ⊥
-IsCutShort size old new faults.Io = ConsumesFront old new
+IsCutShort size old new faults.Io = ConsumesPrefix old new
 IsCutShort size old new faults.NoMemory = Consumes old new []
 IsCutShort size old new faults.Failed = ⊥
 
--- What is answered where the octets that are left are those of a capture: its first record, which leaves the capture of
--- the others, or the end, where there is none; or else that the device failed or that a growth was refused.
-abbrev pub ReadsFirst : List Captured → Option (List ℕ) → Result (Option Record) CaptureFault → Type 0
+-- What is answered where the octets that are left are those of a capture: its first record, which
+-- leaves the capture of the others, or the end, where there is none; or else that the device failed
+-- or that a growth was refused.
+abbrev pub ReadsFirst : List Captured → Option (List ℕ) → Result (Option Record) CaptureFault
+    → Type 0
 ReadsFirst [] new (Ok None) = new ≡ Some []
 ReadsFirst [] new (Ok (Some r)) = ⊥
 ReadsFirst (first ∷ others) new (Ok None) = ⊥
-ReadsFirst (first ∷ others) new (Ok (Some r)) = (captured r ≡ first) × IsSomeAnd new (EncodesCapture others)
+ReadsFirst (first ∷ others) new (Ok (Some r)) =
+    (captured r ≡ first) × IsSomeAnd new (EncodesCapture others)
 ReadsFirst [] new (Err fault) = fault ≡ faults.Io
 ReadsFirst (first ∷ others) new (Err fault) = (fault ≡ faults.Io) ⊎ (fault ≡ faults.NoMemory)
 
 -- The same of a call that gives a moment, and the frame in a buffer.
-abbrev pub ReadsFirstInto : List Captured → Option (List ℕ) → List ℕ → Result (Option ℕ) CaptureFault → Type 0
+abbrev pub ReadsFirstInto : List Captured → Option (List ℕ) → List ℕ
+    → Result (Option ℕ) CaptureFault → Type 0
 ReadsFirstInto [] new frame (Ok None) = new ≡ Some []
 ReadsFirstInto [] new frame (Ok (Some moment)) = ⊥
 ReadsFirstInto (first ∷ others) new frame (Ok None) = ⊥
-ReadsFirstInto (first ∷ others) new frame (Ok (Some moment)) = (captured_at moment frame ≡ first) × IsSomeAnd new (EncodesCapture others)
+ReadsFirstInto (first ∷ others) new frame (Ok (Some moment)) =
+    (captured_at moment frame ≡ first) × IsSomeAnd new (EncodesCapture others)
 ReadsFirstInto [] new frame (Err fault) = fault ≡ faults.Io
-ReadsFirstInto (first ∷ others) new frame (Err fault) = (fault ≡ faults.Io) ⊎ (fault ≡ faults.NoMemory)
+ReadsFirstInto (first ∷ others) new frame (Err fault) =
+    (fault ≡ faults.Io) ⊎ (fault ≡ faults.NoMemory)

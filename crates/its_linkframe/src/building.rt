@@ -22,8 +22,9 @@ pub fn write_frame(alloc: Global, to: Mac, from: Mac, packet: &Packet) -> Result
     Ok(frame)
 }
 
-/// The frame in which a packet goes on, with one hop fewer left and other link addresses. The packet has
-/// to have at least two hops left. `NoMemory` says that the one allocation, of the frame, failed.
+/// The frame in which a packet goes on, with one hop fewer left and other link addresses. The
+/// packet has to have at least two hops left. `NoMemory` says that the one allocation, of the
+/// frame, failed.
 pub fn relay_frame(
     alloc: Global,
     to: Mac,
@@ -31,7 +32,8 @@ pub fn relay_frame(
     frame: &FrameView<'_>,
 ) -> Result<Vec<u8>, NoMemory>
     requires { 2 ≤ frame.now.packet.left }
-    ensures { IfOk result (λ relayed. EncodesFrame (relay (transmission_of frame.now) from to) relayed.items) }
+    ensures { IfOk result
+        (λ relayed. EncodesFrame (relay (transmission_of frame.now) from to) relayed.items) }
 {
     let packet = &frame.packet;
     let mut relayed = Vec::with_capacity(alloc, PACKET + packet.octets().len())?;
@@ -39,12 +41,13 @@ pub fn relay_frame(
     Ok(relayed)
 }
 
-/// Writes the frame in which a packet goes on into an empty vector that has the room: it takes no memory,
-/// and nothing of it can fail.
+/// Writes the frame in which a packet goes on into an empty vector that has the room: it takes no
+/// memory, and nothing of it can fail.
 fn put_relayed(relayed: &mut Vec<u8>, to: Mac, from: Mac, packet: &PacketView<'_>)
     requires left { 2 ≤ packet.now.left }
     requires empty { relayed.old.items ≡ [] }
-    requires room { 14 + length (encoding packet.now.pdu packet.now.left) ≤ vec_capacity relayed.old }
+    requires room { 14 + length (encoding packet.now.pdu packet.now.left)
+        ≤ vec_capacity relayed.old }
     ensures { EncodesFrame (relay (sent_from_to 0 0 packet.now) from to) relayed.new.items }
 {
     let octets = packet.octets();
@@ -70,7 +73,8 @@ pub fn retarget(frame: &mut [u8], to: Mac)
 
 /// Writes the frame of a packet, which has just the room that it needs.
 fn put_frame(frame: &mut [u8], to: Mac, from: Mac, packet: &Packet)
-    requires { length frame.old ≡ 14 + length (encoding (pdu_of_packet packet.now) (hops_left packet.now)) }
+    requires { length frame.old
+        ≡ 14 + length (encoding (pdu_of_packet packet.now) (hops_left packet.now)) }
     ensures { EncodesFrame (sent_packet from to packet.now) frame.new }
 {
     let header = link_header(to, from);

@@ -29,11 +29,13 @@ pub struct FrameView<'a> {
     pub packet: PacketView<'a>,
 }
 
-/// The frame that the octets are, or their first fault, in this order: L1 under 14 octets, L2 another
-/// type than 0x8947, L3 over 1468 octets, L5 no packet after the type, L4 octets after the packet.
+/// The frame that the octets are, or their first fault, in this order: L1 under 14 octets, L2
+/// another type than 0x8947, L3 over 1468 octets, L5 no packet after the type, L4 octets after the
+/// packet.
 pub fn read_frame(octets: &[u8]) -> Result<FrameView<'_>, FrameFault>
     ensures found { IfOk result (λ v. EncodesFrame (transmission_of v) octets.now) }
-    ensures only { (t : Transmission) → EncodesFrame t octets.now → IsOkAnd result (λ v. transmission_of v ≡ t) }
+    ensures only { (t : Transmission) → EncodesFrame t octets.now
+        → IsOkAnd result (λ v. transmission_of v ≡ t) }
     ensures fault { IfErr result (IsFrameFault octets.now) }
 {
     if octets.len() < PACKET {

@@ -10,7 +10,8 @@ ghost use Rattle.its_linkframe.specs.Frames.{EncodesFrame};
 
 /// Octets are a capture of one list of records at most.
 pub fn one_capture()
-    ensures { (records others : List Captured) (w : List ℕ) → EncodesCapture records w → EncodesCapture others w
+    ensures { (records others : List Captured) (w : List ℕ) → EncodesCapture records w
+        → EncodesCapture others w
         → records ≡ others }
 {}
 
@@ -25,5 +26,6 @@ pub fn one_frame_fault()
         → IsFrameFault w f → ⊥ }
     ensures some { (w : List ℕ) → IsBytes w → ((t : Transmission) → EncodesFrame t w → ⊥)
         → (f : FrameFault) × IsFrameFault w f }
-    ensures one { (w : List ℕ) (f g : FrameFault) → IsBytes w → IsFrameFault w f → IsFrameFault w g → f ≡ g }
+    ensures one { (w : List ℕ) (f g : FrameFault) → IsBytes w → IsFrameFault w f → IsFrameFault w g
+        → f ≡ g }
 {}

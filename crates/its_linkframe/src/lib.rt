@@ -13,11 +13,11 @@ mod source;
 mod transfer;
 mod writer;
 
+pub use building::{relay_frame, retarget, write_frame};
 pub use counted::Counted;
 pub use frame::{FrameView, read_frame};
 pub use its_faults::{FrameCode, FrameFault};
 pub use laws::{one_capture, one_frame, one_frame_fault};
-pub use building::{relay_frame, retarget, write_frame};
 pub use reader::CaptureReader;
 pub use record::{CaptureFault, LONGEST_FRAME, Record};
 pub use sink::Sink;

@@ -1,11 +1,14 @@
 //! Reading a capture.
 
-ghost use Rattle.std.specs.Prelude.{◌≡◌, ◌≢◌, ◌-◌, ◌+◌, ◌^◌, ◌<◌, ◌↔◌, ◌||◌, List, ℕ, length, false};
-ghost use Rattle.std.specs.Prelude.{◌≤◌, IfOk, IfErr, IfSome, IfNone, OnOk, IsTrue, is_err, if◌then◌else◌, vec_capacity};
+ghost use Rattle.std.specs.Prelude.{◌≡◌, ◌≢◌, ◌-◌, ◌+◌, ◌^◌, ◌<◌, ◌↔◌, ◌||◌, List, ℕ, length};
+ghost use Rattle.std.specs.Prelude.{false};
+ghost use Rattle.std.specs.Prelude.{◌≤◌, IfOk, IfErr, IfSome, IfNone, OnOk, IsTrue, is_err};
+ghost use Rattle.std.specs.Prelude.{if◌then◌else◌, vec_capacity};
 ghost use Rattle.std.specs.Io.KnownBytes.{Consumes};
 ghost use Rattle.its_linkframe.specs.Captures.{Captured, IsCaptured, IsFrameLength, EncodesCapture};
 ghost use Rattle.its_linkframe.specs.Captures.{head_octets, record_octets, captured, captured_at};
-ghost use Rattle.its_linkframe.specs.Reading.{is_failed, is_ended, is_io, MeetsEnd, IsReadFault, IsCutShort, ReadsFirst, ReadsFirstInto};
+ghost use Rattle.its_linkframe.specs.Reading.{is_failed, is_ended, is_io, MeetsEnd, IsReadFault};
+ghost use Rattle.its_linkframe.specs.Reading.{IsCutShort, ReadsFirst, ReadsFirstInto};
 
 use crate::fields::{FRAME, LENGTH};
 use crate::record::{CaptureFault, LONGEST_FRAME, Record};
@@ -25,7 +28,8 @@ enum Stage {
     Failed,
 }
 
-/// Reads the records of a capture, in order, from a source that gives its octets in pieces of any size.
+/// Reads the records of a capture, in order, from a source that gives its octets in pieces of any
+/// size.
 #[derive(Drop)]
 pub struct CaptureReader<R: Source> {
     alloc: Global,
@@ -71,10 +75,12 @@ impl<R: Source> CaptureReader<R> {
 
     /// The next record, or `None` at the end of the capture and from then on.
     ///
-    /// A length is checked before any octet of its frame is read. After a fault each call answers C5.
+    /// A length is checked before any octet of its frame is read. After a fault each call answers
+    /// C5.
     pub fn next(&mut self) -> Result<Option<Record>, CaptureFault>
         ensures record { IfOk result (λ found. IfSome found
-            (λ r. IsCaptured (captured r) × Consumes self.old.rest self.new.rest (record_octets (captured r)))) }
+            (λ r. IsCaptured (captured r)
+            × Consumes self.old.rest self.new.rest (record_octets (captured r)))) }
         ensures end { IfOk result (λ found. IfNone found (MeetsEnd self.old.rest self.new.rest)) }
         ensures fault { IfErr result (IsReadFault self.old.rest self.new.rest) }
         ensures counts { self.new.failures ≡ self.old.failures + (if is_io result then 1 else 0) }
@@ -88,7 +94,8 @@ impl<R: Source> CaptureReader<R> {
 
         // What was written as a capture is read again, however the source cuts it.
         ensures capture { (records : List Captured) (w : List ℕ) → self.old.failed ≡ false
-            → self.old.rest ≡ Some w → EncodesCapture records w → ReadsFirst records self.new.rest result }
+            → self.old.rest ≡ Some w → EncodesCapture records w
+            → ReadsFirst records self.new.rest result }
     {
         let mut frame = Vec::new(self.alloc);
         match self.next_into(&mut frame) {
@@ -98,14 +105,15 @@ impl<R: Source> CaptureReader<R> {
         }
     }
 
-    /// Reads the next record as `next` does, and puts its frame into a buffer of the caller's in place of
-    /// what is there; the moment is returned. Memory is taken only where the buffer has too little room:
-    /// one with room for 1468 octets is enough for each frame. Where no record is returned the buffer
-    /// holds some octets of no meaning.
+    /// Reads the next record as `next` does, and puts its frame into a buffer of the caller's in
+    /// place of what is there; the moment is returned. Memory is taken only where the buffer has
+    /// too little room: one with room for 1468 octets is enough for each frame. Where no record is
+    /// returned the buffer holds some octets of no meaning.
     pub fn next_into(&mut self, frame: &mut Vec<u8>) -> Result<Option<u64>, CaptureFault>
         ensures record { IfOk result (λ found. IfSome found
             (λ moment. IsCaptured (captured_at moment frame.new.items)
-            × Consumes self.old.rest self.new.rest (record_octets (captured_at moment frame.new.items)))) }
+            × Consumes self.old.rest self.new.rest
+            (record_octets (captured_at moment frame.new.items)))) }
         ensures end { IfOk result (λ found. IfNone found (MeetsEnd self.old.rest self.new.rest)) }
         ensures fault { IfErr result (IsReadFault self.old.rest self.new.rest) }
         ensures counts { self.new.failures ≡ self.old.failures + (if is_io result then 1 else 0) }
@@ -118,7 +126,8 @@ impl<R: Source> CaptureReader<R> {
         ensures idle { IsTrue (self.old.failed || self.old.ended) → self.new ≡ self.old }
 
         // A buffer with room for the longest frame is enough.
-        ensures memory { LONGEST_FRAME ≤ vec_capacity frame.old → result ≢ Err CaptureFault.NoMemory }
+        ensures memory { LONGEST_FRAME ≤ vec_capacity frame.old
+            → result ≢ Err CaptureFault.NoMemory }
 
         // What was written as a capture is read again, however the source cuts it.
         ensures capture { (records : List Captured) (w : List ℕ) → self.old.failed ≡ false
@@ -158,9 +167,10 @@ fn stage_after(answer: &Result<Option<u64>, CaptureFault>) -> Stage
 /// A record, of which the frame goes into the buffer, or nothing at the end.
 fn read_record<S: Source>(source: &mut S, frame: &mut Vec<u8>) -> Result<Option<u64>, CaptureFault>
     requires { S.failed source.old < 2 ^ 64 - 1 }
-    ensures record { IfOk result (λ found. IfSome found (λ moment. IsCaptured (captured_at moment frame.new.items)
+    ensures record { IfOk result
+        (λ found. IfSome found (λ moment. IsCaptured (captured_at moment frame.new.items)
         × Consumes (S.remaining source.old) (S.remaining source.new)
-            (record_octets (captured_at moment frame.new.items)))) }
+        (record_octets (captured_at moment frame.new.items)))) }
     ensures end { IfOk result (λ found. IfNone found
         (MeetsEnd (S.remaining source.old) (S.remaining source.new))) }
     ensures fault { IfErr result (IsReadFault (S.remaining source.old) (S.remaining source.new)) }
@@ -216,15 +226,19 @@ fn head_of(head: &[u8; FRAME]) -> (u64, u16)
 }
 
 /// That many octets, in place of what the buffer had; one allocation where it has too little room.
-fn read_octets<S: Source>(source: &mut S, size: usize, octets: &mut Vec<u8>) -> Result<(), CaptureFault>
+fn read_octets<S: Source>(
+    source: &mut S,
+    size: usize,
+    octets: &mut Vec<u8>,
+) -> Result<(), CaptureFault>
     requires { S.failed source.old < 2 ^ 64 - 1 }
     ensures octets { OnOk result ((length octets.new.items ≡ size)
         × Consumes (S.remaining source.old) (S.remaining source.new) octets.new.items) }
-    ensures fault { IfErr result (IsCutShort size (S.remaining source.old) (S.remaining source.new)) }
+    ensures fault { IfErr result
+        (IsCutShort size (S.remaining source.old) (S.remaining source.new)) }
     ensures counts { S.failed source.new ≡ S.failed source.old + (if is_io result then 1 else 0) }
     ensures memory { size ≤ vec_capacity octets.old → result ≢ Err CaptureFault.NoMemory }
 {
-    octets.clear();
     if octets.resize(size, 0).is_err() {
         return Err(CaptureFault::NoMemory);
     }

@@ -14,7 +14,7 @@ pub const LONGEST_FRAME: usize = 1468;
 pub struct Record {
     /// In milliseconds.
     pub moment: u64,
-    /// The octets of the frame, 1 to 1468 of them where the record was read; they are not judged.
+    /// The octets of the frame, 1 to 1468 of them where the record was read; they are not checked.
     pub frame: Vec<u8>,
 }
 

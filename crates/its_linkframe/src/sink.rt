@@ -14,8 +14,8 @@ pub trait Sink: Write {
     fn failures(&self) -> u64
         ensures { result ≡ failed self.now };
 
-    /// One write, and how many octets it took: one at least, unless it was given none. `None` is a failed
-    /// call, which adds one to the count and is not tried again.
+    /// One write, and how many octets it took: one at least, unless it was given none. `None` is a
+    /// failed call, which adds one to the count and is not tried again.
     fn push(&mut self, buf: &[u8]) -> Option<usize>
         requires { failed self.old < 2 ^ 64 - 1 }
         ensures bound { IfSome result (λ n. n ≤ length buf.now) }

@@ -3,8 +3,9 @@
 ghost use Rattle.std.specs.Prelude.{◌≡◌, ◌-◌, ◌+◌, ◌^◌, ◌<◌, ◌↔◌, ◌||◌, List, ℕ, length, false};
 ghost use Rattle.std.specs.Prelude.{MatchOption, OnOk, IfErr, IsTrue, if◌then◌else◌};
 ghost use Rattle.std.specs.Io.KnownBytes.{Appends};
-ghost use Rattle.its_linkframe.specs.Captures.{Captured, IsFrameLength, captured_at, head_octets, record_octets};
-ghost use Rattle.its_linkframe.specs.Devices.{counted, AppendsFront};
+ghost use Rattle.its_linkframe.specs.Captures.{Captured, IsFrameLength, captured_at, head_octets};
+ghost use Rattle.its_linkframe.specs.Captures.{record_octets};
+ghost use Rattle.its_linkframe.specs.Devices.{counted, AppendsPrefix};
 ghost use Rattle.its_linkframe.specs.Reading.{is_io};
 ghost use Rattle.its_linkframe.specs.Writing.{IsWriteFault, HoldsCapture, HoldsAfter};
 
@@ -53,22 +54,26 @@ impl<W: Sink> CaptureWriter<W> {
         }
     }
 
-    /// Writes a record: the moment is in milliseconds, the frame's content is not judged.
+    /// Writes a record: the moment is in milliseconds, the frame's content is not checked.
     ///
-    /// C2 where the frame has no octet or over 1468: nothing is written, and the writer stays good. C3
-    /// where a call of the device failed: the sink has a front of the record, and each later call answers C5.
+    /// C2 where the frame has no octet or over 1468: nothing is written, and the writer stays good.
+    /// C3 where a call of the device failed: the sink has a prefix of the record, and each later
+    /// call answers C5.
     pub fn put(&mut self, moment: u64, frame: &[u8]) -> Result<(), CaptureFault>
         ensures stored { OnOk result (IsFrameLength (length frame.now)
-            × Appends self.old.contents self.new.contents (record_octets (captured_at moment frame.now))) }
-        ensures fault { IfErr result (IsWriteFault (captured_at moment frame.now) self.old self.new) }
+            × Appends self.old.contents self.new.contents
+            (record_octets (captured_at moment frame.now))) }
+        ensures fault { IfErr result
+            (IsWriteFault (captured_at moment frame.now) self.old self.new) }
         ensures counts { self.new.failures ≡ self.old.failures + (if is_io result then 1 else 0) }
 
         // C5 comes exactly after C3.
         ensures failed { (result ≡ Err CaptureFault.Failed) ↔ IsTrue self.old.failed }
         ensures breaks { self.new.failed ≡ (self.old.failed || is_io result) }
 
-        // What the sink has is always a front of the capture of all records that were put.
-        ensures capture { (before : List ℕ) (records : List Captured) → HoldsCapture before records self.old.contents
+        // What the sink has is always a prefix of the capture of all records that were put.
+        ensures capture { (before : List ℕ) (records : List Captured)
+            → HoldsCapture before records self.old.contents
             → HoldsAfter before records (captured_at moment frame.now) self.new.contents result }
     {
         if self.failed {
@@ -95,14 +100,16 @@ impl<W: Sink> CaptureWriter<W> {
     }
 }
 
-/// Writes a whole record, or a front of it where a call fails.
+/// Writes a whole record, or a prefix of it where a call fails.
 fn store_record<S: Sink>(sink: &mut S, moment: u64, frame: &[u8]) -> Option<()>
     requires ready { S.failed sink.old < 2 ^ 64 - 1 }
     requires fits { length frame.now < 2 ^ 16 }
     ensures counts { S.failed sink.new ≡ counted (S.failed sink.old) result }
     ensures octets { MatchOption result
-        (AppendsFront (S.contents sink.old) (S.contents sink.new) (record_octets (captured_at moment frame.now)))
-        (λ _. Appends (S.contents sink.old) (S.contents sink.new) (record_octets (captured_at moment frame.now))) }
+        (AppendsPrefix (S.contents sink.old) (S.contents sink.new)
+        (record_octets (captured_at moment frame.now)))
+        (λ _. Appends (S.contents sink.old) (S.contents sink.new)
+        (record_octets (captured_at moment frame.now))) }
 {
     store(sink, &head_for(moment, frame.len() as u16))?;
     store(sink, frame)

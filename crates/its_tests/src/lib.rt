@@ -6,6 +6,8 @@ mod commands;
 #[cfg(test)]
 mod geometry;
 #[cfg(test)]
+mod packets;
+#[cfg(test)]
 mod scenarios;
 #[cfg(test)]
 mod shortage;

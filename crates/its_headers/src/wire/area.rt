@@ -16,10 +16,11 @@ use its_faults::{Fault, FaultKind};
 use its_geometry::{Area, Shape};
 use its_gnvalue::Place;
 
-/// Judges the area, of a shape that the sub-type names.
+/// Checks the area, of a shape that the sub-type names.
 #[tactic(auto, unfolding(crate::specs::Layout::area_format))]
 pub(crate) fn check_area(octets: &[u8], shape: Shape) -> Result<(), Fault>
-    ensures { Gives (λ _. (area_at shape octets.now, 54)) result (walk (area_format shape) 40 octets.now) }
+    ensures { Gives (λ _. (area_at shape octets.now, 54)) result
+        (walk (area_format shape) 40 octets.now) }
 {
     if !is_latitude(u32_at(octets, AREA_LATITUDE)?.cast_signed()) {
         return Err(fault(AREA_LATITUDE, FaultKind::Area));
@@ -59,7 +60,7 @@ fn is_angle(shape: Shape, angle: u16) -> bool
     }
 }
 
-/// The area, of this shape, which was judged.
+/// The area, of this shape, which was checked.
 pub(crate) fn area_in(octets: &[u8], shape: Shape) -> Area
     requires here { 54 ≤ length octets.now }
     requires fits { IsArea (area_at shape octets.now) }

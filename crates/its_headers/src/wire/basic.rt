@@ -18,7 +18,7 @@ const VERSION_1: u8 = 1;
 /// The next header: the Common Header, with no security.
 const NEXT_COMMON: u8 = 1;
 
-/// Judges the Basic Header, and gives the hops that are left.
+/// Checks the Basic Header, and gives the hops that are left.
 #[tactic(auto, unfolding(crate::specs::Layout::basic_format))]
 pub(crate) fn check_basic(octets: &[u8]) -> Result<u8, Fault>
     ensures some_left { IfOk result (λ left. 0 < left) }
@@ -46,7 +46,8 @@ pub(crate) fn check_basic(octets: &[u8]) -> Result<u8, Fault>
 /// Writes the Basic Header, four octets.
 pub(crate) fn put_basic(out: &mut [u8], header: &Header)
     requires { 4 ≤ length out.old }
-    ensures puts { Puts out.old out.new 0 (17 ∷ 0 ∷ header.now.lifetime ∷ header.now.hops.left ∷ []) }
+    ensures puts { Puts out.old out.new 0
+        (17 ∷ 0 ∷ header.now.lifetime ∷ header.now.hops.left ∷ []) }
     ensures lifetime { header.now.lifetime < 256 }
     ensures some_left { 0 < header.now.hops.left }
 {

@@ -1,12 +1,14 @@
-//! The Common Header (EN 302 636-4-1 clause 9): next header, header type, traffic class, flags, payload
-//! length, greatest number of hops.
+//! The Common Header (EN 302 636-4-1 clause 9): next header, header type, traffic class, flags,
+//! payload length, greatest number of hops.
 
-ghost use Rattle.std.specs.Prelude.{◌≡◌, ◌≤◌, ◌<◌, ◌+◌, ◌*◌, ◌∷◌, ◌++◌, [], length, drop, nat_le, IfOk, if◌then◌else◌};
+ghost use Rattle.std.specs.Prelude.{◌≡◌, ◌≤◌, ◌<◌, ◌+◌, ◌*◌, ◌∷◌, ◌++◌, [], length, drop, nat_le};
+ghost use Rattle.std.specs.Prelude.{IfOk, if◌then◌else◌};
 ghost use Rattle.byteorder.specs.Endian.{big_bytes, big_number};
 ghost use Rattle.its_headers.specs.Encoding.{shape_code};
 ghost use Rattle.its_headers.specs.Format.{Gives, walk};
 ghost use Rattle.its_headers.specs.Layout.{common_format, type_format, is_length};
-ghost use Rattle.its_headers.specs.Layout.{is_next, is_type, is_subtype, kind_of, shape_of, next_of, type_of};
+ghost use Rattle.its_headers.specs.Layout.{is_next, is_type, is_subtype, kind_of, shape_of};
+ghost use Rattle.its_headers.specs.Layout.{next_of, type_of};
 ghost use Rattle.its_headers.specs.Fields.{IsLength};
 ghost use Rattle.its_headers.specs.Puts.{Puts};
 
@@ -41,8 +43,8 @@ const TYPE_SHB: u8 = 5;
 /// The flag of a mobile source.
 const MOBILE: u8 = 0x80;
 
-/// What the Common Header says of the octets after it; only packets for an area have a shape other than
-/// the circle's.
+/// What the Common Header says of the octets after it; only packets for an area have a shape other
+/// than the circle's.
 #[derive(Clone, Copy)]
 pub(crate) struct CommonHeader {
     pub kind: Kind,
@@ -50,7 +52,7 @@ pub(crate) struct CommonHeader {
     pub length: u16,
 }
 
-/// Judges the Common Header of a packet that has so many hops left.
+/// Checks the Common Header of a packet that has so many hops left.
 #[tactic(auto, using(crate::proofs::Walks::walk_after), unfolding(crate::specs::Layout::common_format))]
 pub(crate) fn check_common(octets: &[u8], left: u8) -> Result<CommonHeader, Fault>
     ensures size { IfOk result (λ c. IsLength c.kind c.length) }
@@ -181,11 +183,12 @@ pub(crate) fn is_mobile(flags: u8) -> bool
     flags >= MOBILE
 }
 
-/// Writes the Common Header, eight octets, of a packet of a kind for a shape, with a payload of this
-/// length.
+/// Writes the Common Header, eight octets, of a packet of a kind for a shape, with a payload of
+/// this length.
 pub(crate) fn put_common(out: &mut [u8], header: &Header, kind: Kind, shape: Shape, size: u16)
     requires { 12 ≤ length out.old }
-    ensures puts { Puts out.old out.new 4 ((16 * next_of kind) ∷ (16 * type_of kind + shape_code shape)
+    ensures puts { Puts out.old out.new 4
+        ((16 * next_of kind) ∷ (16 * type_of kind + shape_code shape)
         ∷ header.now.class ∷ (if header.now.mobile then 128 else 0)
         ∷ (big_bytes 2 size ++ header.now.hops.max ∷ 0 ∷ [])) }
     ensures class { header.now.class < 256 }

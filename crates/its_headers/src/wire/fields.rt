@@ -1,5 +1,5 @@
-//! The table of a packet's fields, from octet 0 to the last (EN 302 636-4-1 clause 9), and reading and
-//! writing one. Numbers of several octets go highest octet first.
+//! The table of a packet's fields, from octet 0 to the last (EN 302 636-4-1 clause 9), and reading
+//! and writing one. Numbers of several octets go highest octet first.
 
 ghost use Rattle.std.specs.Prelude.{◌≡◌, ◌≤◌, ◌<◌, ◌+◌, ◌^◌, length, take, drop, IfOk};
 ghost use Rattle.byteorder.specs.Endian.{big_bytes, big_number};
@@ -209,7 +209,8 @@ pub(crate) fn u64_at(octets: &[u8], at: usize) -> Result<u64, Fault>
 #[tactic(auto, unfolding(crate::specs::Format::number_at))]
 pub(crate) fn pass_number(octets: &[u8], at: usize, count: usize) -> Result<(), Fault>
     requires { at + count < 2 ^ 32 }
-    ensures { Gives (λ _. big_number count (drop at octets.now)) result (number_at count at octets.now) }
+    ensures { Gives (λ _. big_number count (drop at octets.now)) result
+        (number_at count at octets.now) }
 {
     if octets.len() < at + count {
         return Err(truncated(octets));

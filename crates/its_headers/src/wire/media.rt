@@ -6,7 +6,7 @@ ghost use Rattle.its_headers.specs.Puts.{Puts};
 
 use crate::wire::fields::{MEDIA, put_slice};
 
-/// The media-dependent data, which was judged to be there.
+/// The media-dependent data, which was checked to be there.
 pub(crate) fn media_in(octets: &[u8]) -> [u8; 4]
     requires { 40 ≤ length octets.now }
     ensures { result ≡ take 4 (drop 36 octets.now) }

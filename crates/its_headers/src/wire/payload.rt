@@ -1,4 +1,5 @@
-//! The payload of a packet in its octets: a BTP-B header and what is sent to the port (EN 302 636-5-1).
+//! The payload of a packet in its octets: a BTP-B header and what is sent to the port (EN 302
+//! 636-5-1).
 
 ghost use Rattle.std.specs.Prelude.{◌≡◌, ◌≤◌, ◌<◌, ◌+◌, length, take, drop};
 ghost use Rattle.its_headers.specs.Encoding.{IsBytes};
@@ -9,7 +10,7 @@ use crate::payload::Payload;
 use crate::wire::fields::{check_octets, put_slice};
 use its_faults::Fault;
 
-/// Judges that a payload of this length is there.
+/// Checks that a payload of this length is there.
 pub(crate) fn check_payload(octets: &[u8], at: usize, size: u16) -> Result<(), Fault>
     requires { at ≤ 56 }
     ensures { Gives (λ _. take size (drop at octets.now)) result (octets_at size at octets.now) }

@@ -1,4 +1,5 @@
-//! Long position vectors (EN 302 636-4-1 clause 9): address, timestamp, place, accuracy, speed, heading.
+//! Long position vectors (EN 302 636-4-1 clause 9): address, timestamp, place, accuracy, speed,
+//! heading.
 
 ghost use Rattle.std.specs.Prelude.{◌≡◌, ◌≤◌, ◌<◌, ◌+◌, ◌%◌, ◌^◌, length, nat_le};
 ghost use Rattle.its_gnvalue.specs.Values.{IsSpeed, IsLatitude, IsLongitude};
@@ -18,11 +19,12 @@ use its_gnvalue::{GnAddress, LongPv, Place};
 /// The bit of position accuracy, above those of the speed.
 const ACCURATE: u16 = 0x8000;
 
-/// Judges the vector that begins at this octet.
+/// Checks the vector that begins at this octet.
 #[tactic(auto, unfolding(crate::specs::Layout::vector_format))]
 pub(crate) fn check_vector(octets: &[u8], at: usize) -> Result<(), Fault>
     requires { at ≤ 16 }
-    ensures { Gives (λ _. (vector_at at octets.now, at + 24)) result (walk vector_format at octets.now) }
+    ensures { Gives (λ _. (vector_at at octets.now, at + 24)) result
+        (walk vector_format at octets.now) }
 {
     if !is_individual(u64_at(octets, at + ADDRESS)?) {
         return Err(fault(at + ADDRESS, FaultKind::Position));
@@ -60,7 +62,7 @@ pub(crate) fn is_longitude(z: i32) -> bool
     -1_800_000_000 <= z && z <= 1_800_000_000
 }
 
-/// The vector that begins at this octet, which was judged.
+/// The vector that begins at this octet, which was checked.
 pub(crate) fn vector_in(octets: &[u8], at: usize) -> LongPv
     requires here { at + 24 ≤ length octets.now }
     requires fits { IsVector (vector_at at octets.now) }
@@ -77,7 +79,7 @@ pub(crate) fn vector_in(octets: &[u8], at: usize) -> LongPv
     vector_of(address, tst, place_of(lat, lon), motion, heading)
 }
 
-/// The place at this latitude and longitude, which were judged.
+/// The place at this latitude and longitude, which were checked.
 pub(crate) fn place_of(lat: i32, lon: i32) -> Place
     requires latitude { IsLatitude lat }
     requires longitude { IsLongitude lon }
