@@ -214,17 +214,11 @@ impl LocationStore for OrderedTable {
     }
 
     fn lookup(&self, now: u64, a: GnAddress) -> Option<Known> {
-        match self.live_slot(now, a) {
-            Some(slot) => Some(slot.known()),
-            None => None,
-        }
+        self.live_slot(now, a).map(Slot::known)
     }
 
     fn remembers(&self, now: u64, a: GnAddress, number: u16) -> bool {
-        match self.live_slot(now, a) {
-            Some(slot) => slot.remembers(number),
-            None => false,
-        }
+        self.live_slot(now, a).is_some_and(|slot| slot.remembers(number))
     }
 
     fn has_room(&self, now: u64, a: GnAddress) -> bool {
@@ -249,10 +243,7 @@ impl LocationStore for OrderedTable {
     }
 
     fn next_neighbour(&self, now: u64, after: Option<GnAddress>) -> Option<LongPv> {
-        match self.least(now, Wanted::NeighbourAbove(after)) {
-            Some(known) => Some(known.vector),
-            None => None,
-        }
+        self.least(now, Wanted::NeighbourAbove(after)).map(|known| known.vector)
     }
 
     fn by_mid(&self, now: u64, mid: Mac) -> Option<Known> {

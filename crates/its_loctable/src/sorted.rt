@@ -217,17 +217,11 @@ impl LocationStore for SortedTable {
     }
 
     fn lookup(&self, now: u64, a: GnAddress) -> Option<Known> {
-        match self.live_slot(now, a) {
-            Some(slot) => Some(slot.known()),
-            None => None,
-        }
+        self.live_slot(now, a).map(Slot::known)
     }
 
     fn remembers(&self, now: u64, a: GnAddress, number: u16) -> bool {
-        match self.live_slot(now, a) {
-            Some(slot) => slot.remembers(number),
-            None => false,
-        }
+        self.live_slot(now, a).is_some_and(|slot| slot.remembers(number))
     }
 
     fn has_room(&self, now: u64, a: GnAddress) -> bool {
@@ -242,19 +236,12 @@ impl LocationStore for SortedTable {
     }
 
     fn next_neighbour(&self, now: u64, after: Option<GnAddress>) -> Option<LongPv> {
-        match neighbour_above(&self.slots, now, self.last_place.get(), after) {
-            Some((place, slot)) => {
-                self.last_place.set(place);
-                Some(slot.vector)
-            }
-            None => None,
-        }
+        let (place, slot) = neighbour_above(&self.slots, now, self.last_place.get(), after)?;
+        self.last_place.set(place);
+        Some(slot.vector)
     }
 
     fn by_mid(&self, now: u64, mid: Mac) -> Option<Known> {
-        match live_with_mid(&self.slots, now, mid) {
-            Some(slot) => Some(slot.known()),
-            None => None,
-        }
+        live_with_mid(&self.slots, now, mid).map(Slot::known)
     }
 }
