@@ -32,7 +32,7 @@ abbrev pub judged : ℕ → List Entry → ℕ → SourceReport → Result Verdi
 judged capacity es now heard =
     if is_noted (entry_at es heard.vector.address now) heard.number then Ok Duplicate
     else if is_some (entry_at es heard.vector.address now)
-        || nat_lt (count_by (λ e. nat_lt now e.until) es) capacity then Ok Accepted
+    || nat_lt (count_by (λ e. nat_lt now e.until) es) capacity then Ok Accepted
     else Err Full
 
 -- the entry that a packet makes of its source, from what was found of it

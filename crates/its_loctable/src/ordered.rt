@@ -218,7 +218,8 @@ impl LocationStore for OrderedTable {
     }
 
     fn remembers(&self, now: u64, a: GnAddress, number: u16) -> bool {
-        self.live_slot(now, a).is_some_and(|slot| slot.remembers(number))
+        self.live_slot(now, a)
+            .is_some_and(|slot| slot.remembers(number))
     }
 
     fn has_room(&self, now: u64, a: GnAddress) -> bool {
@@ -243,7 +244,8 @@ impl LocationStore for OrderedTable {
     }
 
     fn next_neighbour(&self, now: u64, after: Option<GnAddress>) -> Option<LongPv> {
-        self.least(now, Wanted::NeighbourAbove(after)).map(|known| known.vector)
+        self.least(now, Wanted::NeighbourAbove(after))
+            .map(|known| known.vector)
     }
 
     fn by_mid(&self, now: u64, mid: Mac) -> Option<Known> {

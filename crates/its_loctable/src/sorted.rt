@@ -221,7 +221,8 @@ impl LocationStore for SortedTable {
     }
 
     fn remembers(&self, now: u64, a: GnAddress, number: u16) -> bool {
-        self.live_slot(now, a).is_some_and(|slot| slot.remembers(number))
+        self.live_slot(now, a)
+            .is_some_and(|slot| slot.remembers(number))
     }
 
     fn has_room(&self, now: u64, a: GnAddress) -> bool {

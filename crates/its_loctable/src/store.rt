@@ -109,7 +109,7 @@ pub trait LocationStore: Sized + Drop {
         ensures next { (history : List Reception) →
             Represents (remember self.now) (content self.now) history now →
             result ≡ option_map (λ k. k.vector)
-                (next_neighbour after (stations_at (remember self.now) now history)) }
+            (next_neighbour after (stations_at (remember self.now) now history)) }
         ensures above { IfSome result (λ vector. IsTrue (is_above after vector.address)) };
 
     /// What is known of the live source of least address that has a MID.
