@@ -1,5 +1,6 @@
 -- What a table that is swept at each accept answers, and what it contains then.
-use Rattle.std.specs.Prelude.{ℕ, ◌+◌, Bool, true, ◌&&◌, ◌||◌, ◌==◌, nat_lt, if◌then◌else◌, List, [], ◌∷◌, filter, count_by, is_some, Result, Ok, Err}
+use Rattle.std.specs.Prelude.{ℕ, ◌+◌, Bool, true, ◌&&◌, ◌||◌, ◌==◌, nat_lt, if◌then◌else◌}
+use Rattle.std.specs.Prelude.{List, [], ◌∷◌, filter, count_by, is_some, Result, Ok, Err}
 use Rattle.std.specs.List.{list_all}
 use Rattle.its_loctable.specs.declared.store.Verdict.{Verdict}
 use Rattle.its_loctable.specs.declared.store.Verdict.TheVariants.{Accepted, Duplicate}

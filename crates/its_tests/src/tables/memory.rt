@@ -38,8 +38,8 @@ fn take_in<S: LocationStore>(store: &mut S, sources: u64) -> Result<(), Fail> {
     Ok(())
 }
 
-/// A new source under budgets of 0, 16, 32, .. octets until it is accepted: how many budgets are too
-/// small. Under each, a duplicate is told all the same, and all look-ups are as before.
+/// A new source under budgets of 0, 16, 32, .. octets until it is accepted: how many budgets are
+/// too small. Under each, a duplicate is told all the same, and all look-ups are as before.
 fn refused_budgets<S: LocationStore>(
     rt: &impl Abort,
     shortage: &mut Shortage,
@@ -74,7 +74,8 @@ fn refused_after(rt: &impl Abort, alloc: Global, sources: u64) -> Result<usize, 
     refused_budgets(rt, &mut shortage, &mut store)
 }
 
-/// Whether the map grew for the source: with the list of its numbers alone fewer budgets are too small.
+/// Whether the map grew for the source: with the list of its numbers alone fewer budgets are too
+/// small.
 fn is_of_a_growth(budgets: usize) -> bool {
     A_GROWTH < budgets && budgets < MANY
 }
@@ -133,8 +134,8 @@ fn take_four<S: LocationStore>(store: &mut S) -> Result<(), Fail> {
     Ok(())
 }
 
-/// What a table of four answers from 21000 on: two expired sources make room for a new one and for one
-/// of their own, and then there is no room.
+/// What a table of four answers from 21000 on: two expired sources make room for a new one and for
+/// one of their own, and then there is no room.
 fn answers<S: LocationStore>(rt: &impl Abort, store: &mut S) -> Result<(), Fail> {
     assert!(rt; store.accept(21000, &heard(FIRST + 1, Some(7))?) == Ok(Verdict::Duplicate));
     assert!(rt; store.accept(21000, &heard(OTHER, Some(9))?) == Ok(Verdict::Accepted));
@@ -146,7 +147,8 @@ fn answers<S: LocationStore>(rt: &impl Abort, store: &mut S) -> Result<(), Fail>
     Ok(())
 }
 
-/// With no memory left `SortedTable` refreshes, refuses, sweeps and inserts as a table with ample memory.
+/// With no memory left `SortedTable` refreshes, refuses, sweeps and inserts as a table with ample
+/// memory.
 #[test]
 fn the_sorted_table_takes_no_memory(rt: HostRuntime) -> Result<(), Fail> {
     let mut store = SortedTable::empty(rt.alloc(), 4, 8)?;

@@ -32,8 +32,8 @@ fn first_again<S: LocationStore>(mut store: S, count: u16) -> Result<Verdict, Fa
     Ok(store.accept(1011, &heard(FIRST, Some(0))?)?)
 }
 
-/// Both stores remember as many numbers as they were made for: the first is a duplicate while no more
-/// came, and is accepted once one more did.
+/// Both stores remember as many numbers as they were made for: the first is a duplicate while no
+/// more came, and is accepted once one more did.
 #[test]
 fn one_number_too_many_lets_the_first_go(rt: HostRuntime) -> Result<(), Fail> {
     let alloc = rt.alloc();
@@ -105,7 +105,8 @@ fn a_cleared_table_begins_anew(rt: HostRuntime) -> Result<(), Fail> {
     cleared(&rt, SortedTable::empty(rt.alloc(), 2, 8)?)
 }
 
-/// A source whose numbers begin anew: the one that is remembered is a duplicate, another is accepted.
+/// A source whose numbers begin anew: the one that is remembered is a duplicate, another is
+/// accepted.
 fn begins_anew<S: LocationStore>(rt: &impl Abort, mut store: S) -> Result<(), Fail> {
     assert!(rt; store.accept(1010, &heard(FIRST, Some(0))?) == Ok(Verdict::Accepted));
     assert!(rt; store.accept(1040, &heard(FIRST, Some(0))?) == Ok(Verdict::Duplicate));
@@ -119,8 +120,8 @@ fn a_source_that_restarts_is_told_by_its_number(rt: HostRuntime) -> Result<(), F
     begins_anew(&rt, SortedTable::empty(rt.alloc(), 64, 8)?)
 }
 
-/// Beacons of 10000 sources at one moment: how many are accepted, and how many find no room. Then one
-/// of the accepted, and one that was refused.
+/// Beacons of 10000 sources at one moment: how many are accepted, and how many find no room. Then
+/// one of the accepted, and one that was refused.
 fn flood<S: LocationStore>(rt: &impl Abort, mut store: S) -> Result<(u64, u64), Fail> {
     let (mut accepted, mut full) = (0u64, 0u64);
     for source in 0..10000 {
