@@ -10,8 +10,8 @@ use its_gnvalue::NoMemory;
 use std::alloc::Global;
 use std::marker::Model;
 
-/// The numbers that were noted last, as many as its length at most. Contracts see them as a list, the
-/// last noted last, and see the length beside it.
+/// The numbers that were noted last, as many as its limit at most. Contracts see them as a list,
+/// the last noted last, and see the limit beside it.
 #[derive(Drop)]
 pub struct Recent {
     ring: HeapCircularBuffer<u16>,
@@ -48,7 +48,8 @@ impl Recent {
 
     /// Puts a number last; where as many as are kept were there, the first goes. Takes no memory.
     pub fn note(&mut self, number: u16)
-        ensures numbers { self.new.numbers ≡ keep_last self.old.limit (self.old.numbers ++ number ∷ []) }
+        ensures numbers { self.new.numbers
+            ≡ keep_last self.old.limit (self.old.numbers ++ number ∷ []) }
         ensures limit { self.new.limit ≡ self.old.limit }
         ensures few { length self.new.numbers ≤ self.new.limit }
     {

@@ -1,5 +1,6 @@
 -- What a table that is swept at each accept answers, and what it contains then.
-use Rattle.std.specs.Prelude.{ℕ, ◌+◌, Bool, true, ◌&&◌, ◌||◌, ◌==◌, nat_lt, if◌then◌else◌, List, [], ◌∷◌, filter, count_by, is_some, Result, Ok, Err}
+use Rattle.std.specs.Prelude.{ℕ, ◌+◌, Bool, true, ◌&&◌, ◌||◌, ◌==◌, nat_lt, if◌then◌else◌}
+use Rattle.std.specs.Prelude.{List, [], ◌∷◌, filter, count_by, is_some, Result, Ok, Err}
 use Rattle.std.specs.List.{list_all}
 use Rattle.its_loctable.specs.declared.store.Verdict.{Verdict}
 use Rattle.its_loctable.specs.declared.store.Verdict.TheVariants.{Accepted, Duplicate}
@@ -32,7 +33,7 @@ abbrev pub judged : ℕ → List Entry → ℕ → SourceReport → Result Verdi
 judged capacity es now heard =
     if is_noted (entry_at es heard.vector.address now) heard.number then Ok Duplicate
     else if is_some (entry_at es heard.vector.address now)
-        || nat_lt (count_by (λ e. nat_lt now e.until) es) capacity then Ok Accepted
+    || nat_lt (count_by (λ e. nat_lt now e.until) es) capacity then Ok Accepted
     else Err Full
 
 -- the entry that a packet makes of its source, from what was found of it

@@ -1,5 +1,6 @@
 -- What a packet says, as a reception, and what a store answers.
-use Rattle.std.specs.Prelude.{ℕ, Bool, false, if◌then◌else◌, List, Option, Some, None, Result, Ok, Err}
+use Rattle.std.specs.Prelude.{ℕ, Bool, false, if◌then◌else◌}
+use Rattle.std.specs.Prelude.{List, Option, Some, None, Result, Ok, Err}
 use Rattle.its_loctable.specs.declared.heard.Known.{Known as Shown}
 use Rattle.its_loctable.specs.declared.store.Verdict.{Verdict}
 use Rattle.its_loctable.specs.declared.store.Verdict.TheVariants.{Accepted, Duplicate}
@@ -30,7 +31,8 @@ is_noted k (Some number) = has_number k number
 -- a packet's number is remembered of its source
 abbrev pub is_repeated : ℕ → Option ℕ → ℕ → ℕ → List Reception → Bool
 is_repeated remember None source moment history = false
-is_repeated remember (Some number) source moment history = is_remembered remember source number moment history
+is_repeated remember (Some number) source moment history =
+    is_remembered remember source number moment history
 
 -- The answer that is owed, unless an allocation failed: a duplicate is one in a full store too.
 unfoldable pub verdict_at : ℕ → ℕ → ℕ → SourceReport → List Reception → Result Verdict StoreRefused

@@ -1,4 +1,5 @@
 pub mod SourceReport
+pub mod Codes
 pub mod Content
 pub mod Heard
 pub mod Slots

@@ -20,4 +20,5 @@ pub record IsExpired (slots : List (ℕ × Slot)) (address now : ℕ) : Type 0 w
 -- the slot of each address remembers as many numbers as a limit
 abbrev pub HaveLimit : ℕ → List (ℕ × Slot) → Type 0
 HaveLimit limit slots =
-    (address : ℕ) (slot : Slot) → lookup (nat_eq address) slots ≡ Some slot → slot.recent.limit ≡ limit
+    (address : ℕ) (slot : Slot) → lookup (nat_eq address) slots ≡ Some slot
+    → slot.recent.limit ≡ limit

@@ -5,7 +5,8 @@ use Rattle.its_model.specs.History.{Known}
 
 -- what a slot says of its source: its list of numbers has the newest last
 abbrev pub slot_known : Slot → Known
-slot_known s = record { vector = s.vector; neighbour = s.neighbour; numbers = reverse s.recent.numbers }
+slot_known s =
+    record { vector = s.vector; neighbour = s.neighbour; numbers = reverse s.recent.numbers }
 
 -- the same at a moment: nothing from the slot's end on
 abbrev pub live_slot_part : ℕ → Slot → Option Known

@@ -17,7 +17,8 @@ IsFoundAt [] address i = ⊥
 IsFoundAt (s ∷ slots) address zero = s.vector.address ≡ address
 IsFoundAt (s ∷ slots) address (suc i) = IsFoundAt slots address i
 
--- no slot of a rising list has the address, and it would go at the place: above the slots before it, and below the next
+-- no slot of a rising list has the address, and it would go at the place: above the slots before
+-- it, and below the next
 abbrev pub IsGapFor : List Slot → ℕ → ℕ → Type 0
 IsGapFor [] address zero = Unit {0}
 IsGapFor [] address (suc i) = ⊥
@@ -29,4 +30,5 @@ abbrev pub IsStartAbove : List Slot → Option ℕ → ℕ → Type 0
 IsStartAbove [] after zero = Unit {0}
 IsStartAbove [] after (suc i) = ⊥
 IsStartAbove (s ∷ slots) after zero = is_above after s.vector.address ≡ true
-IsStartAbove (s ∷ slots) after (suc i) = (is_above after s.vector.address ≡ false) × IsStartAbove slots after i
+IsStartAbove (s ∷ slots) after (suc i) =
+    (is_above after s.vector.address ≡ false) × IsStartAbove slots after i

@@ -24,8 +24,8 @@ impl Model for Heard {
 }
 
 impl Heard {
-    /// What a packet with this vector says, with the sequence number of a GBC or GAC, or with none of
-    /// a BEACON or SHB.
+    /// What a packet with this vector says, with the sequence number of a GBC or GAC, or with none
+    /// of a BEACON or SHB.
     pub fn new(vector: LongPv, number: Option<u16>) -> Heard
         ensures { result ≡ record { vector = vector; number = number } }
     {

@@ -1,4 +1,4 @@
-//! The location table: what is known of each source that was heard lately (EN 302 636-4-1 clause 8).
+//! The location table (EN 302 636-4-1 clause 8): what is known of sources that were heard lately.
 #![tactic(auto)]
 
 mod heard;

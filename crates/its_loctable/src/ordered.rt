@@ -1,4 +1,4 @@
-//! The table whose sources stand in no order of address. Expired slots lie until their room is needed.
+//! The table in a map. Expired slots lie until their room is needed.
 
 ghost use Rattle.std.specs.Prelude.{◌≡◌, ◌^◌, ◌<◌, ◌≤◌};
 ghost use Rattle.std.specs.Prelude.{ℕ, None, nat_eq, nat_le, nat_lt, count_by, fold, is_some};
@@ -23,9 +23,9 @@ use its_gnvalue::{GnAddress, LongPv, Mac, NoMemory};
 use std::alloc::Global;
 use wanted::Wanted;
 
-/// A location table in a map. New sources stand in the order in which they came, until one takes the
-/// room of an expired slot: then the last slot takes that one's place. Making a table takes no memory;
-/// each new source takes some.
+/// A location table in a map. New sources stand in the order in which they came, until one takes
+/// the room of an expired slot: then the last slot takes that one's place. Making a table takes no
+/// memory; each new source takes some.
 #[derive(Drop)]
 pub struct OrderedTable {
     alloc: Global,
@@ -43,7 +43,9 @@ impl OrderedTable {
 
     /// Whether fewer slots are live than the capacity.
     fn has_place(&self, now: u64) -> bool
-        ensures place { result ≡ nat_lt (count_by (λ e. nat_lt now e.1.until) self.now.slots.entries) self.now.capacity }
+        ensures place { result
+            ≡ nat_lt (count_by (λ e. nat_lt now e.1.until) self.now.slots.entries)
+                self.now.capacity }
         ensures unique { IsUnique nat_eq self.now.slots }
     {
         self.slots.len() < self.capacity as usize || self.has_expired(now)
@@ -92,7 +94,8 @@ impl OrderedTable {
     /// Whether the packet's number is remembered of its source.
     fn is_repeated(&self, now: u64, heard: &Heard) -> bool
         ensures { result
-            ≡ is_noted (entry_at (contained self.now.slots.entries) heard.now.vector.address now) heard.now.number }
+            ≡ is_noted (entry_at (contained self.now.slots.entries) heard.now.vector.address now)
+                heard.now.number }
     {
         match (heard.number(), self.live_slot(now, heard.address())) {
             (Some(number), Some(slot)) => slot.remembers(number),
@@ -103,7 +106,8 @@ impl OrderedTable {
     /// Takes the packet into the slot of its source, which is live.
     fn refresh(&mut self, now: u64, heard: &Heard)
         requires moment { now ≤ 2 ^ 62 }
-        requires live { IsTrue (is_some (entry_at (contained self.old.slots.entries) heard.now.vector.address now)) }
+        requires live { IsTrue
+            (is_some (entry_at (contained self.old.slots.entries) heard.now.vector.address now)) }
         ensures hears { Hears self.old.remembered (contained self.old.slots.entries)
             (contained self.new.slots.entries) (reception now heard.now) }
         ensures capacity { self.new.capacity ≡ self.old.capacity }
@@ -118,7 +122,8 @@ impl OrderedTable {
     fn first_expired(&self, now: u64) -> Option<GnAddress>
         ensures expired { IfSome result (λ address. IsExpired self.now.slots.entries address now) }
         ensures none { IfNone result
-            (count_by (λ e. nat_lt now e.1.until) self.now.slots.entries ≡ index_map_len self.now.slots) }
+            (count_by (λ e. nat_lt now e.1.until) self.now.slots.entries
+            ≡ index_map_len self.now.slots) }
     {
         for i in 0..self.slots.len() {
             if let Some((address, slot)) = self.slots.get_index(i) {
@@ -132,7 +137,8 @@ impl OrderedTable {
 
     /// Removes an expired slot of a table that has no room for another.
     fn evict(&mut self, now: u64)
-        requires live { count_by (λ e. nat_lt now e.1.until) self.old.slots.entries < self.old.capacity }
+        requires live { count_by (λ e. nat_lt now e.1.until) self.old.slots.entries
+            < self.old.capacity }
         requires full { self.old.capacity ≤ index_map_len self.old.slots }
         ensures same { (t source : ℕ) → now ≤ t →
             entry_at (contained self.new.slots.entries) source t
@@ -153,7 +159,8 @@ impl OrderedTable {
         ensures same { (t source : ℕ) → now ≤ t →
             entry_at (contained self.new.slots.entries) source t
             ≡ entry_at (contained self.old.slots.entries) source t }
-        ensures room { get nat_eq self.new.slots address ≡ None → index_map_len self.new.slots < self.new.capacity }
+        ensures room { get nat_eq self.new.slots address ≡ None →
+            index_map_len self.new.slots < self.new.capacity }
         ensures spare { spare self.old.slots ≤ spare self.new.slots }
         ensures capacity { self.new.capacity ≡ self.old.capacity }
         ensures remembered { self.new.remembered ≡ self.old.remembered }
@@ -166,11 +173,14 @@ impl OrderedTable {
     /// Makes a slot for a source that isn't live. All memory is taken before the first change.
     fn enter(&mut self, now: u64, heard: &Heard) -> Result<(), NoMemory>
         requires moment { now ≤ 2 ^ 62 }
-        requires live { count_by (λ e. nat_lt now e.1.until) self.old.slots.entries < self.old.capacity }
-        requires absent { entry_at (contained self.old.slots.entries) heard.now.vector.address now ≡ None }
+        requires live { count_by (λ e. nat_lt now e.1.until) self.old.slots.entries
+            < self.old.capacity }
+        requires absent { entry_at (contained self.old.slots.entries) heard.now.vector.address now
+            ≡ None }
         ensures hears { OnOk result (Hears self.old.remembered (contained self.old.slots.entries)
             (contained self.new.slots.entries) (reception now heard.now)) }
-        ensures same { OnErr result (contained self.new.slots.entries ≡ contained self.old.slots.entries) }
+        ensures same { OnErr result
+            (contained self.new.slots.entries ≡ contained self.old.slots.entries) }
         ensures capacity { self.new.capacity ≡ self.old.capacity }
         ensures remembered { self.new.remembered ≡ self.old.remembered }
     {
@@ -214,17 +224,12 @@ impl LocationStore for OrderedTable {
     }
 
     fn lookup(&self, now: u64, a: GnAddress) -> Option<Known> {
-        match self.live_slot(now, a) {
-            Some(slot) => Some(slot.known()),
-            None => None,
-        }
+        self.live_slot(now, a).map(Slot::known)
     }
 
     fn remembers(&self, now: u64, a: GnAddress, number: u16) -> bool {
-        match self.live_slot(now, a) {
-            Some(slot) => slot.remembers(number),
-            None => false,
-        }
+        self.live_slot(now, a)
+            .is_some_and(|slot| slot.remembers(number))
     }
 
     fn has_room(&self, now: u64, a: GnAddress) -> bool {
@@ -242,17 +247,13 @@ impl LocationStore for OrderedTable {
         if !self.has_place(now) {
             return Err(StoreRefused::Full);
         }
-        match self.enter(now, h) {
-            Ok(()) => Ok(Verdict::Accepted),
-            Err(NoMemory) => Err(StoreRefused::NoMemory),
-        }
+        self.enter(now, h)?;
+        Ok(Verdict::Accepted)
     }
 
     fn next_neighbour(&self, now: u64, after: Option<GnAddress>) -> Option<LongPv> {
-        match self.least(now, Wanted::NeighbourAbove(after)) {
-            Some(known) => Some(known.vector),
-            None => None,
-        }
+        self.least(now, Wanted::NeighbourAbove(after))
+            .map(|known| known.vector)
     }
 
     fn by_mid(&self, now: u64, mid: Mac) -> Option<Known> {

@@ -1,7 +1,10 @@
 //! Why a store refuses a packet.
 
 ghost use Rattle.std.specs.Prelude.{◌≡◌};
+ghost use Rattle.its_loctable.specs.Codes.{code_of};
+ghost use Rattle.its_loctable.specs.declared.refused.StoreRefused.TheVariants as refusals;
 
+use its_gnvalue::NoMemory;
 use std::error::Error;
 use std::fmt;
 
@@ -16,7 +19,9 @@ pub enum StoreRefused {
 
 impl StoreRefused {
     /// What logs show: T1 or T2.
-    pub fn code(self) -> &'static str {
+    pub fn code(&self) -> &'static str
+        ensures { result.now ≡ code_of self.now }
+    {
         match self {
             StoreRefused::Full => "T1",
             StoreRefused::NoMemory => "T2",
@@ -34,3 +39,11 @@ impl fmt::Display for StoreRefused {
 }
 
 impl Error for StoreRefused {}
+
+impl From<NoMemory> for StoreRefused {
+    ghost from_gives = { λ fault refused. refused ≡ refusals.NoMemory };
+
+    fn from(_: NoMemory) -> StoreRefused {
+        StoreRefused::NoMemory
+    }
+}

@@ -23,7 +23,8 @@ pub struct Slot {
 impl Slot {
     ghost use Rattle.its_loctable.specs.Slots.{slot_known, live_slot_part};
 
-    /// The slot of a source that wasn't live, by a packet of it. It takes an empty list for its numbers.
+    /// The slot of a source that wasn't live, by a packet of it. It is handed an empty list for its
+    /// numbers.
     pub fn first(recent: Recent, now: u64, heard: &Heard) -> Slot
         requires moment { now ≤ 2 ^ 62 }
         requires empty { recent.numbers ≡ [] }
@@ -79,7 +80,8 @@ impl Slot {
         requires moment { now ≤ 2 ^ 62 }
         requires same { self.old.vector.address ≡ heard.now.vector.address }
         ensures known { slot_known self.new
-            ≡ renewed self.old.recent.limit (live_slot_part now self.old) (reception now heard.now) }
+            ≡ renewed self.old.recent.limit (live_slot_part now self.old)
+                (reception now heard.now) }
         ensures address { self.new.vector.address ≡ heard.now.vector.address }
         ensures until { self.new.until ≡ now + entry_life }
         ensures limit { self.new.recent.limit ≡ self.old.recent.limit }

@@ -1,7 +1,8 @@
-//! The table in ascending order of addresses. Expired slots are swept before a packet makes or renews one.
+//! The table in ascending order of addresses. Each accepted packet sweeps the expired slots.
 
 ghost use Rattle.std.specs.Prelude.{◌≡◌, ◌≢◌, ◌+◌, ◌^◌, ◌≤◌, ◌<◌};
-ghost use Rattle.std.specs.Prelude.{All, IsTrue, IfOk, IfErr, is_some, length, nat_lt, vec_len, vec_capacity, count_by};
+ghost use Rattle.std.specs.Prelude.{All, IsTrue, IfOk, IfErr, is_some, length, nat_lt};
+ghost use Rattle.std.specs.Prelude.{vec_len, vec_capacity, count_by};
 ghost use Rattle.std.specs.Option.{option_map};
 ghost use Rattle.its_loctable.specs.Content.{entry_at};
 ghost use Rattle.its_loctable.specs.Slots.{slot_known};
@@ -34,7 +35,8 @@ pub struct SortedTable {
     spare: Vec<Recent>,
     /// No slot expires before this moment: until then there is nothing to sweep.
     first_end: u64,
-    /// Where a call found a slot or its gap last, which the next call tries first: each use checks it.
+    /// Where a call found a slot or its gap last, which the next call tries first. Each use checks
+    /// it.
     last_place: Cell<usize>,
     ghost rising: { IsTrue (is_rising (held slots.items)) },
     ghost total: { vec_len slots + vec_len spare ≡ capacity },
@@ -48,8 +50,10 @@ pub struct SortedTable {
 impl SortedTable {
     /// Where the slot of an address is, or else where it would go.
     fn place_of(&self, address: GnAddress) -> Result<usize, usize>
-        ensures found { IfOk result (λ i. IsFoundAt self.now.slots.items address i × (i < vec_len self.now.slots)) }
-        ensures absent { IfErr result (λ i. IsGapFor self.now.slots.items address i × (i ≤ vec_len self.now.slots)) }
+        ensures found { IfOk result (λ i.
+            IsFoundAt self.now.slots.items address i × (i < vec_len self.now.slots)) }
+        ensures absent { IfErr result (λ i.
+            IsGapFor self.now.slots.items address i × (i ≤ vec_len self.now.slots)) }
     {
         let place = search_from(&self.slots, self.last_place.get(), address);
         match place {
@@ -82,7 +86,8 @@ impl SortedTable {
 
     /// Whether fewer slots are live than the capacity.
     fn has_place(&self, now: u64) -> bool
-        ensures place { result ≡ nat_lt (count_by (λ s. nat_lt now s.until) self.now.slots.items) self.now.capacity }
+        ensures place { result
+            ≡ nat_lt (count_by (λ s. nat_lt now s.until) self.now.slots.items) self.now.capacity }
         ensures rising { IsTrue (is_rising (held self.now.slots.items)) }
     {
         !self.spare.is_empty() || self.first_end <= now && has_expired(&self.slots, now)
@@ -114,10 +119,13 @@ impl SortedTable {
         requires moment { now ≤ 2 ^ 62 }
         requires found { IsFoundAt self.old.slots.items heard.now.vector.address place }
         requires within { place < vec_len self.old.slots }
-        ensures answer { Ok result ≡ judged self.old.capacity (held self.old.slots.items) now heard.now }
+        ensures answer { Ok result
+            ≡ judged self.old.capacity (held self.old.slots.items) now heard.now }
         ensures accepted { result ≡ Verdict.Accepted →
-            held self.new.slots.items ≡ after_accept self.old.remembered (held self.old.slots.items) now heard.now }
-        ensures unchanged { result ≢ Verdict.Accepted → held self.new.slots.items ≡ held self.old.slots.items }
+            held self.new.slots.items
+            ≡ after_accept self.old.remembered (held self.old.slots.items) now heard.now }
+        ensures unchanged { result ≢ Verdict.Accepted →
+            held self.new.slots.items ≡ held self.old.slots.items }
         ensures capacity { self.new.capacity ≡ self.old.capacity }
         ensures remembered { self.new.remembered ≡ self.old.remembered }
     {
@@ -159,11 +167,15 @@ impl SortedTable {
     /// A packet of a source that has no slot.
     fn hear_first(&mut self, now: u64, heard: &Heard) -> Result<Verdict, StoreRefused>
         requires moment { now ≤ 2 ^ 62 }
-        requires absent { All (λ s. s.vector.address ≢ heard.now.vector.address) self.old.slots.items }
-        ensures answer { result ≡ judged self.old.capacity (held self.old.slots.items) now heard.now }
+        requires absent { All (λ s. s.vector.address ≢ heard.now.vector.address)
+            self.old.slots.items }
+        ensures answer { result
+            ≡ judged self.old.capacity (held self.old.slots.items) now heard.now }
         ensures accepted { result ≡ Ok Verdict.Accepted →
-            held self.new.slots.items ≡ after_accept self.old.remembered (held self.old.slots.items) now heard.now }
-        ensures unchanged { result ≢ Ok Verdict.Accepted → held self.new.slots.items ≡ held self.old.slots.items }
+            held self.new.slots.items
+            ≡ after_accept self.old.remembered (held self.old.slots.items) now heard.now }
+        ensures unchanged { result ≢ Ok Verdict.Accepted →
+            held self.new.slots.items ≡ held self.old.slots.items }
         ensures capacity { self.new.capacity ≡ self.old.capacity }
         ensures remembered { self.new.remembered ≡ self.old.remembered }
     {
@@ -217,17 +229,12 @@ impl LocationStore for SortedTable {
     }
 
     fn lookup(&self, now: u64, a: GnAddress) -> Option<Known> {
-        match self.live_slot(now, a) {
-            Some(slot) => Some(slot.known()),
-            None => None,
-        }
+        self.live_slot(now, a).map(Slot::known)
     }
 
     fn remembers(&self, now: u64, a: GnAddress, number: u16) -> bool {
-        match self.live_slot(now, a) {
-            Some(slot) => slot.remembers(number),
-            None => false,
-        }
+        self.live_slot(now, a)
+            .is_some_and(|slot| slot.remembers(number))
     }
 
     fn has_room(&self, now: u64, a: GnAddress) -> bool {
@@ -242,19 +249,12 @@ impl LocationStore for SortedTable {
     }
 
     fn next_neighbour(&self, now: u64, after: Option<GnAddress>) -> Option<LongPv> {
-        match neighbour_above(&self.slots, now, self.last_place.get(), after) {
-            Some((place, slot)) => {
-                self.last_place.set(place);
-                Some(slot.vector)
-            }
-            None => None,
-        }
+        let (place, slot) = neighbour_above(&self.slots, now, self.last_place.get(), after)?;
+        self.last_place.set(place);
+        Some(slot.vector)
     }
 
     fn by_mid(&self, now: u64, mid: Mac) -> Option<Known> {
-        match live_with_mid(&self.slots, now, mid) {
-            Some(slot) => Some(slot.known()),
-            None => None,
-        }
+        live_with_mid(&self.slots, now, mid).map(Slot::known)
     }
 }

@@ -23,13 +23,13 @@ pub enum Verdict {
 }
 
 /// A location table (EN 302 636-4-1 clause 8): a bounded, soft-state table of the sources that were
-/// heard lately. An entry is live for 20000 ms after a packet of its source; from then on it is as if
-/// it were absent.
+/// heard lately. An entry is live for 20000 ms after a packet of its source; from then on it is as
+/// if it were absent.
 ///
-/// A store represents the history of the packets that it accepted since it was made or cleared, from
-/// the last of their moments on: its answers are those of `its_model` for every history that it
-/// represents. It is made for a number of live sources and for a number of sequence numbers that are
-/// remembered of each, and no call changes either. Moments are milliseconds, at most 2^62.
+/// A store represents the history of the packets that it accepted since it was made or cleared,
+/// from the last of their moments on: its answers are those of `its_model` for every history that
+/// it represents. It is made for a number of live sources and for a number of sequence numbers that
+/// are remembered of each, and no call changes either. Moments are milliseconds, at most 2^62.
 /// Only `empty` and `accept` may take memory, and `accept` takes none for a live source.
 pub trait LocationStore: Sized + Drop {
     /// What is kept of each address, expired entries among it.
@@ -48,7 +48,8 @@ pub trait LocationStore: Sized + Drop {
         requires remembered { (1 ≤ remembered) × (remembered ≤ 64) }
         ensures limit { IfOk result (λ store. limit store ≡ capacity) }
         ensures remember { IfOk result (λ store. remember store ≡ remembered) }
-        ensures represents { IfOk result (λ store. Represents (remember store) (content store) [] 0) };
+        ensures represents { IfOk result (λ store.
+            Represents (remember store) (content store) [] 0) };
 
     /// Forgets every source. The store represents the empty history then, at every moment.
     fn clear(&mut self)
@@ -61,26 +62,31 @@ pub trait LocationStore: Sized + Drop {
     fn capacity(&self) -> u16
         ensures value { result ≡ limit self.now }
         ensures bounded { length (content self.now) ≤ result }
-        ensures few { All (λ entry. length entry.known.numbers ≤ remember self.now) (content self.now) };
+        ensures few { All (λ entry. length entry.known.numbers ≤ remember self.now)
+            (content self.now) };
 
     /// What is known of a source, where it is live.
     fn lookup(&self, now: u64, a: GnAddress) -> Option<Known>
         requires { now ≤ 2 ^ 62 }
-        ensures { (history : List Reception) → Represents (remember self.now) (content self.now) history now →
+        ensures { (history : List Reception) →
+            Represents (remember self.now) (content self.now) history now →
             result ≡ option_map shown (known (remember self.now) a now history) };
 
     /// Whether a sequence number is among those that are remembered of a live source.
     fn remembers(&self, now: u64, a: GnAddress, number: u16) -> bool
         requires { now ≤ 2 ^ 62 }
-        ensures { (history : List Reception) → Represents (remember self.now) (content self.now) history now →
+        ensures { (history : List Reception) →
+            Represents (remember self.now) (content self.now) history now →
             result ≡ is_remembered (remember self.now) a number now history };
 
-    /// Whether a packet of this source would find room: the source is live, or fewer others are than
-    /// the capacity.
+    /// Whether a packet of this source would find room: the source is live, or fewer others are
+    /// than the capacity.
     fn has_room(&self, now: u64, a: GnAddress) -> bool
         requires { now ≤ 2 ^ 62 }
-        ensures { (history : List Reception) → Represents (remember self.now) (content self.now) history now →
-            result ≡ not (is_full (limit self.now) a (stations_at (remember self.now) now history)) };
+        ensures { (history : List Reception) →
+            Represents (remember self.now) (content self.now) history now →
+            result ≡ not (is_full (limit self.now) a
+                (stations_at (remember self.now) now history)) };
 
     /// Takes a packet in, unless it is a duplicate or, judged after that, there is no room. A
     /// duplicate and a refusal change nothing. Memory is asked for only where the packet is owed
@@ -94,10 +100,12 @@ pub trait LocationStore: Sized + Drop {
         ensures memory { (history : List Reception) →
             Represents (remember self.old) (content self.old) history now →
             result ≡ Err StoreRefused.NoMemory →
-            (verdict_at (remember self.old) (limit self.old) now h.now history ≡ Ok Verdict.Accepted)
+            (verdict_at (remember self.old) (limit self.old) now h.now history
+                ≡ Ok Verdict.Accepted)
             × IsFalse (is_live h.now.vector.address now history) }
         ensures accepted { (history : List Reception) →
-            Represents (remember self.old) (content self.old) history now → result ≡ Ok Verdict.Accepted →
+            Represents (remember self.old) (content self.old) history now →
+            result ≡ Ok Verdict.Accepted →
             Represents (remember self.new) (content self.new) (reception now h.now ∷ history) now }
         ensures unchanged { result ≢ Ok Verdict.Accepted → content self.new ≡ content self.old }
         ensures limit { limit self.new ≡ limit self.old }
@@ -109,12 +117,13 @@ pub trait LocationStore: Sized + Drop {
         ensures next { (history : List Reception) →
             Represents (remember self.now) (content self.now) history now →
             result ≡ option_map (λ k. k.vector)
-                (next_neighbour after (stations_at (remember self.now) now history)) }
+            (next_neighbour after (stations_at (remember self.now) now history)) }
         ensures above { IfSome result (λ vector. IsTrue (is_above after vector.address)) };
 
     /// What is known of the live source of least address that has a MID.
     fn by_mid(&self, now: u64, mid: Mac) -> Option<Known>
         requires { now ≤ 2 ^ 62 }
-        ensures { (history : List Reception) → Represents (remember self.now) (content self.now) history now →
+        ensures { (history : List Reception) →
+            Represents (remember self.now) (content self.now) history now →
             result ≡ option_map shown (by_mid mid (stations_at (remember self.now) now history)) };
 }

@@ -12,4 +12,6 @@ mod scenarios;
 #[cfg(test)]
 mod shortage;
 #[cfg(test)]
+mod tables;
+#[cfg(test)]
 mod values;

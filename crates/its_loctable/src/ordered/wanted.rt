@@ -37,7 +37,8 @@ impl Wanted {
     /// One step of a walk over slots, for the live one of least address that is wanted.
     pub fn improve(&self, best: Option<Known>, now: u64, slot: &Slot) -> Option<Known>
         ensures { (found : Option Kept) → best ≡ option_map shown found →
-            result ≡ option_map shown (better (is_wanted self.now) now found (slot_entry (0, slot.now))) }
+            result
+            ≡ option_map shown (better (is_wanted self.now) now found (slot_entry (0, slot.now))) }
     {
         if now < slot.until && self.accepts(&slot.vector, slot.neighbour) {
             lesser(best, slot.known())

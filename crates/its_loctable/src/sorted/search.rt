@@ -29,7 +29,8 @@ pub fn has_expired(slots: &[Slot], now: u64) -> bool
     slots.iter().any(|slot| slot.until <= now)
 }
 
-/// Whether a place is the gap for an address: the slot below comes before it, and the one above after it.
+/// Whether a place is the gap for an address: the slot below comes before it, and the one above
+/// after it.
 fn is_gap(slots: &[Slot], place: usize, address: GnAddress) -> bool
     requires { IsTrue (is_rising (held slots.now)) }
     ensures { IsTrue result → IsGapFor slots.now address place × (place ≤ length slots.now) }
@@ -82,7 +83,8 @@ fn first_neighbour(slots: &[Slot], now: u64, start: usize) -> Option<(usize, &Sl
     None
 }
 
-/// The live neighbour of least address above one, and its place. That of the one is tried before a search.
+/// The live neighbour of least address above one, and its place. That of the one is tried before a
+/// search.
 pub fn neighbour_above(
     slots: &[Slot],
     now: u64,
@@ -98,7 +100,8 @@ pub fn neighbour_above(
 
 /// The live source of least address that has a MID.
 pub fn live_with_mid(slots: &[Slot], now: u64, mid: Mac) -> Option<&Slot>
-    ensures { option_copied result ≡ find (λ s. nat_lt now s.until && has_mid mid (slot_known s)) slots.now }
+    ensures { option_copied result
+        ≡ find (λ s. nat_lt now s.until && has_mid mid (slot_known s)) slots.now }
 {
     slots
         .iter()

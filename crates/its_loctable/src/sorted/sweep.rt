@@ -1,6 +1,7 @@
 //! Removing the slots that have expired. Their lists of numbers are kept for slots to come.
 
-ghost use Rattle.std.specs.Prelude.{◌≡◌, ◌≤◌, ◌+◌, ℕ, filter, take, nat_lt, All, vec_len, vec_capacity};
+ghost use Rattle.std.specs.Prelude.{◌≡◌, ◌≤◌, ◌+◌, ℕ, All, filter, take, nat_lt};
+ghost use Rattle.std.specs.Prelude.{vec_len, vec_capacity};
 ghost use Rattle.its_loctable.specs.Spare.{HasLimit, IsSpare};
 
 use crate::slot::Slot;
@@ -24,7 +25,8 @@ pub fn sweep(slots: &mut Vec<Slot>, spare: &mut Vec<Recent>, now: u64)
     ensures total { vec_len slots.new + vec_len spare.new ≡ vec_len slots.old + vec_len spare.old }
     ensures capacity { vec_capacity slots.new ≡ vec_capacity slots.old }
     ensures spare_capacity { vec_capacity spare.new ≡ vec_capacity spare.old }
-    ensures empty { (limit : ℕ) → All (HasLimit limit) slots.old.items → All (IsSpare limit) spare.old.items →
+    ensures empty { (limit : ℕ) → All (HasLimit limit) slots.old.items →
+        All (IsSpare limit) spare.old.items →
         All (IsSpare limit) spare.new.items }
 {
     let kept = pack(slots, now);
@@ -33,11 +35,13 @@ pub fn sweep(slots: &mut Vec<Slot>, spare: &mut Vec<Recent>, now: u64)
 
 /// Moves the live slots to the front in their order, and returns how many they are.
 fn pack(slots: &mut Vec<Slot>, now: u64) -> usize
-    ensures packed { take result slots.new.items ≡ filter (λ s. nat_lt now s.until) slots.old.items }
+    ensures packed { take result slots.new.items
+        ≡ filter (λ s. nat_lt now s.until) slots.old.items }
     ensures bound { result ≤ vec_len slots.new }
     ensures len { vec_len slots.new ≡ vec_len slots.old }
     ensures capacity { vec_capacity slots.new ≡ vec_capacity slots.old }
-    ensures limits { (limit : ℕ) → All (HasLimit limit) slots.old.items → All (HasLimit limit) slots.new.items }
+    ensures limits { (limit : ℕ) → All (HasLimit limit) slots.old.items →
+        All (HasLimit limit) slots.new.items }
 {
     let mut kept = 0;
     for i in 0..slots.len() {
@@ -57,7 +61,8 @@ pub fn retire(slots: &mut Vec<Slot>, spare: &mut Vec<Recent>, kept: usize)
     ensures total { vec_len slots.new + vec_len spare.new ≡ vec_len slots.old + vec_len spare.old }
     ensures capacity { vec_capacity slots.new ≡ vec_capacity slots.old }
     ensures spare_capacity { vec_capacity spare.new ≡ vec_capacity spare.old }
-    ensures empty { (limit : ℕ) → All (HasLimit limit) slots.old.items → All (IsSpare limit) spare.old.items →
+    ensures empty { (limit : ℕ) → All (HasLimit limit) slots.old.items →
+        All (IsSpare limit) spare.old.items →
         All (IsSpare limit) spare.new.items }
 {
     while slots.len() > kept {

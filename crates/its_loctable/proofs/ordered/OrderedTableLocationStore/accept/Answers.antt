@@ -32,21 +32,21 @@ returns-then-not-has_place-clause-answer c = λ history rep _.
     sym (owed-full c.args.self.now.remembered es history c.args.now c.args.self.now.capacity c.args.h.now c.requires rep c.has_place.ensures.unique (sym c.is_repeated.ensures ∙ c.if-is_repeated.false) none
     (sym c.has_place.ensures.place ∙ c.if-not-has_place.true))
 
-pub returns-in-Ok-clause-answer : goal.returns-in-Ok-clause-answer
-returns-in-Ok-clause-answer c = λ history rep _.
+pub returns-clause-answer : goal.returns-clause-answer
+returns-clause-answer c = λ history rep _.
     let es = c.args.self.now.slots.entries in
     let none : entry_at (contained es) c.args.h.now.vector.address c.args.now ≡ None =
     none_from _ (ap (λ a. is_some (entry_at (contained es) a c.args.now)) (sym c.address.ensures) ∙ sym c.is_live.ensures ∙ c.if-is_live.false) in
     sym (owed-room c.args.self.now.remembered es history c.args.now c.args.self.now.capacity c.args.h.now c.requires rep c.has_place.ensures.unique (sym c.is_repeated.ensures ∙ c.if-is_repeated.false) none
     (sym c.has_place.ensures.place ∙ c.if-not-has_place.false))
 
-pub returns-in-Ok-clause-accepted : goal.returns-in-Ok-clause-accepted
-returns-in-Ok-clause-accepted c = λ history rep _.
+pub returns-clause-accepted : goal.returns-clause-accepted
+returns-clause-accepted c = λ history rep _.
     subst (λ n. Represents n (contained c.enter.new.self.slots.entries) (reception c.args.now c.args.h.now ∷ history) c.args.now) (sym c.enter.ensures.remembered)
-    (Represents-cons c.args.self.now.remembered (contained c.args.self.now.slots.entries) (contained c.enter.new.self.slots.entries) history (reception c.args.now c.args.h.now) c.requires rep c.in-Ok.ensures.hears)
+    (Represents-cons c.args.self.now.remembered (contained c.args.self.now.slots.entries) (contained c.enter.new.self.slots.entries) history (reception c.args.now c.args.h.now) c.requires rep c.in_ok-enter.ensures.hears)
 
-pub returns-in-Err-clause-memory : goal.returns-in-Err-clause-memory
-returns-in-Err-clause-memory c = λ history rep _.
+pub returns-in_err-enter-clause-memory : goal.returns-in_err-enter-clause-memory
+returns-in_err-enter-clause-memory c = λ history rep _.
     let es = c.args.self.now.slots.entries in
     let none : entry_at (contained es) c.args.h.now.vector.address c.args.now ≡ None =
     none_from _ (ap (λ a. is_some (entry_at (contained es) a c.args.now)) (sym c.address.ensures) ∙ sym c.is_live.ensures ∙ c.if-is_live.false) in (

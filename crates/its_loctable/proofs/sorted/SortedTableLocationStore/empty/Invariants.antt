@@ -8,5 +8,5 @@ invariant-loop l =
     record {
       len : vec_len l.spare ≡ l.counter;
       room : l.capacity ≤ vec_capacity l.spare;
-      empty : All (IsSpare l.remembered) l.spare.items
+      empty : All (IsSpare l.remembered) l.spare.items;
     }

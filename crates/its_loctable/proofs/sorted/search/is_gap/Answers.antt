@@ -48,6 +48,8 @@ returns-else-place-slots-2 c = λ passed.
       | else-place-gt0 w ↦ λ k d e. absurd (omega (arith, e, w.if-place-gt0.false))
     ] in
     let next = c.index-slots-place-else-place-slots-2.result in
-    let more : a < c.address-else-place-slots-2.result = lt-true _ _ (sym c.lt.ensures ∙ passed) in
-    (gap_between xs a c.args.place (rising-true (held xs) c.requires) c.if-place-slots.false below
-    (λ d lt. omega (arith, more, c.address-else-place-slots-2.ensures, at_place xs c.args.place next d lt c.index-slots-place-else-place-slots-2.is)), c.if-place-slots.false)
+    let more : a < c.address-else-place-slots-2.result = lt-true _ _ (sym c.lt.ensures ∙ passed) in (
+      gap_between xs a c.args.place (rising-true (held xs) c.requires) c.if-place-slots.false below
+          (λ d lt. omega (arith, more, c.address-else-place-slots-2.ensures, at_place xs c.args.place next d lt c.index-slots-place-else-place-slots-2.is)),
+      c.if-place-slots.false,
+    )

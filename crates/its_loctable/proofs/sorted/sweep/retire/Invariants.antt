@@ -13,7 +13,7 @@ invariant-loop-slots l =
       spare_capacity : vec_capacity l.spare ≡ vec_capacity l.initial.spare;
       limits : (limit : ℕ) → All (HasLimit limit) l.initial.slots.items → All (HasLimit limit) l.slots.items;
       empty : (limit : ℕ) → All (HasLimit limit) l.initial.slots.items → All (IsSpare limit) l.initial.spare.items
-          → All (IsSpare limit) l.spare.items
+          → All (IsSpare limit) l.spare.items;
     }
 
 abbrev pub decreases-loop-slots : goal.decreases-loop-slots
