@@ -1,6 +1,7 @@
 //! Reading a scenario.
 
-ghost use Rattle.std.specs.Prelude.{◌≡◌, ◌≤◌, IfOk, length, vec_len};
+ghost use Rattle.std.specs.Prelude.{◌≡◌, ℕ, ◌≤◌, IfOk, OnOk, length, vec_len};
+ghost use Rattle.its_scenario.specs.Stations.{AreApart, ShareMid};
 
 use crate::event::{EventEntry, read_event};
 use crate::fault::ScenarioFault;
@@ -31,6 +32,7 @@ impl Scenario {
         most_stations: usize,
     ) -> Result<Scenario, ScenarioFault>
         ensures few { IfOk result (λ scenario. vec_len scenario.stations ≤ most_stations) }
+        ensures apart { IfOk result (λ scenario. AreApart scenario.stations.items) }
     {
         let document = document_of(alloc, text)?;
         let stations = tables(&document, "station").ok_or(ScenarioFault::Stations)?;
@@ -70,6 +72,7 @@ fn read_stations(alloc: Global, items: &[Value]) -> Result<Vec<StationEntry>, Sc
 {
     let mut stations = Vec::with_capacity(alloc, items.len())?;
     for (number, item) in items.iter().enumerate() {
+        // `tables` has seen that each item is one.
         let Value::Table(table) = item else {
             return Err(ScenarioFault::Stations);
         };
@@ -83,6 +86,7 @@ fn read_events(alloc: Global, items: &[Value]) -> Result<Vec<EventEntry>, Scenar
 {
     let mut events = Vec::with_capacity(alloc, items.len())?;
     for (number, item) in items.iter().enumerate() {
+        // `tables` has seen that each item is one.
         let Value::Table(table) = item else {
             return Err(ScenarioFault::Events);
         };
@@ -92,11 +96,17 @@ fn read_events(alloc: Global, items: &[Value]) -> Result<Vec<EventEntry>, Scenar
 }
 
 /// Refuses the first station that has the MID of an earlier one.
-fn refuse_shared_mid(alloc: Global, stations: &[StationEntry]) -> Result<(), ScenarioFault> {
+fn refuse_shared_mid(alloc: Global, stations: &[StationEntry]) -> Result<(), ScenarioFault>
+    ensures apart { OnOk result (AreApart stations.now) }
+    ensures shared { (first second : ℕ) → result ≡ Err (ScenarioFault.SharedMid first second)
+        → ShareMid stations.now first second }
+{
     let mut known: HashMap<Mac, usize> = HashMap::new(alloc);
     for (number, station) in stations.iter().enumerate() {
-        if let Some(earlier) = known.insert(station.address.mid(), number)? {
-            return Err(ScenarioFault::SharedMid(earlier, number));
+        match known.insert(station.address.mid(), number) {
+            Ok(None) => {}
+            Ok(Some(earlier)) => return Err(ScenarioFault::SharedMid(earlier, number)),
+            Err(_) => return Err(ScenarioFault::OutOfMemory(AllocError)),
         }
     }
     Ok(())
