@@ -21,7 +21,7 @@ loop-number-preserved c =
     get_or-map mid_at stations n station 0 within
     ∙ sym (ap mid_at c.index-stations-number.is) ∙ sym c.mid.ensures.value in
     let absent : known (slice_index (mids stations) n) ≡ None =
-    ap known here ∙ sym c.in-Ok-None.ensures.old ∙ c.in-Ok-None.field-0-is in (
+    ap known here ∙ sym c.in_ok-earlier.ensures.old ∙ c.in_default.is in (
       differ_more known (mids stations) n
           c.loop-number.invariant.0 c.loop-number.invariant.1 absent,
       knows_more known (get nat_eq c.insert.new.self) nat_eq (mids stations) n n
@@ -30,8 +30,8 @@ loop-number-preserved c =
           eqb-true c.loop-number.invariant.2 (λ q. search rules),
     )
 
-pub returns-in-Ok-Some-clause-shared : goal.returns-in-Ok-Some-clause-shared
-returns-in-Ok-Some-clause-shared c first second e =
+pub returns-in-Some-clause-shared : goal.returns-in-Some-clause-shared
+returns-in-Some-clause-shared c first second e =
     let stations = c.args.stations.now in
     let station = c.index-stations-number.result in
     let n = c.loop-number.number in
@@ -41,16 +41,16 @@ returns-in-Ok-Some-clause-shared c first second e =
     let here : slice_index (mids stations) n ≡ c.mid.result =
     get_or-map mid_at stations n station 0 within
     ∙ sym (ap mid_at c.index-stations-number.is) ∙ sym c.mid.ensures.value in
-    let met : known (slice_index (mids stations) n) ≡ Some c.in-Ok-Some.earlier =
-    ap known here ∙ sym c.in-Ok-Some.ensures.old ∙ c.in-Ok-Some.field-0-is in
-    let place = c.loop-number.invariant.2 (slice_index (mids stations) n) c.in-Ok-Some.earlier met in
-    let is_first : c.in-Ok-Some.earlier ≡ first = cc in
+    let met : known (slice_index (mids stations) n) ≡ Some c.in-Some.earlier =
+    ap known here ∙ sym c.in_ok-earlier.ensures.old ∙ c.in-Some.is in
+    let place = c.loop-number.invariant.2 (slice_index (mids stations) n) c.in-Some.earlier met in
+    let is_first : c.in-Some.earlier ≡ first = cc in
     let is_second : n ≡ second = cc in
-    let shared : ShareMid stations c.in-Ok-Some.earlier n = record {
+    let shared : ShareMid stations c.in-Some.earlier n = record {
       order = place.0;
       within = within;
       same = place.1;
       earlier = c.loop-number.invariant.0;
     } in
     subst (λ k. ShareMid stations k second) is_first
-    (subst (λ k. ShareMid stations c.in-Ok-Some.earlier k) is_second shared)
+    (subst (λ k. ShareMid stations c.in-Some.earlier k) is_second shared)
