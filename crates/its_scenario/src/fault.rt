@@ -1,7 +1,11 @@
 //! Why a document is no scenario.
 
+ghost use Rattle.std.specs.Prelude.{◌≡◌};
+ghost use Rattle.its_scenario.specs.Documents.{IsPastToml};
+ghost use Rattle.its_scenario.specs.declared.fault.ScenarioFault.TheVariants.{OutOfMemory};
+
 use crate::key::Key;
-use std::alloc::AllocError;
+use std::alloc::{AllocError, AllocFailed};
 use thiserror::Error;
 
 /// The first fault of a scenario, in the order in which faults are judged. Its text is what follows
@@ -32,7 +36,23 @@ pub enum ScenarioFault {
     SharedMid(usize, usize),
     /// An allocation failed.
     #[error("out of memory")]
-    OutOfMemory(#[from(alloc)] AllocError),
+    OutOfMemory,
+}
+
+impl From<AllocError> for ScenarioFault {
+    ghost from_gives = { λ _ fault. fault ≡ OutOfMemory };
+
+    fn from(_: AllocError) -> ScenarioFault {
+        ScenarioFault::OutOfMemory
+    }
+}
+
+impl<T: Drop> From<AllocFailed<T>> for ScenarioFault {
+    ghost from_gives = { λ _ fault. fault ≡ OutOfMemory };
+
+    fn from(_: AllocFailed<T>) -> ScenarioFault {
+        ScenarioFault::OutOfMemory
+    }
 }
 
 /// Why the value of a key was not taken.
@@ -41,23 +61,27 @@ pub(crate) enum KeyFault {
     /// The key is missing, or its value is of another kind or out of range.
     Refused(Key),
     /// An allocation failed.
-    OutOfMemory(AllocError),
+    OutOfMemory,
 }
 
 impl KeyFault {
     /// The fault of the scenario whose station of this number has the key.
-    pub(crate) fn of_station(self, number: usize) -> ScenarioFault {
+    pub(crate) fn of_station(self, number: usize) -> ScenarioFault
+        ensures { IsPastToml result }
+    {
         match self {
             KeyFault::Refused(key) => ScenarioFault::Station(number, key),
-            KeyFault::OutOfMemory(error) => ScenarioFault::OutOfMemory(error),
+            KeyFault::OutOfMemory => ScenarioFault::OutOfMemory,
         }
     }
 
     /// The fault of the scenario whose event of this number has the key.
-    pub(crate) fn of_event(self, number: usize) -> ScenarioFault {
+    pub(crate) fn of_event(self, number: usize) -> ScenarioFault
+        ensures { IsPastToml result }
+    {
         match self {
             KeyFault::Refused(key) => ScenarioFault::Event(number, key),
-            KeyFault::OutOfMemory(error) => ScenarioFault::OutOfMemory(error),
+            KeyFault::OutOfMemory => ScenarioFault::OutOfMemory,
         }
     }
 }

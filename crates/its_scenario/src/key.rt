@@ -61,7 +61,7 @@ pub enum Key {
 
 impl Key {
     /// The word in the document.
-    pub fn word(self) -> &'static str {
+    pub(crate) fn word(self) -> &'static str {
         match self {
             Key::Address => "address",
             Key::Lat => "lat",

@@ -5,7 +5,7 @@ ghost use Rattle.std.specs.Prelude.{◌<◌, ◌≤◌, IfOk};
 use crate::fault::KeyFault;
 use crate::key::Key;
 use its_gnvalue::Place;
-use std::alloc::{AllocError, Global};
+use std::alloc::Global;
 use toml::{Table, Value};
 
 /// An integer of the type under a key.
@@ -54,7 +54,7 @@ pub(crate) fn text<'a>(table: &'a Table, key: Key) -> Result<&'a str, KeyFault> 
 pub(crate) fn octets(alloc: Global, table: &Table, key: Key) -> Result<Vec<u8>, KeyFault> {
     match hex::decode(alloc, text(table, key)?) {
         Ok(octets) => Ok(octets),
-        Err(hex::FromHexError::OutOfMemory) => Err(KeyFault::OutOfMemory(AllocError)),
+        Err(hex::FromHexError::OutOfMemory) => Err(KeyFault::OutOfMemory),
         Err(_) => Err(KeyFault::Refused(key)),
     }
 }

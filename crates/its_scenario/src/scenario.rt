@@ -1,12 +1,14 @@
 //! Reading a scenario.
 
-ghost use Rattle.std.specs.Prelude.{◌≡◌, ◌≤◌, IfOk, length, vec_len};
+ghost use Rattle.std.specs.Prelude.{◌≡◌, ℕ, ◌≤◌, IfOk, IfErr, OnOk, length, vec_len};
+ghost use Rattle.its_scenario.specs.Documents.{IsToml, IsPastToml};
+ghost use Rattle.its_scenario.specs.Stations.{AreApart, ShareMid};
 
 use crate::event::{EventEntry, read_event};
 use crate::fault::ScenarioFault;
 use crate::station::{StationEntry, read_station};
 use its_gnvalue::Mac;
-use std::alloc::{AllocError, Global};
+use std::alloc::Global;
 use std::collections::HashMap;
 use toml::{Table, Value};
 
@@ -30,7 +32,10 @@ impl Scenario {
         text: &[u8],
         most_stations: usize,
     ) -> Result<Scenario, ScenarioFault>
+        ensures toml { IfOk result (λ _. IsToml text.now) }
+        ensures refused { result ≡ Err ScenarioFault.NotToml → ¬ IsToml text.now }
         ensures few { IfOk result (λ scenario. vec_len scenario.stations ≤ most_stations) }
+        ensures apart { IfOk result (λ scenario. AreApart scenario.stations.items) }
     {
         let document = document_of(alloc, text)?;
         let stations = tables(&document, "station").ok_or(ScenarioFault::Stations)?;
@@ -45,10 +50,13 @@ impl Scenario {
     }
 }
 
-fn document_of(alloc: Global, text: &[u8]) -> Result<Table, ScenarioFault> {
+fn document_of(alloc: Global, text: &[u8]) -> Result<Table, ScenarioFault>
+    ensures toml { IfOk result (λ _. IsToml text.now) }
+    ensures refused { result ≡ Err ScenarioFault.NotToml → ¬ IsToml text.now }
+{
     match toml::table_from_slice(alloc, text) {
         Ok(document) => Ok(document),
-        Err(error) if error.is_memory() => Err(ScenarioFault::OutOfMemory(AllocError)),
+        Err(error) if error.is_memory() => Err(ScenarioFault::OutOfMemory),
         Err(_) => Err(ScenarioFault::NotToml),
     }
 }
@@ -66,10 +74,12 @@ fn tables<'a>(document: &'a Table, key: &str) -> Option<&'a [Value]> {
 }
 
 fn read_stations(alloc: Global, items: &[Value]) -> Result<Vec<StationEntry>, ScenarioFault>
-    ensures { IfOk result (λ stations. vec_len stations ≡ length items.now) }
+    ensures all { IfOk result (λ stations. vec_len stations ≡ length items.now) }
+    ensures refused { IfErr result IsPastToml }
 {
     let mut stations = Vec::with_capacity(alloc, items.len())?;
     for (number, item) in items.iter().enumerate() {
+        // `tables` has seen that each item is one.
         let Value::Table(table) = item else {
             return Err(ScenarioFault::Stations);
         };
@@ -79,10 +89,12 @@ fn read_stations(alloc: Global, items: &[Value]) -> Result<Vec<StationEntry>, Sc
 }
 
 fn read_events(alloc: Global, items: &[Value]) -> Result<Vec<EventEntry>, ScenarioFault>
-    ensures { IfOk result (λ events. vec_len events ≡ length items.now) }
+    ensures all { IfOk result (λ events. vec_len events ≡ length items.now) }
+    ensures refused { IfErr result IsPastToml }
 {
     let mut events = Vec::with_capacity(alloc, items.len())?;
     for (number, item) in items.iter().enumerate() {
+        // `tables` has seen that each item is one.
         let Value::Table(table) = item else {
             return Err(ScenarioFault::Events);
         };
@@ -92,7 +104,12 @@ fn read_events(alloc: Global, items: &[Value]) -> Result<Vec<EventEntry>, Scenar
 }
 
 /// Refuses the first station that has the MID of an earlier one.
-fn refuse_shared_mid(alloc: Global, stations: &[StationEntry]) -> Result<(), ScenarioFault> {
+fn refuse_shared_mid(alloc: Global, stations: &[StationEntry]) -> Result<(), ScenarioFault>
+    ensures apart { OnOk result (AreApart stations.now) }
+    ensures refused { IfErr result IsPastToml }
+    ensures shared { (first second : ℕ) → result ≡ Err (ScenarioFault.SharedMid first second)
+        → ShareMid stations.now first second }
+{
     let mut known: HashMap<Mac, usize> = HashMap::new(alloc);
     for (number, station) in stations.iter().enumerate() {
         if let Some(earlier) = known.insert(station.address.mid(), number)? {

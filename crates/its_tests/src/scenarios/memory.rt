@@ -20,7 +20,7 @@ fn reads_short_of_memory(rt: HostRuntime) -> Result<(), Fail> {
             }
             Err(fault) => {
                 refused = refused.saturating_add(1);
-                assert!(rt; matches!(&fault, ScenarioFault::OutOfMemory(_)));
+                assert!(rt; matches!(&fault, ScenarioFault::OutOfMemory));
             }
         }
     }
