@@ -3,7 +3,6 @@
 ghost use Rattle.std.specs.Prelude.{IfOk};
 ghost use Rattle.its_commands.specs.Statuses.{IsCommandStatus};
 
-use crate::codes::FrameCode;
 use crate::fault::{Fault, status_of};
 use crate::status::Status;
 use crate::walk::{RecordLines, each_record};
@@ -25,7 +24,7 @@ impl RecordLines for RefusedRecords {
     ) -> io::Result<()> {
         match frame {
             Ok(_) => Ok(()),
-            Err(fault) => writeln!(out, "record {place}: {}", FrameCode(fault)),
+            Err(fault) => writeln!(out, "record {place}: {}", fault.code()),
         }
     }
 }

@@ -3,7 +3,6 @@
 #![tactic(auto)]
 
 mod checking;
-mod codes;
 mod fault;
 mod files;
 mod hexadecimal;

@@ -42,6 +42,7 @@ fn kind_word(kind: Kind) -> &'static str {
         Kind::Beacon => "beacon",
         Kind::Shb => "shb",
         Kind::Gbc => "gbc",
+        Kind::Gac => "gac",
     }
 }
 

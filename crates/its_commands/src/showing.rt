@@ -3,7 +3,6 @@
 ghost use Rattle.std.specs.Prelude.{IfOk};
 ghost use Rattle.its_commands.specs.Statuses.{IsCommandStatus};
 
-use crate::codes::FrameCode;
 use crate::fault::{Fault, status_of};
 use crate::line::FrameLine;
 use crate::status::Status;
@@ -26,7 +25,7 @@ impl RecordLines for AllRecords {
     ) -> io::Result<()> {
         match frame {
             Ok(frame) => writeln!(out, "{}", FrameLine { moment, frame }),
-            Err(fault) => writeln!(out, "{moment} refused {}", FrameCode(fault)),
+            Err(fault) => writeln!(out, "{moment} refused {}", fault.code()),
         }
     }
 }

@@ -3,7 +3,6 @@
 ghost use Rattle.std.specs.Prelude.{◌≡◌, ◌≤◌, IfOk};
 ghost use Rattle.its_commands.specs.Statuses.{walk_status};
 
-use crate::codes::CaptureCode;
 use crate::fault::Fault;
 use crate::status::Status;
 use its_linkframe::{CaptureFault, CaptureReader, Counted, FrameFault, FrameView, read_frame};
@@ -99,7 +98,7 @@ fn refuse_capture<'a, W: Write>(
         CaptureFault::Io => Err(Fault::CannotRead(file)),
         CaptureFault::NoMemory => Err(Fault::OutOfMemory(AllocError)),
         CaptureFault::CutRecord | CaptureFault::Length | CaptureFault::Failed => {
-            writeln!(out, "capture: {} at record {count}", CaptureCode(fault))?;
+            writeln!(out, "capture: {} at record {count}", fault.code())?;
             Ok(())
         }
     }

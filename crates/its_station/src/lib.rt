@@ -41,7 +41,7 @@ mod sending;
 mod station;
 
 pub use outcome::{Handed, Outcome, Why};
-pub use refused::Refused;
+pub use refused::{Refused, RefusedCode};
 pub use requests::{GbcRequest, OwnedGbcRequest, OwnedShbRequest, ShbRequest};
 pub use run::{Call, Delivery, Ran, Reply};
 pub use sending::MAX_PAYLOAD;

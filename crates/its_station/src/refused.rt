@@ -1,7 +1,11 @@
 //! Why a call is refused.
 
+ghost use Rattle.std.specs.Prelude.{◌≡◌};
+
 use its_btp::PortFault;
 use its_faults::FrameFault;
+use std::error::Error;
+use std::fmt;
 
 /// Why a call is refused. It changed nothing then: clock, sequence number, table and ports too.
 #[derive(Clone, Copy, Debug, PartialEq, Eq)]
@@ -24,4 +28,51 @@ pub enum Refused {
     TableFull,
     /// S5: an allocation failed.
     NoMemory,
+}
+
+impl Refused {
+    /// What logs and the program's lines show, as `S4`, `S8 B2` or `S3 L5 G9 at 10`.
+    pub fn code(&self) -> RefusedCode
+        ensures { result ≡ record { 0 = self.now } }
+    {
+        RefusedCode(*self)
+    }
+}
+
+impl fmt::Display for Refused {
+    fn fmt<W: fmt::Write>(&self, f: &mut fmt::Formatter<W>) -> fmt::Result {
+        match self {
+            Refused::MomentEarlier => write!(f, "the moment is before the last one"),
+            Refused::MomentTooLate => write!(f, "the moment is over 2^62 ms"),
+            Refused::JitterRange => write!(f, "the jitter is over 750 ms"),
+            Refused::Frame(fault) => write!(f, "{fault}"),
+            Refused::Port(fault) => write!(f, "{fault}"),
+            Refused::PayloadTooLong => write!(f, "the payload is over 1394 octets"),
+            Refused::HopLimitZero => write!(f, "a packet of no hop"),
+            Refused::TableFull => write!(f, "the location table is full"),
+            Refused::NoMemory => write!(f, "out of memory"),
+        }
+    }
+}
+
+impl Error for Refused {}
+
+/// A refusal that prints as its code, as `S4`, `S8 B2` or `S3 L5 G9 at 10`.
+#[derive(Clone, Copy, Debug, PartialEq, Eq)]
+pub struct RefusedCode(pub Refused);
+
+impl fmt::Display for RefusedCode {
+    fn fmt<W: fmt::Write>(&self, f: &mut fmt::Formatter<W>) -> fmt::Result {
+        match self.0 {
+            Refused::MomentEarlier => write!(f, "S1"),
+            Refused::MomentTooLate => write!(f, "S2"),
+            Refused::Frame(fault) => write!(f, "S3 {}", fault.code()),
+            Refused::TableFull => write!(f, "S4"),
+            Refused::NoMemory => write!(f, "S5"),
+            Refused::PayloadTooLong => write!(f, "S6"),
+            Refused::HopLimitZero => write!(f, "S7"),
+            Refused::Port(fault) => write!(f, "S8 {}", fault.code()),
+            Refused::JitterRange => write!(f, "S9"),
+        }
+    }
 }

@@ -1,6 +1,10 @@
 //! What is told of an event that was done.
 
+ghost use Rattle.std.specs.Prelude.{◌≡◌};
+
 use its_station::{Delivery, Refused, Why};
+use std::error::Error;
+use std::fmt;
 
 /// Why an event was refused. It changed nothing then.
 #[derive(Clone, Copy, Debug, PartialEq, Eq)]
@@ -11,6 +15,41 @@ pub enum EntryFault {
     NoSuchFrame,
     /// M4: there is no such station. It is told before M3.
     NoSuchStation,
+}
+
+impl EntryFault {
+    /// What logs and the program's lines show, as `S8 B2` or `M3`.
+    pub fn code(&self) -> EntryCode
+        ensures { result ≡ record { 0 = self.now } }
+    {
+        EntryCode(*self)
+    }
+}
+
+impl fmt::Display for EntryFault {
+    fn fmt<W: fmt::Write>(&self, f: &mut fmt::Formatter<W>) -> fmt::Result {
+        match self {
+            EntryFault::Station(fault) => write!(f, "{fault}"),
+            EntryFault::NoSuchFrame => write!(f, "there is no such frame"),
+            EntryFault::NoSuchStation => write!(f, "there is no such station"),
+        }
+    }
+}
+
+impl Error for EntryFault {}
+
+/// An event's refusal that prints as its code, as `S8 B2` or `M3`.
+#[derive(Clone, Copy, Debug, PartialEq, Eq)]
+pub struct EntryCode(pub EntryFault);
+
+impl fmt::Display for EntryCode {
+    fn fmt<W: fmt::Write>(&self, f: &mut fmt::Formatter<W>) -> fmt::Result {
+        match self.0 {
+            EntryFault::Station(fault) => write!(f, "{}", fault.code()),
+            EntryFault::NoSuchFrame => write!(f, "M3"),
+            EntryFault::NoSuchStation => write!(f, "M4"),
+        }
+    }
 }
 
 /// What is told of an event that was done. A frame is told by its number.

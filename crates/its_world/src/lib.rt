@@ -11,7 +11,7 @@ mod shared;
 mod world;
 
 pub use config::{Config, WorldFault};
-pub use entry::{Entry, EntryFault};
+pub use entry::{Entry, EntryCode, EntryFault};
 pub use event::{Event, What};
 pub use run::Run;
 pub use world::World;
