@@ -9,7 +9,7 @@ use Rattle.its_faults.specs.declared.packet.FaultKind.{FaultKind}
 use Rattle.its_faults.specs.declared.packet.FaultKind.TheVariants.{Truncated}
 use Rattle.its_model.specs.Packet.{Pdu}
 use Rattle.its_headers.specs.Encoding.{IsBytes, Encodes}
-use Rattle.its_headers.specs.Format.{Format, ends, number, halves, octets, walk, number_at, octets_at, fault, ◌>>=◌}
+use Rattle.its_headers.specs.Format.{Format, ends, number, halves, octets, walk, number_at, octets_at, fault}
 use Rattle.its_headers.specs.FirstFault.{Row, half, whole, half_octets, IsSound, front_to, FaultAmong}
 use Rattle.its_headers.proofs.Spells.{Spells}
 use Rattle.its_headers.proofs.Numbers.{IsBytes-big_bytes, IsBytes-append, IsBytes-take, IsBytes-drop}

@@ -1,5 +1,5 @@
 -- Octets whose fields were judged are read.
-use Rattle.std.proofs.Common.{◌≡◌, ℕ, ◌+◌, ◌%◌, ◌^◌, ◌<◌, ◌≤◌, ℤ, List, length, drop, true, nat_le, eqb, Result, Ok, refl, sym, ap, ◌∙◌, arith, eq-eqb}
+use Rattle.std.proofs.Common.{◌≡◌, ℕ, ◌+◌, ◌%◌, ◌^◌, ◌<◌, ◌≤◌, ℤ, List, length, drop, true, nat_le, eqb, Result, Ok, refl, ap, ◌∙◌, arith, eq-eqb}
 use Rattle.std.proofs.lemmas.Bool.{lt-ltb}
 use Rattle.byteorder.specs.Endian.{big_number}
 use Rattle.std.proofs.lemmas.Int.{of_z-to_z}

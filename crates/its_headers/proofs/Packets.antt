@@ -10,12 +10,11 @@ use Rattle.its_geometry.specs.declared.area.Shape.{Shape}
 use Rattle.its_geometry.specs.declared.area.Shape.TheVariants.{Circle, Rectangle, Ellipse}
 use Rattle.its_headers.specs.declared.kind.Kind.{Kind}
 use Rattle.its_headers.specs.declared.kind.Kind.TheVariants.{Beacon, Shb, Gbc, Gac}
-use Rattle.its_faults.specs.declared.packet.FaultKind.TheVariants.{Reserved}
 use Rattle.its_geometry.specs.Area.{GeoArea}
 use Rattle.its_model.specs.Packet.{Pdu, Body, beacon, shb, gbc, gac, AreaKind, geobroadcast, geoanycast, area_body, Message}
 use Rattle.its_headers.specs.Encoding.{IsVector, IsArea, IsBody, IsMessage, IsBytes, IsPacket, Encodes, vector_octets, area_octets, message_octets, basic_header, common_header, extended_header, encoding, area_packet_octets, common_next, header_type, payload_length, shape_code}
-use Rattle.its_headers.specs.Format.{Format, after, ends, number, octets}
-use Rattle.its_headers.specs.Layout.{Common, basic_format, type_format, common_format, vector_format, area_format, beacon_format, body_format, packet_format, is_next, is_type, is_subtype, is_length, kind_of, shape_of, next_of, type_of, is_zero, shb_format, area_packet_format, area_packet_rest}
+use Rattle.its_headers.specs.Format.{Format, after, ends, octets}
+use Rattle.its_headers.specs.Layout.{Common, basic_format, type_format, common_format, vector_format, area_format, beacon_format, body_format, packet_format, is_next, is_type, is_subtype, is_length, kind_of, shape_of, next_of, type_of, shb_format, area_packet_format, area_packet_rest}
 use Rattle.its_headers.specs.Fields.{message_of, IsLength, kind_of_body, shape_of_body}
 use Rattle.its_headers.proofs.Spells.{Spells, Spells-after, after-Spells}
 use Rattle.its_headers.proofs.Spelled.{vector_spelled, spells_vector, area_spelled, spells_area}

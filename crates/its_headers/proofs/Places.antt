@@ -1,5 +1,5 @@
 -- Where the fields of an encoding stand, and that they are read there.
-use Rattle.std.proofs.Common.{◌≡◌, ℕ, ◌+◌, ◌≤◌, List, [], ◌++◌, length, take, drop, Result, Ok, Err, refl, sym, ap, subst, ◌∙◌, arith, length-append, length-drop, ◌⊎◌, inl, inr}
+use Rattle.std.proofs.Common.{◌≡◌, ℕ, ◌+◌, ◌≤◌, List, [], ◌++◌, length, take, drop, Result, Ok, refl, sym, ap, subst, ◌∙◌, arith, length-append, length-drop, ◌⊎◌, inl, inr}
 use Rattle.std.proofs.lemmas.List.{drop_at, take_at}
 use Rattle.std.specs.Prelude.{Option, Some}
 use Rattle.byteorder.specs.Endian.{big_bytes, big_number}
@@ -16,7 +16,7 @@ use Rattle.its_headers.specs.declared.packet.Header.{Header}
 use Rattle.its_headers.specs.declared.packet.AreaPacket.{AreaPacket}
 use Rattle.its_headers.specs.Packets.{with_body, pdu_for_area, IsHeaderOf, IsAreaPacketOf}
 use Rattle.its_headers.specs.Format.{Format, walk}
-use Rattle.its_headers.specs.Layout.{vector_format, vector_from, vector_at, area_format, area_at, is_individual, is_latitude, is_longitude, is_second, is_angle}
+use Rattle.its_headers.specs.Layout.{vector_format, vector_at, area_format, area_at, is_individual, is_latitude, is_longitude, is_second, is_angle}
 use Rattle.its_headers.specs.Seen.{Seen, seen_of, IsEncoding}
 use Rattle.its_headers.proofs.Spells.{Spells}
 use Rattle.its_headers.proofs.Spelled.{spells_vector, spells_area}

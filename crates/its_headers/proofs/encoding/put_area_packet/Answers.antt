@@ -1,7 +1,6 @@
-use Rattle.std.proofs.Common.{arith, length, ap, refl, rules, ◌≡◌, ◌+◌, ◌*◌, ◌∙◌}
+use Rattle.std.proofs.Common.{arith, length, ap, refl, rules, ◌+◌}
 use Rattle.its_model.specs.Packet.{geobroadcast, geoanycast}
 use Rattle.its_headers.specs.Encoding.{shape_code}
-use Rattle.its_headers.specs.Layout.{next_of, type_of}
 use Rattle.its_headers.proofs.Writing.{area_packet_written, heads_put, HeaderFits}
 use Rattle.its_headers.proofs.encoding.put_area_packet.Goals as goal
 

@@ -1,4 +1,4 @@
-use Rattle.std.proofs.Common.{arith, length, ap, length-append, length-drop, ◌≡◌, ◌+◌, ◌∙◌, ◌≤◌}
+use Rattle.std.proofs.Common.{arith, length, ap, length-append, length-drop, ◌+◌, ◌≤◌}
 use Rattle.its_headers.specs.Encoding.{message_octets}
 use Rattle.its_headers.specs.Fields.{message_of}
 use Rattle.its_headers.proofs.Writing.{shb_written, heads_put, HeaderFits}

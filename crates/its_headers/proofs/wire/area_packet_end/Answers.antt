@@ -1,4 +1,4 @@
-use Rattle.std.proofs.Common.{◌≡◌, ℕ, Result, ap, sym, arith, rules, ◌∙◌}
+use Rattle.std.proofs.Common.{ℕ, Result, ap, sym, arith, rules, ◌∙◌}
 use Rattle.std.proofs.lemmas.Result.{err_from_is_err_and}
 use Rattle.its_faults.specs.declared.packet.Fault.{Fault}
 use Rattle.its_gnvalue.specs.Values.{PositionVector}

@@ -1,4 +1,4 @@
-use Rattle.std.proofs.Common.{arith, rules, sym, ap, subst, ◌∙◌, take, length-drop, append-nil, List, ℕ}
+use Rattle.std.proofs.Common.{arith, sym, ap, subst, ◌∙◌, take, length-drop, append-nil, List, ℕ}
 use Rattle.std.proofs.lemmas.List.{take_rest}
 use Rattle.byteorder.specs.Endian.{big_number}
 use Rattle.its_headers.specs.Encoding.{Encodes}

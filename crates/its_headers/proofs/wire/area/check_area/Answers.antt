@@ -1,5 +1,4 @@
-use Rattle.std.proofs.Common.{◌≡◌, ◌≤◌, arith, rules}
-use Rattle.byteorder.specs.Endian.{big_number}
+use Rattle.std.proofs.Common.{arith, rules}
 use Rattle.its_headers.proofs.Found.{number_at-ok}
 use Rattle.its_headers.proofs.Judged.{area_judged}
 use Rattle.its_headers.proofs.wire.area.check_area.Goals as goal

@@ -1,4 +1,4 @@
-use Rattle.std.proofs.Common.{◌≡◌, ◌+◌, ℕ, List, subst, arith, rules}
+use Rattle.std.proofs.Common.{◌≡◌, ◌+◌, ℕ, subst, arith, rules}
 use Rattle.byteorder.specs.Endian.{big_bytes}
 use Rattle.its_headers.specs.Puts.{Puts}
 use Rattle.its_headers.proofs.Puttings.{vector_put}
