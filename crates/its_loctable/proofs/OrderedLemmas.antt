@@ -1,5 +1,5 @@
 -- What a table in the order of insertion has of a source.
-use Rattle.std.proofs.Common.{◌≡◌, ℕ, Bool, true, false, cond, List, [], ◌∷◌, Option, Some, None, refl, sym, ap, ◌∙◌, ◌+◌, ◌||◌, eqb, ltb, count_by, is_some, true≢false, ◌≤◌, ◌<◌, ◌^◌, Ok, Err, All, length, unwrap_or, Result, arith}
+use Rattle.std.proofs.Common.{◌≡◌, ℕ, Bool, true, false, cond, List, [], ◌∷◌, Option, Some, None, refl, sym, ap, ◌∙◌, ◌+◌, ◌||◌, eqb, ltb, count_by, is_some, true≢false, ◌≤◌, ◌^◌, Ok, Err, All, length, unwrap_or, Result, arith}
 use Rattle.std.specs.Prelude.{OnOk, OnErr}
 use Rattle.std.proofs.lemmas.List.{length-reverse}
 use Rattle.std.proofs.lemmas.List.Elements.{All-cons}

@@ -1,5 +1,5 @@
 -- Slots in ascending order: where a search ends, what an edit there does, and what is found among them.
-use Rattle.std.proofs.Common.{◌≡◌, ℕ, suc, zero, ◌+◌, ◌<◌, ◌≤◌, Bool, true, false, cond, List, [], ◌∷◌, ◌≢◌, Option, Some, None, Result, Ok, Err, IfOk, IfErr, refl, sym, ap, subst, ◌∙◌, eqb, ltb, filter, set, take, drop, ◌++◌, length, All, get_or, find, map, count_by, ◌&&◌, ◌||◌, ◌^◌, arith, is_some, true≢false, unwrap_or}
+use Rattle.std.proofs.Common.{◌≡◌, ℕ, suc, zero, ◌+◌, ◌<◌, ◌≤◌, Bool, true, false, cond, List, [], ◌∷◌, ◌≢◌, Option, Some, None, Result, Ok, Err, IfOk, IfErr, refl, sym, ap, subst, ◌∙◌, eqb, ltb, filter, set, take, drop, length, All, get_or, find, map, count_by, ◌&&◌, ◌||◌, ◌^◌, arith, is_some, true≢false, unwrap_or}
 use Rattle.std.specs.Prelude.{insert}
 use Rattle.std.specs.Option.{option_map}
 use Rattle.std.specs.List.Sorted.{IsSearchInRange, IsBinarySearchResult, IsNonDecreasingBy}
@@ -17,12 +17,12 @@ use Rattle.its_loctable.specs.Content.{Entry, live_part, entry_at, Represents}
 use Rattle.its_loctable.specs.Slots.{slot_known}
 use Rattle.its_loctable.specs.Sorted.{slot_entry, held, IsFoundAt, IsGapFor, IsStartAbove}
 use Rattle.its_loctable.specs.Spare.{HasLimit}
-use Rattle.its_loctable.specs.Eager.{swept, upsert, is_rising, entry_after}
+use Rattle.its_loctable.specs.Eager.{swept, upsert, entry_after}
 use Rattle.its_loctable.specs.Heard.{reception}
 use Rattle.its_loctable.specs.SourceReport.{SourceReport}
 use Rattle.its_model.proofs.StationLemmas.{addr}
 use Rattle.its_loctable.proofs.ContentLemmas.{place, ordered, ordered-stations_at}
-use Rattle.its_loctable.proofs.EagerLemmas.{IsBelowAll, IsRising, apart-rising, rising-true, length-swept}
+use Rattle.its_loctable.proofs.EagerLemmas.{IsBelowAll, IsRising, apart-rising, length-swept}
 
 abbrev pub key : Slot → ℕ
 key s = s.vector.address

@@ -1,6 +1,5 @@
 use Rattle.std.proofs.Common.{◌≡◌, ap, ◌∙◌, rules, arith}
 use Rattle.std.specs.Option.{option_map}
-use Rattle.std.proofs.lemmas.Grind.{common_steps}
 use denote.Bor.{Bor}
 use Rattle.its_loctable.specs.declared.slot.Slot.{Slot}
 use Rattle.its_loctable.specs.Heard.{has_number}

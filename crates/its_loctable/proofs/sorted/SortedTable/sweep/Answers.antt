@@ -1,4 +1,4 @@
-use Rattle.std.proofs.Common.{◌≤◌, All, filter, ltb, subst, ap, ◌∙◌, arith}
+use Rattle.std.proofs.Common.{◌≤◌, All, ltb, subst, ap, ◌∙◌, arith}
 use Rattle.std.proofs.lemmas.List.Elements.{All-filter, All-same}
 use Rattle.its_loctable.specs.declared.slot.Slot.{Slot}
 use Rattle.its_loctable.specs.Sorted.{held}

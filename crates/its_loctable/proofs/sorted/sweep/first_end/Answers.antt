@@ -1,4 +1,4 @@
-use Rattle.std.proofs.Common.{◌≤◌, All, take, sym, ap, subst, ◌∙◌, arith}
+use Rattle.std.proofs.Common.{◌≤◌, take, sym, subst, arith}
 use Rattle.std.proofs.lemmas.List.{take_more, take_all}
 use Rattle.std.proofs.lemmas.List.Elements.{All-push, All-same, All-weaker}
 use Rattle.its_loctable.specs.declared.slot.Slot.{Slot}

@@ -1,8 +1,7 @@
-use Rattle.std.proofs.Common.{◌≡◌, ◌+◌, ◌-◌, [], ◌≤◌, ◌<◌, Some, All, take, ap, ◌∙◌, arith}
+use Rattle.std.proofs.Common.{◌≡◌, ◌+◌, ◌-◌, [], ◌<◌, Some, take, ap, ◌∙◌, arith}
 use Rattle.std.specs.Prelude.{vec_len}
 use Rattle.std.proofs.lemmas.List.{take-take}
 use Rattle.std.proofs.lemmas.List.Elements.{All-pop, All-take, All-push, All-same}
-use Rattle.its_duplicates.specs.Numbers.{LastNumbers}
 use Rattle.its_loctable.specs.Spare.{HasLimit, IsSpare}
 use Rattle.its_loctable.proofs.sorted.sweep.retire.Goals as goal
 
