@@ -45,7 +45,7 @@ impl OrderedTable {
     fn has_place(&self, now: u64) -> bool
         ensures place { result
             ≡ nat_lt (count_by (λ e. nat_lt now e.1.until) self.now.slots.entries)
-                self.now.capacity }
+            self.now.capacity }
         ensures unique { IsUnique nat_eq self.now.slots }
     {
         self.slots.len() < self.capacity as usize || self.has_expired(now)
@@ -95,7 +95,7 @@ impl OrderedTable {
     fn is_repeated(&self, now: u64, heard: &Heard) -> bool
         ensures { result
             ≡ is_noted (entry_at (contained self.now.slots.entries) heard.now.vector.address now)
-                heard.now.number }
+            heard.now.number }
     {
         match (heard.number(), self.live_slot(now, heard.address())) {
             (Some(number), Some(slot)) => slot.remembers(number),

@@ -81,7 +81,7 @@ impl Slot {
         requires same { self.old.vector.address ≡ heard.now.vector.address }
         ensures known { slot_known self.new
             ≡ renewed self.old.recent.limit (live_slot_part now self.old)
-                (reception now heard.now) }
+            (reception now heard.now) }
         ensures address { self.new.vector.address ≡ heard.now.vector.address }
         ensures until { self.new.until ≡ now + entry_life }
         ensures limit { self.new.recent.limit ≡ self.old.recent.limit }

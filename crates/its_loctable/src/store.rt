@@ -86,7 +86,7 @@ pub trait LocationStore: Sized + Drop {
         ensures { (history : List Reception) →
             Represents (remember self.now) (content self.now) history now →
             result ≡ not (is_full (limit self.now) a
-                (stations_at (remember self.now) now history)) };
+            (stations_at (remember self.now) now history)) };
 
     /// Takes a packet in, unless it is a duplicate or, judged after that, there is no room. A
     /// duplicate and a refusal change nothing. Memory is asked for only where the packet is owed
@@ -101,7 +101,7 @@ pub trait LocationStore: Sized + Drop {
             Represents (remember self.old) (content self.old) history now →
             result ≡ Err StoreRefused.NoMemory →
             (verdict_at (remember self.old) (limit self.old) now h.now history
-                ≡ Ok Verdict.Accepted)
+            ≡ Ok Verdict.Accepted)
             × IsFalse (is_live h.now.vector.address now history) }
         ensures accepted { (history : List Reception) →
             Represents (remember self.old) (content self.old) history now →

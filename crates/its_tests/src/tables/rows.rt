@@ -38,20 +38,44 @@ fn first_again<S: LocationStore>(mut store: S, count: u16) -> Result<Verdict, Fa
 fn one_number_too_many_lets_the_first_go(rt: HostRuntime) -> Result<(), Fail> {
     let alloc = rt.alloc();
     for (count, want) in [(1, Verdict::Duplicate), (2, Verdict::Accepted)] {
-        assert!(rt; first_again(OrderedTable::empty(alloc, 64, 1)?, count)? == want, "{count}");
-        assert!(rt; first_again(SortedTable::empty(alloc, 64, 1)?, count)? == want, "{count}");
+        assert!(rt;
+            first_again(OrderedTable::empty(alloc, 64, 1)?, count)? == want,
+            "{count}"
+        );
+        assert!(rt;
+            first_again(SortedTable::empty(alloc, 64, 1)?, count)? == want,
+            "{count}"
+        );
     }
     for (count, want) in [(2, Verdict::Duplicate), (3, Verdict::Accepted)] {
-        assert!(rt; first_again(OrderedTable::empty(alloc, 64, 2)?, count)? == want, "{count}");
-        assert!(rt; first_again(SortedTable::empty(alloc, 64, 2)?, count)? == want, "{count}");
+        assert!(rt;
+            first_again(OrderedTable::empty(alloc, 64, 2)?, count)? == want,
+            "{count}"
+        );
+        assert!(rt;
+            first_again(SortedTable::empty(alloc, 64, 2)?, count)? == want,
+            "{count}"
+        );
     }
     for (count, want) in [(8, Verdict::Duplicate), (9, Verdict::Accepted)] {
-        assert!(rt; first_again(OrderedTable::empty(alloc, 64, 8)?, count)? == want, "{count}");
-        assert!(rt; first_again(SortedTable::empty(alloc, 64, 8)?, count)? == want, "{count}");
+        assert!(rt;
+            first_again(OrderedTable::empty(alloc, 64, 8)?, count)? == want,
+            "{count}"
+        );
+        assert!(rt;
+            first_again(SortedTable::empty(alloc, 64, 8)?, count)? == want,
+            "{count}"
+        );
     }
     for (count, want) in [(64, Verdict::Duplicate), (65, Verdict::Accepted)] {
-        assert!(rt; first_again(OrderedTable::empty(alloc, 64, 64)?, count)? == want, "{count}");
-        assert!(rt; first_again(SortedTable::empty(alloc, 64, 64)?, count)? == want, "{count}");
+        assert!(rt;
+            first_again(OrderedTable::empty(alloc, 64, 64)?, count)? == want,
+            "{count}"
+        );
+        assert!(rt;
+            first_again(SortedTable::empty(alloc, 64, 64)?, count)? == want,
+            "{count}"
+        );
     }
     Ok(())
 }

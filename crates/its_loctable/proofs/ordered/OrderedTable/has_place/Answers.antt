@@ -12,5 +12,6 @@ returns-else-len-self-clause-place c =
     let many : table.capacity ≤ length es = omega (arith, c.if-len-self.false, c.len.ensures.len) in
     let few : length es ≤ table.capacity = omega (arith, table.within) in
     c.has_expired.ensures
-    ∙ sym (ap (λ b. b || list_any (λ (e : ℕ × Slot). leb e.1.until c.args.now) es) (le-ltb (length es) table.capacity many))
+    ∙ sym (ap (λ b. b || list_any (λ (e : ℕ × Slot). leb e.1.until c.args.now) es)
+    (le-ltb (length es) table.capacity many))
     ∙ has_place (λ (e : ℕ × Slot). e.1.until) c.args.now es table.capacity few

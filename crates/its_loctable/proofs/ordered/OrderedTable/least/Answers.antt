@@ -12,7 +12,12 @@ loop-i-preserved c =
     let es = c.args.self.now.slots.entries in
     let p = is_wanted c.args.wanted in
     elim c.match-get_index.branch [
-      | in-Some w ↦ w.best-is ∙ w.improve-best.ensures (fold (better p c.args.now) None (contained (take c.loop-i.i es))) c.loop-i.invariant
-          ∙ ap (option_map shown) (sym (walk_more p c.args.now es c.loop-i.i _ (sym w.in-Some.ensures.entry)))
-      | in_default w ↦ absurd (true≢false (sym (w.in_default.ensures.found.1 (omega (arith, c.len-i-end.ensures.len)))))
+      | in-Some w ↦ w.best-is
+          ∙ w.improve-best.ensures
+          (fold (better p c.args.now) None (contained (take c.loop-i.i es))) c.loop-i.invariant
+          ∙ ap (option_map shown)
+          (sym (walk_more p c.args.now es c.loop-i.i _ (sym w.in-Some.ensures.entry)))
+      | in_default w ↦
+          absurd (true≢false
+          (sym (w.in_default.ensures.found.1 (omega (arith, c.len-i-end.ensures.len)))))
     ]

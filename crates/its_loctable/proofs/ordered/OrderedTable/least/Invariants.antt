@@ -6,4 +6,6 @@ use Rattle.its_loctable.specs.Wanted.{is_wanted, better}
 use Rattle.its_loctable.proofs.ordered.OrderedTable.least.Given as goal
 
 abbrev pub invariant-loop-i : goal.invariant-loop-i
-invariant-loop-i l = l.best ≡ option_map shown (fold (better (is_wanted l.wanted) l.now) None (contained (take l.i l.self.slots.entries)))
+invariant-loop-i l = l.best
+    ≡ option_map shown
+    (fold (better (is_wanted l.wanted) l.now) None (contained (take l.i l.self.slots.entries)))

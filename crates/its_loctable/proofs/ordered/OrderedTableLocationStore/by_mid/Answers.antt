@@ -9,4 +9,7 @@ use Rattle.its_loctable.proofs.ordered.OrderedTableLocationStore.by_mid.Goals as
 
 pub returns : goal.returns
 returns c = λ history rep. c.least.ensures.least
-    ∙ ap (option_map shown) (walked (has_mid c.args.mid) c.args.self.now.remembered (contained c.args.self.now.slots.entries) history c.args.now c.requires (apart-contained c.args.self.now.slots.entries c.least.ensures.unique) rep)
+    ∙ ap (option_map shown)
+    (walked (has_mid c.args.mid) c.args.self.now.remembered
+    (contained c.args.self.now.slots.entries) history c.args.now c.requires
+    (apart-contained c.args.self.now.slots.entries c.least.ensures.unique) rep)

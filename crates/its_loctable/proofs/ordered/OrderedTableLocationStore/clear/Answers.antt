@@ -6,5 +6,6 @@ use Rattle.its_loctable.proofs.ordered.OrderedTableLocationStore.clear.Goals as 
 
 pub returns-clause-represents : goal.returns-clause-represents
 returns-clause-represents c =
-    subst (λ es. Represents c.args.self.now.remembered (contained es) [] 0) (sym c.clear.ensures.empty)
+    subst (λ es. Represents c.args.self.now.remembered (contained es) [] 0)
+    (sym c.clear.ensures.empty)
     (Represents-empty c.args.self.now.remembered)

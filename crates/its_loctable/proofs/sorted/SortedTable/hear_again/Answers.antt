@@ -10,8 +10,11 @@ pub returns-then-repeats-clause-answer : goal.returns-then-repeats-clause-answer
 returns-then-repeats-clause-answer c =
     let table = c.args.self.now in
     let xs = table.slots.items in
-    let part = found-part xs c.args.heard.now.vector.address c.args.place c.args.now c.index.result.now c.index.ensures (rising-true (held xs) table.rising) c.requires.found in
-    sym (judged-by table.capacity (held xs) c.args.now c.args.heard.now true _ (ap (λ o. is_noted o c.args.heard.now.number) part ∙ sym c.repeats.ensures ∙ c.if-repeats.true) refl)
+    let part = found-part xs c.args.heard.now.vector.address c.args.place c.args.now
+    c.index.result.now c.index.ensures (rising-true (held xs) table.rising) c.requires.found in
+    sym (judged-by table.capacity (held xs) c.args.now c.args.heard.now true _
+    (ap (λ o. is_noted o c.args.heard.now.number) part ∙ sym c.repeats.ensures
+    ∙ c.if-repeats.true) refl)
 
 pub returns-clause-answer : goal.returns-clause-answer
 returns-clause-answer c =
@@ -19,8 +22,12 @@ returns-clause-answer c =
     let xs = table.slots.items in
     let a = c.args.heard.now.vector.address in
     let rising = rising-true (held xs) table.rising in
-    let part = found-part xs a c.args.place c.args.now c.index.result.now c.index.ensures rising c.requires.found in
+    let part = found-part xs a c.args.place c.args.now c.index.result.now c.index.ensures rising
+    c.requires.found in
     let within : c.args.place < length xs = omega (arith, table.slots.ok.0, c.requires.within) in
     let few : length xs ≤ table.capacity = omega (arith, table.slots.ok.0, table.total) in
-    sym (judged-by table.capacity (held xs) c.args.now c.args.heard.now false true (ap (λ o. is_noted o c.args.heard.now.number) part ∙ sym c.repeats.ensures ∙ c.if-repeats.false)
-    (found-room xs a c.args.place c.args.now table.capacity c.index.result.now rising c.requires.found within few))
+    sym (judged-by table.capacity (held xs) c.args.now c.args.heard.now false true
+    (ap (λ o. is_noted o c.args.heard.now.number) part ∙ sym c.repeats.ensures
+    ∙ c.if-repeats.false)
+    (found-room xs a c.args.place c.args.now table.capacity c.index.result.now rising
+    c.requires.found within few))

@@ -9,17 +9,22 @@ pub returns-then-now-slot : goal.returns-then-now-slot
 returns-then-now-slot c =
     let table = c.args.self.now in
     let slot = c.index-slot.result.now in
-    sym (found-part table.slots.items c.args.address c.in-Ok.place c.args.now slot c.index-slot.ensures (rising-true (held table.slots.items) table.rising) c.in-Ok.ensures.found.0
+    sym (found-part table.slots.items c.args.address c.in-Ok.place c.args.now slot
+    c.index-slot.ensures (rising-true (held table.slots.items) table.rising)
+    c.in-Ok.ensures.found.0
     ∙ cond-true _ _ _ (lt-ltb c.args.now slot.until c.if-now-slot.true))
 
 pub returns-else-now-slot : goal.returns-else-now-slot
 returns-else-now-slot c =
     let table = c.args.self.now in
     let slot = c.index-slot.result.now in
-    sym (found-part table.slots.items c.args.address c.in-Ok.place c.args.now slot c.index-slot.ensures (rising-true (held table.slots.items) table.rising) c.in-Ok.ensures.found.0
+    sym (found-part table.slots.items c.args.address c.in-Ok.place c.args.now slot
+    c.index-slot.ensures (rising-true (held table.slots.items) table.rising)
+    c.in-Ok.ensures.found.0
     ∙ cond-false _ _ _ (le-ltb c.args.now slot.until c.if-now-slot.false))
 
 pub returns-in-Err : goal.returns-in-Err
 returns-in-Err c =
     let table = c.args.self.now in
-    sym (gap-entry_at table.slots.items c.args.address _ c.args.now (rising-true (held table.slots.items) table.rising) c.in-Err.ensures.absent.0)
+    sym (gap-entry_at table.slots.items c.args.address _ c.args.now
+    (rising-true (held table.slots.items) table.rising) c.in-Err.ensures.absent.0)

@@ -13,37 +13,48 @@ use Rattle.its_loctable.proofs.EagerLemmas.{rising-true, apart-rising, Hears-eag
 use Rattle.its_loctable.proofs.sorted.SortedTableLocationStore.accept.Goals as goal
 
 -- a table with the entries after an accept represents the history with the packet
-accepted : (remember : ℕ) (es new : List Entry) (history : List Reception) (now : ℕ) (heard : SourceReport) → now ≤ 2 ^ 62 → is_rising es ≡ true → Represents remember es history now
-    → new ≡ after_accept remember es now heard → Represents remember new (reception now heard ∷ history) now
+accepted : (remember : ℕ) (es new : List Entry) (history : List Reception) (now : ℕ)
+    (heard : SourceReport) → now ≤ 2 ^ 62 → is_rising es ≡ true → Represents remember es history now
+    → new ≡ after_accept remember es now heard
+    → Represents remember new (reception now heard ∷ history) now
 accepted remember es new history now heard small rising rep is =
     Represents-cons remember es new history (reception now heard) small rep
     (subst (λ (l : List Entry). Hears remember es l (reception now heard)) (sym is)
-    (Hears-eager remember es (reception now heard) (entry_after remember es now heard) (apart-rising es (rising-true es rising)) refl refl refl))
+    (Hears-eager remember es (reception now heard) (entry_after remember es now heard)
+    (apart-rising es (rising-true es rising)) refl refl refl))
 
 pub returns-in-Ok-clause-answer : goal.returns-in-Ok-clause-answer
 returns-in-Ok-clause-answer c = λ history rep _.
     let table = c.args.self.now in
     let es = held table.slots.items in
-    c.hear_again.ensures.answer ∙ judged-verdict table.capacity es c.args.now c.args.h.now table.remembered history c.requires rep (apart-rising es (rising-true es table.rising))
+    c.hear_again.ensures.answer ∙ judged-verdict table.capacity es c.args.now c.args.h.now
+    table.remembered history c.requires rep (apart-rising es (rising-true es table.rising))
 
 pub returns-in-Ok-clause-accepted : goal.returns-in-Ok-clause-accepted
 returns-in-Ok-clause-accepted c = λ history rep is.
     let table = c.args.self.now in
     let same : c.hear_again.result ≡ Accepted = cc is in
-    subst (λ n. Represents n (held c.hear_again.new.self.slots.items) (reception c.args.now c.args.h.now ∷ history) c.args.now) (sym c.hear_again.ensures.remembered)
-    (accepted table.remembered (held table.slots.items) _ history c.args.now c.args.h.now c.requires table.rising rep (c.hear_again.ensures.accepted same))
+    subst (λ n. Represents n (held c.hear_again.new.self.slots.items)
+    (reception c.args.now c.args.h.now ∷ history) c.args.now)
+    (sym c.hear_again.ensures.remembered)
+    (accepted table.remembered (held table.slots.items) _ history c.args.now c.args.h.now c.requires
+    table.rising rep (c.hear_again.ensures.accepted same))
 
 pub returns-in-Err-clause-answer : goal.returns-in-Err-clause-answer
 returns-in-Err-clause-answer c = λ history rep _.
     let table = c.args.self.now in
     let es = held table.slots.items in
-    c.hear_first.ensures.answer ∙ judged-verdict table.capacity es c.args.now c.args.h.now table.remembered history c.requires rep (apart-rising es (rising-true es table.rising))
+    c.hear_first.ensures.answer ∙ judged-verdict table.capacity es c.args.now c.args.h.now
+    table.remembered history c.requires rep (apart-rising es (rising-true es table.rising))
 
 pub returns-in-Err-clause-accepted : goal.returns-in-Err-clause-accepted
 returns-in-Err-clause-accepted c = λ history rep is.
     let table = c.args.self.now in
-    subst (λ n. Represents n (held c.hear_first.new.self.slots.items) (reception c.args.now c.args.h.now ∷ history) c.args.now) (sym c.hear_first.ensures.remembered)
-    (accepted table.remembered (held table.slots.items) _ history c.args.now c.args.h.now c.requires table.rising rep (c.hear_first.ensures.accepted is))
+    subst (λ n. Represents n (held c.hear_first.new.self.slots.items)
+    (reception c.args.now c.args.h.now ∷ history) c.args.now)
+    (sym c.hear_first.ensures.remembered)
+    (accepted table.remembered (held table.slots.items) _ history c.args.now c.args.h.now c.requires
+    table.rising rep (c.hear_first.ensures.accepted is))
 
 pub hear_first-requires-clause-absent : goal.hear_first-requires-clause-absent
 hear_first-requires-clause-absent c =

@@ -13,6 +13,11 @@ pub returns : goal.returns
 returns c = λ history rep.
     let xs = c.args.self.now.slots.items in
     let p = λ (s : Slot). ltb c.args.now s.until && has_mid c.args.mid (slot_known s) in
-    let is : c.map.result ≡ option_map shown (option_map slot_known (option_copied c.live_with_mid.result)) = search rules in
-    is ∙ ap (λ o. option_map shown (option_map slot_known o)) (c.live_with_mid.ensures ∙ ap (find p) c.deref.ensures.value)
-    ∙ ap (option_map shown) (find-stations_at c.args.self.now.remembered (has_mid c.args.mid) xs history c.args.now c.requires (rising-true (held xs) c.args.self.now.rising) rep)
+    let is : c.map.result
+    ≡ option_map shown (option_map slot_known (option_copied c.live_with_mid.result)) =
+    search rules in
+    is ∙ ap (λ o. option_map shown (option_map slot_known o))
+    (c.live_with_mid.ensures ∙ ap (find p) c.deref.ensures.value)
+    ∙ ap (option_map shown)
+    (find-stations_at c.args.self.now.remembered (has_mid c.args.mid) xs history c.args.now
+    c.requires (rising-true (held xs) c.args.self.now.rising) rep)

@@ -16,10 +16,13 @@ invariant_of-self c =
       total = c.retire.ensures.total ∙ table.total;
       room = omega (arith, c.retire.ensures.capacity, table.room);
       spare_room = omega (arith, c.retire.ensures.spare_capacity, table.spare_room);
-      limits = All-same (HasLimit table.remembered) _ _ c.retire.ensures.items (All-nil (HasLimit table.remembered));
+      limits = All-same (HasLimit table.remembered) _ _ c.retire.ensures.items
+          (All-nil (HasLimit table.remembered));
       empty = c.retire.ensures.empty table.remembered table.limits table.empty;
-      ends = All-same (λ (s : Slot). 18446744073709551615 ≤ s.until) _ _ c.retire.ensures.items (All-nil (λ (s : Slot). 18446744073709551615 ≤ s.until));
+      ends = All-same (λ (s : Slot). 18446744073709551615 ≤ s.until) _ _ c.retire.ensures.items
+          (All-nil (λ (s : Slot). 18446744073709551615 ≤ s.until));
     }
 
 pub returns-clause-represents : goal.returns-clause-represents
-returns-clause-represents c = subst (λ xs. Represents c.args.self.now.remembered (held xs) [] 0) (sym c.retire.ensures.items) (Represents-empty c.args.self.now.remembered)
+returns-clause-represents c = subst (λ xs. Represents c.args.self.now.remembered (held xs) [] 0)
+    (sym c.retire.ensures.items) (Represents-empty c.args.self.now.remembered)

@@ -14,18 +14,27 @@ pub returns-clause-next : goal.returns-clause-next
 returns-clause-next c = λ history rep.
     let xs = c.args.self.now.slots.items in
     let p = λ (s : Slot). ltb c.args.now s.until && is_next_neighbour c.args.after (slot_known s) in
-    ap (λ o. option_map (λ (s : Known). s.vector) (option_map slot_known o)) (c.in_ok-place.ensures ∙ ap (find p) c.deref.ensures.value)
-    ∙ ap (option_map (λ (s : Known). s.vector)) (find-stations_at c.args.self.now.remembered (is_next_neighbour c.args.after) xs history c.args.now c.requires (rising-true (held xs) c.args.self.now.rising) rep)
+    ap (λ o. option_map (λ (s : Known). s.vector) (option_map slot_known o))
+    (c.in_ok-place.ensures ∙ ap (find p) c.deref.ensures.value)
+    ∙ ap (option_map (λ (s : Known). s.vector))
+    (find-stations_at c.args.self.now.remembered (is_next_neighbour c.args.after) xs history
+    c.args.now c.requires (rising-true (held xs) c.args.self.now.rising) rep)
 
 pub returns-in_err-place-clause-next : goal.returns-in_err-place-clause-next
 returns-in_err-place-clause-next c = λ history rep.
     let xs = c.args.self.now.slots.items in
     let p = λ (s : Slot). ltb c.args.now s.until && is_next_neighbour c.args.after (slot_known s) in
-    c.from_residual.ensures ∙ ap (λ o. option_map (λ (s : Known). s.vector) (option_map slot_known o)) (c.in_err-place.ensures ∙ ap (find p) c.deref.ensures.value)
-    ∙ ap (option_map (λ (s : Known). s.vector)) (find-stations_at c.args.self.now.remembered (is_next_neighbour c.args.after) xs history c.args.now c.requires (rising-true (held xs) c.args.self.now.rising) rep)
+    c.from_residual.ensures
+    ∙ ap (λ o. option_map (λ (s : Known). s.vector) (option_map slot_known o))
+    (c.in_err-place.ensures ∙ ap (find p) c.deref.ensures.value)
+    ∙ ap (option_map (λ (s : Known). s.vector))
+    (find-stations_at c.args.self.now.remembered (is_next_neighbour c.args.after) xs history
+    c.args.now c.requires (rising-true (held xs) c.args.self.now.rising) rep)
 
 pub returns-clause-above : goal.returns-clause-above
 returns-clause-above c =
     let p = λ (s : Slot). ltb c.args.now s.until && is_next_neighbour c.args.after (slot_known s) in
     let slot = c.in_ok-place.slot.now in
-    (and_parts slot.neighbour (is_above c.args.after slot.vector.address) (and_parts (ltb c.args.now slot.until) (is_next_neighbour c.args.after (slot_known slot)) (find_passes p c.deref.result.now slot c.in_ok-place.ensures)).1).1
+    (and_parts slot.neighbour (is_above c.args.after slot.vector.address)
+    (and_parts (ltb c.args.now slot.until) (is_next_neighbour c.args.after (slot_known slot))
+    (find_passes p c.deref.result.now slot c.in_ok-place.ensures)).1).1

@@ -1,6 +1,5 @@
 use Rattle.std.proofs.Common.{◌≡◌, ap, ◌∙◌, rules, arith}
 use Rattle.std.specs.Option.{option_map}
-use Rattle.std.proofs.lemmas.Grind.{common_steps}
 use denote.Bor.{Bor}
 use Rattle.its_loctable.specs.declared.slot.Slot.{Slot}
 use Rattle.its_loctable.specs.Heard.{has_number}
@@ -10,6 +9,9 @@ use Rattle.its_loctable.proofs.sorted.SortedTableLocationStore.remembers.Goals a
 
 pub returns : goal.returns
 returns c = λ history rep.
-    let is : c.is_some_and.result ≡ has_number (option_map (λ (s : Bor Slot). slot_known s.now) c.live_slot.result) c.args.number = search rules in
-    is ∙ ap (λ o. has_number o c.args.number) (c.live_slot.ensures ∙ rep.live c.args.now c.args.a (omega arith) c.requires)
+    let is : c.is_some_and.result
+    ≡ has_number (option_map (λ (s : Bor Slot). slot_known s.now) c.live_slot.result)
+    c.args.number = search rules in
+    is ∙ ap (λ o. has_number o c.args.number)
+    (c.live_slot.ensures ∙ rep.live c.args.now c.args.a (omega arith) c.requires)
     ∙ has_number-known c.args.self.now.remembered c.args.a c.args.number c.args.now history

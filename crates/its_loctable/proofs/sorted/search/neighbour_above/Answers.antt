@@ -6,4 +6,5 @@ use Rattle.its_loctable.proofs.sorted.search.neighbour_above.Goals as goal
 
 pub returns : goal.returns
 returns c = c.first_neighbour.ensures
-    ∙ find-start c.args.now c.args.after c.args.slots.now c.start_above.result (rising-true (held c.args.slots.now) c.requires) c.start_above.ensures.start
+    ∙ find-start c.args.now c.args.after c.args.slots.now c.start_above.result
+    (rising-true (held c.args.slots.now) c.requires) c.start_above.ensures.start

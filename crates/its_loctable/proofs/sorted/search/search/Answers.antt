@@ -8,10 +8,14 @@ use Rattle.its_loctable.proofs.sorted.search.search.Goals as goal
 
 pub returns-clause-found : goal.returns-clause-found
 returns-clause-found c =
-    (searched c.args.slots.now c.args.address c.binary_search_by_key.result (rising-true (held c.args.slots.now) c.requires) c.binary_search_by_key.ensures.bound
-    (c.binary_search_by_key.ensures.position (λ (s : Slot). s.vector.address) (answers_always _ _ _ (λ f a r g called. search rules)))).0
+    (searched c.args.slots.now c.args.address c.binary_search_by_key.result
+    (rising-true (held c.args.slots.now) c.requires) c.binary_search_by_key.ensures.bound
+    (c.binary_search_by_key.ensures.position (λ (s : Slot). s.vector.address)
+    (answers_always _ _ _ (λ f a r g called. search rules)))).0
 
 pub returns-clause-absent : goal.returns-clause-absent
 returns-clause-absent c =
-    (searched c.args.slots.now c.args.address c.binary_search_by_key.result (rising-true (held c.args.slots.now) c.requires) c.binary_search_by_key.ensures.bound
-    (c.binary_search_by_key.ensures.position (λ (s : Slot). s.vector.address) (answers_always _ _ _ (λ f a r g called. search rules)))).1
+    (searched c.args.slots.now c.args.address c.binary_search_by_key.result
+    (rising-true (held c.args.slots.now) c.requires) c.binary_search_by_key.ensures.bound
+    (c.binary_search_by_key.ensures.position (λ (s : Slot). s.vector.address)
+    (answers_always _ _ _ (λ f a r g called. search rules)))).1

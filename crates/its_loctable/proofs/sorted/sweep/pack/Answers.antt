@@ -9,13 +9,17 @@ use Rattle.its_loctable.proofs.sorted.sweep.pack.Goals.{then-now-index, else-now
 pub loop-i-preserved : goal.loop-i-preserved
 loop-i-preserved c = elim c.if-now-index.branch [
   | then-now-index w ↦ rw (w.slots-is, w.kept-is) (record {
-    filters = FiltersInPlace-more_swap c.loop-i.invariant.filters (omega arith) (lt-ltb _ _ w.if-now-index.true) c.index.ensures w.swap.ensures.by_index;
+    filters = FiltersInPlace-more_swap c.loop-i.invariant.filters (omega arith)
+        (lt-ltb _ _ w.if-now-index.true) c.index.ensures w.swap.ensures.by_index;
     len = w.swap.ensures.len ∙ c.loop-i.invariant.len;
     capacity = w.swap.ensures.capacity ∙ c.loop-i.invariant.capacity;
-    limits = λ limit all. All-swap (HasLimit limit) _ _ _ _ c.index.result.now (omega arith) (omega arith) (w.swap.ensures.by_index.3 c.index.result.now) (c.loop-i.invariant.limits limit all);
+    limits = λ limit all. All-swap (HasLimit limit) _ _ _ _ c.index.result.now (omega arith)
+        (omega arith) (w.swap.ensures.by_index.3 c.index.result.now)
+        (c.loop-i.invariant.limits limit all);
   })
   | else-now-index w ↦ rw (w.slots-is, w.kept-is) (record {
-    filters = FiltersInPlace-more_no c.loop-i.invariant.filters (omega arith) (le-ltb _ _ w.if-now-index.false) c.index.ensures;
+    filters = FiltersInPlace-more_no c.loop-i.invariant.filters (omega arith)
+        (le-ltb _ _ w.if-now-index.false) c.index.ensures;
     len = c.loop-i.invariant.len;
     capacity = c.loop-i.invariant.capacity;
     limits = c.loop-i.invariant.limits;

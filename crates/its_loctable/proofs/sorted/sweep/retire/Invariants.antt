@@ -11,8 +11,10 @@ invariant-loop-slots l =
       total : vec_len l.slots + vec_len l.spare ≡ vec_len l.initial.slots + vec_len l.initial.spare;
       capacity : vec_capacity l.slots ≡ vec_capacity l.initial.slots;
       spare_capacity : vec_capacity l.spare ≡ vec_capacity l.initial.spare;
-      limits : (limit : ℕ) → All (HasLimit limit) l.initial.slots.items → All (HasLimit limit) l.slots.items;
-      empty : (limit : ℕ) → All (HasLimit limit) l.initial.slots.items → All (IsSpare limit) l.initial.spare.items
+      limits : (limit : ℕ) → All (HasLimit limit) l.initial.slots.items
+          → All (HasLimit limit) l.slots.items;
+      empty : (limit : ℕ) → All (HasLimit limit) l.initial.slots.items
+          → All (IsSpare limit) l.initial.spare.items
           → All (IsSpare limit) l.spare.items;
     }
 
