@@ -49,7 +49,8 @@ knows_more known new eq mids n v same knows told =
 
 -- what the map gives for a MID is the place of that MID among the first
 abbrev pub Places : (ℕ → Option ℕ) → List ℕ → ℕ → Type 0
-Places known mids count = (mid i : ℕ) → known mid ≡ Some i → (i < count) × (slice_index mids i ≡ mid)
+Places known mids count = (mid i : ℕ) → known mid ≡ Some i →
+    (i < count) × (slice_index mids i ≡ mid)
 
 places_by : (known : ℕ → Option ℕ) (mids : List ℕ) (n : ℕ) (mid i : ℕ) (b : Bool) →
     (b ≡ true → slice_index mids n ≡ mid) → Places known mids n →
@@ -66,5 +67,5 @@ pub places_more : (known new : ℕ → Option ℕ) (eq : ℕ → ℕ → Bool) (
     ((q : ℕ) → new q ≡ cond (eq (slice_index mids n) q) (Some n) (known q)) →
     Places new mids (n + 1)
 places_more known new eq mids n same places told mid i e =
-    places_by known mids n mid i (eq (slice_index mids n) mid) (same (slice_index mids n) mid) places
-    (sym (told mid) ∙ e)
+    places_by known mids n mid i (eq (slice_index mids n) mid)
+    (same (slice_index mids n) mid) places (sym (told mid) ∙ e)
