@@ -363,7 +363,7 @@ find-start now after (x ∷ xs) (suc i) h g = find-start now after xs i h.1 g.1
     one true false c e = refl
     one false b c e = refl
 
--- ---- where nothing has ended
+-- ---- where nothing has expired
 pub filter-lasting : (now end : ℕ) (xs : List Slot) → now < end
     → All (λ (s : Slot). end ≤ s.until) xs → filter (λ (s : Slot). ltb now s.until) xs ≡ xs
 filter-lasting now end [] lt h = refl
@@ -376,7 +376,7 @@ pub swept-lasting : (now end : ℕ) (xs : List Slot) → now < end
     → All (λ (s : Slot). end ≤ s.until) xs → swept now (held xs) ≡ held xs
 swept-lasting now end xs lt h = sym (held-filter now xs) ∙ ap held (filter-lasting now end xs lt h)
 
--- ---- a slot that has ended isn't counted
+-- ---- an expired slot isn't counted
 pub count-ended : (now : ℕ) (xs : List Slot) (i : ℕ) (d : Slot) → i < length xs
     → (get_or xs i d).until ≤ now → count_by (λ (s : Slot). ltb now s.until) xs < length xs
 count-ended now [] i d lt ended = absurd (omega arith)

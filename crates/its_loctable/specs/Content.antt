@@ -3,7 +3,7 @@ use Rattle.std.specs.Prelude.{◌≡◌, ℕ, ◌+◌, ◌^◌, ◌≤◌, ◌==
 use Rattle.std.specs.Prelude.{List, [], ◌∷◌, Option, Some, None}
 use Rattle.its_model.specs.History.{Reception, Known, entry_life, known, renewed}
 
--- what a store keeps of an address, and the moment at which it ends
+-- what a store keeps of an address, and the moment at which it expires
 pub record Entry : Type 0 where
   pub address : ℕ
   pub known : Known
@@ -13,7 +13,7 @@ pub record Entry : Type 0 where
 abbrev pub live_part : ℕ → Entry → Option Known
 live_part t e = if nat_lt t e.until then Some e.known else None
 
--- what is found of a source at a moment: an entry that has ended is as if it were absent
+-- what is found of a source at a moment: an expired entry is as if it were absent
 abbrev pub entry_at : List Entry → ℕ → ℕ → Option Known
 entry_at [] source t = None
 entry_at (e ∷ es) source t = if source == e.address then live_part t e else entry_at es source t

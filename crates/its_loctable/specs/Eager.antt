@@ -11,7 +11,7 @@ use Rattle.its_loctable.specs.Content.{Entry, entry_at}
 use Rattle.its_loctable.specs.Heard.{reception, is_noted}
 use Rattle.its_loctable.specs.SourceReport.{SourceReport}
 
--- without the entries that have ended
+-- without the expired entries
 abbrev pub swept : ℕ → List Entry → List Entry
 swept now es = filter (λ e. nat_lt now e.until) es
 
