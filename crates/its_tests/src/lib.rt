@@ -4,7 +4,11 @@
 #[cfg(test)]
 mod commands;
 #[cfg(test)]
+mod forwarding;
+#[cfg(test)]
 mod geometry;
+#[cfg(test)]
+mod ports;
 #[cfg(test)]
 mod scenarios;
 #[cfg(test)]
