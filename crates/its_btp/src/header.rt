@@ -1,7 +1,7 @@
 //! The header of BTP-B (EN 302 636-5-1): the destination port and its info.
 
 ghost use Rattle.std.specs.Prelude.{◌≡◌, ◌+◌, ◌<◌, ◌≤◌, ◌++◌};
-ghost use Rattle.std.specs.Prelude.{length, drop, IfOk, OnOk, OnErr, MatchResult};
+ghost use Rattle.std.specs.Prelude.{length, drop, codes, IfOk, OnOk, OnErr, MatchResult};
 ghost use Rattle.byteorder.specs.Endian.{big_number};
 ghost use Rattle.its_btp.specs.Header.{joined};
 
@@ -19,7 +19,9 @@ pub struct Short;
 
 impl Short {
     /// The code that logs show.
-    pub fn code(self) -> &'static str {
+    pub fn code(self) -> &'static str
+        ensures { result.now ≡ codes "B1" }
+    {
         "B1"
     }
 }

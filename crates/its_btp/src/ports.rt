@@ -3,7 +3,7 @@
 ghost use Rattle.std.specs.Prelude.{◌≡◌, ◌≤◌, ◌<◌, ◌∷◌, [], ◌++◌, ◌==◌};
 ghost use Rattle.std.specs.Prelude.{length, filter, not, false, true, MatchResult};
 ghost use Rattle.its_model.specs.History.{is_among};
-ghost use Rattle.its_btp.specs.PortSets.{IsOpenFault};
+ghost use Rattle.its_btp.specs.PortSets.{IsOpenFault, port_code};
 
 use std::error::Error;
 use std::fmt;
@@ -25,7 +25,9 @@ pub enum PortFault {
 
 impl PortFault {
     /// The code that logs show.
-    pub fn code(self) -> &'static str {
+    pub fn code(self) -> &'static str
+        ensures { result.now ≡ port_code self }
+    {
         match self {
             PortFault::AlreadyOpen => "B2",
             PortFault::Full => "B3",

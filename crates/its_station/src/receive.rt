@@ -30,7 +30,12 @@ use its_linkframe::{FrameView, read_frame, relay_frame, retarget};
 use its_loctable::{Heard, LocationStore, Verdict};
 
 impl<S: LocationStore> Station<S> {
-    /// Takes a frame.
+    /// Takes the octets that came. They are refused for their moment (S1, S2), by `Frame` (S3) where
+    /// they are no frame, by `TableFull` (S4) where the location table has no room for the packet's
+    /// source, and by `NoMemory` (S5) only where the packet is accepted, and its source is new or it
+    /// goes on. A frame is ignored for the first reason of `Why` that holds, and sets the clock alone.
+    /// Else its packet is accepted: its payload is delivered where its port is open and, for an area,
+    /// where the area holds the station's place, and a packet for an area may go on.
     pub fn receive<'a>(&mut self, now: u64, frame: &'a [u8]) -> Result<Outcome<'a>, Refused>
         ensures step { (call : Call) × IsFrameCall frame.now call × ((s : StationModel) → RepresentsStation self.old s →
             IsStepOf Tells result self.new (station_step s now call)) }

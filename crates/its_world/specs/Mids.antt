@@ -1,5 +1,5 @@
 -- Stations that share a MID.
-use Rattle.std.specs.Prelude.{◌≡◌, ◌≢◌, ℕ, ◌<◌, List, length, map, slice_index}
+use Rattle.std.specs.Prelude.{◌≡◌, ◌≢◌, ℕ, ◌<◌, List, length, map, slice_index, codes}
 use Rattle.its_gnvalue.specs.Values.{mid_of}
 use Rattle.its_world.specs.declared.config.Config.{Config}
 use Rattle.its_world.specs.declared.config.WorldFault.{WorldFault}
@@ -28,3 +28,8 @@ pub record ShareMid (configs : List Config) (first second : ℕ) : Type 0 where
 abbrev pub IsMidFault : WorldFault → List Config → Type 0
 IsMidFault (faults.SameMid first second) configs = ShareMid configs first second
 IsMidFault faults.NoMemory configs = AreApart configs
+
+-- the code that logs show
+abbrev pub mid_code : WorldFault → List ℕ
+mid_code (faults.SameMid first second) = codes "M1"
+mid_code faults.NoMemory = codes "M2"

@@ -1,5 +1,8 @@
 //! How the stations of a world begin.
 
+ghost use Rattle.std.specs.Prelude.{◌≡◌};
+ghost use Rattle.its_world.specs.Mids.{mid_code};
+
 use its_gnvalue::{GnAddress, Place};
 use std::error::Error;
 use std::fmt;
@@ -29,7 +32,9 @@ pub enum WorldFault {
 
 impl WorldFault {
     /// The code that logs show.
-    pub fn code(self) -> &'static str {
+    pub fn code(self) -> &'static str
+        ensures { result.now ≡ mid_code self }
+    {
         match self {
             WorldFault::SameMid(_, _) => "M1",
             WorldFault::NoMemory => "M2",
