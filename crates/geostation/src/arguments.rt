@@ -13,6 +13,8 @@ pub enum Subcommand<'a> {
     Check { file: &'a str },
     /// To make the capture `out` of the lines in the file.
     Import { file: &'a str, out: &'a str },
+    /// To run the scenario in the file.
+    Sim { file: &'a str },
 }
 
 fn required<'a>(alloc: Global, name: &'a str, help: &'a str) -> Arg<'a> {
@@ -30,26 +32,36 @@ fn command<'a>(alloc: Global) -> Result<Command<'a>, Error> {
         .about("Makes a capture of lines of a moment and hexadecimal digits")
         .arg(required(alloc, "FILE", "The lines"))?
         .arg(required(alloc, "OUT", "The capture that is made"))?;
+    let sim = Command::new(alloc, "sim")
+        .about("Runs a scenario and prints a line for each event")
+        .arg(required(alloc, "SCENARIO", "The scenario"))?;
     Ok(
         Command::new(alloc, "geostation")
-            .about("Shows, checks and makes captures of GeoNetworking frames")
+            .about("Shows, checks and makes captures of GeoNetworking frames, and runs scenarios")
             .subcommand_required(true)
             .subcommand(show)?
             .subcommand(check)?
-            .subcommand(import)?,
+            .subcommand(import)?
+            .subcommand(sim)?,
     )
 }
 
 /// The subcommand that was matched. One is required, as are its arguments, so there is an answer.
 fn matched<'a>(matches: &ArgMatches<'a>) -> Option<Subcommand<'a>> {
     let (name, inner) = matches.subcommand()?;
-    let file = inner.get_str("FILE")?;
     match name {
-        "show" => Some(Subcommand::Show { file }),
-        "check" => Some(Subcommand::Check { file }),
+        "show" => Some(Subcommand::Show {
+            file: inner.get_str("FILE")?,
+        }),
+        "check" => Some(Subcommand::Check {
+            file: inner.get_str("FILE")?,
+        }),
         "import" => Some(Subcommand::Import {
-            file,
+            file: inner.get_str("FILE")?,
             out: inner.get_str("OUT")?,
+        }),
+        "sim" => Some(Subcommand::Sim {
+            file: inner.get_str("SCENARIO")?,
         }),
         _ => None,
     }

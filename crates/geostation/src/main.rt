@@ -1,4 +1,5 @@
-//! The program `geostation`: it shows, checks and makes captures of GeoNetworking frames.
+//! The program `geostation`: it shows, checks and makes captures of GeoNetworking frames,
+//! and runs scenarios.
 #![tactic(auto)]
 
 mod arguments;

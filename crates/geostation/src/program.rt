@@ -2,7 +2,7 @@
 
 use crate::arguments;
 use crate::arguments::Subcommand;
-use its_commands::{Fault, Status, check_file, import_file, show_file};
+use its_commands::{Fault, Status, check_file, import_file, show_file, simulate_file};
 use std::alloc::AllocError;
 use std::env::Args;
 use std::io;
@@ -79,6 +79,7 @@ where
         Ok(Subcommand::Show { file }) => show_file(rt, file, out, err),
         Ok(Subcommand::Check { file }) => check_file(rt, file, out, err),
         Ok(Subcommand::Import { file, out: target }) => import_file(rt, file, target, err),
+        Ok(Subcommand::Sim { file }) => simulate_file(rt, file, out, err),
         Err(error) => explain(&error, out, err),
     }
 }

@@ -5,10 +5,10 @@ use Rattle.its_commands.specs.declared.status.Status.TheVariants.{Done, Refused,
 use Rattle.its_commands.specs.declared.status.Status.TheVariants.{Failed}
 use Rattle.its_commands.specs.declared.fault.Fault.{Fault}
 use Rattle.its_commands.specs.declared.fault.Fault.TheVariants.{CannotRead, CannotWrite}
-use Rattle.its_commands.specs.declared.fault.Fault.TheVariants.{OutOfMemory, Line, NoOutput}
+use Rattle.its_commands.specs.declared.fault.Fault.TheVariants.{OutOfMemory, Line, Scenario, NoOutput}
 use Rattle.its_commands.specs.declared.walk.Walked.{Walked}
 
--- done; a refused record, line or capture; refused arguments; a file that failed, or no memory
+-- done; a refused record, line, capture or scenario; refused arguments; a file that failed, or no memory
 abbrev pub exit_code : Status → ℕ
 exit_code Done = 0
 exit_code Refused = 1
@@ -27,12 +27,13 @@ IsWriterStatus status = (status ≡ Done) ⊎ (status ≡ Failed)
 abbrev pub IsStopped : Status → Type 0
 IsStopped status = (status ≡ Refused) ⊎ (status ≡ Failed)
 
--- the status of a fault: a bad line is refused, all else failed
+-- the status of a fault: a bad line or scenario is refused, all else failed
 abbrev pub fault_status : Fault → Status
 fault_status (CannotRead _) = Failed
 fault_status (CannotWrite _) = Failed
 fault_status (OutOfMemory _) = Failed
 fault_status (Line _ _) = Refused
+fault_status (Scenario _) = Refused
 fault_status (NoOutput _) = Failed
 
 -- the status of a walk over a capture: done where the capture and each of its records is good

@@ -5,6 +5,8 @@ ghost use Rattle.its_commands.specs.Statuses.{fault_status};
 
 use crate::importing::LineFault;
 use crate::status::Status;
+use its_scenario::ScenarioFault;
+use its_simulation::SimulationFault;
 use std::alloc::AllocError;
 use std::io;
 use std::io::Write;
@@ -25,6 +27,9 @@ pub enum Fault<'a> {
     /// A line, counted from 1, is no record.
     #[error("geostation: line {0}: {1}")]
     Line(u64, LineFault),
+    /// The text is no scenario.
+    #[error("geostation: {0}")]
+    Scenario(ScenarioFault),
     /// Standard output could not be written. There is no line for it.
     #[error("")]
     NoOutput(#[from] io::Error),
@@ -51,12 +56,12 @@ impl Fault<'_> {
         }
     }
 
-    /// The exit status: `Refused` for a line, else `Failed`.
+    /// The exit status: `Refused` for a line or a scenario, else `Failed`.
     pub fn status(&self) -> Status
         ensures { result ≡ fault_status self.now }
     {
         match self {
-            Fault::Line(..) => Status::Refused,
+            Fault::Line(..) | Fault::Scenario(_) => Status::Refused,
             _ => Status::Failed,
         }
     }
@@ -70,6 +75,27 @@ impl Fault<'_> {
             let _ = writeln!(err, "{self}");
         }
         self.status()
+    }
+}
+
+impl From<ScenarioFault> for Fault<'_> {
+    fn from(fault: ScenarioFault) -> Self {
+        match fault {
+            ScenarioFault::OutOfMemory => Fault::OutOfMemory(AllocError),
+            _ => Fault::Scenario(fault),
+        }
+    }
+}
+
+impl From<SimulationFault> for Fault<'_> {
+    fn from(fault: SimulationFault) -> Self {
+        match fault {
+            SimulationFault::SharedMid(first, second) => {
+                Fault::Scenario(ScenarioFault::SharedMid(first, second))
+            }
+            SimulationFault::OutOfMemory(error) => Fault::OutOfMemory(error),
+            SimulationFault::Output(error) => Fault::NoOutput(error),
+        }
     }
 }
 

@@ -7,6 +7,7 @@ use crate::checking::check;
 use crate::fault::Fault;
 use crate::importing::{read_lines, write_records};
 use crate::showing::show;
+use crate::simulating::simulate;
 use crate::status::Status;
 use std::alloc::AllocError;
 use std::fs;
@@ -50,6 +51,26 @@ where
 {
     match open(rt, file, err) {
         Ok(reader) => check(rt.alloc(), file, reader, out, err),
+        Err(status) => status,
+    }
+}
+
+/// Runs the scenario in the file and prints a line for each event.
+///
+/// `Refused` for a text that is no scenario, `Failed` where the file could not be read or standard
+/// output not written, or memory ran out.
+pub fn simulate_file<R: Files + AllocGlobal, W: Write, E: Write>(
+    rt: &R,
+    file: &str,
+    out: &mut W,
+    err: &mut E,
+) -> Status
+where
+    R::File: Read + Drop,
+    ensures { IsCommandStatus result }
+{
+    match open(rt, file, err) {
+        Ok(reader) => simulate(rt.alloc(), file, reader, out, err),
         Err(status) => status,
     }
 }

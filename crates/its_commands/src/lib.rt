@@ -1,20 +1,21 @@
-//! The commands of the program: `show`, `check` and `import`, each a function that gives the exit
-//! status, over a reader and writers or over named files.
+//! The commands of the program: `show`, `check`, `import` and `sim`, each a function that gives
+//! the exit status, over a reader and writers or over named files.
 #![tactic(auto)]
 
 mod checking;
 mod fault;
 mod files;
-mod hexadecimal;
 mod importing;
 mod line;
 mod showing;
+mod simulating;
 mod status;
 mod walk;
 
 pub use checking::check;
 pub use fault::Fault;
-pub use files::{check_file, create, import_file, open, show_file};
+pub use files::{check_file, create, import_file, open, show_file, simulate_file};
 pub use importing::{LineFault, read_lines, write_records};
 pub use showing::show;
+pub use simulating::simulate;
 pub use status::Status;

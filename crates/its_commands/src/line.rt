@@ -1,10 +1,10 @@
 //! The line that `show` prints of a frame.
 
-use crate::hexadecimal::Hex;
 use its_geometry::{Area, Shape};
 use its_gnvalue::LongPv;
 use its_headers::{Kind, PacketView};
 use its_linkframe::FrameView;
+use its_simulation::Hex;
 use std::fmt;
 
 /// A frame that was read, as a line.

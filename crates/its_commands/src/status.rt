@@ -8,7 +8,7 @@ ghost use Rattle.its_commands.specs.Statuses.{exit_code};
 pub enum Status {
     /// All is done, and nothing was refused.
     Done,
-    /// A record, a line or the capture was refused.
+    /// A record, a line, the capture or the scenario was refused.
     Refused,
     /// The arguments were refused.
     BadArguments,

@@ -6,7 +6,7 @@ use std::test::Fail;
 use std::{env, fs};
 
 pub static HELP: &str = "\
-Shows, checks and makes captures of GeoNetworking frames
+Shows, checks and makes captures of GeoNetworking frames, and runs scenarios
 
 Usage: geostation <COMMAND>
 
@@ -14,6 +14,7 @@ Commands:
   show    Prints a line for each record of a capture
   check   Prints a line for each refused record of a capture, and a count
   import  Makes a capture of lines of a moment and hexadecimal digits
+  sim     Runs a scenario and prints a line for each event
   help    Print this message or the help of the given subcommand(s)
 
 Options:
@@ -57,9 +58,21 @@ Options:
   -h, --help  Print help
 ";
 
+static SIM_HELP: &str = "\
+Runs a scenario and prints a line for each event
+
+Usage: geostation sim <SCENARIO>
+
+Arguments:
+  <SCENARIO>  The scenario
+
+Options:
+  -h, --help  Print help
+";
+
 static NO_COMMAND: &str = "\
 error: 'geostation' requires a subcommand but one was not provided
-  [subcommands: show, check, import, help]
+  [subcommands: show, check, import, sim, help]
 
 Usage: geostation <COMMAND>
 
@@ -100,6 +113,12 @@ Usage: geostation show <FILE>
 For more information, try '--help'.
 ";
 
+/// A scenario of one station, which opens a port at moment 7.
+static ONE_EVENT: &str = "\
+station = [{address = \"1400020000000001\", lat = 0, lon = 0}]
+event = [{station = 0, at = 7, do = \"open\", port = 2002}]
+";
+
 static NO_TEXT: &str = "error: an argument is not UTF-8\n";
 
 #[test]
@@ -110,6 +129,7 @@ fn help_that_was_asked_for_is_output(rt: HostRuntime) -> Result<(), Fail> {
         ("geostation show --help", SHOW_HELP),
         ("geostation check --help", CHECK_HELP),
         ("geostation import --help", IMPORT_HELP),
+        ("geostation sim --help", SIM_HELP),
     ];
     for (line, help) in cases {
         let left = left_by(&rt, line.as_bytes());
@@ -146,14 +166,19 @@ fn commands_are_dispatched(rt: HostRuntime) -> Result<(), Fail> {
     let folder = env::temp_dir(&rt)?;
     let lines = folder.join(alloc, "geostation-run.txt")?;
     let made = folder.join(alloc, "geostation-run.cap")?;
+    let scenario = folder.join(alloc, "geostation-run.toml")?;
     let (from, to) = (lines.as_str(), made.as_str());
     fs::write(&rt, from, "5 00\n")?;
+    fs::write(&rt, scenario.as_str(), ONE_EVENT)?;
     let import = format!(in alloc; "geostation import {from} {to}")?;
     let show = format!(in alloc; "geostation show {to}")?;
     let check = format!(in alloc; "geostation check {to}")?;
     let imported = left_by(&rt, import.as_bytes());
     let shown = left_by(&rt, show.as_bytes());
     let checked = left_by(&rt, check.as_bytes());
+    let sim = format!(in alloc; "geostation sim {}", scenario.as_str())?;
+    let run = left_by(&rt, sim.as_bytes());
+    fs::remove_file(&rt, scenario.as_str())?;
     fs::remove_file(&rt, from)?;
     fs::remove_file(&rt, to)?;
     assert_eq!(rt; imported.status, Status::Done);
@@ -165,5 +190,8 @@ fn commands_are_dispatched(rt: HostRuntime) -> Result<(), Fail> {
         checked.out.as_slice(),
         b"record 0: L1\n1 records, 1 refused\n".as_slice()
     );
+    assert_eq!(rt; run.status, Status::Done);
+    assert_eq!(rt; run.out.as_slice(), b"0 7 0 opened\n".as_slice());
+    assert!(rt; run.err.is_empty());
     Ok(())
 }

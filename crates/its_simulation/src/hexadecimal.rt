@@ -1,10 +1,10 @@
-//! Octets as text.
+//! Octets as text, in the lines of the program.
 
 use std::{fmt, str};
 
 /// Octets as hexadecimal digits in lower case, or `-` where there are none.
 #[derive(Drop)]
-pub(crate) struct Hex<'a>(pub(crate) &'a [u8]);
+pub struct Hex<'a>(pub &'a [u8]);
 
 /// How many octets become digits at a time.
 const PIECE: usize = 64;
