@@ -30,6 +30,15 @@ static GBC_LINE: &str =
     "1000 020000000001 ffffffffffff gbc 1400020000000001 tst 0 lat 0 lon 0 pai 0 speed 0 heading \
     0 lt 1a tc 00 mobile 1 hops 10/10 number 0 circle 0 0 100 0 0 port 2002 info 0 6869\n";
 
+/// The same as a geoanycast: the header type is 3.
+static GAC: &str =
+    "00000000000003e8004cffffffffffff020000000001894711001a0a2030008000060a0000000000140002000000\
+    0001000000000000000000000000000000000000000000000000006400000000000007d200006869";
+
+static GAC_LINE: &str =
+    "1000 020000000001 ffffffffffff gac 1400020000000001 tst 0 lat 0 lon 0 pai 0 speed 0 heading 0 \
+    lt 1a tc 00 mobile 1 hops 10/10 number 0 circle 0 0 100 0 0 port 2002 info 0 6869\n";
+
 /// A single-hop broadcast of that station at moment 1000.
 static SHB: &str =
     "00000000000003e8003cffffffffffff020000000001894711001a01205000800006010014000200000000010000\

@@ -1,8 +1,8 @@
 //! The lines and statuses of `show` and `check`.
 
 use super::{
-    BEACON, BEACON_LINE, ELLIPSE, ELLIPSE_LINE, GBC, GBC_LINE, SHB, SHB_LINE, check_of, import_of,
-    joined, show_of,
+    BEACON, BEACON_LINE, ELLIPSE, ELLIPSE_LINE, GAC, GAC_LINE, GBC, GBC_LINE, SHB, SHB_LINE,
+    check_of, import_of, joined, show_of,
 };
 use its_commands::Status;
 use std::test::Fail;
@@ -10,8 +10,11 @@ use std::test::Fail;
 #[test]
 fn shows_each_kind_of_packet(rt: HostRuntime) -> Result<(), Fail> {
     let alloc = rt.alloc();
-    let digits = joined(alloc, &[BEACON, GBC, SHB, ELLIPSE])?;
-    let want = joined(alloc, &[BEACON_LINE, GBC_LINE, SHB_LINE, ELLIPSE_LINE])?;
+    let digits = joined(alloc, &[BEACON, GBC, SHB, GAC, ELLIPSE])?;
+    let want = joined(
+        alloc,
+        &[BEACON_LINE, GBC_LINE, SHB_LINE, GAC_LINE, ELLIPSE_LINE],
+    )?;
     let capture = hex::decode(alloc, digits.as_str())?;
     let left = show_of(alloc, capture.as_slice());
     assert_eq!(rt; left.out.as_slice(), want.as_bytes());
