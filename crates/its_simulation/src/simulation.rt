@@ -33,7 +33,7 @@ pub fn simulate<W: Write>(
 {
     let Scenario { stations, events } = scenario;
     let mut world = world_of(alloc, stations.as_slice())?;
-    let mut piece = Vec::with_capacity(alloc, PIECE)?;
+    let mut piece = Vec::with_capacity(alloc, events.len().min(PIECE))?;
     let mut lines = 0;
     for entry in events {
         piece.push(world_event(entry))?;

@@ -12,6 +12,8 @@ mod scenarios;
 #[cfg(test)]
 mod shortage;
 #[cfg(test)]
+mod simulations;
+#[cfg(test)]
 mod tables;
 #[cfg(test)]
 mod values;

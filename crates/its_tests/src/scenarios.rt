@@ -14,7 +14,7 @@ const MOST_STATIONS: usize = 3;
 
 /// A scenario: station 1 opens a port, station 0 sends a geobroadcast, whose frame is delivered to
 /// 1.
-static WORKED: &str = "\
+pub(crate) static WORKED: &str = "\
 [[station]]
 address = \"1400020000000001\"
 lat = 0

@@ -1,0 +1,257 @@
+//! The line of each kind of entry.
+
+use super::{ANYCAST, DELIVER, MOVE_OUT, OPEN, SEND, STATIONS, left_by, scenario, simulation_of};
+use crate::scenarios::WORKED;
+use its_commands::Status;
+use std::test::Fail;
+
+#[test]
+fn the_worked_scenario_is_run(rt: HostRuntime) -> Result<(), Fail> {
+    let left = simulation_of(rt.alloc(), WORKED.as_bytes());
+    let want = "0 0 1 opened\n1 1000 0 sent 0\n2 1010 1 accepted port 2002 info 0 6869 sent 1\n";
+    assert_eq!(rt; left.out.as_slice(), want.as_bytes());
+    assert_eq!(rt; left.status, Status::Done);
+    assert!(rt; left.err.is_empty());
+    Ok(())
+}
+
+#[test]
+fn a_scenario_of_nothing_has_no_line(rt: HostRuntime) -> Result<(), Fail> {
+    for text in ["", STATIONS, "station = []\nevent = []\n"] {
+        let left = simulation_of(rt.alloc(), text.as_bytes());
+        assert!(rt; left.out.is_empty(), "{text}");
+        assert!(rt; left.err.is_empty(), "{text}");
+        assert_eq!(rt; left.status, Status::Done, "{text}");
+    }
+    Ok(())
+}
+
+/// Outside the area the frame is passed on and not delivered; the port need not be open.
+#[test]
+fn geobroadcasts(rt: HostRuntime) -> Result<(), Fail> {
+    let last_hop = "station = 0, at = 1000, do = \"gbc\", port = 2002, info = 0, tc = 0, \
+        lt = 26, hops = 1, shape = \"circle\", alat = 0, alon = 0, a = 100, b = 0, angle = 0, \
+        payload = \"6869\"";
+    let move_in = "station = 1, at = 1500, do = \"move\", lat = 449, lon = 0, pai = false, \
+        speed = 0, heading = 0";
+    let again = "station = 1, at = 1600, do = \"deliver\", frame = 0";
+    let cases: [(&[&str], &str); 6] = [
+        (
+            &[OPEN, last_hop, DELIVER],
+            "0 0 1 opened\n1 1000 0 sent 0\n2 1010 1 accepted port 2002 info 0 6869\n",
+        ),
+        (
+            &[SEND, DELIVER],
+            "0 1000 0 sent 0\n1 1010 1 accepted sent 1\n",
+        ),
+        (
+            &[OPEN, SEND, DELIVER, again],
+            "0 0 1 opened\n1 1000 0 sent 0\n2 1010 1 accepted port 2002 info 0 6869 sent 1\n\
+            3 1600 1 ignored duplicate\n",
+        ),
+        (
+            &[OPEN, MOVE_OUT, SEND, DELIVER, move_in, again],
+            "0 0 1 opened\n1 0 1 moved\n2 1000 0 sent 0\n3 1010 1 accepted sent 1\n\
+            4 1500 1 moved\n5 1600 1 ignored duplicate\n",
+        ),
+        (
+            &[OPEN, MOVE_OUT, SEND, move_in, again],
+            "0 0 1 opened\n1 0 1 moved\n2 1000 0 sent 0\n3 1500 1 moved\n\
+            4 1600 1 accepted port 2002 info 0 6869 sent 1\n",
+        ),
+        (
+            &[
+                OPEN,
+                SEND,
+                DELIVER,
+                "station = 0, at = 1020, do = \"deliver\", frame = 1",
+                "station = 1, at = 1030, do = \"close\", port = 2002",
+            ],
+            "0 0 1 opened\n1 1000 0 sent 0\n2 1010 1 accepted port 2002 info 0 6869 sent 1\n\
+            3 1020 0 ignored own-source\n4 1030 1 closed\n",
+        ),
+    ];
+    for (events, want) in cases {
+        let left = left_by(rt.alloc(), events)?;
+        assert_eq!(rt; left.out.as_slice(), want.as_bytes(), "{want}");
+        assert_eq!(rt; left.status, Status::Done, "{want}");
+        assert!(rt; left.err.is_empty(), "{want}");
+    }
+    Ok(())
+}
+
+/// A geoanycast is delivered by one station of the area, which doesn't pass it on.
+#[test]
+fn geoanycasts(rt: HostRuntime) -> Result<(), Fail> {
+    let cases: [(&[&str], &str); 3] = [
+        (
+            &[OPEN, ANYCAST, DELIVER],
+            "0 0 1 opened\n1 1000 0 sent 0\n2 1010 1 accepted port 2002 info 0 6869\n",
+        ),
+        (&[ANYCAST, DELIVER], "0 1000 0 sent 0\n1 1010 1 accepted\n"),
+        (
+            &[MOVE_OUT, ANYCAST, DELIVER],
+            "0 0 1 moved\n1 1000 0 sent 0\n2 1010 1 accepted sent 1\n",
+        ),
+    ];
+    for (events, want) in cases {
+        let left = left_by(rt.alloc(), events)?;
+        assert_eq!(rt; left.out.as_slice(), want.as_bytes(), "{want}");
+        assert_eq!(rt; left.status, Status::Done, "{want}");
+    }
+    Ok(())
+}
+
+/// A restart forgets what was accepted, closes the ports and sets the next number.
+#[test]
+fn restarts(rt: HostRuntime) -> Result<(), Fail> {
+    let again = "station = 1, at = 1013, do = \"deliver\", frame = 0";
+    let forget = "station = 1, at = 1011, do = \"restart\", number = 0";
+    let reopen = "station = 1, at = 1012, do = \"open\", port = 2002";
+    let resend = "station = 0, at = 1030, do = \"gbc\", port = 2002, info = 0, tc = 0, lt = 26, \
+        hops = 10, shape = \"circle\", alat = 0, alon = 0, a = 100, b = 0, angle = 0, \
+        payload = \"6869\"";
+    let last = "station = 1, at = 1040, do = \"deliver\", frame = 2";
+    let begun = "0 0 1 opened\n1 1000 0 sent 0\n2 1010 1 accepted port 2002 info 0 6869 sent 1\n";
+    let cases: [(&[&str], &str); 4] = [
+        (
+            &[forget, reopen, again],
+            "3 1011 1 restarted\n4 1012 1 opened\n\
+            5 1013 1 accepted port 2002 info 0 6869 sent 2\n",
+        ),
+        (
+            &[forget, again],
+            "3 1011 1 restarted\n4 1013 1 accepted sent 2\n",
+        ),
+        (
+            &[
+                "station = 0, at = 1020, do = \"restart\", number = 0",
+                resend,
+                last,
+            ],
+            "3 1020 0 restarted\n4 1030 0 sent 2\n5 1040 1 ignored duplicate\n",
+        ),
+        (
+            &[
+                "station = 0, at = 1020, do = \"restart\", number = 7",
+                resend,
+                last,
+            ],
+            "3 1020 0 restarted\n4 1030 0 sent 2\n\
+            5 1040 1 accepted port 2002 info 0 6869 sent 3\n",
+        ),
+    ];
+    for (events, want) in cases {
+        let mut all = vec![in rt.alloc(); OPEN, SEND, DELIVER]?;
+        all.extend_from_slice(events)?;
+        let left = left_by(rt.alloc(), all.as_slice())?;
+        let whole = format!(in rt.alloc(); "{begun}{want}")?;
+        assert_eq!(rt; left.out.as_slice(), whole.as_bytes(), "{want}");
+        assert_eq!(rt; left.status, Status::Done, "{want}");
+    }
+    Ok(())
+}
+
+/// A beacon is due 3000 ms after the last packet, and the jitter later.
+#[test]
+fn beacons(rt: HostRuntime) -> Result<(), Fail> {
+    let left = left_by(
+        rt.alloc(),
+        &[
+            "station = 0, at = 100, do = \"tick\", jitter = 0",
+            "station = 1, at = 110, do = \"deliver\", frame = 0",
+            "station = 0, at = 3099, do = \"tick\", jitter = 0",
+            "station = 0, at = 3100, do = \"tick\", jitter = 1",
+            "station = 0, at = 3100, do = \"tick\", jitter = 0",
+            "station = 0, at = 6850, do = \"tick\", jitter = 750",
+        ],
+    )?;
+    let want = "0 100 0 sent 0\n1 110 1 accepted\n2 3099 0 quiet\n3 3100 0 quiet\n\
+        4 3100 0 sent 1\n5 6850 0 sent 2\n";
+    assert_eq!(rt; left.out.as_slice(), want.as_bytes());
+    assert_eq!(rt; left.status, Status::Done);
+    Ok(())
+}
+
+/// A payload of no octet is `-`; another one is in lower-case digits.
+#[test]
+fn single_hop_broadcasts(rt: HostRuntime) -> Result<(), Fail> {
+    let left = left_by(
+        rt.alloc(),
+        &[
+            OPEN,
+            "station = 0, at = 1000, do = \"shb\", port = 2002, info = 7, tc = 0, payload = \"\"",
+            DELIVER,
+            "station = 2, at = 1010, do = \"shb\", port = 2002, info = 65535, tc = 255, \
+            payload = \"00aBFF\"",
+            "station = 1, at = 1020, do = \"deliver\", frame = 1",
+        ],
+    )?;
+    let want = "0 0 1 opened\n1 1000 0 sent 0\n2 1010 1 accepted port 2002 info 7 -\n\
+        3 1010 2 sent 1\n4 1020 1 accepted port 2002 info 65535 00abff\n";
+    assert_eq!(rt; left.out.as_slice(), want.as_bytes());
+    assert_eq!(rt; left.status, Status::Done);
+    Ok(())
+}
+
+/// Until 20099 station 0 knows two neighbours nearer to the area than itself, as near as each
+/// other: its frame goes to the first. From 20100 on both are forgotten: it goes to all.
+#[test]
+fn a_frame_for_another_is_ignored(rt: HostRuntime) -> Result<(), Fail> {
+    let known = [
+        "station = 1, at = 0, do = \"move\", lat = 50, lon = 50000, pai = false, speed = 0, \
+        heading = 0",
+        "station = 2, at = 0, do = \"move\", lat = -50, lon = 50000, pai = false, speed = 0, \
+        heading = 0",
+        "station = 1, at = 100, do = \"tick\", jitter = 0",
+        "station = 2, at = 100, do = \"tick\", jitter = 0",
+        "station = 0, at = 100, do = \"deliver\", frame = 0",
+        "station = 0, at = 100, do = \"deliver\", frame = 1",
+    ];
+    let begun = "0 0 1 moved\n1 0 2 moved\n2 100 1 sent 0\n3 100 2 sent 1\n4 100 0 accepted\n\
+        5 100 0 accepted\n";
+    for (moment, entry) in [(20099, "ignored not-for-me"), (20100, "accepted sent 3")] {
+        let send = format!(in rt.alloc();
+            "station = 0, at = {moment}, do = \"gbc\", port = 2002, info = 0, tc = 0, lt = 26, \
+            hops = 10, shape = \"circle\", alat = 0, alon = 100000, a = 10, b = 0, angle = 0, \
+            payload = \"6869\""
+        )?;
+        let mut events = Vec::new(rt.alloc());
+        events.extend_from_slice(&known)?;
+        events.push(send.as_str())?;
+        events.push("station = 2, at = 20100, do = \"deliver\", frame = 2")?;
+        let left = left_by(rt.alloc(), events.as_slice())?;
+        let want = format!(in rt.alloc(); "{begun}6 {moment} 0 sent 2\n7 20100 2 {entry}\n")?;
+        assert_eq!(rt; left.out.as_slice(), want.as_bytes(), "{moment}");
+    }
+    Ok(())
+}
+
+/// Events in any number have a line each, in order, and go on where those before them stopped.
+#[test]
+fn many_events(rt: HostRuntime) -> Result<(), Fail> {
+    for sends in [253, 254, 255, 511, 600u32] {
+        let last = sends - 1;
+        let deliver = format!(in rt.alloc();
+            "station = 1, at = 1010, do = \"deliver\", frame = {last}"
+        )?;
+        let mut events = vec![in rt.alloc(); OPEN]?;
+        let mut want = "0 0 1 opened\n".to_string(rt.alloc())?;
+        for frame in 0..sends {
+            events.push(SEND)?;
+            let line = format!(in rt.alloc(); "{} 1000 0 sent {frame}\n", frame + 1)?;
+            want.push_str(line.as_str())?;
+        }
+        events.push(deliver.as_str())?;
+        let line = format!(in rt.alloc();
+            "{} 1010 1 accepted port 2002 info 0 6869 sent {sends}\n",
+            sends + 1
+        )?;
+        want.push_str(line.as_str())?;
+        let text = scenario(rt.alloc(), STATIONS, events.as_slice())?;
+        let left = simulation_of(rt.alloc(), text.as_bytes());
+        assert_eq!(rt; left.out.as_slice(), want.as_bytes(), "{sends}");
+        assert_eq!(rt; left.status, Status::Done, "{sends}");
+    }
+    Ok(())
+}

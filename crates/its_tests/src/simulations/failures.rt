@@ -1,0 +1,130 @@
+//! A reader or an output that fails, files, and every budget of memory from none to enough.
+
+use super::{DELIVER, OPEN, SEND, STATIONS, scenario, simulation_of};
+use its_commands::{Status, simulate, simulate_file};
+use its_shortage::{MOST, STEP, Shortage};
+use std::io::Read;
+use std::test::Fail;
+use std::{env, fs, io};
+
+static LINES: &str =
+    "0 0 1 opened\n1 1000 0 sent 0\n2 1010 1 accepted port 2002 info 0 6869 sent 1\n";
+
+/// Two stations with the smallest location tables.
+static SMALL: &str = "\
+station = [
+  {address = \"1400020000000001\", lat = 0, lon = 0, capacity = 1, remember = 1},
+  {address = \"1400020000000002\", lat = 449, lon = 0, capacity = 1, remember = 1},
+]
+";
+
+/// A reader that gives these octets, and then fails.
+#[derive(Drop)]
+struct Failing<'a> {
+    octets: &'a [u8],
+}
+
+impl Read for Failing<'_> {
+    fn read(&mut self, buf: &mut [u8]) -> io::Result<usize> {
+        if self.octets.is_empty() {
+            return Err(io::Error::from(io::ErrorKind::Other));
+        }
+        let count = self.octets.len().min(buf.len());
+        buf[..count].copy_from_slice(&self.octets[..count]);
+        self.octets = &self.octets[count..];
+        Ok(count)
+    }
+}
+
+/// Nothing is run of a scenario that could not be read to its end.
+#[test]
+fn a_read_that_fails_ends_it(rt: HostRuntime) -> Result<(), Fail> {
+    let text = scenario(rt.alloc(), STATIONS, &[OPEN, SEND, DELIVER])?;
+    for octets in [b"".as_slice(), text.as_bytes()] {
+        let left = simulation_of(rt.alloc(), Failing { octets });
+        assert_eq!(rt;
+            left.err.as_slice(),
+            b"geostation: cannot read a.toml\n".as_slice()
+        );
+        assert_eq!(rt; left.status, Status::Failed);
+        assert!(rt; left.out.is_empty());
+    }
+    Ok(())
+}
+
+/// An output with room for less than all lines holds a prefix of them.
+#[test]
+fn a_write_that_fails_ends_it(rt: HostRuntime) -> Result<(), Fail> {
+    let text = scenario(rt.alloc(), STATIONS, &[OPEN, SEND, DELIVER])?;
+    for room in 0..=LINES.len() {
+        let mut printed = [0u8; 200];
+        let mut err = Vec::new(rt.alloc());
+        let mut out = &mut printed[..room];
+        let status = simulate(rt.alloc(), "a.toml", text.as_bytes(), &mut out, &mut err);
+        let done = room == LINES.len();
+        assert_eq!(rt; status == Status::Done, done, "{room}");
+        assert_eq!(rt; status == Status::Failed, !done, "{room}");
+        assert!(rt; err.is_empty(), "{room}");
+        assert_eq!(rt; &printed[..room], &LINES.as_bytes()[..room], "{room}");
+    }
+    Ok(())
+}
+
+#[test]
+fn a_file_is_run(rt: HostRuntime) -> Result<(), Fail> {
+    let folder = env::temp_dir(&rt)?;
+    let made = folder.join(rt.alloc(), "geostation-sim.toml")?;
+    let text = scenario(rt.alloc(), STATIONS, &[OPEN, SEND, DELIVER])?;
+    fs::write(&rt, made.as_str(), text.as_str())?;
+    let (mut out, mut err) = (Vec::new(rt.alloc()), Vec::new(rt.alloc()));
+    let status = simulate_file(&rt, made.as_str(), &mut out, &mut err);
+    fs::remove_file(&rt, made.as_str())?;
+    assert_eq!(rt; out.as_slice(), LINES.as_bytes());
+    assert_eq!(rt; status, Status::Done);
+    assert!(rt; err.is_empty());
+    let status = simulate_file(&rt, made.as_str(), &mut out, &mut err);
+    let said = format!(in rt.alloc(); "geostation: cannot read {}\n", made.as_str())?;
+    assert_eq!(rt; status, Status::Failed);
+    assert_eq!(rt; err.as_slice(), said.as_bytes());
+    assert_eq!(rt; out.as_slice(), LINES.as_bytes());
+    Ok(())
+}
+
+/// What was written into a buffer of zeros.
+fn written(buffer: &[u8]) -> &[u8] {
+    match buffer.split(|octet| *octet == 0).next() {
+        Some(front) => front,
+        None => buffer,
+    }
+}
+
+/// With any budget it prints a prefix of its lines, and says that memory ran out; the whole with
+/// enough.
+#[test]
+fn it_runs_short_of_memory(rt: HostRuntime) -> Result<(), Fail> {
+    let alloc = rt.alloc();
+    let text = scenario(alloc, SMALL, &[OPEN, SEND, DELIVER])?;
+    let mut shortage = Shortage::new(alloc)?;
+    let (mut refused, mut done, mut partial) = (0u64, 0u64, 0u64);
+    for step in 0..=MOST / STEP {
+        assert!(rt; shortage.leave(step * STEP));
+        let (mut printed, mut said) = ([0u8; 200], [0u8; 64]);
+        let (mut out, mut err) = (printed.as_mut_slice(), said.as_mut_slice());
+        match simulate(alloc, "a.toml", text.as_bytes(), &mut out, &mut err) {
+            Status::Done => {
+                done = done.saturating_add(1);
+                assert_eq!(rt; written(&printed), LINES.as_bytes());
+                assert!(rt; written(&said).is_empty());
+            }
+            status => {
+                refused = refused.saturating_add(1);
+                partial = partial.saturating_add(!written(&printed).is_empty() as u64);
+                assert_eq!(rt; status, Status::Failed);
+                assert!(rt; LINES.as_bytes().starts_with(written(&printed)));
+                assert_eq!(rt; written(&said), b"geostation: out of memory\n".as_slice());
+            }
+        }
+    }
+    assert!(rt; refused > 0 && done > 0 && partial > 0);
+    Ok(())
+}

@@ -1,0 +1,152 @@
+//! Events that are refused, and texts that are no scenarios.
+
+use super::{DELIVER, OPEN, SEND, left_by, scenario, simulation_of};
+use its_commands::Status;
+use std::test::Fail;
+
+/// A refused event changes nothing, and the status is that of a scenario that was run.
+#[test]
+fn a_refused_event_has_its_line(rt: HostRuntime) -> Result<(), Fail> {
+    let cases: [(&[&str], &str); 5] = [
+        (
+            &[
+                "station = 0, at = 1000, do = \"open\", port = 7",
+                "station = 0, at = 999, do = \"open\", port = 8",
+                "station = 0, at = 4611686018427387905, do = \"open\", port = 8",
+                "station = 0, at = 1000, do = \"open\", port = 7",
+                "station = 0, at = 1000, do = \"close\", port = 8",
+                "station = 0, at = 1000, do = \"tick\", jitter = 751",
+                "station = 0, at = 4611686018427387904, do = \"close\", port = 7",
+            ],
+            "0 1000 0 opened\n1 999 0 refused S1\n2 4611686018427387905 0 refused S2\n\
+            3 1000 0 refused S8 B2\n4 1000 0 refused S8 B4\n5 1000 0 refused S9\n\
+            6 4611686018427387904 0 closed\n",
+        ),
+        (
+            &[
+                "station = 0, at = 1000, do = \"gbc\", port = 2002, info = 0, tc = 0, lt = 26, \
+                hops = 0, shape = \"circle\", alat = 0, alon = 0, a = 100, b = 0, angle = 0, \
+                payload = \"6869\"",
+                SEND,
+            ],
+            "0 1000 0 refused S7\n1 1000 0 sent 0\n",
+        ),
+        (
+            &[
+                DELIVER,
+                "station = 3, at = 0, do = \"deliver\", frame = 0",
+                "station = 65535, at = 0, do = \"open\", port = 1",
+                SEND,
+                "station = 2, at = 1001, do = \"deliver\", frame = 1",
+            ],
+            "0 1010 1 refused M3\n1 0 3 refused M4\n2 0 65535 refused M4\n3 1000 0 sent 0\n\
+            4 1001 2 refused M3\n",
+        ),
+        (
+            &[
+                OPEN,
+                SEND,
+                DELIVER,
+                "station = 1, at = 1009, do = \"restart\", number = 0",
+                "station = 1, at = 1011, do = \"deliver\", frame = 0",
+            ],
+            "0 0 1 opened\n1 1000 0 sent 0\n2 1010 1 accepted port 2002 info 0 6869 sent 1\n\
+            3 1009 1 refused S1\n4 1011 1 ignored duplicate\n",
+        ),
+        (
+            &["station = 1, at = 5, do = \"close\", port = 2002"],
+            "0 5 1 refused S8 B4\n",
+        ),
+    ];
+    for (events, want) in cases {
+        let left = left_by(rt.alloc(), events)?;
+        assert_eq!(rt; left.out.as_slice(), want.as_bytes(), "{want}");
+        assert_eq!(rt; left.status, Status::Done, "{want}");
+        assert!(rt; left.err.is_empty(), "{want}");
+    }
+    Ok(())
+}
+
+/// A payload has at most 1394 octets.
+#[test]
+fn a_payload_that_is_too_long_is_refused(rt: HostRuntime) -> Result<(), Fail> {
+    for (octets, want) in [(1394usize, "0 5 0 sent 0\n"), (1395, "0 5 0 refused S6\n")] {
+        let digits = "5a".repeat(rt.alloc(), octets)?;
+        let event = format!(in rt.alloc();
+            "station = 0, at = 5, do = \"shb\", port = 1, info = 0, tc = 0, payload = \"{digits}\""
+        )?;
+        let left = left_by(rt.alloc(), &[event.as_str()])?;
+        assert_eq!(rt; left.out.as_slice(), want.as_bytes(), "{octets}");
+    }
+    Ok(())
+}
+
+/// A location table of one source: another one has no place until the first expires.
+#[test]
+fn a_full_location_table_refuses(rt: HostRuntime) -> Result<(), Fail> {
+    let stations = "station = [
+      {address = \"1400020000000001\", lat = 0, lon = 0},
+      {address = \"1400020000000002\", lat = 449, lon = 0, capacity = 1},
+      {address = \"1400020000000003\", lat = 0, lon = 449},
+    ]\n";
+    let text = scenario(
+        rt.alloc(),
+        stations,
+        &[
+            OPEN,
+            SEND,
+            "station = 2, at = 1000, do = \"tick\", jitter = 0",
+            "station = 1, at = 1000, do = \"deliver\", frame = 0",
+            "station = 1, at = 2000, do = \"deliver\", frame = 1",
+            "station = 1, at = 2001, do = \"deliver\", frame = 0",
+            "station = 1, at = 21000, do = \"deliver\", frame = 1",
+        ],
+    )?;
+    let left = simulation_of(rt.alloc(), text.as_bytes());
+    let want = "0 0 1 opened\n1 1000 0 sent 0\n2 1000 2 sent 1\n\
+        3 1000 1 accepted port 2002 info 0 6869 sent 2\n4 2000 1 refused S4\n\
+        5 2001 1 ignored duplicate\n6 21000 1 accepted\n";
+    assert_eq!(rt; left.out.as_slice(), want.as_bytes());
+    assert_eq!(rt; left.status, Status::Done);
+    Ok(())
+}
+
+/// The first fault of a scenario is its one line, on standard error, and no event is done.
+#[test]
+fn a_text_that_is_no_scenario_is_refused(rt: HostRuntime) -> Result<(), Fail> {
+    let good = "event = [{station = 0, at = 0, do = \"open\", port = 1}]\n";
+    let cases = [
+        ("station", "scenario: not TOML"),
+        ("station = 1\n", "scenario: station"),
+        (
+            "station = [{address = \"14\", lat = 0, lon = 0}]\n",
+            "scenario: station 0: address",
+        ),
+        (
+            "station = [{address = \"1400020000000001\", lat = 0, lon = 0, remember = 65}]\n",
+            "scenario: station 0: remember",
+        ),
+        (
+            "station = [{address = \"1400020000000001\", lat = 0, lon = 0},
+                {address = \"1400020000000002\", lat = 0, lon = 0},
+                {address = \"9400020000000001\", lat = 0, lon = 0}]\n",
+            "scenario: stations 0 and 2 share a MID",
+        ),
+    ];
+    for (stations, fault) in cases {
+        let text = format!(in rt.alloc(); "{stations}{good}")?;
+        let left = simulation_of(rt.alloc(), text.as_bytes());
+        let said = format!(in rt.alloc(); "geostation: {fault}\n")?;
+        assert_eq!(rt; left.err.as_slice(), said.as_bytes(), "{fault}");
+        assert_eq!(rt; left.status, Status::Refused, "{fault}");
+        assert!(rt; left.out.is_empty(), "{fault}");
+    }
+    let left = left_by(rt.alloc(), &[SEND, "station = 0, at = 0, do = \"fly\""])?;
+    assert_eq!(rt;
+        left.err.as_slice(),
+        b"geostation: scenario: event 1: do\n".as_slice()
+    );
+    assert_eq!(rt; left.status, Status::Refused);
+    assert!(rt; left.out.is_empty());
+    Ok(())
+}
