@@ -1,8 +1,8 @@
-//! How many sequence numbers of a source are remembered.
+//! The sequence numbers of a source: how they count, and how many are remembered.
 
 ghost use Rattle.std.specs.Prelude.{◌≤◌};
 
-use super::{Fate, PORT, SECOND, circle, fate_of, request, sender};
+use super::{Fate, LINK, PORT, SECOND, circle, fate_of, receiver, request, sender};
 use its_gnvalue::{GnAddress, Place};
 use its_loctable::{LocationStore, OrderedTable, SortedTable};
 use its_station::{Station, Why};
@@ -46,4 +46,33 @@ fn remembered<S: LocationStore>(rt: &impl Abort, alloc: Global) -> Result<(), Fa
 fn remembered_numbers_over_both_tables(rt: HostRuntime) -> Result<(), Fail> {
     remembered::<OrderedTable>(&rt, rt.alloc())?;
     remembered::<SortedTable>(&rt, rt.alloc())
+}
+
+/// Numbers count up from 0 and begin anew after 65535, so that the last of 65537 geobroadcasts is
+/// the first again.
+fn counted<S: LocationStore>(rt: &impl Abort, alloc: Global) -> Result<(), Fail> {
+    let (mut source, request) = (sender::<S>(alloc)?, request(circle()?, b"hi"));
+    let first = source.send_geobroadcast(1000, &request)?;
+    for _ in 1..65_535 {
+        source.send_geobroadcast(1000, &request)?;
+    }
+    let greatest = source.send_geobroadcast(1000, &request)?;
+    let number = greatest.get(LINK + 12..LINK + 14);
+    assert_eq!(rt; number, Some([0xff, 0xff].as_slice()));
+    let last = source.send_geobroadcast(1000, &request)?;
+    assert_eq!(rt; last.as_slice(), first.as_slice());
+
+    let mut near = receiver::<S>(alloc, 449)?;
+    assert_eq!(rt; fate_of(&mut near, 1010, &first), Fate::DeliveredAndRelayed);
+    assert_eq!(rt;
+        fate_of(&mut near, 1010, &last),
+        Fate::Ignored(Why::Duplicate)
+    );
+    Ok(())
+}
+
+#[test]
+fn numbers_begin_anew_over_both_tables(rt: HostRuntime) -> Result<(), Fail> {
+    counted::<OrderedTable>(&rt, rt.alloc())?;
+    counted::<SortedTable>(&rt, rt.alloc())
 }
