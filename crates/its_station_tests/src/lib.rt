@@ -6,3 +6,5 @@
 mod forwarding;
 #[cfg(test)]
 mod ports;
+#[cfg(test)]
+mod station;
