@@ -105,7 +105,7 @@ fn it_runs_short_of_memory(rt: HostRuntime) -> Result<(), Fail> {
     let alloc = rt.alloc();
     let text = scenario(alloc, SMALL, &[OPEN, SEND, DELIVER])?;
     let mut shortage = Shortage::new(alloc)?;
-    let (mut refused, mut done, mut partial) = (0u64, 0u64, 0u64);
+    let (mut refused, mut done) = (0u64, 0u64);
     for step in 0..=MOST / STEP {
         assert!(rt; shortage.leave(step * STEP));
         let (mut printed, mut said) = ([0u8; 200], [0u8; 64]);
@@ -118,13 +118,13 @@ fn it_runs_short_of_memory(rt: HostRuntime) -> Result<(), Fail> {
             }
             status => {
                 refused = refused.saturating_add(1);
-                partial = partial.saturating_add(!written(&printed).is_empty() as u64);
                 assert_eq!(rt; status, Status::Failed);
                 assert!(rt; LINES.as_bytes().starts_with(written(&printed)));
                 assert_eq!(rt; written(&said), b"geostation: out of memory\n".as_slice());
             }
         }
     }
-    assert!(rt; refused > 0 && done > 0 && partial > 0);
+    assert!(rt; refused > 0, "never refused");
+    assert!(rt; done > 0, "never done");
     Ok(())
 }

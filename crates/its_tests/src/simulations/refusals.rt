@@ -116,7 +116,7 @@ fn a_full_location_table_refuses(rt: HostRuntime) -> Result<(), Fail> {
 fn a_text_that_is_no_scenario_is_refused(rt: HostRuntime) -> Result<(), Fail> {
     let good = "event = [{station = 0, at = 0, do = \"open\", port = 1}]\n";
     let cases = [
-        ("station", "scenario: not TOML"),
+        ("station\n", "scenario: not TOML"),
         ("station = 1\n", "scenario: station"),
         (
             "station = [{address = \"14\", lat = 0, lon = 0}]\n",
