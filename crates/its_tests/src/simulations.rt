@@ -51,14 +51,25 @@ fn simulation_of<R: Read + Drop>(alloc: Global, reader: R) -> Left {
     Left { status, out, err }
 }
 
+/// The three stations, and the beginning of a list of events.
+fn scenario_begun(alloc: Global) -> Result<String, AllocError> {
+    let mut text = STATIONS.to_string(alloc)?;
+    text.push_str("event = [\n")?;
+    Ok(text)
+}
+
+fn append_event(text: &mut String, event: &str) -> Result<(), AllocError> {
+    text.push_str("{")?;
+    text.push_str(event)?;
+    text.push_str("},\n")
+}
+
 /// A scenario of these stations and events.
 fn scenario(alloc: Global, stations: &str, events: &[&str]) -> Result<String, AllocError> {
     let mut text = stations.to_string(alloc)?;
     text.push_str("event = [\n")?;
     for event in events {
-        text.push_str("{")?;
-        text.push_str(event)?;
-        text.push_str("},\n")?;
+        append_event(&mut text, event)?;
     }
     text.push_str("]\n")?;
     Ok(text)

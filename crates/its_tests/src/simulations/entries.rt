@@ -1,6 +1,9 @@
 //! The line of each kind of entry.
 
-use super::{ANYCAST, DELIVER, MOVE_OUT, OPEN, SEND, STATIONS, left_by, scenario, simulation_of};
+use super::{
+    ANYCAST, DELIVER, MOVE_OUT, OPEN, SEND, STATIONS, append_event, left_by, scenario,
+    scenario_begun, simulation_of,
+};
 use crate::scenarios::WORKED;
 use its_commands::Status;
 use std::test::Fail;
@@ -216,11 +219,17 @@ fn a_frame_for_another_is_ignored(rt: HostRuntime) -> Result<(), Fail> {
             hops = 10, shape = \"circle\", alat = 0, alon = 100000, a = 10, b = 0, angle = 0, \
             payload = \"6869\""
         )?;
-        let mut events = Vec::new(rt.alloc());
-        events.extend_from_slice(&known)?;
-        events.push(send.as_str())?;
-        events.push("station = 2, at = 20100, do = \"deliver\", frame = 2")?;
-        let left = left_by(rt.alloc(), events.as_slice())?;
+        let mut text = scenario_begun(rt.alloc())?;
+        for event in &known {
+            append_event(&mut text, event)?;
+        }
+        append_event(&mut text, send.as_str())?;
+        append_event(
+            &mut text,
+            "station = 2, at = 20100, do = \"deliver\", frame = 2",
+        )?;
+        text.push_str("]\n")?;
+        let left = simulation_of(rt.alloc(), text.as_bytes());
         let want = format!(in rt.alloc(); "{begun}6 {moment} 0 sent 2\n7 20100 2 {entry}\n")?;
         assert_eq!(rt; left.out.as_slice(), want.as_bytes(), "{moment}");
     }
@@ -235,20 +244,21 @@ fn many_events(rt: HostRuntime) -> Result<(), Fail> {
         let deliver = format!(in rt.alloc();
             "station = 1, at = 1010, do = \"deliver\", frame = {last}"
         )?;
-        let mut events = vec![in rt.alloc(); OPEN]?;
+        let mut text = scenario_begun(rt.alloc())?;
+        append_event(&mut text, OPEN)?;
         let mut want = "0 0 1 opened\n".to_string(rt.alloc())?;
         for frame in 0..sends {
-            events.push(SEND)?;
+            append_event(&mut text, SEND)?;
             let line = format!(in rt.alloc(); "{} 1000 0 sent {frame}\n", frame + 1)?;
             want.push_str(line.as_str())?;
         }
-        events.push(deliver.as_str())?;
+        append_event(&mut text, deliver.as_str())?;
+        text.push_str("]\n")?;
         let line = format!(in rt.alloc();
             "{} 1010 1 accepted port 2002 info 0 6869 sent {sends}\n",
             sends + 1
         )?;
         want.push_str(line.as_str())?;
-        let text = scenario(rt.alloc(), STATIONS, events.as_slice())?;
         let left = simulation_of(rt.alloc(), text.as_bytes());
         assert_eq!(rt; left.out.as_slice(), want.as_bytes(), "{sends}");
         assert_eq!(rt; left.status, Status::Done, "{sends}");

@@ -2,69 +2,79 @@
 
 use super::{DELIVER, OPEN, SEND, left_by, scenario, simulation_of};
 use its_commands::Status;
+use std::alloc::Global;
+use std::process::Abort;
 use std::test::Fail;
 
-/// A refused event changes nothing, and the status is that of a scenario that was run.
+/// These events have these lines, and the status is that of a scenario that was run.
+fn has_lines(rt: &impl Abort, alloc: Global, events: &[&str], want: &str) -> Result<(), Fail> {
+    let left = left_by(alloc, events)?;
+    assert_eq!(rt; left.out.as_slice(), want.as_bytes(), "{want}");
+    assert_eq!(rt; left.status, Status::Done, "{want}");
+    assert!(rt; left.err.is_empty(), "{want}");
+    Ok(())
+}
+
+/// A refused event changes nothing.
 #[test]
 fn a_refused_event_has_its_line(rt: HostRuntime) -> Result<(), Fail> {
-    let cases: [(&[&str], &str); 5] = [
-        (
-            &[
-                "station = 0, at = 1000, do = \"open\", port = 7",
-                "station = 0, at = 999, do = \"open\", port = 8",
-                "station = 0, at = 4611686018427387905, do = \"open\", port = 8",
-                "station = 0, at = 1000, do = \"open\", port = 7",
-                "station = 0, at = 1000, do = \"close\", port = 8",
-                "station = 0, at = 1000, do = \"tick\", jitter = 751",
-                "station = 0, at = 4611686018427387904, do = \"close\", port = 7",
-            ],
-            "0 1000 0 opened\n1 999 0 refused S1\n2 4611686018427387905 0 refused S2\n\
-            3 1000 0 refused S8 B2\n4 1000 0 refused S8 B4\n5 1000 0 refused S9\n\
-            6 4611686018427387904 0 closed\n",
-        ),
-        (
-            &[
-                "station = 0, at = 1000, do = \"gbc\", port = 2002, info = 0, tc = 0, lt = 26, \
-                hops = 0, shape = \"circle\", alat = 0, alon = 0, a = 100, b = 0, angle = 0, \
-                payload = \"6869\"",
-                SEND,
-            ],
-            "0 1000 0 refused S7\n1 1000 0 sent 0\n",
-        ),
-        (
-            &[
-                DELIVER,
-                "station = 3, at = 0, do = \"deliver\", frame = 0",
-                "station = 65535, at = 0, do = \"open\", port = 1",
-                SEND,
-                "station = 2, at = 1001, do = \"deliver\", frame = 1",
-            ],
-            "0 1010 1 refused M3\n1 0 3 refused M4\n2 0 65535 refused M4\n3 1000 0 sent 0\n\
-            4 1001 2 refused M3\n",
-        ),
-        (
-            &[
-                OPEN,
-                SEND,
-                DELIVER,
-                "station = 1, at = 1009, do = \"restart\", number = 0",
-                "station = 1, at = 1011, do = \"deliver\", frame = 0",
-            ],
-            "0 0 1 opened\n1 1000 0 sent 0\n2 1010 1 accepted port 2002 info 0 6869 sent 1\n\
-            3 1009 1 refused S1\n4 1011 1 ignored duplicate\n",
-        ),
-        (
-            &["station = 1, at = 5, do = \"close\", port = 2002"],
-            "0 5 1 refused S8 B4\n",
-        ),
+    let alloc = rt.alloc();
+    let events = [
+        "station = 0, at = 1000, do = \"open\", port = 7",
+        "station = 0, at = 999, do = \"open\", port = 8",
+        "station = 0, at = 4611686018427387905, do = \"open\", port = 8",
+        "station = 0, at = 1000, do = \"open\", port = 7",
+        "station = 0, at = 1000, do = \"close\", port = 8",
+        "station = 0, at = 1000, do = \"tick\", jitter = 751",
+        "station = 0, at = 4611686018427387904, do = \"close\", port = 7",
     ];
-    for (events, want) in cases {
-        let left = left_by(rt.alloc(), events)?;
-        assert_eq!(rt; left.out.as_slice(), want.as_bytes(), "{want}");
-        assert_eq!(rt; left.status, Status::Done, "{want}");
-        assert!(rt; left.err.is_empty(), "{want}");
-    }
-    Ok(())
+    let want = "0 1000 0 opened\n1 999 0 refused S1\n2 4611686018427387905 0 refused S2\n\
+        3 1000 0 refused S8 B2\n4 1000 0 refused S8 B4\n5 1000 0 refused S9\n\
+        6 4611686018427387904 0 closed\n";
+    has_lines(&rt, alloc, &events, want)
+}
+
+/// A packet without a hop isn't sent, and takes no number of a frame.
+#[test]
+fn a_packet_of_no_hop_is_refused(rt: HostRuntime) -> Result<(), Fail> {
+    let alloc = rt.alloc();
+    let no_hop = "station = 0, at = 1000, do = \"gbc\", port = 2002, info = 0, tc = 0, lt = 26, \
+        hops = 0, shape = \"circle\", alat = 0, alon = 0, a = 100, b = 0, angle = 0, \
+        payload = \"6869\"";
+    let want = "0 1000 0 refused S7\n1 1000 0 sent 0\n";
+    has_lines(&rt, alloc, &[no_hop, SEND], want)
+}
+
+/// The station is looked for before the frame.
+#[test]
+fn what_is_not_there_is_refused(rt: HostRuntime) -> Result<(), Fail> {
+    let alloc = rt.alloc();
+    let events = [
+        DELIVER,
+        "station = 3, at = 0, do = \"deliver\", frame = 0",
+        "station = 65535, at = 0, do = \"open\", port = 1",
+        SEND,
+        "station = 2, at = 1001, do = \"deliver\", frame = 1",
+    ];
+    let want = "0 1010 1 refused M3\n1 0 3 refused M4\n2 0 65535 refused M4\n\
+        3 1000 0 sent 0\n4 1001 2 refused M3\n";
+    has_lines(&rt, alloc, &events, want)
+}
+
+/// A restart that is refused forgets nothing.
+#[test]
+fn a_refused_restart_changes_nothing(rt: HostRuntime) -> Result<(), Fail> {
+    let alloc = rt.alloc();
+    let events = [
+        OPEN,
+        SEND,
+        DELIVER,
+        "station = 1, at = 1009, do = \"restart\", number = 0",
+        "station = 1, at = 1011, do = \"deliver\", frame = 0",
+    ];
+    let want = "0 0 1 opened\n1 1000 0 sent 0\n2 1010 1 accepted port 2002 info 0 6869 sent 1\n\
+        3 1009 1 refused S1\n4 1011 1 ignored duplicate\n";
+    has_lines(&rt, alloc, &events, want)
 }
 
 /// A payload has at most 1394 octets.
