@@ -1,8 +1,8 @@
 //! The line of each kind of entry.
 
 use super::{
-    ANYCAST, DELIVER, MOVE_OUT, OPEN, SEND, STATIONS, append_event, left_by, scenario,
-    scenario_begun, simulation_of,
+    ANYCAST, DELIVER, MOVE_OUT, OPEN, SEND, STATIONS, append_event, left_by, scenario_begun,
+    simulation_of,
 };
 use crate::scenarios::WORKED;
 use its_commands::Status;
