@@ -6,7 +6,7 @@ use Rattle.its_gnvalue.specs.Values.{Position, PositionVector, broadcast, mid_of
 use Rattle.its_geometry.specs.Area.{area_holds}
 use Rattle.its_model.specs.Packet.{Message, Body, beacon, shb, gbc, gac, Pdu, Transmission, number_in, relay}
 use Rattle.std.specs.Prelude.{◌⊎◌, IsTrue, IsFalse}
-use Rattle.its_model.specs.History.{Reception, is_live}
+use Rattle.its_model.specs.History.{is_live}
 use Rattle.its_model.specs.Calls as model
 use Rattle.its_model.specs.Calls.{Call, Answer, Why as ModelWhy}
 use Rattle.its_model.specs.Station.{StationModel, Step, is_for, is_sender_wrong, is_repeated, receive_step_by}

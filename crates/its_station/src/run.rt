@@ -1,7 +1,8 @@
 //! Many calls, one after the other.
 
 ghost use Rattle.std.specs.Prelude.{◌≡◌, ◌≤◌, ◌<◌, ℕ, Option, List, [], All, length, take};
-ghost use Rattle.std.specs.Prelude.{Err, IfOk, OnErr, IsTrue, IsFalse, IsSome, MatchResult, vec_len, vec_capacity};
+ghost use Rattle.std.specs.Prelude.{Err, IfOk, OnErr, IsTrue, IsFalse, IsSome, MatchResult};
+ghost use Rattle.std.specs.Prelude.{vec_len, vec_capacity};
 ghost use Rattle.std.specs.Option.{option_map};
 ghost use Rattle.its_model.specs.Packet.{Transmission};
 ghost use Rattle.its_model.specs.Calls.{Answer, Call as ModelCall};
@@ -10,8 +11,8 @@ ghost use Rattle.its_station.specs.State.{StationState, RepresentsStation};
 ghost use Rattle.its_station.specs.Steps.{IsStepOf, Says, refusal_of};
 ghost use Rattle.its_station.specs.Requests.{TellsSent, TellsTick};
 ghost use Rattle.its_station.specs.Receiving.{IsFrameCall, Tells, said_by};
-ghost use Rattle.its_station.specs.Runs.{IsCall, IsInRange, IsReplyTo, IsDone, TellsReply, IsRunOf, IsIsolatedRunOf};
-ghost use Rattle.its_station.specs.Runs.{IsShort, IsShortHanding, delivered};
+ghost use Rattle.its_station.specs.Runs.{IsCall, IsInRange, IsReplyTo, IsDone, TellsReply};
+ghost use Rattle.its_station.specs.Runs.{IsRunOf, IsIsolatedRunOf, IsShort, IsShortHanding, delivered};
 
 use crate::outcome::{Handed, Outcome, Why};
 use crate::refused::Refused;
@@ -98,10 +99,11 @@ pub struct Ran {
 }
 
 impl<S: LocationStore> Station<S> {
-    /// Makes the calls in order, each at its moment, until memory runs out: then neither the call that
-    /// met it nor any after it is made, and the station stands as after those before it. The speed of
-    /// each `MoveTo` has to be in its range. Sources are isolated: what the station's own applications
-    /// and one source see of the answers doesn't depend on the frames of other sources.
+    /// Makes the calls in order, each at its moment, until memory runs out: then neither the call
+    /// that met it nor any after it is made, and the station stands as after those before it. The
+    /// speed of each `MoveTo` has to be in its range. Sources are isolated: what the station's own
+    /// applications and one source see of the answers doesn't depend on the frames of other
+    /// sources.
     pub fn run(&mut self, calls: &[(u64, Call)]) -> Ran
         requires { All (λ call. IsInRange call.1) calls.now }
         ensures done { length result.replies.items ≤ length calls.now }
@@ -200,8 +202,8 @@ impl<S: LocationStore> Station<S> {
 }
 
 impl Reply {
-    /// The reply to a call that tells nothing: `move_to`, `open`, `close` or `restart`. `NoMemory` where
-    /// an allocation failed.
+    /// The reply to a call that tells nothing: `move_to`, `open`, `close` or `restart`. `NoMemory`
+    /// where an allocation failed.
     fn of_done(answer: Result<(), Refused>) -> Result<Reply, NoMemory>
         ensures reply { (this : Answer Transmission) (new : StationState) (step : Step) →
             IsDone this → IsStepOf (Says this) answer new step →
@@ -246,7 +248,8 @@ fn reply_of(outcome: Outcome<'_>, room: Vec<u8>) -> Reply
     requires size { vec_len room ≡ 0 }
     requires room { 1394 ≤ vec_capacity room }
     requires short { IsShort outcome }
-    ensures { (answer : Answer Transmission) → Tells outcome.entry answer → TellsReply result answer }
+    ensures { (answer : Answer Transmission) → Tells outcome.entry answer →
+        TellsReply result answer }
 {
     match outcome {
         Outcome::Ignored(why) => Reply::Ignored(why),

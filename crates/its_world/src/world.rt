@@ -26,8 +26,9 @@ use its_station::{MAX_PAYLOAD, Station};
 use std::alloc::Global;
 use std::marker::Model;
 
-/// Stations, and all frames that they gave, numbered from 0 in the order in which they were given. A
-/// frame that is delivered to nobody is lost; one may be delivered often, late, and to any station.
+/// Stations, and all frames that they gave, numbered from 0 in the order in which they were given.
+/// A frame that is delivered to nobody is lost; one may be delivered often, late, and to any
+/// station.
 #[derive(Drop)]
 pub struct World {
     pub(crate) alloc: Global,
@@ -44,8 +45,8 @@ impl Model for World {
 }
 
 impl World {
-    /// The world of these configs, at most 65535, in which nothing happened yet. Refused by `SameMid`
-    /// (M1) exactly where two stations share a MID, and else by `NoMemory` (M2).
+    /// The world of these configs, at most 65535, in which nothing happened yet. Refused by
+    /// `SameMid` (M1) exactly where two stations share a MID, and else by `NoMemory` (M2).
     pub fn new(alloc: Global, configs: &[Config]) -> Result<World, WorldFault>
         requires ranges { All IsConfig configs.now }
         requires count { length configs.now ≤ 65535 }
