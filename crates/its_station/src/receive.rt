@@ -11,6 +11,7 @@ ghost use Rattle.its_model.specs.Stations.{stations_at, is_full};
 ghost use Rattle.its_model.specs.Station as station;
 ghost use Rattle.its_model.specs.Station.{StationModel, station_step, verdict, receive_step};
 ghost use Rattle.its_model.specs.Station.{is_repeated, handing, relayed};
+ghost use Rattle.its_headers.specs.Encoding.{payload_of};
 ghost use Rattle.its_linkframe.specs.Frames.{EncodesFrame, IsFrame, transmission_of};
 ghost use Rattle.its_loctable.specs.Content.{Represents};
 ghost use Rattle.its_loctable.specs.Heard.{reception};
@@ -18,8 +19,8 @@ ghost use Rattle.its_station.specs.State.{model_of, IsPast, RepresentsStation, S
 ghost use Rattle.its_station.specs.Steps.{IsStepOf};
 ghost use Rattle.its_station.specs.Receiving.{IsFrameCall, Tells, why_found, said_by, IsRelay};
 ghost use Rattle.its_station.specs.Receiving.{TakesMemory, copy_of, goes_on, is_inside, report_of};
-ghost use Rattle.its_station.specs.Receiving.{accept_step};
-ghost use Rattle.its_station.specs.Runs.{IsShort, IsShortHanding};
+ghost use Rattle.its_station.specs.Receiving.{accept_step, DeliversEndOf, HandsOutEndOf};
+ghost use Rattle.its_station.specs.Runs.{Fits, HandingFits};
 
 use crate::outcome::{Handed, Outcome, Why};
 use crate::refused::Refused;
@@ -39,7 +40,7 @@ impl<S: LocationStore> Station<S> {
     /// new or it goes on. A frame is ignored for the first reason of `Why` that holds, and sets the
     /// clock alone. Else its packet is accepted: its payload is delivered where its port is open
     /// and, for an area, where the area holds the station's place, and a packet for an area may go
-    /// on.
+    /// on. What is delivered is the end of the frame.
     pub fn receive<'a>(&mut self, now: u64, frame: &'a [u8]) -> Result<Outcome<'a>, Refused>
         ensures step { (call : Call) × IsFrameCall frame.now call
             × ((s : StationModel) → RepresentsStation self.old s →
@@ -48,7 +49,8 @@ impl<S: LocationStore> Station<S> {
             EncodesFrame t frame.now → result ≡ Err Refused.NoMemory →
             (verdict s now t ≡ station.Verdict.Accept) × TakesMemory s now t }
         ensures unchanged { OnErr result (self.new ≡ self.old) }
-        ensures short { IfOk result IsShort }
+        ensures payload { IfOk result (DeliversEndOf frame.now) }
+        ensures short { IfOk result (Fits 1394) }
     {
         // The moment is judged first. The octets are read before, as the contract names what they are.
         let read = read_frame(frame);
@@ -74,7 +76,8 @@ impl<S: LocationStore> Station<S> {
             ≡ station.Verdict.Accept)
             × TakesMemory (model_of self.old ports history) now (transmission_of frame.now) }
         ensures unchanged { OnErr result (self.new ≡ self.old) }
-        ensures short { IfOk result IsShort }
+        ensures payload { IfOk result (DeliversEndOf (payload_of frame.now.packet.pdu.body)) }
+        ensures short { IfOk result (Fits 1394) }
     {
         if let Some(why) = self.reason_to_ignore(now, frame) {
             self.clock = now;
@@ -142,7 +145,8 @@ impl<S: LocationStore> Station<S> {
             result ≡ Err Refused.NoMemory →
             TakesMemory (model_of self.old ports history) now (transmission_of frame.now) }
         ensures unchanged { OnErr result (self.new ≡ self.old) }
-        ensures short { IfOk result IsShort }
+        ensures payload { IfOk result (DeliversEndOf (payload_of frame.now.packet.pdu.body)) }
+        ensures short { IfOk result (Fits 1394) }
     {
         let inside = self.is_inside(&frame.packet);
         let Ok(copy) = self.copy_for_relay(frame, inside) else {
@@ -192,7 +196,8 @@ impl<S: LocationStore> Station<S> {
     /// What is handed out of a packet, inside or outside of its area.
     fn handing<'a>(&self, packet: &PacketView<'a>, inside: bool) -> Option<Handed<'a>>
         requires { inside ≡ is_inside self.now.vector.place packet.now.pdu.body }
-        ensures short { IsShortHanding result }
+        ensures payload { HandsOutEndOf (payload_of packet.now.pdu.body) result }
+        ensures short { HandingFits 1394 result }
         ensures message { (ports : List ℕ) (history : List Reception) →
             SamePorts self.now.ports ports → option_map said_by result
             ≡ handing (model_of self.now ports history) packet.now.pdu.body }

@@ -22,7 +22,7 @@ use crate::shared::refuse_shared;
 use its_gnvalue::NoMemory;
 use its_linkframe::{one_frame, one_frame_fault};
 use its_loctable::SortedTable;
-use its_station::{MAX_PAYLOAD, Station};
+use its_station::Station;
 use std::alloc::Global;
 use std::marker::Model;
 
@@ -155,7 +155,8 @@ fn ask(
         }
         What::SendGeoanycast(r) => Given::of_send(station.send_geoanycast(moment, &r.lend())),
         What::Deliver(_) => {
-            let room = Vec::with_capacity(alloc, MAX_PAYLOAD)?;
+            // What is delivered is a part of the frame, so its room is taken before the call.
+            let room = Vec::with_capacity(alloc, frame.len())?;
             Given::of_frame(station.receive(moment, frame), room)
         }
     }

@@ -7,6 +7,7 @@ use Rattle.its_linkframe.specs.Frames.{transmission_of}
 use Rattle.its_station.specs.State.{model_of}
 use Rattle.its_station.specs.Receiving.{Tells, TakesMemory}
 use Rattle.its_station.proofs.Stations.{at_model}
+use Rattle.its_station.proofs.Deliveries.{delivered_end}
 use Rattle.its_station.proofs.Hearing.{call_of, moment_refused, junk, heard}
 use Rattle.its_station.proofs.station.Station.receive.Goals as goal
 
@@ -29,3 +30,6 @@ returns-in-Ok-clause-memory g c = λ s t rep enc e.
 pub returns-in-Err-read-clause-step : goal.returns-in-Err-read-clause-step
 returns-in-Err-read-clause-step g c =
     (Junk c.in-Err-read.fault, c.in-Err-read.ensures.fault, junk c.args.self.now c.args.now c.in-Err-read.fault c.in_default.ensures.refusal)
+
+pub returns-in-Ok-clause-payload : goal.returns-in-Ok-clause-payload
+returns-in-Ok-clause-payload g c = delivered_end (transmission_of c.in-Ok.view) c.args.frame.now c.in-Ok.ensures.found c.hear.result c.hear.ensures.payload
