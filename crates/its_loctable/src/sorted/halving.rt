@@ -10,7 +10,9 @@ use its_gnvalue::GnAddress;
 /// How many slots a search with no loop is made for: the greatest capacity of a table.
 const MOST_SLOTS: usize = 4096;
 
-/// Where the slot of an address is, or else where it would go.
+/// Where the slot of an address is, or else where it would go. It is no part of its callers, which
+/// stay short where they find a slot without it.
+#[inline(never)]
 pub fn search(slots: &[Slot], address: GnAddress) -> Result<usize, usize>
     requires { IsTrue (is_rising (held slots.now)) }
     ensures found { IfOk result (λ i. IsFoundAt slots.now address i × (i < length slots.now)) }
