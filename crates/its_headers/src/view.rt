@@ -85,10 +85,7 @@ impl<'a> PacketView<'a> {
     pub fn hops(&self) -> Hops
         ensures { result ≡ record { left = self.now.left; max = self.now.pdu.max_hops } }
     {
-        let Some(hops) = Hops::new(self.octets[HOPS_LEFT], self.octets[MAX_HOPS]) else {
-            unreachable!()
-        };
-        hops
+        Hops::within(self.octets[HOPS_LEFT], self.octets[MAX_HOPS])
     }
 
     /// How long the packet lives (LT).
