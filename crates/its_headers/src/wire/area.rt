@@ -17,6 +17,7 @@ use its_gnvalue::Place;
 
 /// Checks the area, of a shape that the sub-type names.
 #[tactic(auto, unfolding(crate::specs::Layout::area_format))]
+#[inline(always)]
 pub(crate) fn check_area(octets: &[u8], shape: Shape) -> Result<(), Fault>
     ensures { Gives (λ _. (area_at shape octets.now, 54)) result
         (walk (area_format shape) 40 octets.now) }

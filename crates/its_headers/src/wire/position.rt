@@ -21,6 +21,7 @@ const ACCURATE: u16 = 0x8000;
 
 /// Checks the vector that begins at this octet.
 #[tactic(auto, unfolding(crate::specs::Layout::vector_format))]
+#[inline(always)]
 pub(crate) fn check_vector(octets: &[u8], at: usize) -> Result<(), Fault>
     requires { at ≤ 16 }
     ensures { Gives (λ _. (vector_at at octets.now, at + 24)) result
