@@ -6,9 +6,10 @@ use Rattle.its_commands.specs.declared.status.Status.TheVariants.{Failed}
 use Rattle.its_commands.specs.declared.fault.Fault.{Fault}
 use Rattle.its_commands.specs.declared.fault.Fault.TheVariants.{CannotRead, CannotWrite}
 use Rattle.its_commands.specs.declared.fault.Fault.TheVariants.{OutOfMemory, Line, Scenario, NoOutput}
+use Rattle.its_commands.specs.declared.fault.Fault.TheVariants.{NoSocket, SendFailed, ReceiveFailed}
 use Rattle.its_commands.specs.declared.walk.Walked.{Walked}
 
--- done; a refused record, line, capture or scenario; refused arguments; a file that failed, or no memory
+-- done; a refused record, line, capture or scenario; refused arguments; a file or socket that failed, or no memory
 abbrev pub exit_code : Status → ℕ
 exit_code Done = 0
 exit_code Refused = 1
@@ -34,6 +35,9 @@ fault_status (CannotWrite _) = Failed
 fault_status (OutOfMemory _) = Failed
 fault_status (Line _ _) = Refused
 fault_status (Scenario _) = Refused
+fault_status (NoSocket _) = Failed
+fault_status (SendFailed _) = Failed
+fault_status (ReceiveFailed _) = Failed
 fault_status (NoOutput _) = Failed
 
 -- the status of a walk over a capture: done where the capture and each of its records is good

@@ -30,6 +30,15 @@ pub enum Fault<'a> {
     /// The text is no scenario.
     #[error("geostation: {0}")]
     Scenario(ScenarioFault),
+    /// The socket of a station, counted from 0, could not be made.
+    #[error("geostation: station {0}: no socket")]
+    NoSocket(usize),
+    /// A send from a station's socket failed.
+    #[error("geostation: station {0}: send failed")]
+    SendFailed(usize),
+    /// A receive from a station's socket failed.
+    #[error("geostation: station {0}: receive failed")]
+    ReceiveFailed(usize),
     /// Standard output could not be written. There is no line for it.
     #[error("")]
     NoOutput(#[from] io::Error),

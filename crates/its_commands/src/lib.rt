@@ -17,5 +17,5 @@ pub use fault::Fault;
 pub use files::{Opened, check_file, create, import_file, open, show_file, simulate_file};
 pub use importing::{LineFault, read_lines, write_records};
 pub use showing::show;
-pub use simulating::simulate;
+pub use simulating::{read_scenario, simulate};
 pub use status::Status;

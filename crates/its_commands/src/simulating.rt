@@ -39,25 +39,29 @@ fn simulate_scenario<'a, R: Read + Drop, W: Write>(
 ) -> Result<Status, Fault<'a>>
     ensures { IfOk result (λ status. status ≡ Status.Done) }
 {
-    let scenario = read_scenario(alloc, file, reader)?;
+    let scenario = read_scenario(alloc, file, reader, MOST_STATIONS)?;
     its_simulation::simulate(alloc, scenario, out)?;
     Ok(Status::Done)
 }
 
-/// Reads to the end of the reader, and what it gave as a scenario.
-fn read_scenario<'a, R: Read + Drop>(
+/// Reads to the end of the reader, and what it gave as a scenario of at most so many stations. `file`
+/// is its name.
+///
+/// The fault is that of the scenario, or that a read failed or memory ran out.
+pub fn read_scenario<'a, R: Read + Drop>(
     alloc: Global,
     file: &'a str,
     reader: R,
+    most_stations: usize,
 ) -> Result<Scenario, Fault<'a>>
-    ensures { IfOk result (λ scenario. vec_len scenario.stations ≤ 65535) }
+    ensures { IfOk result (λ scenario. vec_len scenario.stations ≤ most_stations) }
 {
     let mut reader = reader;
     let mut text = Vec::new(alloc);
     if let Err(error) = reader.read_to_end(&mut text) {
         return Err(Fault::of_read(&error, file));
     }
-    match Scenario::from_toml(alloc, text.as_slice(), MOST_STATIONS) {
+    match Scenario::from_toml(alloc, text.as_slice(), most_stations) {
         Ok(scenario) => Ok(scenario),
         Err(fault) => Err(Fault::from(fault)),
     }

@@ -12,7 +12,7 @@ pub enum Status {
     Refused,
     /// The arguments were refused.
     BadArguments,
-    /// A file failed, or memory ran out.
+    /// A file or a socket failed, or memory ran out.
     Failed,
 }
 

@@ -1,0 +1,134 @@
+//! A call of a station, and what is told of its reply.
+
+ghost use Rattle.std.specs.Prelude.{◌≡◌, ◌∷◌, [], Option, None, IfOk, IfSome, IsSomeAnd};
+ghost use Rattle.its_model.specs.Packet.{Transmission};
+ghost use Rattle.its_model.specs.Calls.{Answer, OwnCall};
+ghost use Rattle.its_model.specs.Calls.Call.{Own};
+ghost use Rattle.its_model.specs.Station.{StationModel};
+ghost use Rattle.its_model.specs.World.{entry_of, frame_of, numbered};
+ghost use Rattle.its_model.specs.World.What.{Calls};
+ghost use Rattle.its_station.specs.Receiving.{IsRelay};
+ghost use Rattle.its_station.specs.Runs.{IsCall, IsInRange, IsIsolatedRunOf, TellsReply};
+ghost use Rattle.its_station.specs.State.{RepresentsStation};
+ghost use Rattle.its_world.specs.Entries.{TellsEntry};
+ghost use Rattle.its_world.specs.Events.{what_of};
+ghost use Rattle.its_world.specs.Events as events;
+
+use its_loctable::SortedTable;
+use its_station::{Call, Reply, Station};
+use its_world::{Entry, EntryFault, What};
+use std::alloc::AllocError;
+
+/// What is told of a call, and the frame that is sent, if one is.
+#[derive(Drop)]
+pub(crate) struct Told {
+    pub(crate) entry: Entry,
+    pub(crate) frame: Option<Vec<u8>>,
+}
+
+/// The call that an event asks of its station: none where it delivers a frame.
+pub(crate) fn call_of(what: What) -> Option<Call>
+    requires { events.IsInRange what }
+    ensures call { (own : OwnCall) → what_of what ≡ Calls own → IsSomeAnd result (λ call. IsCall call (Own own)) }
+    ensures range { IfSome result IsInRange }
+{
+    match what {
+        What::MoveTo {
+            place,
+            pai,
+            speed,
+            heading,
+        } => Some(Call::MoveTo {
+            place,
+            pai,
+            speed,
+            heading,
+        }),
+        What::Open(port) => Some(Call::Open(port)),
+        What::Close(port) => Some(Call::Close(port)),
+        What::Tick(jitter) => Some(Call::Tick(jitter)),
+        What::SendShb(request) => Some(Call::SendShb(request)),
+        What::SendGeobroadcast(request) => Some(Call::SendGeobroadcast(request)),
+        What::SendGeoanycast(request) => Some(Call::SendGeoanycast(request)),
+        What::Restart(number) => Some(Call::Restart(number)),
+        What::Deliver(_) => None,
+    }
+}
+
+/// Makes one call at a moment. `AllocError` where an allocation failed.
+pub(crate) fn answer(
+    station: &mut Station<SortedTable>,
+    moment: u64,
+    call: Call,
+) -> Result<Reply, AllocError>
+    requires { IsInRange call }
+    ensures { (s : StationModel) → RepresentsStation station.old s →
+        IfOk result (λ reply. IsIsolatedRunOf s ((moment, call) ∷ []) (reply ∷ []) station.new) }
+{
+    let calls = [(moment, call)];
+    let mut ran = station.run(&calls);
+    ran.replies.pop().ok_or(AllocError)
+}
+
+/// What is told of a call that is done and answers nothing else.
+pub(crate) fn done_entry(call: &Call) -> Entry {
+    match call {
+        Call::MoveTo { .. } => Entry::Moved,
+        Call::Open(_) => Entry::Opened,
+        Call::Close(_) => Entry::Closed,
+        Call::Restart(_) => Entry::Restarted,
+        _ => Entry::Quiet,
+    }
+}
+
+/// What is told of a reply. `done` is told of a call that was only done, and a frame gets `number`.
+pub(crate) fn tell(done: Entry, reply: Reply, number: usize) -> Told
+    ensures entry { (answer : Answer Transmission) → TellsReply reply answer →
+        (reply ≡ Reply.Done → TellsEntry done (entry_of number answer)) →
+        TellsEntry result.entry (entry_of number answer) }
+    ensures frame { (answer : Answer Transmission) → TellsReply reply answer →
+        IsRelay result.frame (frame_of answer) }
+{
+    match reply {
+        Reply::Done => no_frame(done),
+        Reply::Quiet => no_frame(Entry::Quiet),
+        Reply::Sent(frame) => Told {
+            entry: Entry::Sent(number),
+            frame: Some(frame),
+        },
+        Reply::Ignored(why) => no_frame(Entry::Ignored(why)),
+        Reply::Accepted { handed, sent } => Told {
+            entry: Entry::Accepted {
+                handed,
+                sent: number_of(&sent, number),
+            },
+            frame: sent,
+        },
+        Reply::Refused(refused) => no_frame(Entry::Refused(EntryFault::Station(refused))),
+    }
+}
+
+/// A number for the frame, if there is one.
+fn number_of(frame: &Option<Vec<u8>>, number: usize) -> Option<usize>
+    ensures { (relayed : Option Transmission) → IsRelay frame.now relayed →
+        result ≡ numbered number relayed }
+{
+    match frame {
+        Some(_) => Some(number),
+        None => None,
+    }
+}
+
+fn no_frame(entry: Entry) -> Told
+    ensures entry { result.entry ≡ entry }
+    ensures frame { result.frame ≡ None }
+{
+    Told { entry, frame: None }
+}
+
+/// What is told of a call of a station that isn't there.
+pub(crate) fn no_station() -> Told
+    ensures { result.entry ≡ Entry.Refused EntryFault.NoSuchStation }
+{
+    no_frame(Entry::Refused(EntryFault::NoSuchStation))
+}

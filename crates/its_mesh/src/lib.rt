@@ -1,0 +1,16 @@
+//! The command `mesh`: the stations of a scenario in one process, each with a UDP socket on the
+//! loopback. What comes by a socket goes through `Station::run`, whoever sent it.
+#![tactic(auto)]
+
+mod answers;
+mod command;
+mod mesh;
+mod rounds;
+#[cfg(test)]
+mod scripted;
+mod sockets;
+#[cfg(test)]
+mod tests;
+mod udp;
+
+pub use command::mesh_file;

@@ -1,0 +1,67 @@
+//! Rounds in which each socket is asked for what came.
+
+ghost use Rattle.std.specs.Prelude.{◌≤◌, IfOk};
+
+use crate::mesh::Mesh;
+use crate::sockets::{Received, Sockets};
+use its_commands::Fault;
+use its_linkframe::LONGEST_FRAME;
+use its_station::Call;
+use std::io::Write;
+
+/// The most rounds after an event, and the most datagrams that a socket is asked for in one.
+const MOST: u32 = 64;
+
+/// After so many rounds in a row in which nothing came no further one is held.
+const QUIET: u32 = 4;
+
+/// The longest prefix of a datagram that is read: one octet more than a frame may have, so that what
+/// is too long for a frame stays so.
+const LONGEST_READ: usize = LONGEST_FRAME + 1;
+
+impl<'a, S: Sockets, W: Write, E: Write> Mesh<'a, S, W, E> {
+    /// Holds rounds until nothing came in four in a row, 64 at most.
+    pub(crate) fn rounds<'f>(&mut self) -> Result<(), Fault<'f>> {
+        let mut quiet = 0;
+        for _ in 0..MOST {
+            quiet = if self.round()? { 0 } else { quiet + 1 };
+            if quiet == QUIET {
+                break;
+            }
+        }
+        Ok(())
+    }
+
+    /// Asks each socket in turn. Tells whether anything came.
+    fn round<'f>(&mut self) -> Result<bool, Fault<'f>> {
+        let mut came = false;
+        for station in 0..self.stations.len() {
+            if self.ask(station)? > 0 {
+                came = true;
+            }
+        }
+        Ok(came)
+    }
+
+    /// Asks a station's socket until it would block or fails, or 64 datagrams came, and hands each to
+    /// the station. Gives how many came.
+    fn ask<'f>(&mut self, station: usize) -> Result<u32, Fault<'f>>
+        ensures { IfOk result (λ count. count ≤ 64) }
+    {
+        let mut buffer = [0u8; LONGEST_READ];
+        for count in 0..MOST {
+            match self.sockets.receive(station, &mut buffer) {
+                Received::Done(length) => {
+                    let datagram = Vec::from_slice(self.alloc, &buffer[..length])?;
+                    self.call(station, self.moment, Call::Receive(datagram))?;
+                }
+                Received::WouldBlock => return Ok(count),
+                Received::Failed => {
+                    self.fail(Fault::ReceiveFailed(station));
+                    return Ok(count);
+                }
+            }
+        }
+        Ok(MOST)
+    }
+}

@@ -1,0 +1,35 @@
+//! The sockets of stations: datagrams sent to a station and received for one, without waiting.
+
+ghost use Rattle.its_mesh.specs.Sockets.{FitsBuffer};
+
+use std::io;
+
+/// What came of a send.
+#[derive(Clone, Copy, Debug, PartialEq, Eq)]
+pub(crate) enum Sent {
+    Done,
+    WouldBlock,
+    Failed,
+}
+
+/// What came of a receive.
+#[derive(Clone, Copy, Debug, PartialEq, Eq)]
+pub(crate) enum Received {
+    /// A datagram: so many octets at the start of the buffer. What has no room there is cut off.
+    Done(usize),
+    WouldBlock,
+    Failed,
+}
+
+/// A socket for each station, numbered from 0 in the order in which they are made.
+pub(crate) trait Sockets {
+    /// Makes the socket of the next station. Out of memory is the error of that kind.
+    fn make(&mut self) -> io::Result<()>;
+
+    /// Sends a datagram from one station's socket to another's.
+    fn send(&mut self, from: usize, to: usize, datagram: &[u8]) -> Sent;
+
+    /// Receives a datagram for a station.
+    fn receive(&mut self, station: usize, buffer: &mut [u8]) -> Received
+        ensures { FitsBuffer result buffer.new };
+}

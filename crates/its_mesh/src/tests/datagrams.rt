@@ -1,0 +1,207 @@
+//! What comes by a socket, whoever sent it.
+
+use super::{AFTER, BEFORE, FRAME, SEND, STATIONS, left_of, left_with, scenario};
+use crate::scripted::Scripted;
+use its_commands::Status;
+use std::alloc::Global;
+use std::test::Fail;
+
+/// So many octets, of which the first are these and the others 0.
+fn padded(alloc: Global, digits: &str, length: usize) -> Result<Vec<u8>, Fail> {
+    let mut datagram = hex::decode(alloc, digits)?;
+    while datagram.len() < length {
+        datagram.push(0)?;
+    }
+    Ok(datagram)
+}
+
+/// Target, source and type of frame 0.
+static LINK: &str = "ffffffffffff0200000000018947";
+
+/// A frame to another station with the longest payload, up to where that is only 0.
+static LONGEST: &str =
+    "020000000009020000000001894711001a0a2040008005760a00000000001400020000000001\
+    0000000000000000000000000000000000000000000000000064";
+
+/// One datagram of each length that matters: what is longer than 1469 octets is cut there.
+#[test]
+fn datagrams_of_each_length(rt: HostRuntime) -> Result<(), Fail> {
+    let cases = [
+        ("", 0usize, "refused S3 L1"),
+        ("00", 1, "refused S3 L1"),
+        (LINK, 1468, "refused S3 L5 G2 at 0"),
+        (LINK, 1469, "refused S3 L3"),
+        (LINK, 2000, "refused S3 L3"),
+        (LINK, 65507, "refused S3 L3"),
+        ("", 65507, "refused S3 L2"),
+        (LONGEST, 1467, "refused S3 L5 G1 at 1453"),
+        (LONGEST, 1468, "ignored not-for-me"),
+        (LONGEST, 1469, "refused S3 L3"),
+    ];
+    for (digits, length, entry) in cases {
+        let planted = [padded(rt.alloc(), digits, length)?];
+        let left = left_with(rt.alloc(), &planted)?;
+        let want = format!(in rt.alloc(); "{BEFORE}1000 1 {entry}\n{AFTER}")?;
+        assert_eq!(rt; left.out.as_slice(), want.as_bytes(), "{length}: {entry}");
+        assert_eq!(rt; left.status, Status::Done, "{length}");
+        assert!(rt; left.err.is_empty(), "{length}");
+    }
+    Ok(())
+}
+
+/// What is printed of frame 0 with one bit turned, and then of frame 0, for each bit.
+fn turned_bits(alloc: Global) -> Result<Vec<Vec<u8>>, Fail> {
+    let mut outputs = Vec::new(alloc);
+    for octet in 0..76 {
+        for bit in 0..8u32 {
+            let mut planted = [hex::decode(alloc, FRAME)?];
+            let [damaged] = &mut planted;
+            *damaged.get_mut(octet).ok_or("short")? ^= 1 << bit;
+            outputs.push(left_with(alloc, &planted)?.out)?;
+        }
+    }
+    Ok(outputs)
+}
+
+/// Of 608 frames with one bit turned, 16 have another type and 142 no good packet: so many have each
+/// code. A frame that is refused changes nothing.
+#[test]
+fn single_bits(rt: HostRuntime) -> Result<(), Fail> {
+    let alloc = rt.alloc();
+    let cases = [
+        ("", 158u32),
+        ("L1", 0),
+        ("L2\n", 16),
+        ("L3", 0),
+        ("L4\n", 2),
+        ("L5 G1 at ", 9),
+        ("L5 G1 at 62\n", 9),
+        ("L5 G2 at 0\n", 4),
+        ("L5 G3 at 0\n", 4),
+        ("L5 G4 at ", 59),
+        ("L5 G5 at ", 0),
+        ("L5 G6 at 4\n", 3),
+        ("L5 G7 at 5\n", 4),
+        ("L5 G8 at 5\n", 2),
+        ("L5 G9 at 10\n", 8),
+        ("L5 G10 at 8\n", 6),
+        ("L5 G11 at ", 4),
+        ("L5 G12 at ", 37),
+    ];
+    let outputs = turned_bits(alloc)?;
+    let refused = format!(in alloc; "{BEFORE}1000 1 refused S3 ")?;
+    for (code, want) in cases {
+        let start = format!(in alloc; "{refused}{code}")?;
+        let mut found = 0u32;
+        for output in &outputs {
+            if output.starts_with(start.as_bytes()) {
+                found = found.saturating_add(1);
+            }
+        }
+        assert_eq!(rt; found, want, "{code}");
+    }
+    for output in &outputs {
+        let lines = output.split(|octet| *octet == b'\n').count();
+        let is_refused = output.starts_with(refused.as_bytes());
+        assert!(rt; output.ends_with(AFTER.as_bytes()) && lines == 6 || !is_refused);
+        assert!(rt; output.starts_with(BEFORE.as_bytes()));
+    }
+    Ok(())
+}
+
+/// Each prefix of frame 0 is refused where it ends.
+#[test]
+fn cuts(rt: HostRuntime) -> Result<(), Fail> {
+    let alloc = rt.alloc();
+    for length in 0..76usize {
+        let mut frame = hex::decode(alloc, FRAME)?;
+        frame.truncate(length);
+        let fault = match length.checked_sub(14) {
+            None => "L1".to_string(alloc)?,
+            Some(at) => format!(in alloc; "L5 G1 at {at}")?,
+        };
+        let left = left_with(alloc, &[frame])?;
+        let want = format!(in alloc; "{BEFORE}1000 1 refused S3 {fault}\n{AFTER}")?;
+        assert_eq!(rt; left.out.as_slice(), want.as_bytes(), "{length}");
+        assert_eq!(rt; left.status, Status::Done, "{length}");
+    }
+    Ok(())
+}
+
+const SOURCES: u16 = 10_000;
+
+/// The beacon of one of many sources.
+fn beacon(alloc: Global, source: u16) -> Result<Vec<u8>, Fail> {
+    let digits = format!(in alloc;
+        "ffffffffffff02100000{source:04x}894711001a01001000800000010014000210000\
+        0{source:04x}00000000000000000000000000000000"
+    )?;
+    Ok(hex::decode(alloc, digits.as_str())?)
+}
+
+/// How many lines an output has that begin so.
+fn lines_with(output: &[u8], start: &str) -> usize {
+    output
+        .split(|octet| *octet == b'\n')
+        .filter(|line| line.starts_with(start.as_bytes()))
+        .count()
+}
+
+/// Beacons of far more sources than a location table has room for, and than 64 rounds of 64 take.
+/// The first 64 are accepted, also after those of before expired.
+#[test]
+fn a_flood(rt: HostRuntime) -> Result<(), Fail> {
+    let alloc = rt.alloc();
+    let mut planted = Vec::new(alloc);
+    for source in 0..SOURCES {
+        planted.push(beacon(alloc, source)?)?;
+    }
+    let later = "station = 0, at = 21000, do = \"open\", port = 1";
+    let last = "station = 0, at = 21000, do = \"close\", port = 1";
+    let text = scenario(alloc, STATIONS, &[SEND, later, last])?;
+    let mut sockets = Scripted::new(alloc, planted.as_slice(), None);
+    let left = left_of(alloc, text.as_bytes(), &mut sockets);
+    let cases = [
+        ("1000 1 accepted", 64),
+        ("1000 1 refused S4", 4032),
+        ("1000 1", 4096),
+        ("21000 0 opened", 1),
+        ("21000 1 accepted", 64),
+        ("21000 1 refused S4", 5841),
+        ("21000 0 closed", 1),
+    ];
+    for (start, want) in cases {
+        assert_eq!(rt; lines_with(&left.out, start), want, "{start}");
+    }
+    // Each round asks station 0 once, and station 1 for each datagram and once for none: 64 rounds
+    // of 65 and 64 more asks, twice; then 28 full rounds, one of 17 datagrams and four quiet ones.
+    assert_eq!(rt; sockets.receives, 2 * 64 * 65 + 28 * 65 + 1 + 18 + 4 * 2);
+    assert_eq!(rt; left.status, Status::Done);
+    assert!(rt; left.err.is_empty());
+    Ok(())
+}
+
+/// How often sockets are asked after events where nothing comes.
+#[test]
+fn four_quiet_rounds(rt: HostRuntime) -> Result<(), Fail> {
+    let one = "station = [{address = \"1400020000000001\", lat = 0, lon = 0}]\n";
+    let deliver = "station = 0, at = 0, do = \"deliver\", frame = 0";
+    let quiet = "station = 0, at = 0, do = \"tick\", jitter = 1";
+    let absent = "station = 9, at = 0, do = \"tick\", jitter = 1";
+    let cases: [(&str, &[&str], u32); 6] = [
+        (one, &[], 0),
+        (one, &[deliver], 0),
+        (one, &[quiet], 4),
+        (one, &[quiet, deliver, absent], 8),
+        (STATIONS, &[quiet], 8),
+        ("", &[absent], 0),
+    ];
+    for (stations, events, want) in cases {
+        let text = scenario(rt.alloc(), stations, events)?;
+        let mut sockets = Scripted::new(rt.alloc(), &[], None);
+        let left = left_of(rt.alloc(), text.as_bytes(), &mut sockets);
+        assert_eq!(rt; left.status, Status::Done, "{text}");
+        assert_eq!(rt; sockets.receives, want, "{text}");
+    }
+    Ok(())
+}

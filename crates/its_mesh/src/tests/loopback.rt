@@ -1,0 +1,72 @@
+//! The command over the sockets of the loopback.
+
+use super::{DELIVER, LINES, OPEN, SEND, STATIONS, scenario};
+use crate::command::mesh_file;
+use crate::sockets::{Received, Sent, Sockets};
+use crate::udp::UdpSockets;
+use its_commands::Status;
+use std::test::Fail;
+use std::{env, fs};
+
+#[test]
+fn a_file_is_run(rt: HostRuntime) -> Result<(), Fail> {
+    let folder = env::temp_dir(&rt)?;
+    let made = folder.join(rt.alloc(), "geostation-mesh.toml")?;
+    let text = scenario(rt.alloc(), STATIONS, &[OPEN, SEND, DELIVER])?;
+    fs::write(&rt, made.as_str(), text.as_str())?;
+    let (mut out, mut err) = (Vec::new(rt.alloc()), Vec::new(rt.alloc()));
+    let status = mesh_file(&rt, made.as_str(), &mut out, &mut err);
+    fs::remove_file(&rt, made.as_str())?;
+    assert_eq!(rt; out.as_slice(), LINES.as_bytes());
+    assert_eq!(rt; status, Status::Done);
+    assert!(rt; err.is_empty());
+    let status = mesh_file(&rt, made.as_str(), &mut out, &mut err);
+    let said = format!(in rt.alloc(); "geostation: cannot read {}\n", made.as_str())?;
+    assert_eq!(rt; status, Status::Failed);
+    assert_eq!(rt; err.as_slice(), said.as_bytes());
+    assert_eq!(rt; out.as_slice(), LINES.as_bytes());
+    Ok(())
+}
+
+/// What has no room in the buffer is cut off. A socket that isn't there fails.
+#[test]
+fn datagrams_cross_the_loopback(rt: HostRuntime) -> Result<(), Fail> {
+    let mut sockets = UdpSockets::new(&rt, rt.alloc());
+    sockets.make()?;
+    sockets.make()?;
+    let mut buffer = [0u8; 1469];
+    assert_eq!(rt; sockets.receive(1, &mut buffer), Received::WouldBlock);
+    for (length, count) in [
+        (5usize, 5usize),
+        (0, 0),
+        (1469, 1469),
+        (2000, 1469),
+        (65507, 1469),
+    ] {
+        let datagram = [7u8].repeat(rt.alloc(), length)?;
+        assert_eq!(rt;
+            sockets.send(0, 1, datagram.as_slice()),
+            Sent::Done,
+            "{length}"
+        );
+        assert_eq!(rt;
+            sockets.receive(1, &mut buffer),
+            Received::Done(count),
+            "{length}"
+        );
+        assert!(rt; datagram.starts_with(&buffer[..count]), "{length}");
+        assert_eq!(rt;
+            sockets.receive(1, &mut buffer),
+            Received::WouldBlock,
+            "{length}"
+        );
+    }
+    assert_eq!(rt;
+        sockets.send(0, 1, [7u8].repeat(rt.alloc(), 65508)?.as_slice()),
+        Sent::Failed
+    );
+    assert_eq!(rt; sockets.send(0, 2, b"7"), Sent::Failed);
+    assert_eq!(rt; sockets.send(2, 0, b"7"), Sent::Failed);
+    assert_eq!(rt; sockets.receive(2, &mut buffer), Received::Failed);
+    Ok(())
+}
