@@ -1,5 +1,6 @@
 -- What the tests of fields mean.
-use Rattle.std.proofs.Common.{◌≡◌, ℕ, ◌+◌, ◌%◌, ◌^◌, ◌<◌, Bool, true, false, cond, nat_le, arith, ℤ, pos, negsuc}
+use Rattle.std.proofs.Common.{◌≡◌, ℕ, ◌+◌, ◌%◌, ◌^◌, ◌<◌, Bool, true, false, cond, nat_le, arith, ℤ}
+use Rattle.std.proofs.Common.{pos, negsuc}
 use Rattle.std.proofs.lemmas.Int.{ints}
 use Rattle.std.specs.Int.{w32, cast_signed, cast_unsigned}
 use Rattle.its_gnvalue.specs.Values.{IsLatitude, IsLongitude, IsSpeed}

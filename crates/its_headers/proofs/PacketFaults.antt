@@ -1,5 +1,7 @@
 -- The fault that the reading of a packet meets is the first one.
-use Rattle.std.proofs.Common.{◌≡◌, ℕ, ◌+◌, ◌*◌, ◌/◌, ◌^◌, ◌<◌, List, [], ◌∷◌, ◌++◌, take, drop, Bool, true, false, cond, eqb, Result, Ok, Err, refl, sym, ap, subst, arith}
+use Rattle.std.proofs.Common.{◌≡◌, ℕ, ◌+◌, ◌*◌, ◌/◌, ◌^◌, ◌<◌, List, [], ◌∷◌, ◌++◌, take, drop}
+use Rattle.std.proofs.Common.{Bool, true, false, cond, eqb, Result, Ok, Err, refl, sym, ap, subst}
+use Rattle.std.proofs.Common.{arith}
 use Rattle.std.proofs.lemmas.List.{take-append-drop}
 use Rattle.byteorder.specs.Endian.{big_number, big_bytes}
 use Rattle.its_gnvalue.specs.Values.{PositionVector}
@@ -11,26 +13,54 @@ use Rattle.its_headers.specs.declared.kind.Kind.TheVariants.{Beacon, Shb, Gbc, G
 use Rattle.its_model.specs.Packet.{Pdu, Body, AreaKind, geobroadcast, geoanycast}
 use Rattle.its_headers.specs.Encoding.{IsBytes, Encodes}
 use Rattle.its_headers.specs.Format.{Format, ends, number, halves, octets, after, walk}
-use Rattle.its_headers.specs.Layout.{basic_format, type_format, common_format, vector_format, area_format, area_packet_format, body_format, packet_format, is_type, is_subtype, is_length, is_next, is_second, is_angle}
-use Rattle.its_headers.specs.FirstFault.{Row, common_rows, vector_rows, shb_rows, area_packet_rows, rows_of, FaultAmong, FirstFault}
+use Rattle.its_headers.specs.Layout.{basic_format, type_format, common_format, vector_format}
+use Rattle.its_headers.specs.Layout.{area_format, area_packet_format, body_format, packet_format}
+use Rattle.its_headers.specs.Layout.{is_type, is_subtype, is_length, is_next, is_second, is_angle}
+use Rattle.its_headers.specs.FirstFault.{Row, common_rows, vector_rows, shb_rows, area_packet_rows}
+use Rattle.its_headers.specs.FirstFault.{rows_of, FaultAmong, FirstFault}
 use Rattle.its_headers.proofs.Spells.{Spells}
 use Rattle.its_headers.proofs.Packets.{basic_spelled}
 use Rattle.its_headers.proofs.Encodings.{read_front, encoding_read}
-use Rattle.its_headers.proofs.Faults.{IsInhabited, Rules, Path, rows_in, faults, faultless, one_fault}
+use Rattle.its_headers.proofs.Faults.{IsInhabited, Rules, Path, rows_in, faults, faultless}
+use Rattle.its_headers.proofs.Faults.{one_fault}
 
 rules : Rules packet_format
 rules = record { sound = encoding_read; full = λ w x n fits e. (read_front w x n fits e).encodes }
 
-inhabited_after : {A B : Type 0} (f : Format A) (g : A → Format B) → IsInhabited f → ((x : A) (s : List ℕ) → Spells f x s → IsInhabited (g x)) → IsInhabited (after f g)
+inhabited_after : {A B : Type 0} (f : Format A) (g : A → Format B) → IsInhabited f
+    → ((x : A) (s : List ℕ) → Spells f x s → IsInhabited (g x)) → IsInhabited (after f g)
 inhabited_after (ends x) g h k = k x [] (refl, refl)
-inhabited_after (number n kind right next) g h k = (h.0, λ v lt r. inhabited_after (next v) g (h.1 v lt r) (λ x s p. k x (big_bytes n v ++ s) (v, s, lt, r, refl, p)))
-inhabited_after (halves high is_high low is_low next) g h k =
-    (h.0, λ a la ra. ((h.1 a la ra).0, λ b lb rb. inhabited_after (next a b) g ((h.1 a la ra).1 b lb rb) (λ x s p. k x ((16 * a + b) ∷ s) (a, b, s, la, lb, ra, rb, refl, p))))
-inhabited_after (octets n next) g h k = λ bytes len fits. inhabited_after (next bytes) g (h bytes len fits) (λ x s p. k x (bytes ++ s) (bytes, s, len, fits, refl, p))
+inhabited_after (number n kind right next) g h k = (
+  h.0,
+  λ v lt r.
+      inhabited_after (next v) g (h.1 v lt r)
+      (λ x s p. k x (big_bytes n v ++ s) (v, s, lt, r, refl, p)),
+)
+inhabited_after (halves high is_high low is_low next) g h k = (
+  h.0,
+  λ a la ra. (
+    (h.1 a la ra).0,
+    λ b lb rb. inhabited_after (next a b) g ((h.1 a la ra).1 b lb rb)
+        (λ x s p. k x ((16 * a + b) ∷ s) (a, b, s, la, lb, ra, rb, refl, p)),
+  ),
+)
+inhabited_after (octets n next) g h k =
+    λ bytes len fits.
+    inhabited_after (next bytes) g (h bytes len fits)
+    (λ x s p. k x (bytes ++ s) (bytes, s, len, fits, refl, p))
 
 basic_inhabited : IsInhabited basic_format
 unfolding basic_format
-basic_inhabited = ((1, omega arith, refl), λ _ _ _. ((1, omega arith, refl), λ _ _ _. ((0, omega arith, refl), λ _ _ _. ((0, omega arith, refl), λ _ _ _. ((1, omega arith, refl), λ _ _ _. tt)))))
+basic_inhabited = (
+  (1, omega arith, refl),
+  λ _ _ _. (
+    (1, omega arith, refl),
+    λ _ _ _. (
+      (0, omega arith, refl),
+      λ _ _ _. ((0, omega arith, refl), λ _ _ _. ((1, omega arith, refl), λ _ _ _. tt)),
+    ),
+  ),
+)
 
 a_type : (n : ℕ) → is_next n ≡ true → (t : ℕ) × (t < 16) × (is_type n t ≡ true)
 a_type n h = (cond (eqb n 0) 1 4, grind arith, grind arith)
@@ -51,8 +81,19 @@ common_inhabited left lt = (
       a_type n rn,
       λ t _ _. (
         (0, omega arith, a_subtype t),
-        λ _ _ _.
-            ((0, omega arith, refl), λ _ _ _. ((0, omega arith, refl), λ _ _ _. (a_length t, λ _ _ _. ((255, omega arith, grind arith), λ _ _ _. ((0, omega arith, refl), λ _ _ _. tt))))),
+        λ _ _ _. (
+          (0, omega arith, refl),
+          λ _ _ _. (
+            (0, omega arith, refl),
+            λ _ _ _. (
+              a_length t,
+              λ _ _ _. (
+                (255, omega arith, grind arith),
+                λ _ _ _. ((0, omega arith, refl), λ _ _ _. tt),
+              ),
+            ),
+          ),
+        ),
       ),
     ),
   ),
@@ -60,7 +101,19 @@ common_inhabited left lt = (
 
 vector_inhabited : IsInhabited vector_format
 unfolding vector_format
-vector_inhabited = ((0, omega arith, refl), λ _ _ _. ((0, omega arith, refl), λ _ _ _. ((0, omega arith, refl), λ _ _ _. ((0, omega arith, refl), λ _ _ _. ((0, omega arith, refl), λ _ _ _. ((0, omega arith, refl), λ _ _ _. tt))))))
+vector_inhabited = (
+  (0, omega arith, refl),
+  λ _ _ _. (
+    (0, omega arith, refl),
+    λ _ _ _. (
+      (0, omega arith, refl),
+      λ _ _ _. (
+        (0, omega arith, refl),
+        λ _ _ _. ((0, omega arith, refl), λ _ _ _. ((0, omega arith, refl), λ _ _ _. tt)),
+      ),
+    ),
+  ),
+)
 
 a_second : (shape : Shape) → (n : ℕ) × (n < 256 ^ 2) × (is_second shape n ≡ true)
 a_second Circle = (0, omega arith, refl)
@@ -74,24 +127,50 @@ an_angle Ellipse = refl
 
 area_inhabited : (shape : Shape) → IsInhabited (area_format shape)
 unfolding area_format
-area_inhabited shape = ((0, omega arith, refl), λ _ _ _. ((0, omega arith, refl), λ _ _ _. ((1, omega arith, refl), λ _ _ _. (a_second shape, λ _ _ _. ((0, omega arith, an_angle shape), λ _ _ _. tt)))))
+area_inhabited shape = (
+  (0, omega arith, refl),
+  λ _ _ _. (
+    (0, omega arith, refl),
+    λ _ _ _. (
+      (1, omega arith, refl),
+      λ _ _ _. (a_second shape, λ _ _ _. ((0, omega arith, an_angle shape), λ _ _ _. tt)),
+    ),
+  ),
+)
 
-area_packet_inhabited : (kind : AreaKind) (shape : Shape) (n : ℕ) → IsInhabited (area_packet_format kind shape n)
-area_packet_inhabited kind shape n = ((0, omega arith, refl), λ _ _ _. ((0, omega arith, refl), λ _ _ _. inhabited_after vector_format _ vector_inhabited (λ _ _ _. inhabited_after (area_format shape) _ (area_inhabited shape) (λ _ _ _. ((0, omega arith, refl), λ _ _ _. λ _ _ _. tt)))))
+area_packet_inhabited : (kind : AreaKind) (shape : Shape) (n : ℕ)
+    → IsInhabited (area_packet_format kind shape n)
+area_packet_inhabited kind shape n = (
+  (0, omega arith, refl),
+  λ _ _ _. (
+    (0, omega arith, refl),
+    λ _ _ _. inhabited_after vector_format _ vector_inhabited
+        (λ _ _ _. inhabited_after (area_format shape) _ (area_inhabited shape)
+        (λ _ _ _. ((0, omega arith, refl), λ _ _ _. λ _ _ _. tt))),
+  ),
+)
 
 body_inhabited : (k : Kind) (shape : Shape) (n : ℕ) → IsInhabited (body_format k shape n)
 body_inhabited Beacon shape n = inhabited_after vector_format _ vector_inhabited (λ _ _ _. tt)
-body_inhabited Shb shape n = inhabited_after vector_format _ vector_inhabited (λ _ _ _. λ _ _ _. λ _ _ _. tt)
+body_inhabited Shb shape n =
+    inhabited_after vector_format _ vector_inhabited (λ _ _ _. λ _ _ _. λ _ _ _. tt)
 body_inhabited Gbc shape n = area_packet_inhabited geobroadcast shape n
 body_inhabited Gac shape n = area_packet_inhabited geoanycast shape n
 
 inhabited : IsInhabited packet_format
-inhabited = inhabited_after basic_format _ basic_inhabited (λ b s h. inhabited_after (common_format b.1) _ (common_inhabited b.1 (basic_spelled b s h).left) (λ c _ _. inhabited_after (body_format c.kind c.shape c.length) _ (body_inhabited c.kind c.shape c.length) (λ _ _ _. tt)))
+inhabited =
+    inhabited_after basic_format _ basic_inhabited
+    (λ b s h. inhabited_after (common_format b.1) _
+    (common_inhabited b.1 (basic_spelled b s h).left)
+    (λ c _ _. inhabited_after (body_format c.kind c.shape c.length) _
+    (body_inhabited c.kind c.shape c.length) (λ _ _ _. tt)))
 
 -- ---- the rows
 
-rows_of_kind : {B : Type 0} (one five three : Bool) (shape : Shape) (n : ℕ) (g : PositionVector × Body → B) (w : List ℕ)
-    → rows_in (after (body_format (cond one Beacon (cond five Shb (cond three Gac Gbc))) shape n) (λ x. ends (g x))) 12 w ≡ cond one vector_rows (cond five (shb_rows n) (area_packet_rows n))
+rows_of_kind : {B : Type 0} (one five three : Bool) (shape : Shape) (n : ℕ) (g : PositionVector
+    × Body → B) (w : List ℕ)
+    → rows_in (after (body_format (cond one Beacon (cond five Shb (cond three Gac Gbc))) shape n)
+    (λ x. ends (g x))) 12 w ≡ cond one vector_rows (cond five (shb_rows n) (area_packet_rows n))
 unfolding vector_format area_format
 rows_of_kind true five three shape n g w = refl
 rows_of_kind false true three shape n g w = refl
@@ -100,26 +179,43 @@ rows_of_kind false false false shape n g w = refl
 
 rows_are : (w : List ℕ) → rows_in packet_format 0 w ≡ rows_of w
 unfolding basic_format type_format common_format
-rows_are w = ap (λ (t : List Row). common_rows ++ t) (rows_of_kind (eqb (big_number 1 (drop 5 w) / 16) 1) (eqb (big_number 1 (drop 5 w) / 16) 5) (eqb (big_number 1 (drop 5 w) / 16) 3) _ (big_number 2 (drop 8 w)) _ w)
+rows_are w =
+    ap (λ (t : List Row). common_rows ++ t)
+    (rows_of_kind (eqb (big_number 1 (drop 5 w) / 16) 1) (eqb (big_number 1 (drop 5 w) / 16) 5)
+    (eqb (big_number 1 (drop 5 w) / 16) 3) _ (big_number 2 (drop 8 w)) _ w)
 
 from_start : (w : List ℕ) → Path packet_format packet_format 0 w
 from_start w = record { goes = λ v same le. refl }
 
-pub fault_is_first : (w : List ℕ) (e : Fault) → IsBytes w → walk packet_format 0 w ≡ Err e → FirstFault w e
+pub fault_is_first : (w : List ℕ) (e : Fault) → IsBytes w → walk packet_format 0 w ≡ Err e
+    → FirstFault w e
 unfolding FirstFault
-fault_is_first w e fits h = subst (λ (t : List Row). FaultAmong t 0 w e) (rows_are w) (faults packet_format packet_format 0 0 w e rules (from_start w) inhabited fits (omega arith) (omega arith) h)
+fault_is_first w e fits h =
+    subst (λ (t : List Row). FaultAmong t 0 w e) (rows_are w)
+    (faults packet_format packet_format 0 0 w e rules (from_start w) inhabited fits (omega arith)
+    (omega arith) h)
 
-pub no_first_fault : (w : List ℕ) (x : Pdu × ℕ) (n : ℕ) (e : Fault) → IsBytes w → walk packet_format 0 w ≡ Ok (x, n) → FirstFault w e → ⊥
+pub no_first_fault : (w : List ℕ) (x : Pdu × ℕ) (n : ℕ) (e : Fault) → IsBytes w
+    → walk packet_format 0 w ≡ Ok (x, n) → FirstFault w e → ⊥
 unfolding FirstFault
-no_first_fault w x n e fits h f = faultless packet_format packet_format 0 0 w x n e rules (from_start w) inhabited fits (omega arith) (omega arith) h (subst (λ (t : List Row). FaultAmong t 0 w e) (sym (rows_are w)) f)
+no_first_fault w x n e fits h f =
+    faultless packet_format packet_format 0 0 w x n e rules (from_start w) inhabited fits
+    (omega arith) (omega arith) h
+    (subst (λ (t : List Row). FaultAmong t 0 w e) (sym (rows_are w)) f)
 
 pub same_first_fault : (w : List ℕ) (e d : Fault) → FirstFault w e → FirstFault w d → e ≡ d
 unfolding FirstFault
 same_first_fault w e d he hd = one_fault (rows_of w) 0 w e d he hd
 
-by_reading : (w : List ℕ) (r : Result ((Pdu × ℕ) × ℕ) Fault) → walk packet_format 0 w ≡ r → IsBytes w → ((p : Pdu) (left : ℕ) (s rest : List ℕ) → Encodes p left s → w ≡ s ++ rest → ⊥) → (e : Fault) × FirstFault w e
-by_reading w (Ok (x, n)) h fits no_front = absurd (no_front x.0 x.1 (take n w) (drop n w) (read_front w x n fits h).encodes (sym (take-append-drop n w)))
+by_reading : (w : List ℕ) (r : Result ((Pdu × ℕ) × ℕ) Fault) → walk packet_format 0 w ≡ r
+    → IsBytes w → ((p : Pdu) (left : ℕ) (s rest : List ℕ) → Encodes p left s → w ≡ s ++ rest → ⊥)
+    → (e : Fault) × FirstFault w e
+by_reading w (Ok (x, n)) h fits no_front =
+    absurd (no_front x.0 x.1 (take n w) (drop n w) (read_front w x n fits h).encodes
+    (sym (take-append-drop n w)))
 by_reading w (Err e) h fits no_front = (e, fault_is_first w e fits h)
 
-pub some_first_fault : (w : List ℕ) → IsBytes w → ((p : Pdu) (left : ℕ) (s rest : List ℕ) → Encodes p left s → w ≡ s ++ rest → ⊥) → (e : Fault) × FirstFault w e
+pub some_first_fault : (w : List ℕ) → IsBytes w
+    → ((p : Pdu) (left : ℕ) (s rest : List ℕ) → Encodes p left s → w ≡ s ++ rest → ⊥)
+    → (e : Fault) × FirstFault w e
 some_first_fault w fits no_front = by_reading w (walk packet_format 0 w) refl fits no_front

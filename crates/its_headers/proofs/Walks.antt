@@ -1,18 +1,23 @@
 -- Walks of formats.
-use Rattle.std.proofs.Common.{◌≡◌, ℕ, ◌+◌, ◌/◌, ◌%◌, List, Bool, true, false, cond, Result, Ok, Err, refl, sym, ◌∙◌}
+use Rattle.std.proofs.Common.{◌≡◌, ℕ, ◌+◌, ◌/◌, ◌%◌, List, Bool, true, false, cond, Result, Ok, Err}
+use Rattle.std.proofs.Common.{refl, sym, ◌∙◌}
 use Rattle.its_faults.specs.declared.packet.Fault.{Fault}
-use Rattle.its_headers.specs.Format.{Format, ends, number, halves, octets, after, walk, number_at, octets_at, ◌>>=◌}
+use Rattle.its_headers.specs.Format.{Format, ends, number, halves, octets, after, walk, number_at}
+use Rattle.its_headers.specs.Format.{octets_at, ◌>>=◌}
 
 -- a step at both ends of a bind
-pub bind_same : {A B : Type 0} (r : Result A Fault) (f g : A → Result B Fault) → ((x : A) → f x ≡ g x) → (r >>= f) ≡ (r >>= g)
+pub bind_same : {A B : Type 0} (r : Result A Fault) (f g : A → Result B Fault)
+    → ((x : A) → f x ≡ g x) → (r >>= f) ≡ (r >>= g)
 bind_same (Ok x) f g h = h x
 bind_same (Err e) f g h = refl
 
-pub bind_assoc : {A B C : Type 0} (r : Result A Fault) (f : A → Result B Fault) (g : B → Result C Fault) → ((r >>= f) >>= g) ≡ (r >>= λ x. f x >>= g)
+pub bind_assoc : {A B C : Type 0} (r : Result A Fault) (f : A → Result B Fault) (g : B
+    → Result C Fault) → ((r >>= f) >>= g) ≡ (r >>= λ x. f x >>= g)
 bind_assoc (Ok x) f g = refl
 bind_assoc (Err e) f g = refl
 
-bind_cond : {A B : Type 0} (b : Bool) (x y : Result A Fault) (g : A → Result B Fault) → (cond b x y >>= g) ≡ cond b (x >>= g) (y >>= g)
+bind_cond : {A B : Type 0} (b : Bool) (x y : Result A Fault) (g : A → Result B Fault)
+    → (cond b x y >>= g) ≡ cond b (x >>= g) (y >>= g)
 bind_cond true x y g = refl
 bind_cond false x y g = refl
 
@@ -20,11 +25,19 @@ cond_same : {A : Type 0} (b : Bool) (x y z : A) → x ≡ y → cond b x z ≡ c
 cond_same true x y z h = h
 cond_same false x y z h = refl
 
-pub walk_after : {A B : Type 0} (f : Format A) (g : A → Format B) (at : ℕ) (w : List ℕ) → walk (after f g) at w ≡ (walk f at w >>= λ x. walk (g x.0) x.1 w)
+pub walk_after : {A B : Type 0} (f : Format A) (g : A → Format B) (at : ℕ) (w : List ℕ)
+    → walk (after f g) at w ≡ (walk f at w >>= λ x. walk (g x.0) x.1 w)
 walk_after (ends x) g at w = refl
 walk_after (number n kind right next) g at w =
-    bind_same (number_at n at w) _ _ (λ v. cond_same (right v) _ _ _ (walk_after (next v) g (at + n) w) ∙ sym (bind_cond (right v) _ _ _)) ∙ sym (bind_assoc (number_at n at w) _ _)
+    bind_same (number_at n at w) _ _
+    (λ v. cond_same (right v) _ _ _ (walk_after (next v) g (at + n) w)
+    ∙ sym (bind_cond (right v) _ _ _)) ∙ sym (bind_assoc (number_at n at w) _ _)
 walk_after (halves high is_high low is_low next) g at w =
-    bind_same (number_at 1 at w) _ _ (λ v. cond_same (is_high (v / 16)) _ _ _ (cond_same (is_low (v / 16) (v % 16)) _ _ _ (walk_after (next (v / 16) (v % 16)) g (at + 1) w) ∙ sym (bind_cond (is_low (v / 16) (v % 16)) _ _ _)) ∙ sym (bind_cond (is_high (v / 16)) _ _ _)) ∙ sym (bind_assoc (number_at 1 at w) _ _)
+    bind_same (number_at 1 at w) _ _
+    (λ v. cond_same (is_high (v / 16)) _ _ _
+    (cond_same (is_low (v / 16) (v % 16)) _ _ _ (walk_after (next (v / 16) (v % 16)) g (at + 1) w)
+    ∙ sym (bind_cond (is_low (v / 16) (v % 16)) _ _ _)) ∙ sym (bind_cond (is_high (v / 16)) _ _ _))
+    ∙ sym (bind_assoc (number_at 1 at w) _ _)
 walk_after (octets n next) g at w =
-    bind_same (octets_at n at w) _ _ (λ bytes. walk_after (next bytes) g (at + n) w) ∙ sym (bind_assoc (octets_at n at w) _ _)
+    bind_same (octets_at n at w) _ _ (λ bytes. walk_after (next bytes) g (at + n) w)
+    ∙ sym (bind_assoc (octets_at n at w) _ _)

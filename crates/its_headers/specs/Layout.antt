@@ -185,7 +185,10 @@ abbrev pub area_from : Shape → ℕ → ℕ → ℕ → ℕ → ℕ → GeoArea
 area_from shape latitude longitude a b angle =
     record {
       shape = shape;
-      centre = record { latitude = cast_signed w32 latitude; longitude = cast_signed w32 longitude };
+      centre = record {
+        latitude = cast_signed w32 latitude;
+        longitude = cast_signed w32 longitude;
+      };
       a = a;
       b = b;
       angle = angle;

@@ -49,7 +49,8 @@ MeetsEnd old new = IsAtEnd old × IsAtEnd new × Consumes old new []
 -- What a fault says of the octets that the source had, and what it leaves of them: none (C1), all
 -- after the length (C2, C4), some end (C3), all (C5).
 abbrev pub IsReadFault : Option (List ℕ) → Option (List ℕ) → CaptureFault → Type 0
-IsReadFault old new faults.CutRecord = IfSome old EndsInRecord × ConsumesPrefix old new × IsAtEnd new
+IsReadFault old new faults.CutRecord =
+    IfSome old EndsInRecord × ConsumesPrefix old new × IsAtEnd new
 IsReadFault old new faults.Length = IfSome old AnnouncesNoFrame × ConsumesHead old new
 IsReadFault old new faults.Io = ConsumesPrefix old new
 IsReadFault old new faults.NoMemory = IfSome old AnnouncesFrame × ConsumesHead old new

@@ -206,15 +206,80 @@ fn codes_of_frames_and_captures(rt: HostRuntime) -> Result<(), Fail> {
 /// A person reads what happened, and where.
 #[test]
 fn sentences(rt: HostRuntime) -> Result<(), Fail> {
+    sentences_of_packets(&rt, rt.alloc())?;
     let fault = Fault {
         at: 10,
         kind: FaultKind::HopAboveMax,
     };
     let want = "more hops left than the maximum, at octet 10";
-    assert_eq!(rt; format!(in rt.alloc(); "{fault}")?.as_str(), want);
-    let decoded = DecodeFault::from(fault);
+    let (decoded, memory) = (DecodeFault::from(fault), DecodeFault::NoMemory);
     assert_eq!(rt; format!(in rt.alloc(); "{decoded}")?.as_str(), want);
-    let framed = format!(in rt.alloc(); "{}", FrameFault::from(fault))?;
-    assert!(rt; framed.as_str().ends_with(want));
+    assert_eq!(rt;
+        format!(in rt.alloc(); "{memory}")?.as_str(),
+        "out of memory"
+    );
+    for (fault, want) in [
+        (FrameFault::Short, "a frame of fewer than 14 octets"),
+        (FrameFault::EtherType, "a frame of another type than 0x8947"),
+        (FrameFault::TooLong, "a frame of more than 1468 octets"),
+        (FrameFault::Packet(fault), want),
+        (FrameFault::Trailing, "octets after the packet"),
+    ] {
+        let said = format!(in rt.alloc(); "{fault}")?;
+        assert!(rt; said.as_str().ends_with(want), "{fault}");
+    }
+    sentences_of_captures(&rt, rt.alloc())
+}
+
+fn sentences_of_packets(rt: &impl Abort, alloc: Global) -> Result<(), Fail> {
+    for (kind, want) in [
+        (
+            FaultKind::Truncated,
+            "the octets end in a field or before it",
+        ),
+        (FaultKind::Version, "a version other than 1"),
+        (
+            FaultKind::BasicNext,
+            "no Common Header after the Basic Header",
+        ),
+        (FaultKind::Reserved, "a reserved bit that is set"),
+        (FaultKind::HopZero, "no hop left"),
+        (
+            FaultKind::CommonNext,
+            "neither nothing nor BTP-B after the headers",
+        ),
+        (FaultKind::HeaderType, "a header type that is not read"),
+        (
+            FaultKind::SubType,
+            "a sub-type that the header type does not have",
+        ),
+        (FaultKind::HopAboveMax, "more hops left than the maximum"),
+        (FaultKind::PayloadLength, "a payload length out of range"),
+        (
+            FaultKind::Position,
+            "a group address or a place out of range",
+        ),
+        (FaultKind::Area, "an area out of range"),
+    ] {
+        let fault = Fault { at: 10, kind };
+        let want = format!(in alloc; "{want}, at octet 10")?;
+        assert_eq!(rt; format!(in alloc; "{fault}")?.as_str(), want.as_str());
+    }
+    Ok(())
+}
+
+fn sentences_of_captures(rt: &impl Abort, alloc: Global) -> Result<(), Fail> {
+    for (fault, want) in [
+        (CaptureFault::CutRecord, "the input ends inside a record"),
+        (
+            CaptureFault::Length,
+            "a frame of no octet or of more than 1468",
+        ),
+        (CaptureFault::Io, "a call of the device failed"),
+        (CaptureFault::NoMemory, "out of memory"),
+        (CaptureFault::Failed, "an earlier call failed"),
+    ] {
+        assert_eq!(rt; format!(in alloc; "{fault}")?.as_str(), want);
+    }
     Ok(())
 }

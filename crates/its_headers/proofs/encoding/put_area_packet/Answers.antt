@@ -8,14 +8,46 @@ pub returns-clause-gbc : goal.returns-clause-gbc
 returns-clause-gbc c = λ is.
     let p = c.args.packet.now in
     let w = c.put_payload.ensures in
-    let heads = heads_put p.header 32 (64 + shape_code p.area.shape) (length p.payload) _ _ _ c.put_basic.ensures.puts (rw (ap length c.octets.ensures.value, c.shape.ensures, is) at c.put_common.ensures.puts) (omega (arith, c.requires)) in
-    let fits : HeaderFits p.header = record { octets = (c.put_basic.ensures.lifetime, c.put_common.ensures.class, c.put_common.ensures.hops.1); hops = (c.put_basic.ensures.some_left, c.put_common.ensures.hops.0) } in
-    rw w.end (area_packet_written geobroadcast p.header _ p.number p.area p.payload _ _ _ _ _ _ _ _ refl heads c.put_u16.ensures c.put_u16-2.ensures c.put_vector.ensures.puts c.put_area.ensures.puts c.put_u16-3.ensures w.puts (omega (arith, c.requires)) fits c.put_vector.ensures.fits c.put_area.ensures.fits (search rules) w.low w.high w.bytes)
+    let heads =
+    heads_put p.header 32 (64 + shape_code p.area.shape)
+    (length p.payload) _ _ _ c.put_basic.ensures.puts
+    (rw (ap length c.octets.ensures.value, c.shape.ensures, is) at c.put_common.ensures.puts)
+    (omega (arith, c.requires)) in
+    let fits : HeaderFits p.header =
+    record {
+      octets = (
+        c.put_basic.ensures.lifetime,
+        c.put_common.ensures.class,
+        c.put_common.ensures.hops.1,
+      );
+      hops = (c.put_basic.ensures.some_left, c.put_common.ensures.hops.0);
+    } in
+    rw w.end (area_packet_written geobroadcast p.header _ p.number p.area p.payload _ _ _ _ _ _ _ _
+    refl heads c.put_u16.ensures c.put_u16-2.ensures c.put_vector.ensures.puts
+    c.put_area.ensures.puts c.put_u16-3.ensures w.puts
+    (omega (arith, c.requires)) fits c.put_vector.ensures.fits c.put_area.ensures.fits
+    (search rules) w.low w.high w.bytes)
 
 pub returns-clause-gac : goal.returns-clause-gac
 returns-clause-gac c = λ is.
     let p = c.args.packet.now in
     let w = c.put_payload.ensures in
-    let heads = heads_put p.header 32 (48 + shape_code p.area.shape) (length p.payload) _ _ _ c.put_basic.ensures.puts (rw (ap length c.octets.ensures.value, c.shape.ensures, is) at c.put_common.ensures.puts) (omega (arith, c.requires)) in
-    let fits : HeaderFits p.header = record { octets = (c.put_basic.ensures.lifetime, c.put_common.ensures.class, c.put_common.ensures.hops.1); hops = (c.put_basic.ensures.some_left, c.put_common.ensures.hops.0) } in
-    rw w.end (area_packet_written geoanycast p.header _ p.number p.area p.payload _ _ _ _ _ _ _ _ refl heads c.put_u16.ensures c.put_u16-2.ensures c.put_vector.ensures.puts c.put_area.ensures.puts c.put_u16-3.ensures w.puts (omega (arith, c.requires)) fits c.put_vector.ensures.fits c.put_area.ensures.fits (search rules) w.low w.high w.bytes)
+    let heads =
+    heads_put p.header 32 (48 + shape_code p.area.shape)
+    (length p.payload) _ _ _ c.put_basic.ensures.puts
+    (rw (ap length c.octets.ensures.value, c.shape.ensures, is) at c.put_common.ensures.puts)
+    (omega (arith, c.requires)) in
+    let fits : HeaderFits p.header =
+    record {
+      octets = (
+        c.put_basic.ensures.lifetime,
+        c.put_common.ensures.class,
+        c.put_common.ensures.hops.1,
+      );
+      hops = (c.put_basic.ensures.some_left, c.put_common.ensures.hops.0);
+    } in
+    rw w.end (area_packet_written geoanycast p.header _ p.number p.area p.payload _ _ _ _ _ _ _ _
+    refl heads c.put_u16.ensures c.put_u16-2.ensures c.put_vector.ensures.puts
+    c.put_area.ensures.puts c.put_u16-3.ensures w.puts
+    (omega (arith, c.requires)) fits c.put_vector.ensures.fits c.put_area.ensures.fits
+    (search rules) w.low w.high w.bytes)

@@ -4,4 +4,6 @@ use Rattle.its_headers.specs.Seen.{Seen}
 use Rattle.its_headers.proofs.view.PacketView.octets.Goals as goal
 
 pub returns : goal.returns
-returns c = subst (λ (s : Seen). Encodes s.pdu s.left c.self.inside.octets.now) c.self.view_is c.self.invariant
+returns c =
+    subst (λ (s : Seen).
+    Encodes s.pdu s.left c.self.inside.octets.now) c.self.view_is c.self.invariant

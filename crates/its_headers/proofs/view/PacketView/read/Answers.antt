@@ -6,12 +6,16 @@ use Rattle.its_headers.proofs.PacketFaults.{fault_is_first}
 use Rattle.its_headers.proofs.view.PacketView.read.Goals as goal
 
 pub returns-in_err-length-clause-only : goal.returns-in_err-length-clause-only
-returns-in_err-length-clause-only c = λ p left w rest e is. absurd (no_packet _ _ p left w rest (not_read_by _ _ c.in_err-length.ensures) e is)
+returns-in_err-length-clause-only c =
+    λ p left w rest e is.
+    absurd (no_packet _ _ p left w rest (not_read_by _ _ c.in_err-length.ensures) e is)
 
 pub returns-in_err-length-clause-fault : goal.returns-in_err-length-clause-fault
 returns-in_err-length-clause-fault c =
     let p = err_from_is_err_and c.from_residual.result c.from_residual.ensures.1 in
-    rw (p.1, p.2) (fault_is_first _ _ (λ i. omega (arith, c.type_inv.octets i)) (not_read_by _ _ c.in_err-length.ensures))
+    rw (p.1, p.2)
+    (fault_is_first _ _ (λ i. omega (arith, c.type_inv.octets i))
+    (not_read_by _ _ c.in_err-length.ensures))
 
 pub slice_bounds-view-end : goal.slice_bounds-view-end
 slice_bounds-view-end c =
@@ -20,7 +24,8 @@ slice_bounds-view-end c =
     omega (arith, f.inside, length-take c.in_ok-length.length c.args.octets.now)
 
 pub invariant_of-view : goal.invariant_of-view
-invariant_of-view c = front_is _ _ _ (λ i. omega (arith, c.type_inv.octets i)) (read_to _ _ c.in_ok-length.ensures).1
+invariant_of-view c =
+    front_is _ _ _ (λ i. omega (arith, c.type_inv.octets i)) (read_to _ _ c.in_ok-length.ensures).1
 
 pub returns-clause-found : goal.returns-clause-found
 returns-clause-found c =
@@ -29,4 +34,7 @@ returns-clause-found c =
     (f.inside, front_is _ _ _ (λ i. omega (arith, c.type_inv.octets i)) r.1)
 
 pub returns-clause-only : goal.returns-clause-only
-returns-clause-only c = λ p left w rest e is. only_view _ _ _ p left w rest (λ i. omega (arith, c.type_inv.octets i)) (read_to _ _ c.in_ok-length.ensures).1 e is
+returns-clause-only c =
+    λ p left w rest e is.
+    only_view _ _ _ p left w rest (λ i. omega (arith, c.type_inv.octets i))
+    (read_to _ _ c.in_ok-length.ensures).1 e is

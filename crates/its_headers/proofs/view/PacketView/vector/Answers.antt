@@ -3,10 +3,13 @@ use Rattle.its_headers.proofs.Places.{view_vector}
 use Rattle.its_headers.proofs.view.PacketView.vector.Goals as goal
 
 pub vector_in-requires-clause-here : goal.vector_in-requires-clause-here
-vector_in-requires-clause-here c = (view_vector _ _ _ c.self.invariant c.self.view_is c.vector_at.ensures).here
+vector_in-requires-clause-here c =
+    (view_vector _ _ _ c.self.invariant c.self.view_is c.vector_at.ensures).here
 
 pub vector_in-requires-clause-fits : goal.vector_in-requires-clause-fits
-vector_in-requires-clause-fits c = (view_vector _ _ _ c.self.invariant c.self.view_is c.vector_at.ensures).fits
+vector_in-requires-clause-fits c =
+    (view_vector _ _ _ c.self.invariant c.self.view_is c.vector_at.ensures).fits
 
 pub returns : goal.returns
-returns c = c.vector_in.ensures ∙ (view_vector _ _ _ c.self.invariant c.self.view_is c.vector_at.ensures).is
+returns c =
+    c.vector_in.ensures ∙ (view_vector _ _ _ c.self.invariant c.self.view_is c.vector_at.ensures).is

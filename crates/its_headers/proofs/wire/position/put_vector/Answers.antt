@@ -7,4 +7,9 @@ use Rattle.its_headers.proofs.wire.position.put_vector.Goals as goal
 pub returns-clause-puts : goal.returns-clause-puts
 returns-clause-puts c =
     let first : c.args.at + 0 ≡ c.args.at = omega arith in
-    vector_put _ _ _ _ _ _ _ _ _ _ _ _ _ _ c.args.v (subst (λ (n : ℕ). Puts c.args.out.now c.put_u64.new.out n (big_bytes 8 c.as_u64.result)) first c.put_u64.ensures) c.put_u32.ensures c.put_u32-2.ensures c.put_u32-3.ensures c.put_u16.ensures c.put_u16-2.ensures (search rules) (search rules) (search rules) (search rules) (search rules) (search rules) (omega arith)
+    vector_put _ _ _ _ _ _ _ _ _ _ _ _ _ _ c.args.v
+    (subst (λ (n : ℕ).
+    Puts c.args.out.now c.put_u64.new.out n
+    (big_bytes 8 c.as_u64.result)) first c.put_u64.ensures) c.put_u32.ensures c.put_u32-2.ensures
+    c.put_u32-3.ensures c.put_u16.ensures c.put_u16-2.ensures (search rules) (search rules)
+    (search rules) (search rules) (search rules) (search rules) (omega arith)
