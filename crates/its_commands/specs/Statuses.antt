@@ -20,7 +20,7 @@ exit_code Failed = 3
 abbrev pub IsCommandStatus : Status → Type 0
 IsCommandStatus status = status ≢ BadArguments
 
--- how a command ends that writes, and judges nothing
+-- how a command ends that writes, and checks nothing
 abbrev pub IsWriterStatus : Status → Type 0
 IsWriterStatus status = (status ≡ Done) ⊎ (status ≡ Failed)
 

@@ -12,7 +12,7 @@ use std::io::{BufRead, Write};
 use std::str;
 use thiserror::Error;
 
-/// Why a line is no record, in the order in which it is judged.
+/// Why a line is no record, in the order in which it is checked.
 #[derive(Clone, Copy, Debug, PartialEq, Eq, Error)]
 pub enum LineFault {
     /// No decimal moment of 1 to 20 digits that fits 64 bits stands before a space.

@@ -74,7 +74,7 @@ pub struct SingleHop {
     pub payload: Vec<u8>,
 }
 
-/// Reads an event: `station`, `at`, `do`, and then the keys of the action, judged in this order.
+/// Reads an event: `station`, `at`, `do`, and then the keys of the action, checked in this order.
 pub(crate) fn read_event(alloc: Global, table: &Table) -> Result<EventEntry, KeyFault> {
     let station = number(table, Key::Station)?;
     let moment = read_moment(table)?;
@@ -122,7 +122,7 @@ fn read_moment(table: &Table) -> Result<u64, KeyFault>
     Ok(moment as u64)
 }
 
-/// Reads a motion: `lat`, `lon`, `pai`, `speed`, `heading`, judged in this order.
+/// Reads a motion: `lat`, `lon`, `pai`, `speed`, `heading`, checked in this order.
 fn read_motion(table: &Table) -> Result<Motion, KeyFault> {
     let place = place(table, Key::Lat, Key::Lon)?;
     let pai = truth(table, Key::Pai)?;
@@ -146,7 +146,7 @@ fn read_speed(table: &Table) -> Result<i16, KeyFault>
     Ok(speed)
 }
 
-/// Reads a single-hop broadcast: `port`, `info`, `tc`, `payload`, judged in this order.
+/// Reads a single-hop broadcast: `port`, `info`, `tc`, `payload`, checked in this order.
 fn read_single_hop(alloc: Global, table: &Table) -> Result<SingleHop, KeyFault> {
     Ok(SingleHop {
         port: number(table, Key::Port)?,

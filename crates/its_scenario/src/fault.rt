@@ -8,8 +8,8 @@ use crate::key::Key;
 use std::alloc::{AllocError, AllocFailed};
 use thiserror::Error;
 
-/// The first fault of a scenario, in the order in which faults are judged. Its text is what follows
-/// `geostation: ` on standard error.
+/// The first fault of a scenario, in the order in which faults are checked. Its text is what
+/// follows `geostation: ` on standard error.
 #[derive(Clone, Copy, Debug, PartialEq, Eq, Error)]
 pub enum ScenarioFault {
     /// The text is no TOML document.

@@ -28,7 +28,7 @@ pub struct Geocast {
 }
 
 /// Reads a geocast: `port`, `info`, `tc`, `lt`, `hops`, `shape`, `alat`, `alon`, `a`, `b`, `angle`,
-/// `payload`, judged in this order.
+/// `payload`, checked in this order.
 pub(crate) fn read_geocast(alloc: Global, table: &Table) -> Result<Geocast, KeyFault> {
     let port = number(table, Key::Port)?;
     let info = number(table, Key::Info)?;

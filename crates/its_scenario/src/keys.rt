@@ -60,7 +60,7 @@ pub(crate) fn octets(alloc: Global, table: &Table, key: Key) -> Result<Vec<u8>, 
 }
 
 /// The place of the latitude and the longitude under two keys, in tenths of a microdegree. The
-/// latitude is judged before the longitude is looked at.
+/// latitude is checked before the longitude is looked at.
 pub(crate) fn place(table: &Table, lat_key: Key, lon_key: Key) -> Result<Place, KeyFault> {
     let lat = number(table, lat_key)?;
     Place::new(lat, 0).map_err(|_| KeyFault::Refused(lat_key))?;

@@ -37,7 +37,7 @@ pub struct StationEntry {
     ghost few_numbers: { remember ≤ 64 },
 }
 
-/// Reads a station: `address`, `lat`, `lon`, `capacity`, `remember`, judged in this order.
+/// Reads a station: `address`, `lat`, `lon`, `capacity`, `remember`, checked in this order.
 pub(crate) fn read_station(table: &Table) -> Result<StationEntry, KeyFault> {
     let address = read_address(table)?;
     let place = place(table, Key::Lat, Key::Lon)?;

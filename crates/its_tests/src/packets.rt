@@ -99,7 +99,7 @@ fn refuses(
 }
 
 /// The view's fields that each packet has, with the kind and the payload. What follows is not
-/// judged.
+/// checked.
 fn reads(
     rt: &impl Abort,
     alloc: Global,

@@ -33,7 +33,7 @@ fn a_refused_growth_is_h1(rt: HostRuntime) -> Result<(), Fail> {
 }
 
 /// Each budget has room for a frame, relayed or written, exactly where it has room for one piece of
-/// its length, so there is no second growth.
+/// its length, so there is no second allocation.
 #[test]
 fn a_frame_has_one_growth(rt: HostRuntime) -> Result<(), Fail> {
     let frame = geobroadcast();

@@ -194,7 +194,7 @@ fn keys_of_a_station(rt: HostRuntime) -> Result<(), Fail> {
     Ok(())
 }
 
-/// Judges an action with each key in turn missing and at each of its bad values, all before it good
+/// Checks an action with each key in turn missing and at each of its bad values, all before it good
 /// and all after it bad; and with each key good.
 fn judge<R: AllocGlobal + Abort>(rt: &R, action: &str, keys: &[KeyCase]) -> Result<(), Fail> {
     for at in 0..keys.len() {

@@ -17,7 +17,7 @@ const OTHER: u64 = FIRST + 1000;
 /// More budgets than any call here needs.
 const MANY: usize = 1000;
 
-/// More budgets than a list of eight numbers needs, and fewer than the growth of a map.
+/// More budgets than a list of eight numbers needs, and fewer than the allocation of a map.
 const A_GROWTH: usize = 8;
 
 /// What is looked up of a source.
