@@ -50,7 +50,7 @@ impl<S: LocationStore> Station<S> {
         ensures unchanged { OnErr result (self.new ≡ self.old) }
         ensures short { IfOk result IsShort }
     {
-        // The moment is judged first. The octets are read before, as the contract names what they are.
+        // The moment is judged first; the octets are read, as the contract names what they are.
         let read = read_frame(frame);
         if let Err(refused) = self.check_moment(now) {
             return Err(refused);
