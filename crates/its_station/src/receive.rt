@@ -52,7 +52,7 @@ impl<S: LocationStore> Station<S> {
         ensures payload { IfOk result (DeliversEndOf frame.now) }
         ensures short { IfOk result (Fits 1394) }
     {
-        // The moment is judged first. The octets are read before, as the contract names what they are.
+        // The moment is judged first; the octets are read, as the contract names what they are.
         let read = read_frame(frame);
         if let Err(refused) = self.check_moment(now) {
             return Err(refused);
