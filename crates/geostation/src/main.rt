@@ -11,6 +11,7 @@ use std::env;
 use std::process::ExitCode;
 
 fn main(rt: HostRuntime) -> ExitCode {
-    let status = program::run(&rt, env::args(&rt), rt.stdout(), &mut rt.stderr());
+    let arguments = env::args(&rt);
+    let status = program::run(&rt, arguments, rt.stdin(), rt.stdout(), &mut rt.stderr());
     ExitCode::from(status.code())
 }

@@ -10,12 +10,14 @@ use std::io::{BufWriter, ErrorKind, Read, Write};
 use std::rt::Files;
 
 /// Runs the command that the arguments name, the program's own name being the first of them, and
-/// writes out all that it prints. Gives the exit status.
+/// writes out all that it prints. `input` is standard input, which is read where a file is `-`.
+/// Gives the exit status.
 ///
 /// Arguments that could not be taken are refused where one is not UTF-8; else memory ran out.
-pub fn run<R: Files + AllocGlobal, W: Write + Drop, E: Write>(
+pub fn run<R: Files + AllocGlobal, I: Read + Drop, W: Write + Drop, E: Write>(
     rt: &R,
     arguments: io::Result<Args>,
+    input: I,
     out: W,
     err: &mut E,
 ) -> Status
@@ -23,7 +25,7 @@ where
     R::File: Read + Write + Drop,
 {
     match collected(rt, arguments, err) {
-        Ok(arguments) => run_buffered(rt, arguments.as_slice(), out, err),
+        Ok(arguments) => run_buffered(rt, arguments.as_slice(), input, out, err),
         Err(status) => status,
     }
 }
@@ -47,9 +49,10 @@ fn collected<R: AllocGlobal, E: Write>(
 }
 
 /// Runs the command that the arguments name, with a buffer before standard output.
-fn run_buffered<R: Files + AllocGlobal, W: Write + Drop, E: Write>(
+fn run_buffered<R: Files + AllocGlobal, I: Read + Drop, W: Write + Drop, E: Write>(
     rt: &R,
     arguments: &[String],
+    input: I,
     out: W,
     err: &mut E,
 ) -> Status
@@ -59,16 +62,17 @@ where
     let Ok(mut out) = BufWriter::new(rt.alloc(), out) else {
         return Fault::OutOfMemory(AllocError).report(err);
     };
-    let status = dispatch(rt, arguments, &mut out, err);
+    let status = dispatch(rt, arguments, input, &mut out, err);
     match out.flush() {
         Ok(()) => status,
         Err(_) => Status::Failed,
     }
 }
 
-fn dispatch<R: Files + AllocGlobal, W: Write, E: Write>(
+fn dispatch<R: Files + AllocGlobal, I: Read + Drop, W: Write, E: Write>(
     rt: &R,
     arguments: &[String],
+    input: I,
     out: &mut W,
     err: &mut E,
 ) -> Status
@@ -76,10 +80,10 @@ where
     R::File: Read + Write + Drop,
 {
     match arguments::read(rt.alloc(), arguments) {
-        Ok(Subcommand::Show { file }) => show_file(rt, file, out, err),
-        Ok(Subcommand::Check { file }) => check_file(rt, file, out, err),
-        Ok(Subcommand::Import { file, out: target }) => import_file(rt, file, target, err),
-        Ok(Subcommand::Sim { file }) => simulate_file(rt, file, out, err),
+        Ok(Subcommand::Show { file }) => show_file(rt, file, input, out, err),
+        Ok(Subcommand::Check { file }) => check_file(rt, file, input, out, err),
+        Ok(Subcommand::Import { file, out: target }) => import_file(rt, file, input, target, err),
+        Ok(Subcommand::Sim { file }) => simulate_file(rt, file, input, out, err),
         Err(error) => explain(&error, out, err),
     }
 }

@@ -53,9 +53,15 @@ struct Left {
     err: Vec<u8>,
 }
 
-/// What the program leaves when it is run with these arguments.
+/// What the program leaves when it is run with these arguments and nothing on standard input.
 fn left_by(rt: &HostRuntime, line: &[u8]) -> Left {
+    left_by_input(rt, line, b"")
+}
+
+/// What the program leaves when it is run with these arguments and this on standard input.
+fn left_by_input(rt: &HostRuntime, line: &[u8], input: &[u8]) -> Left {
     let (mut out, mut err) = (Vec::new(rt.alloc()), Vec::new(rt.alloc()));
-    let status = program::run(rt, env::args(&Given { rt, line }), &mut out, &mut err);
+    let arguments = env::args(&Given { rt, line });
+    let status = program::run(rt, arguments, input, &mut out, &mut err);
     Left { status, out, err }
 }

@@ -1,4 +1,4 @@
-//! The commands over named files.
+//! The commands over named files. A file that is read is standard input where its name is `-`.
 
 ghost use Rattle.std.specs.Prelude.{◌≡◌, IfOk, IfErr};
 ghost use Rattle.its_commands.specs.Statuses.{IsCommandStatus, IsStopped, IsWriterStatus};
@@ -10,17 +10,39 @@ use crate::showing::show;
 use crate::simulating::simulate;
 use crate::status::Status;
 use std::alloc::AllocError;
-use std::fs;
 use std::io::{BufReader, BufWriter, Read, Write};
 use std::rt::Files;
+use std::{fs, io};
 
-/// Prints a line for each record of the capture in the file.
+/// The name that stands for standard input. A file of that name is `./-`.
+const STANDARD_INPUT: &str = "-";
+
+/// What a command reads.
+#[derive(Drop)]
+pub enum Opened<F, I> {
+    /// The file that was named.
+    File(F),
+    /// Standard input.
+    Standard(I),
+}
+
+impl<F: Read, I: Read> Read for Opened<F, I> {
+    fn read(&mut self, buf: &mut [u8]) -> io::Result<usize> {
+        match self {
+            Opened::File(file) => file.read(buf),
+            Opened::Standard(input) => input.read(buf),
+        }
+    }
+}
+
+/// Prints a line for each record of the capture in the file. `input` is standard input.
 ///
 /// `Refused` where a frame or the capture was refused, `Failed` where the file could not be read or
 /// standard output not written, or memory ran out.
-pub fn show_file<R: Files + AllocGlobal, W: Write, E: Write>(
+pub fn show_file<R: Files + AllocGlobal, I: Read + Drop, W: Write, E: Write>(
     rt: &R,
     file: &str,
+    input: I,
     out: &mut W,
     err: &mut E,
 ) -> Status
@@ -28,20 +50,21 @@ where
     R::File: Read + Drop,
     ensures { IsCommandStatus result }
 {
-    match open(rt, file, err) {
+    match open(rt, file, input, err) {
         Ok(reader) => show(rt.alloc(), file, reader, out, err),
         Err(status) => status,
     }
 }
 
 /// Prints a line for each refused record of the capture in the file, and how many records there
-/// were.
+/// were. `input` is standard input.
 ///
 /// `Refused` where a frame or the capture was refused, `Failed` where the file could not be read or
 /// standard output not written, or memory ran out.
-pub fn check_file<R: Files + AllocGlobal, W: Write, E: Write>(
+pub fn check_file<R: Files + AllocGlobal, I: Read + Drop, W: Write, E: Write>(
     rt: &R,
     file: &str,
+    input: I,
     out: &mut W,
     err: &mut E,
 ) -> Status
@@ -49,19 +72,20 @@ where
     R::File: Read + Drop,
     ensures { IsCommandStatus result }
 {
-    match open(rt, file, err) {
+    match open(rt, file, input, err) {
         Ok(reader) => check(rt.alloc(), file, reader, out, err),
         Err(status) => status,
     }
 }
 
-/// Runs the scenario in the file and prints a line for each event.
+/// Runs the scenario in the file and prints a line for each event. `input` is standard input.
 ///
 /// `Refused` for a text that is no scenario, `Failed` where the file could not be read or standard
 /// output not written, or memory ran out.
-pub fn simulate_file<R: Files + AllocGlobal, W: Write, E: Write>(
+pub fn simulate_file<R: Files + AllocGlobal, I: Read + Drop, W: Write, E: Write>(
     rt: &R,
     file: &str,
+    input: I,
     out: &mut W,
     err: &mut E,
 ) -> Status
@@ -69,19 +93,21 @@ where
     R::File: Read + Drop,
     ensures { IsCommandStatus result }
 {
-    match open(rt, file, err) {
+    match open(rt, file, input, err) {
         Ok(reader) => simulate(rt.alloc(), file, reader, out, err),
         Err(status) => status,
     }
 }
 
 /// Makes the capture `target` of the lines in the file. All lines are read before it is created.
+/// `input` is standard input.
 ///
 /// `Refused` for a bad line, `Failed` where a file could not be read, created or written, or memory
 /// ran out.
-pub fn import_file<R: Files + AllocGlobal, E: Write>(
+pub fn import_file<R: Files + AllocGlobal, I: Read + Drop, E: Write>(
     rt: &R,
     file: &str,
+    input: I,
     target: &str,
     err: &mut E,
 ) -> Status
@@ -89,7 +115,7 @@ where
     R::File: Read + Write + Drop,
     ensures { IsCommandStatus result }
 {
-    match import_lines(rt, file, target, err) {
+    match import_lines(rt, file, input, target, err) {
         Ok(status) => status,
         Err(status) => status,
     }
@@ -97,9 +123,10 @@ where
 
 /// Reads the lines, and only then creates the capture. An `Err` is the status of what stopped it
 /// before the first record was written.
-fn import_lines<R: Files + AllocGlobal, E: Write>(
+fn import_lines<R: Files + AllocGlobal, I: Read + Drop, E: Write>(
     rt: &R,
     file: &str,
+    input: I,
     target: &str,
     err: &mut E,
 ) -> Result<Status, Status>
@@ -108,23 +135,25 @@ where
     ensures written { IfOk result IsWriterStatus }
     ensures stopped { IfErr result IsStopped }
 {
-    let reader = open(rt, file, err)?;
+    let reader = open(rt, file, input, err)?;
     let records = read_lines(rt.alloc(), file, reader, err)?;
     let created = create(rt, target, err)?;
     Ok(write_records(target, records.as_slice(), created, err))
 }
 
 /// Opens a file for reading, with a buffer, or reports that it cannot be read or memory ran out.
-pub fn open<R: Files + AllocGlobal, E: Write>(
+/// `input` is standard input.
+pub fn open<R: Files + AllocGlobal, I: Read + Drop, E: Write>(
     rt: &R,
     file: &str,
+    input: I,
     err: &mut E,
-) -> Result<BufReader<R::File>, Status>
+) -> Result<BufReader<Opened<R::File, I>>, Status>
 where
     R::File: Read + Drop,
     ensures { IfErr result (λ status. status ≡ Status.Failed) }
 {
-    match fs::open(rt, file) {
+    match named(rt, file, input) {
         Ok(opened) => {
             BufReader::new(rt.alloc(), opened).map_err(|_| Fault::OutOfMemory(AllocError).report(
                 err,
@@ -132,6 +161,17 @@ where
         }
         Err(error) => Err(Fault::of_read(&error, file).report(err)),
     }
+}
+
+/// What the name stands for, opened for reading.
+fn named<R: Files, I: Read + Drop>(rt: &R, file: &str, input: I) -> io::Result<Opened<R::File, I>>
+where
+    R::File: Read + Drop,
+{
+    if file == STANDARD_INPUT {
+        return Ok(Opened::Standard(input));
+    }
+    Ok(Opened::File(fs::open(rt, file)?))
 }
 
 /// Creates a file, with a buffer, or reports that it cannot be written or memory ran out.

@@ -14,7 +14,7 @@ mod walk;
 
 pub use checking::check;
 pub use fault::Fault;
-pub use files::{check_file, create, import_file, open, show_file, simulate_file};
+pub use files::{Opened, check_file, create, import_file, open, show_file, simulate_file};
 pub use importing::{LineFault, read_lines, write_records};
 pub use showing::show;
 pub use simulating::{read_scenario, simulate};

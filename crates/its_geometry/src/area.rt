@@ -103,13 +103,7 @@ impl Area {
         if r == 0 {
             return Err(AreaFault::ZeroDistance);
         }
-        Ok(Area {
-            shape: Shape::Circle,
-            centre,
-            a: r,
-            b: 0,
-            angle: 0,
-        })
+        Ok(Area::within(Shape::Circle, centre, r, 0, 0))
     }
 
     /// The rectangle of these half lengths in metres, the first along the angle: in degrees,
@@ -119,13 +113,7 @@ impl Area {
             (IsMade shapes.Rectangle centre a b angle) (IsRefused a b angle) }
     {
         refuse(a, b, angle)?;
-        Ok(Area {
-            shape: Shape::Rectangle,
-            centre,
-            a,
-            b,
-            angle,
-        })
+        Ok(Area::within(Shape::Rectangle, centre, a, b, angle))
     }
 
     /// The ellipse of these half axes in metres, under the rules of a rectangle.
@@ -134,13 +122,22 @@ impl Area {
             (IsMade shapes.Ellipse centre a b angle) (IsRefused a b angle) }
     {
         refuse(a, b, angle)?;
-        Ok(Area {
-            shape: Shape::Ellipse,
+        Ok(Area::within(Shape::Ellipse, centre, a, b, angle))
+    }
+
+    /// The area of these measures, which the shape has to have: the lengths in metres that are not 0
+    /// and the angle of 0 to 359 degrees; of a circle the radius in `a`, and 0 for `b` and the angle.
+    pub fn within(shape: Shape, centre: Place, a: u16, b: u16, angle: u16) -> Area
+        requires { HasMeasures shape a b angle }
+        ensures { result ≡ record { shape = shape; centre = centre; a = a; b = b; angle = angle } }
+    {
+        Area {
+            shape,
             centre,
             a,
             b,
             angle,
-        })
+        }
     }
 
     /// The shape, which says whether `a`, in metres, is a radius, a half length or a half axis.

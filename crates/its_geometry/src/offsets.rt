@@ -4,6 +4,7 @@ ghost use Rattle.std.specs.Prelude.{◌≡◌, ◌+◌, ◌-◌, ◌*◌, ◌/�
 ghost use Rattle.std.specs.Prelude.{◌*ℤ◌, ◌≤ℤ◌, int_div, unsigned_abs};
 ghost use Rattle.its_geometry.specs.Offsets.{longitude_scale, wrap_longitude, northward, eastward};
 ghost use Rattle.its_geometry.specs.Offsets.{square, squared_distance, along, across};
+ghost use Rattle.its_geometry.specs.Table.{sine, cosine};
 
 use crate::table::{cosine, quarter_sine, sine};
 use its_gnvalue::Place;
@@ -181,26 +182,50 @@ fn squared(offset: u64) -> u64
     offset * offset
 }
 
-/// The offset along the axis of an area that is turned by this angle.
-pub(crate) fn along(north: i64, east: i64, angle: u64) -> i64
-    requires north { unsigned_abs north ≤ 2003760000 }
-    requires east { unsigned_abs east ≤ 2003760000 }
-    requires angle { angle < 360 }
-    ensures value { result ≡ along north east angle }
-    ensures bound { unsigned_abs result < 2 ^ 32 }
-{
-    ten_thousandth(product(north, cosine(angle)) + product(east, sine(angle)))
+/// The axis of an area that is turned by an angle, whose sine and cosine are found once.
+#[derive(Clone, Copy)]
+pub(crate) struct Axis {
+    angle: u64,
+    sin: i64,
+    cos: i64,
+    ghost sin_of: { sin ≡ sine angle },
+    ghost cos_of: { cos ≡ cosine angle },
+    ghost small_sin: { unsigned_abs sin ≤ 10000 },
+    ghost small_cos: { unsigned_abs cos ≤ 10000 },
 }
 
-/// The offset across that axis, to its right.
-pub(crate) fn across(north: i64, east: i64, angle: u64) -> i64
-    requires north { unsigned_abs north ≤ 2003760000 }
-    requires east { unsigned_abs east ≤ 2003760000 }
-    requires angle { angle < 360 }
-    ensures value { result ≡ across north east angle }
-    ensures bound { unsigned_abs result < 2 ^ 32 }
-{
-    ten_thousandth(product(east, cosine(angle)) - product(north, sine(angle)))
+impl Axis {
+    /// The axis that is turned by this angle, in degrees.
+    pub(crate) fn new(angle: u64) -> Axis
+        requires { angle < 360 }
+        ensures { result.angle ≡ angle }
+    {
+        Axis {
+            angle,
+            sin: sine(angle),
+            cos: cosine(angle),
+        }
+    }
+
+    /// The offset along the axis.
+    pub(crate) fn along(&self, north: i64, east: i64) -> i64
+        requires north { unsigned_abs north ≤ 2003760000 }
+        requires east { unsigned_abs east ≤ 2003760000 }
+        ensures value { result ≡ along north east self.now.angle }
+        ensures bound { unsigned_abs result < 2 ^ 32 }
+    {
+        ten_thousandth(product(north, self.cos) + product(east, self.sin))
+    }
+
+    /// The offset across the axis, to its right.
+    pub(crate) fn across(&self, north: i64, east: i64) -> i64
+        requires north { unsigned_abs north ≤ 2003760000 }
+        requires east { unsigned_abs east ≤ 2003760000 }
+        ensures value { result ≡ across north east self.now.angle }
+        ensures bound { unsigned_abs result < 2 ^ 32 }
+    {
+        ten_thousandth(product(east, self.cos) - product(north, self.sin))
+    }
 }
 
 /// An offset times a sine or a cosine.

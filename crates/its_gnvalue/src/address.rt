@@ -127,7 +127,15 @@ impl GnAddress {
         if has_group_bit(bits) {
             return Err(ValueFault::GroupMid);
         }
-        Ok(GnAddress { bits })
+        Ok(GnAddress::within(bits))
+    }
+
+    /// The address of these bits, which have to have a MID that is no group MAC.
+    pub fn within(bits: u64) -> GnAddress
+        requires { IsIndividual bits }
+        ensures { result ≡ bits }
+    {
+        GnAddress { bits }
     }
 
     /// All 64 bits.

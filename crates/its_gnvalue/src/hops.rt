@@ -35,7 +35,16 @@ impl Hops {
         if left == 0 || left > max {
             return None;
         }
-        Some(Hops { left, max })
+        Some(Hops::within(left, max))
+    }
+
+    /// The pair, of which `left` has to be neither 0 nor over `max`.
+    pub fn within(left: u8, max: u8) -> Hops
+        requires some { 0 < left }
+        requires below { left ≤ max }
+        ensures { result ≡ record { left = left; max = max } }
+    {
+        Hops { left, max }
     }
 
     /// How many hops are left, this one included.

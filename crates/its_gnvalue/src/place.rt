@@ -45,10 +45,19 @@ impl Place {
         if lon < -1_800_000_000 || lon > 1_800_000_000 {
             return Err(ValueFault::LongitudeRange);
         }
-        Ok(Place {
+        Ok(Place::within(lat, lon))
+    }
+
+    /// The place at these coordinates, which have to be in range.
+    pub fn within(lat: i32, lon: i32) -> Place
+        requires latitude { IsLatitude lat }
+        requires longitude { IsLongitude lon }
+        ensures { result ≡ record { latitude = lat; longitude = lon } }
+    {
+        Place {
             latitude: lat,
             longitude: lon,
-        })
+        }
     }
 
     /// The latitude, in tenths of a microdegree.

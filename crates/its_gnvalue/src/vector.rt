@@ -70,14 +70,37 @@ impl LongPv {
         if speed < -16384 || speed > 16383 {
             return Err(ValueFault::SpeedRange);
         }
-        Ok(LongPv {
+        Ok(LongPv::within(address, tst, place, pai, speed, heading))
+    }
+
+    /// The vector of these values, of which the speed has to be in range. Units are those of the
+    /// accessors.
+    pub fn within(
+        address: GnAddress,
+        tst: u32,
+        place: Place,
+        pai: bool,
+        speed: i16,
+        heading: u16,
+    ) -> LongPv
+        requires { IsSpeed speed }
+        ensures { result ≡ record {
+          address = address;
+          timestamp = tst;
+          place = place;
+          accurate = pai;
+          speed = speed;
+          heading = heading;
+        } }
+    {
+        LongPv {
             address,
             timestamp: tst,
             place,
             accurate: pai,
             speed,
             heading,
-        })
+        }
     }
 
     /// The address of the station.

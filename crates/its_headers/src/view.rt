@@ -50,6 +50,7 @@ impl<'a> PacketView<'a> {
     /// The packet that begins the octets, and its length, or the first fault: fields are checked in
     /// the order of the wire, each together with those before it. What follows the packet is not
     /// checked.
+    #[inline(always)]
     pub fn read(octets: &'a [u8]) -> Result<(PacketView<'a>, usize), Fault>
         ensures found { IfOk result
             (λ x. (x.1 ≤ length octets.now) × Encodes x.0.pdu x.0.left (take x.1 octets.now)) }
@@ -85,10 +86,7 @@ impl<'a> PacketView<'a> {
     pub fn hops(&self) -> Hops
         ensures { result ≡ record { left = self.now.left; max = self.now.pdu.max_hops } }
     {
-        let Some(hops) = Hops::new(self.octets[HOPS_LEFT], self.octets[MAX_HOPS]) else {
-            unreachable!()
-        };
-        hops
+        Hops::within(self.octets[HOPS_LEFT], self.octets[MAX_HOPS])
     }
 
     /// How long the packet lives (LT).

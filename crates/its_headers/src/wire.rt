@@ -1,5 +1,6 @@
 //! The octets of a packet (EN 302 636-4-1 clause 9): each header has a module, in which it is read
-//! and written; `fields` is the table of their fields.
+//! and written; `fields` is the table of their fields. What checks is always inlined, so that no
+//! answer goes through memory from one check to the next.
 
 ghost use Rattle.std.specs.Prelude.{◌≡◌, ◌≤◌};
 ghost use Rattle.its_model.specs.Packet.{geobroadcast, geoanycast};
@@ -31,6 +32,7 @@ use position::check_vector;
 /// Where the packet that begins the octets ends, or the first fault. Each field is checked once,
 /// in the order of the wire, and no value is made of it.
 #[tactic(auto, using(crate::proofs::Walks::walk_after))]
+#[inline(always)]
 pub(crate) fn packet_end(octets: &[u8]) -> Result<usize, Fault>
     ensures { result ≡ end_of (walk packet_format 0 octets.now) }
 {
@@ -45,6 +47,7 @@ pub(crate) fn packet_end(octets: &[u8]) -> Result<usize, Fault>
 
 /// Where the beacon ends whose headers were checked.
 #[tactic(auto, using(crate::proofs::Walks::walk_after))]
+#[inline(always)]
 fn beacon_end(octets: &[u8]) -> Result<usize, Fault>
     ensures { result ≡ end_of (walk beacon_format 12 octets.now) }
 {
@@ -54,6 +57,7 @@ fn beacon_end(octets: &[u8]) -> Result<usize, Fault>
 
 /// Where the single-hop broadcast with a payload of this length ends.
 #[tactic(auto, using(crate::proofs::Walks::walk_after))]
+#[inline(always)]
 fn shb_end(octets: &[u8], size: u16) -> Result<usize, Fault>
     ensures { result ≡ end_of (walk (shb_format size) 12 octets.now) }
 {
@@ -65,6 +69,7 @@ fn shb_end(octets: &[u8], size: u16) -> Result<usize, Fault>
 
 /// Where the packet for an area of this shape, with a payload of this length, ends.
 #[tactic(auto, using(crate::proofs::Walks::walk_after))]
+#[inline(always)]
 fn area_packet_end(octets: &[u8], shape: Shape, size: u16) -> Result<usize, Fault>
     ensures gbc { result
         ≡ end_of (walk (area_packet_format geobroadcast shape size) 12 octets.now) }

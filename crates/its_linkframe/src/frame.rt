@@ -32,6 +32,7 @@ pub struct FrameView<'a> {
 /// The frame that the octets are, or their first fault, in this order: L1 under 14 octets, L2
 /// another type than 0x8947, L3 over 1468 octets, L5 no packet after the type, L4 octets after the
 /// packet.
+#[inline(always)]
 pub fn read_frame(octets: &[u8]) -> Result<FrameView<'_>, FrameFault>
     ensures found { IfOk result (λ v. EncodesFrame (transmission_of v) octets.now) }
     ensures only { (t : Transmission) → EncodesFrame t octets.now

@@ -4,7 +4,7 @@ use Rattle.std.proofs.Common.{◌≡◌, ℕ, suc, zero, ◌+◌, ◌<◌, ◌�
 use Rattle.std.proofs.Common.{◌∷◌, ◌≢◌, Option, Some, None, Result, Ok, Err, IfOk, IfErr, refl, sym}
 use Rattle.std.proofs.Common.{ap, subst, ◌∙◌, eqb, ltb, filter, set, take, drop, length, All}
 use Rattle.std.proofs.Common.{get_or, find, map, count_by, ◌&&◌, ◌||◌, ◌^◌, arith, is_some}
-use Rattle.std.proofs.Common.{true≢false, unwrap_or}
+use Rattle.std.proofs.Common.{true≢false, unwrap_or, inr}
 use Rattle.std.specs.Prelude.{insert}
 use Rattle.std.specs.Option.{option_map}
 use Rattle.std.specs.List.Sorted.{IsSearchInRange, IsBinarySearchResult, IsNonDecreasingBy}
@@ -16,7 +16,7 @@ use Rattle.std.proofs.lemmas.Bool.Decides.{nat_tests}
 use Rattle.std.proofs.lemmas.List.Elements.{All-append, All-take, All-drop, All-cons, All-nil}
 use Rattle.std.proofs.lemmas.List.Elements.{All-head, All-tail, All-map, All-filter, All-same}
 use Rattle.std.proofs.lemmas.List.Elements.{All-set}
-use Rattle.std.proofs.lemmas.List.{length-reverse}
+use Rattle.std.proofs.lemmas.List.{length-reverse, get_or_default}
 use Rattle.std.proofs.lemmas.List.Sums.{sum_by-cons, count_by-le-length}
 use Rattle.its_loctable.specs.declared.slot.Slot.{Slot}
 use Rattle.its_model.specs.History.{Reception, Known, entry_life, renewed}
@@ -24,6 +24,7 @@ use Rattle.its_model.specs.Stations.{stations_at, is_above, is_next_neighbour, A
 use Rattle.its_loctable.specs.Content.{Entry, live_part, entry_at, Represents}
 use Rattle.its_loctable.specs.Slots.{slot_known}
 use Rattle.its_loctable.specs.Sorted.{slot_entry, held, IsFoundAt, IsGapFor, IsStartAbove}
+use Rattle.its_loctable.specs.Sorted.{IsUpTo, AreAbove}
 use Rattle.its_loctable.specs.Spare.{HasLimit}
 use Rattle.its_loctable.specs.Eager.{swept, upsert, entry_after}
 use Rattle.its_loctable.specs.Heard.{reception}
@@ -106,6 +107,30 @@ gap_between (x ∷ xs) a (suc (suc i)) h le below above = (
   gap_between xs a (suc i) h.1 (omega arith) (λ k d e. below (suc k) d (ap suc e))
       (λ d lt. above d (omega arith)),
 )
+
+-- the slot at a place, seen from either side, and the places behind it
+pub up_to : (xs : List Slot) (a i : ℕ) (s : Slot) → i < length xs → s ≡ get_or xs i s → key s ≤ a
+    → IsUpTo xs a i
+up_to xs a i s lt is le = inr (lt, λ d. omega (arith, le, ap key (get_or_default xs i d s lt ∙ sym is)))
+
+pub above_from : (xs : List Slot) (a i n : ℕ) (s : Slot) → IsRising (held xs) → i < length xs
+    → s ≡ get_or xs i s → a < key s → i ≤ n → AreAbove xs a n
+above_from xs a i n s h lt is more le = λ k d from within.
+    omega (arith, more, rises xs i k d h (omega arith) within, ap key (get_or_default xs i d s lt ∙ sym is))
+
+pub above_past : (xs : List Slot) (a n : ℕ) → length xs ≤ n → AreAbove xs a n
+above_past xs a n le = λ k d from within. absurd (omega arith)
+
+pub above_later : (xs : List Slot) (a m n : ℕ) → m ≤ n → AreAbove xs a m → AreAbove xs a n
+above_later xs a m n le above = λ k d from within. above k d (omega arith) within
+
+-- the gap behind the last slot that comes before an address
+pub gap_behind : (xs : List Slot) (a i : ℕ) (s : Slot) → IsRising (held xs) → i < length xs
+    → s ≡ get_or xs i s → key s < a → AreAbove xs a (i + 1) → IsGapFor xs a (i + 1)
+gap_behind xs a i s h lt is less above = gap_between xs a (i + 1) h (omega arith)
+    (λ k d e. let here : k ≡ i = omega (arith, e) in
+    omega (arith, less, ap (λ n. key (get_or xs n d)) here, ap key (get_or_default xs i d s lt ∙ sym is)))
+    (λ d within. above (i + 1) d (omega arith) within)
 
 -- a binary search by address ends at the slot of the address, or at the gap for it
 pub searched : (xs : List Slot) (a : ℕ) (r : Result ℕ ℕ) → IsRising (held xs)

@@ -1,5 +1,6 @@
 -- The content of a table in ascending order of addresses, and places in it.
-use Rattle.std.specs.Prelude.{◌≡◌, ℕ, zero, suc, ◌<◌, true, false, List, [], ◌∷◌, map, Option}
+use Rattle.std.specs.Prelude.{◌≡◌, ℕ, zero, suc, ◌<◌, ◌≤◌, ◌⊎◌, true, false, List, [], ◌∷◌, map}
+use Rattle.std.specs.Prelude.{length, get_or, Option}
 use Rattle.its_loctable.specs.declared.slot.Slot.{Slot}
 use Rattle.its_model.specs.Stations.{is_above}
 use Rattle.its_loctable.specs.Content.{Entry}
@@ -32,3 +33,13 @@ IsStartAbove [] after (suc i) = ⊥
 IsStartAbove (s ∷ slots) after zero = is_above after s.vector.address ≡ true
 IsStartAbove (s ∷ slots) after (suc i) =
     (is_above after s.vector.address ≡ false) × IsStartAbove slots after i
+
+-- the slot at a place doesn't come after the address, or the place is the first
+abbrev pub IsUpTo : List Slot → ℕ → ℕ → Type 0
+IsUpTo slots address i = (i ≡ 0) ⊎ ((i < length slots)
+    × ((d : Slot) → (get_or slots i d).vector.address ≤ address))
+
+-- the slots from a place on come after the address
+abbrev pub AreAbove : List Slot → ℕ → ℕ → Type 0
+AreAbove slots address n =
+    (i : ℕ) (d : Slot) → n ≤ i → i < length slots → address < (get_or slots i d).vector.address

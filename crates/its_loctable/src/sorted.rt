@@ -10,6 +10,7 @@ ghost use Rattle.its_loctable.specs.Sorted.{slot_entry, held, IsFoundAt, IsGapFo
 ghost use Rattle.its_loctable.specs.Spare.{HasLimit, IsSpare};
 ghost use Rattle.its_loctable.specs.Eager.{swept, upsert, is_rising, judged, after_accept};
 
+mod halving;
 mod search;
 mod sweep;
 

@@ -1,6 +1,6 @@
 -- What a station does with a frame.
 use Rattle.std.proofs.Common.{◌≡◌, ℕ, ◌≤◌, ◌^◌, List, ◌∷◌, Option, Some, None, Bool, true, false, not, cond, eqb, leb, ◌&&◌, refl, sym, ap, subst, ◌∙◌, true≢false, is_some, unwrap_or}
-use Rattle.std.specs.Prelude.{Result, Ok, Err, IfSome, Vec}
+use Rattle.std.specs.Prelude.{Result, Ok, Err, IfOk, IfErr, IfSome, Vec}
 use Rattle.std.specs.Option.{option_map}
 use Rattle.std.specs.declared.alloc.Global.{Global}
 use Rattle.std.proofs.lemmas.Bool.{le-ltb}
@@ -15,8 +15,10 @@ use Rattle.its_model.specs.Calls.{Answer, Refusal}
 use Rattle.its_model.specs.Station as station
 use Rattle.its_model.specs.Station.{StationModel, Step, Verdict, moment_refusal, verdict, receive_step, receive_step_by, is_for, is_sender_wrong, is_repeated, or_else, handing, relayed, sent_on, decided, after_hearing, first, own_refusal, own_step, station_step, junk_step_by}
 use Rattle.its_headers.specs.Fields.{area_in}
-use Rattle.its_linkframe.specs.Frames.{EncodesFrame, IsFrame}
-use Rattle.its_loctable.specs.Content.{Entry, Represents}
+use Rattle.its_linkframe.specs.Frames.{EncodesFrame, IsFrame, transmission_of}
+use Rattle.its_linkframe.specs.FrameFaults.{IsFrameFault}
+use Rattle.its_linkframe.specs.declared.frame.FrameView.{FrameView}
+use Rattle.its_loctable.specs.Content.{Represents}
 use Rattle.its_loctable.specs.Heard as table
 use Rattle.its_loctable.specs.Heard.{verdict_at}
 use Rattle.its_loctable.specs.SourceReport.{SourceReport}
@@ -32,7 +34,7 @@ use Rattle.its_station.specs.declared.outcome.Why.{Why}
 use Rattle.its_station.specs.declared.outcome.Why.TheVariants as why
 use Rattle.its_station.specs.State.{StationState, IsPast, RepresentsStation, SamePorts, model_of}
 use Rattle.its_station.specs.Steps.{IsStepOf}
-use Rattle.its_station.specs.Receiving.{Tells, IsRelay, report_of, copy_of, goes_on, said_by, why_of, why_found, accept_step}
+use Rattle.its_station.specs.Receiving.{IsFrameCall, Tells, IsRelay, report_of, copy_of, said_by, why_of, why_found, accept_step}
 use Rattle.its_station.specs.declared.refused.Refused.TheVariants as refused
 use Rattle.its_faults.specs.declared.frame.FrameFault.{FrameFault}
 use Rattle.its_station.specs.Steps.{refusal_of}
@@ -87,17 +89,10 @@ directed_to s now t (gac number its message) area mac copy new own e d keep enc 
 
 -- ---- a packet that is accepted
 
-handing_same : (st : StationState) (clock : ℕ) (content : List Entry) (ports : List ℕ) (history : List Reception) (body : Body)
-    → handing (model_of (record st { clock = clock; content = content }) ports history) body ≡ handing (model_of st ports history) body
-handing_same st clock content ports history beacon = refl
-handing_same st clock content ports history (shb media message) = refl
-handing_same st clock content ports history (gbc number area message) = refl
-handing_same st clock content ports history (gac number area message) = refl
-
 pub accepted : (old new : StationState) (now : ℕ) (t : Transmission) (ports : List ℕ) (history : List Reception) (h : SourceReport) (handed : Option Handed) (sent : Option (Vec ℕ Global))
     → h ≡ report_of t.pdu → new ≡ record old { clock = now; content = new.content } → IsPast old ports history
     → Represents new.remember new.content (table.reception now h ∷ history) now
-    → option_map said_by handed ≡ handing (model_of new ports history) t.pdu.body
+    → option_map said_by handed ≡ handing (model_of old ports history) t.pdu.body
     → IsRelay sent (relayed (model_of new ports (table.reception now h ∷ history)) now t t.pdu.body)
     → IsStepOf Tells (Ok (outcomes.Accepted handed sent)) new (accept_step (model_of old ports history) now t)
 accepted old new now t ports history h handed sent heard fields past now_table handing_is relay_is =
@@ -110,7 +105,7 @@ accepted old new now t ports history h handed sent heard fields past now_table h
       record {
         relayed = relayed (after_hearing (model_of old ports history) now t) now t t.pdu.body;
         is = ap (λ m. model.Answer.Accepted m (relayed (after_hearing (model_of old ports history) now t) now t t.pdu.body))
-            (sym (handing_is ∙ ap (λ (st : StationState). handing (model_of st ports history) t.pdu.body) fields ∙ handing_same old now new.content ports history t.pdu.body));
+            (sym handing_is);
         frame = subst (λ (m : StationModel). IsRelay sent (relayed m now t t.pdu.body)) s relay_is;
       },
       subst (RepresentsStation new) s (represents new ports (table.reception now h ∷ history) after),
@@ -210,6 +205,11 @@ moment_refused says st now call e owed = at_model st (λ s. IsStepOf says (Err e
     by ports history past (Some r) is =
         let step = refused_by_moment (model_of st ports history) now call r (sym is) in
         (ap (λ (x : Step). x.answer) step, subst (λ (x : Step). RepresentsStation st x.station) (sym step) (represents st ports history past))
+
+-- the call as which octets come, from what was read of them
+pub call_of : (w : List ℕ) (r : Result FrameView FrameFault) → IfOk r (λ v. EncodesFrame (transmission_of v) w) → IfErr r (IsFrameFault w) → (call : model.Call) × IsFrameCall w call
+call_of w (Ok v) found fault = (model.Call.Receive (transmission_of v), found)
+call_of w (Err f) found fault = (model.Call.Junk f, fault)
 
 -- octets that are no frame
 pub junk : (st : StationState) (now : ℕ) (fault : FrameFault) → ((ports : List ℕ) (history : List Reception) → None ≡ moment_refusal (model_of st ports history) now)

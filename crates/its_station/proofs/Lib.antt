@@ -1,4 +1,5 @@
 pub mod Stations
+pub mod Deliveries
 pub mod Hearing
 pub mod PortSets
 pub mod AreaCalls

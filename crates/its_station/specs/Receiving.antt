@@ -1,12 +1,12 @@
 -- What a station answers to a frame.
-use Rattle.std.specs.Prelude.{◌≡◌, ℕ, not, ◌==◌, ◌&&◌, nat_le, if◌then◌else◌, Bool, true, false, List, Vec, Option, Some, None}
+use Rattle.std.specs.Prelude.{◌≡◌, ℕ, ◌++◌, not, ◌==◌, ◌&&◌, nat_le, if◌then◌else◌, Bool, true, false, List, Vec, Option, Some, None}
 use Rattle.std.specs.Option.{option_map}
 use Rattle.std.specs.declared.alloc.Global.{Global}
 use Rattle.its_gnvalue.specs.Values.{Position, PositionVector, broadcast, mid_of}
 use Rattle.its_geometry.specs.Area.{area_holds}
 use Rattle.its_model.specs.Packet.{Message, Body, beacon, shb, gbc, gac, Pdu, Transmission, number_in, relay}
 use Rattle.std.specs.Prelude.{◌⊎◌, IsTrue, IsFalse}
-use Rattle.its_model.specs.History.{Reception, is_live}
+use Rattle.its_model.specs.History.{is_live}
 use Rattle.its_model.specs.Calls as model
 use Rattle.its_model.specs.Calls.{Call, Answer, Why as ModelWhy}
 use Rattle.its_model.specs.Station.{StationModel, Step, is_for, is_sender_wrong, is_repeated, receive_step_by}
@@ -54,6 +54,16 @@ pub record TellsAccepted (handed : Option Message) (sent : Option (Vec ℕ Globa
 abbrev pub Tells : Outcome → Answer Transmission → Type 0
 Tells (outcomes.Ignored why) answer = answer ≡ model.Answer.Ignored (why_of why)
 Tells (outcomes.Accepted handed sent) answer = TellsAccepted (option_map said_by handed) sent answer
+
+-- what is handed out, if anything is, is the end of these octets
+abbrev pub HandsOutEndOf : List ℕ → Option Handed → Type 0
+HandsOutEndOf w None = Unit {0}
+HandsOutEndOf w (Some h) = (front : List ℕ) × (w ≡ front ++ h.payload.now)
+
+-- what is delivered of this outcome, if anything is, is the end of these octets
+abbrev pub DeliversEndOf : List ℕ → Outcome → Type 0
+DeliversEndOf w (outcomes.Ignored why) = Unit {0}
+DeliversEndOf w (outcomes.Accepted handed sent) = HandsOutEndOf w handed
 
 -- From this place, with so many hops left, a packet goes on: a geobroadcast that has another hop, and outside of its area a
 -- geoanycast.

@@ -100,12 +100,12 @@ pub record IsIsolatedRunOf (s : StationModel) (calls : List (ℕ × Call)) (repl
 
 -- ---- words of private functions
 
--- what is delivered has room in 1394 octets
-abbrev pub IsShortHanding : Option Handed → Type 0
-IsShortHanding None = Unit {0}
-IsShortHanding (Some h) = length h.payload.now ≤ 1394
+-- what is delivered, if anything is, has room for its payload in so many octets
+abbrev pub HandingFits : ℕ → Option Handed → Type 0
+HandingFits room None = Unit {0}
+HandingFits room (Some h) = length h.payload.now ≤ room
 
--- what is delivered of this outcome
-abbrev pub IsShort : Outcome → Type 0
-IsShort (outcomes.Ignored why) = Unit {0}
-IsShort (outcomes.Accepted handed sent) = IsShortHanding handed
+-- what is delivered of this outcome has room in so many octets
+abbrev pub Fits : ℕ → Outcome → Type 0
+Fits room (outcomes.Ignored why) = Unit {0}
+Fits room (outcomes.Accepted handed sent) = HandingFits room handed

@@ -16,8 +16,8 @@ use its_btp::PortFault;
 use its_loctable::LocationStore;
 
 impl<S: LocationStore> Station<S> {
-    /// Opens a port: from now on payloads for it are delivered. Refused for its moment (S1, S2), and by
-    /// `Port` (S8) where the port is open or 64 others are. It takes no memory.
+    /// Opens a port: from now on payloads for it are delivered. Refused for its moment (S1, S2),
+    /// and by `Port` (S8) where the port is open or 64 others are. It takes no memory.
     pub fn open(&mut self, now: u64, port: u16) -> Result<(), Refused>
         ensures step { (s : StationModel) → RepresentsStation self.old s →
             IsStepOf (Says Opened) result self.new (station_step s now (Own (Open port))) }
@@ -34,8 +34,8 @@ impl<S: LocationStore> Station<S> {
         Ok(())
     }
 
-    /// Closes a port. Refused for its moment (S1, S2), and by `Port` (S8) where the port isn't open. It
-    /// takes no memory.
+    /// Closes a port. Refused for its moment (S1, S2), and by `Port` (S8) where the port isn't
+    /// open. It takes no memory.
     pub fn close(&mut self, now: u64, port: u16) -> Result<(), Refused>
         ensures step { (s : StationModel) → RepresentsStation self.old s →
             IsStepOf (Says Closed) result self.new (station_step s now (Own (Close port))) }

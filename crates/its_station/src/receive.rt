@@ -1,6 +1,8 @@
 //! What a station does with a frame (EN 302 636-4-1 clause 10, in this profile).
 
-ghost use Rattle.std.specs.Prelude.{◌≡◌, ◌≤◌, ◌^◌, ◌∷◌, ℕ, List, None, Err, IfOk, OnErr, OnOk, IsTrue, IsFalse};
+ghost use Rattle.std.specs.Prelude.{◌≡◌, ◌≤◌, ◌^◌, ◌∷◌, ℕ, List, None};
+ghost use Rattle.std.specs.Prelude.{Err, IfOk, OnErr, OnOk, IsTrue, IsFalse};
+ghost use Rattle.its_gnvalue.specs.Values.{Position};
 ghost use Rattle.std.specs.Option.{option_map};
 ghost use Rattle.its_model.specs.Packet.{Transmission, number_in};
 ghost use Rattle.its_model.specs.Calls.{Call};
@@ -9,14 +11,16 @@ ghost use Rattle.its_model.specs.Stations.{stations_at, is_full};
 ghost use Rattle.its_model.specs.Station as station;
 ghost use Rattle.its_model.specs.Station.{StationModel, station_step, verdict, receive_step};
 ghost use Rattle.its_model.specs.Station.{is_repeated, handing, relayed};
+ghost use Rattle.its_headers.specs.Encoding.{payload_of};
 ghost use Rattle.its_linkframe.specs.Frames.{EncodesFrame, IsFrame, transmission_of};
 ghost use Rattle.its_loctable.specs.Content.{Represents};
 ghost use Rattle.its_loctable.specs.Heard.{reception};
 ghost use Rattle.its_station.specs.State.{model_of, IsPast, RepresentsStation, SamePorts};
 ghost use Rattle.its_station.specs.Steps.{IsStepOf};
-ghost use Rattle.its_station.specs.Receiving.{IsFrameCall, Tells, why_found, said_by, IsRelay, copy_of, TakesMemory};
-ghost use Rattle.its_station.specs.Receiving.{goes_on, is_inside, report_of, accept_step};
-ghost use Rattle.its_station.specs.Runs.{IsShort, IsShortHanding};
+ghost use Rattle.its_station.specs.Receiving.{IsFrameCall, Tells, why_found, said_by, IsRelay};
+ghost use Rattle.its_station.specs.Receiving.{TakesMemory, copy_of, goes_on, is_inside, report_of};
+ghost use Rattle.its_station.specs.Receiving.{accept_step, DeliversEndOf, HandsOutEndOf};
+ghost use Rattle.its_station.specs.Runs.{Fits, HandingFits};
 
 use crate::outcome::{Handed, Outcome, Why};
 use crate::refused::Refused;
@@ -30,34 +34,32 @@ use its_linkframe::{FrameView, read_frame, relay_frame, retarget};
 use its_loctable::{Heard, LocationStore, Verdict};
 
 impl<S: LocationStore> Station<S> {
-    /// Takes the octets that came. They are refused for their moment (S1, S2), by `Frame` (S3) where
-    /// they are no frame, by `TableFull` (S4) where the location table has no room for the packet's
-    /// source, and by `NoMemory` (S5) only where the packet is accepted, and its source is new or it
-    /// goes on. A frame is ignored for the first reason of `Why` that holds, and sets the clock alone.
-    /// Else its packet is accepted: its payload is delivered where its port is open and, for an area,
-    /// where the area holds the station's place, and a packet for an area may go on.
+    /// Takes the octets that came. They are refused for their moment (S1, S2), by `Frame` (S3)
+    /// where they are no frame, by `TableFull` (S4) where the location table has no room for the
+    /// packet's source, and by `NoMemory` (S5) only where the packet is accepted, and its source is
+    /// new or it goes on. A frame is ignored for the first reason of `Why` that holds, and sets the
+    /// clock alone. Else its packet is accepted: its payload is delivered where its port is open
+    /// and, for an area, where the area holds the station's place, and a packet for an area may go
+    /// on. What is delivered is the end of the frame.
     pub fn receive<'a>(&mut self, now: u64, frame: &'a [u8]) -> Result<Outcome<'a>, Refused>
-        ensures step { (call : Call) × IsFrameCall frame.now call × ((s : StationModel) → RepresentsStation self.old s →
+        ensures step { (call : Call) × IsFrameCall frame.now call
+            × ((s : StationModel) → RepresentsStation self.old s →
             IsStepOf Tells result self.new (station_step s now call)) }
-        ensures memory { (s : StationModel) (t : Transmission) → RepresentsStation self.old s → EncodesFrame t frame.now →
-            result ≡ Err Refused.NoMemory →
+        ensures memory { (s : StationModel) (t : Transmission) → RepresentsStation self.old s →
+            EncodesFrame t frame.now → result ≡ Err Refused.NoMemory →
             (verdict s now t ≡ station.Verdict.Accept) × TakesMemory s now t }
         ensures unchanged { OnErr result (self.new ≡ self.old) }
-        ensures short { IfOk result IsShort }
+        ensures payload { IfOk result (DeliversEndOf frame.now) }
+        ensures short { IfOk result (Fits 1394) }
     {
-        match read_frame(frame) {
-            Ok(view) => {
-                if let Err(refused) = self.check_moment(now) {
-                    return Err(refused);
-                }
-                self.hear(now, &view)
-            }
-            Err(fault) => {
-                if let Err(refused) = self.check_moment(now) {
-                    return Err(refused);
-                }
-                Err(Refused::Frame(fault))
-            }
+        // The moment is judged first. The octets are read before, as the contract names what they are.
+        let read = read_frame(frame);
+        if let Err(refused) = self.check_moment(now) {
+            return Err(refused);
+        }
+        match read {
+            Ok(view) => self.hear(now, &view),
+            Err(fault) => Err(Refused::Frame(fault)),
         }
     }
 
@@ -66,13 +68,16 @@ impl<S: LocationStore> Station<S> {
         requires from { self.old.clock ≤ now }
         requires to { now ≤ 2 ^ 62 }
         ensures step { (ports : List ℕ) (history : List Reception) → IsPast self.old ports history →
-            IsStepOf Tells result self.new (receive_step (model_of self.old ports history) now (transmission_of frame.now)) }
-        ensures memory { (ports : List ℕ) (history : List Reception) → IsPast self.old ports history →
-            result ≡ Err Refused.NoMemory →
-            (verdict (model_of self.old ports history) now (transmission_of frame.now) ≡ station.Verdict.Accept)
+            IsStepOf Tells result self.new
+            (receive_step (model_of self.old ports history) now (transmission_of frame.now)) }
+        ensures memory { (ports : List ℕ) (history : List Reception) →
+            IsPast self.old ports history → result ≡ Err Refused.NoMemory →
+            (verdict (model_of self.old ports history) now (transmission_of frame.now)
+            ≡ station.Verdict.Accept)
             × TakesMemory (model_of self.old ports history) now (transmission_of frame.now) }
         ensures unchanged { OnErr result (self.new ≡ self.old) }
-        ensures short { IfOk result IsShort }
+        ensures payload { IfOk result (DeliversEndOf (payload_of frame.now.packet.pdu.body)) }
+        ensures short { IfOk result (Fits 1394) }
     {
         if let Some(why) = self.reason_to_ignore(now, frame) {
             self.clock = now;
@@ -87,8 +92,10 @@ impl<S: LocationStore> Station<S> {
     /// Whether there is no room for a packet's source.
     fn lacks_room(&self, now: u64, frame: &FrameView<'_>) -> bool
         requires { now ≤ 2 ^ 62 }
-        ensures { (history : List Reception) → Represents self.now.remember self.now.content history now →
-            result ≡ is_full self.now.capacity frame.now.packet.pdu.vector.address (stations_at self.now.remember now history) }
+        ensures { (history : List Reception) →
+            Represents self.now.remember self.now.content history now →
+            result ≡ is_full self.now.capacity frame.now.packet.pdu.vector.address
+            (stations_at self.now.remember now history) }
     {
         !self.store.has_room(now, frame.packet.vector().address())
     }
@@ -122,29 +129,34 @@ impl<S: LocationStore> Station<S> {
     fn accept<'a>(&mut self, now: u64, frame: &FrameView<'a>) -> Result<Outcome<'a>, Refused>
         requires from { self.old.clock ≤ now }
         requires to { now ≤ 2 ^ 62 }
-        requires new { (history : List Reception) → Represents self.old.remember self.old.content history now →
+        requires new { (history : List Reception) →
+            Represents self.old.remember self.old.content history now →
             IsFalse (is_repeated self.old.remember (number_in frame.now.packet.pdu.body)
             frame.now.packet.pdu.vector.address now history) }
-        requires room { (history : List Reception) → Represents self.old.remember self.old.content history now →
+        requires room { (history : List Reception) →
+            Represents self.old.remember self.old.content history now →
             IsFalse (is_full self.old.capacity frame.now.packet.pdu.vector.address
             (stations_at self.old.remember now history)) }
         ensures step { (ports : List ℕ) (history : List Reception) → IsPast self.old ports history →
-            IsStepOf Tells result self.new (accept_step (model_of self.old ports history) now (transmission_of frame.now)) }
+            IsStepOf Tells result self.new
+            (accept_step (model_of self.old ports history) now (transmission_of frame.now)) }
         ensures memory { (ports : List ℕ) (history : List Reception) →
             Represents self.old.remember self.old.content history now →
             result ≡ Err Refused.NoMemory →
             TakesMemory (model_of self.old ports history) now (transmission_of frame.now) }
         ensures unchanged { OnErr result (self.new ≡ self.old) }
-        ensures short { IfOk result IsShort }
+        ensures payload { IfOk result (DeliversEndOf (payload_of frame.now.packet.pdu.body)) }
+        ensures short { IfOk result (Fits 1394) }
     {
-        let Ok(copy) = self.copy_for_relay(frame) else {
+        let inside = self.is_inside(&frame.packet);
+        let Ok(copy) = self.copy_for_relay(frame, inside) else {
             return Err(Refused::NoMemory);
         };
+        let handed = self.handing(&frame.packet, inside);
         let heard = heard_of(&frame.packet);
         let Ok(()) = self.take_in(now, &heard) else {
             return Err(Refused::NoMemory);
         };
-        let handed = self.handing(&frame.packet);
         let sent = self.direct(now, frame, copy);
         Ok(Outcome::Accepted { handed, sent })
     }
@@ -153,16 +165,23 @@ impl<S: LocationStore> Station<S> {
     fn take_in(&mut self, now: u64, heard: &Heard) -> Result<(), NoMemory>
         requires from { self.old.clock ≤ now }
         requires to { now ≤ 2 ^ 62 }
-        requires new { (history : List Reception) → Represents self.old.remember self.old.content history now →
-            IsFalse (is_repeated self.old.remember heard.now.number heard.now.vector.address now history) }
-        requires room { (history : List Reception) → Represents self.old.remember self.old.content history now →
+        requires new { (history : List Reception) →
+            Represents self.old.remember self.old.content history now →
+            IsFalse (is_repeated self.old.remember heard.now.number heard.now.vector.address
+            now history) }
+        requires room { (history : List Reception) →
+            Represents self.old.remember self.old.content history now →
             IsFalse (is_full self.old.capacity heard.now.vector.address
             (stations_at self.old.remember now history)) }
-        ensures table { (history : List Reception) → Represents self.old.remember self.old.content history now →
-            OnOk result (Represents self.new.remember self.new.content (reception now heard.now ∷ history) now) }
-        ensures fields { OnOk result (self.new ≡ record self.old { clock = now; content = self.new.content }) }
+        ensures table { (history : List Reception) →
+            Represents self.old.remember self.old.content history now →
+            OnOk result (Represents self.new.remember self.new.content
+            (reception now heard.now ∷ history) now) }
+        ensures fields { OnOk result (self.new
+            ≡ record self.old { clock = now; content = self.new.content }) }
         ensures unchanged { OnErr result (self.new ≡ self.old) }
-        ensures memory { (history : List Reception) → Represents self.old.remember self.old.content history now →
+        ensures memory { (history : List Reception) →
+            Represents self.old.remember self.old.content history now →
             OnErr result (IsFalse (is_live heard.now.vector.address now history)) }
     {
         match self.store.accept(now, heard) {
@@ -174,16 +193,19 @@ impl<S: LocationStore> Station<S> {
         }
     }
 
-    /// What is handed out of a packet.
-    fn handing<'a>(&self, packet: &PacketView<'a>) -> Option<Handed<'a>>
-        ensures short { IsShortHanding result }
-        ensures message { (ports : List ℕ) (history : List Reception) → SamePorts self.now.ports ports →
-            option_map said_by result ≡ handing (model_of self.now ports history) packet.now.pdu.body }
+    /// What is handed out of a packet, inside or outside of its area.
+    fn handing<'a>(&self, packet: &PacketView<'a>, inside: bool) -> Option<Handed<'a>>
+        requires { inside ≡ is_inside self.now.vector.place packet.now.pdu.body }
+        ensures payload { HandsOutEndOf (payload_of packet.now.pdu.body) result }
+        ensures short { HandingFits 1394 result }
+        ensures message { (ports : List ℕ) (history : List Reception) →
+            SamePorts self.now.ports ports → option_map said_by result
+            ≡ handing (model_of self.now ports history) packet.now.pdu.body }
     {
         let Ok((port, info, payload)) = split(packet.payload()) else {
             return None;
         };
-        if self.ports.is_open(port) && self.is_inside(packet) {
+        if inside && self.ports.is_open(port) {
             Some(Handed {
                 port,
                 info,
@@ -191,19 +213,6 @@ impl<S: LocationStore> Station<S> {
             })
         } else {
             None
-        }
-    }
-
-    /// Whether a packet goes on: a geobroadcast that has another hop left, and outside of its area a
-    /// geoanycast.
-    fn goes_on(&self, packet: &PacketView<'_>) -> bool
-        ensures { result ≡ goes_on self.now.vector.place packet.now.left packet.now.pdu.body }
-    {
-        let has_hops = packet.hops().left() >= 2;
-        match packet.kind() {
-            Kind::Beacon | Kind::Shb => false,
-            Kind::Gbc => has_hops,
-            Kind::Gac => has_hops && !self.is_inside(packet),
         }
     }
 
@@ -218,13 +227,18 @@ impl<S: LocationStore> Station<S> {
     }
 
     /// The frame in which a packet would go on to all: the one allocation of a relay.
-    fn copy_for_relay(&self, frame: &FrameView<'_>) -> Result<Option<Vec<u8>>, NoMemory>
+    fn copy_for_relay(
+        &self,
+        frame: &FrameView<'_>,
+        inside: bool,
+    ) -> Result<Option<Vec<u8>>, NoMemory>
+        requires { inside ≡ is_inside self.now.vector.place frame.now.packet.pdu.body }
         ensures memory { OnErr result (IsTrue (goes_on self.now.vector.place frame.now.packet.left
             frame.now.packet.pdu.body)) }
         ensures copy { IfOk result (λ copy. IsRelay copy
             (copy_of self.now.vector (transmission_of frame.now) frame.now.packet.pdu.body)) }
     {
-        if !self.goes_on(&frame.packet) {
+        if !goes_on(&frame.packet, inside) {
             return Ok(None);
         }
         let relayed = relay_frame(self.alloc, Mac::BROADCAST, self.mac(), frame)?;
@@ -238,7 +252,8 @@ impl<S: LocationStore> Station<S> {
             (copy_of self.now.vector (transmission_of frame.now) frame.now.packet.pdu.body) }
         ensures { (ports : List ℕ) (history : List Reception) →
             Represents self.now.remember self.now.content history now →
-            IsRelay result (relayed (model_of self.now ports history) now (transmission_of frame.now) frame.now.packet.pdu.body) }
+            IsRelay result (relayed (model_of self.now ports history) now
+            (transmission_of frame.now) frame.now.packet.pdu.body) }
     {
         let (Some(octets), Some(area)) = (copy, frame.packet.area()) else {
             return None;
@@ -254,6 +269,20 @@ impl<S: LocationStore> Station<S> {
             Choice::To(mac) => Some(sent_to(octets, mac)),
             Choice::Drop => None,
         }
+    }
+}
+
+/// Whether a packet goes on: a geobroadcast that has another hop left, and outside of its area a
+/// geoanycast.
+fn goes_on(packet: &PacketView<'_>, inside: bool) -> bool
+    ensures { (place : Position) → inside ≡ is_inside place packet.now.pdu.body →
+        result ≡ goes_on place packet.now.left packet.now.pdu.body }
+{
+    let has_hops = packet.hops().left() >= 2;
+    match packet.kind() {
+        Kind::Beacon | Kind::Shb => false,
+        Kind::Gbc => has_hops,
+        Kind::Gac => has_hops && !inside,
     }
 }
 

@@ -14,8 +14,8 @@ use its_loctable::LocationStore;
 
 impl<S: LocationStore> Station<S> {
     /// The station forgets all that it heard and closes its ports, and gives its next packet for an
-    /// area this sequence number. Its address, its place and its capacity stay; its next beacon is due
-    /// at once. Refused for its moment alone (S1, S2). It takes no memory.
+    /// area this sequence number. Its address, its place and its capacity stay; its next beacon is
+    /// due at once. Refused for its moment alone (S1, S2). It takes no memory.
     pub fn restart(&mut self, now: u64, number: u16) -> Result<(), Refused>
         ensures step { (s : StationModel) → RepresentsStation self.old s →
             IsStepOf (Says Restarted) result self.new

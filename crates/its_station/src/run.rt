@@ -1,7 +1,8 @@
 //! Many calls, one after the other.
 
 ghost use Rattle.std.specs.Prelude.{◌≡◌, ◌≤◌, ◌<◌, ℕ, Option, List, [], All, length, take};
-ghost use Rattle.std.specs.Prelude.{Err, IfOk, OnErr, IsTrue, IsFalse, IsSome, MatchResult, vec_len, vec_capacity};
+ghost use Rattle.std.specs.Prelude.{Err, IfOk, OnErr, IsTrue, IsFalse, IsSome, MatchResult};
+ghost use Rattle.std.specs.Prelude.{vec_len, vec_capacity};
 ghost use Rattle.std.specs.Option.{option_map};
 ghost use Rattle.its_model.specs.Packet.{Transmission};
 ghost use Rattle.its_model.specs.Calls.{Answer, Call as ModelCall};
@@ -10,13 +11,12 @@ ghost use Rattle.its_station.specs.State.{StationState, RepresentsStation};
 ghost use Rattle.its_station.specs.Steps.{IsStepOf, Says, refusal_of};
 ghost use Rattle.its_station.specs.Requests.{TellsSent, TellsTick};
 ghost use Rattle.its_station.specs.Receiving.{IsFrameCall, Tells, said_by};
-ghost use Rattle.its_station.specs.Runs.{IsCall, IsInRange, IsReplyTo, IsDone, TellsReply, IsRunOf, IsIsolatedRunOf};
-ghost use Rattle.its_station.specs.Runs.{IsShort, IsShortHanding, delivered};
+ghost use Rattle.its_station.specs.Runs.{IsCall, IsInRange, IsReplyTo, IsDone, TellsReply};
+ghost use Rattle.its_station.specs.Runs.{IsRunOf, IsIsolatedRunOf, Fits, HandingFits, delivered};
 
 use crate::outcome::{Handed, Outcome, Why};
 use crate::refused::Refused;
 use crate::requests::{OwnedGbcRequest, OwnedShbRequest};
-use crate::sending::MAX_PAYLOAD;
 use crate::station::Station;
 use its_gnvalue::{NoMemory, Place};
 use its_loctable::LocationStore;
@@ -98,10 +98,11 @@ pub struct Ran {
 }
 
 impl<S: LocationStore> Station<S> {
-    /// Makes the calls in order, each at its moment, until memory runs out: then neither the call that
-    /// met it nor any after it is made, and the station stands as after those before it. The speed of
-    /// each `MoveTo` has to be in its range. Sources are isolated: what the station's own applications
-    /// and one source see of the answers doesn't depend on the frames of other sources.
+    /// Makes the calls in order, each at its moment, until memory runs out: then neither the call
+    /// that met it nor any after it is made, and the station stands as after those before it. The
+    /// speed of each `MoveTo` has to be in its range. Sources are isolated: what the station's own
+    /// applications and one source see of the answers doesn't depend on the frames of other
+    /// sources.
     pub fn run(&mut self, calls: &[(u64, Call)]) -> Ran
         requires { All (λ call. IsInRange call.1) calls.now }
         ensures done { length result.replies.items ≤ length calls.now }
@@ -184,14 +185,15 @@ impl<S: LocationStore> Station<S> {
         }
     }
 
-    /// A frame that came. The room of the reply is taken before it is received.
+    /// A frame that came. The room of the reply is taken before it is received: what is delivered is
+    /// a part of the frame.
     fn receive_owned(&mut self, moment: u64, frame: &[u8]) -> Result<Reply, NoMemory>
         ensures step { IfOk result (λ reply. (c : ModelCall) × IsFrameCall frame.now c
             × ((s : StationModel) → RepresentsStation self.old s →
             IsReplyTo reply self.new (station_step s moment c))) }
         ensures unchanged { OnErr result (self.new ≡ self.old) }
     {
-        let room = Vec::with_capacity(self.alloc(), MAX_PAYLOAD)?;
+        let room = Vec::with_capacity(self.alloc(), frame.len())?;
         match self.receive(moment, frame) {
             Ok(outcome) => Ok(reply_of(outcome, room)),
             Err(refused) => refusal(refused),
@@ -200,8 +202,8 @@ impl<S: LocationStore> Station<S> {
 }
 
 impl Reply {
-    /// The reply to a call that tells nothing: `move_to`, `open`, `close` or `restart`. `NoMemory` where
-    /// an allocation failed.
+    /// The reply to a call that tells nothing: `move_to`, `open`, `close` or `restart`. `NoMemory`
+    /// where an allocation failed.
     fn of_done(answer: Result<(), Refused>) -> Result<Reply, NoMemory>
         ensures reply { (this : Answer Transmission) (new : StationState) (step : Step) →
             IsDone this → IsStepOf (Says this) answer new step →
@@ -244,9 +246,9 @@ impl Reply {
 fn reply_of(outcome: Outcome<'_>, room: Vec<u8>) -> Reply
     requires empty { room.items ≡ [] }
     requires size { vec_len room ≡ 0 }
-    requires room { 1394 ≤ vec_capacity room }
-    requires short { IsShort outcome }
-    ensures { (answer : Answer Transmission) → Tells outcome.entry answer → TellsReply result answer }
+    requires room { Fits (vec_capacity room) outcome }
+    ensures { (answer : Answer Transmission) → Tells outcome.entry answer →
+        TellsReply result answer }
 {
     match outcome {
         Outcome::Ignored(why) => Reply::Ignored(why),
@@ -261,8 +263,7 @@ fn reply_of(outcome: Outcome<'_>, room: Vec<u8>) -> Reply
 fn deliver(handed: Option<Handed<'_>>, room: Vec<u8>) -> Option<Delivery>
     requires empty { room.items ≡ [] }
     requires size { vec_len room ≡ 0 }
-    requires room { 1394 ≤ vec_capacity room }
-    requires short { IsShortHanding handed }
+    requires room { HandingFits (vec_capacity room) handed }
     ensures { option_map delivered result ≡ option_map said_by handed.entry }
 {
     match handed {
@@ -272,13 +273,12 @@ fn deliver(handed: Option<Handed<'_>>, room: Vec<u8>) -> Option<Delivery>
 }
 
 impl Delivery {
-    /// The same, with a payload of its own in this room: an empty vector in which 1394 octets have
+    /// The same, with a payload of its own in this room: an empty vector in which the payload has
     /// place.
     pub fn new(handed: Handed<'_>, room: Vec<u8>) -> Delivery
         requires empty { room.items ≡ [] }
         requires size { vec_len room ≡ 0 }
-        requires room { 1394 ≤ vec_capacity room }
-        requires short { length handed.payload.now ≤ 1394 }
+        requires room { length handed.payload.now ≤ vec_capacity room }
         ensures { delivered result ≡ said_by handed.entry }
     {
         let mut payload = room;

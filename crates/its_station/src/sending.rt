@@ -51,9 +51,9 @@ pub(crate) enum AreaCast {
 }
 
 impl<S: LocationStore> Station<S> {
-    /// The frame of a BEACON, where one is due: 3000 ms after the last packet of the station's own, and
-    /// `jitter` ms later. Refused for its moment (S1, S2), by `JitterRange` (S9) for a jitter over 750,
-    /// and by `NoMemory` (S5) where a beacon is due and its frame finds no memory.
+    /// The frame of a BEACON, where one is due: 3000 ms after the last packet of the station's own,
+    /// and `jitter` ms later. Refused for its moment (S1, S2), by `JitterRange` (S9) for a jitter
+    /// over 750, and by `NoMemory` (S5) where a beacon is due and its frame finds no memory.
     pub fn tick(&mut self, now: u64, jitter: u16) -> Result<Option<Vec<u8>>, Refused>
         ensures step { (s : StationModel) → RepresentsStation self.old s →
             IsStepOf TellsTick result self.new (station_step s now (Own (Tick jitter))) }
@@ -80,8 +80,8 @@ impl<S: LocationStore> Station<S> {
         Ok(Some(frame))
     }
 
-    /// The frame of a single-hop broadcast (SHB) of this payload, to all stations in reach. Refused for
-    /// its moment (S1, S2), by `PayloadTooLong` (S6) over 1394 octets, and by `NoMemory` (S5).
+    /// The frame of a single-hop broadcast (SHB) of this payload, to all stations in reach. Refused
+    /// for its moment (S1, S2), by `PayloadTooLong` (S6) over 1394 octets, and by `NoMemory` (S5).
     pub fn send_shb(&mut self, now: u64, r: &ShbRequest<'_>) -> Result<Vec<u8>, Refused>
         ensures step { (s : StationModel) → RepresentsStation self.old s →
             IsStepOf TellsSent result self.new
@@ -105,8 +105,8 @@ impl<S: LocationStore> Station<S> {
     }
 
     /// The frame of a geobroadcast (GBC) of this payload, to all stations in an area, with the
-    /// station's next sequence number. Refused for its moment (S1, S2), by `PayloadTooLong` (S6) over
-    /// 1394 octets, by `HopLimitZero` (S7), and by `NoMemory` (S5).
+    /// station's next sequence number. Refused for its moment (S1, S2), by `PayloadTooLong` (S6)
+    /// over 1394 octets, by `HopLimitZero` (S7), and by `NoMemory` (S5).
     pub fn send_geobroadcast(&mut self, now: u64, r: &GbcRequest<'_>) -> Result<Vec<u8>, Refused>
         ensures step { (s : StationModel) → RepresentsStation self.old s →
             IsStepOf TellsSent result self.new
@@ -249,7 +249,8 @@ impl<S: LocationStore> Station<S> {
         }
     }
 
-    /// To whom a packet of the station's own for an area goes: without a sender nobody is no choice.
+    /// To whom a packet of the station's own for an area goes: without a sender nobody is no
+    /// choice.
     fn area_target(&self, now: u64, area: &Area) -> Mac
         requires { now ≤ 2 ^ 62 }
         ensures { (ports : List ℕ) (history : List Reception) →

@@ -22,7 +22,8 @@ use std::marker::Model;
 pub const LAST_MOMENT: u64 = 1 << 62;
 
 /// A station over a location table. Contracts see its fields and the content of its table
-/// (`StationState`), and each call's contract speaks of the stations of the model that it represents.
+/// (`StationState`), and each call's contract speaks of the stations of the model that it
+/// represents.
 #[derive(Drop)]
 pub struct Station<S: LocationStore> {
     pub(crate) alloc: Global,
@@ -88,9 +89,9 @@ impl<S: LocationStore> Station<S> {
         })
     }
 
-    /// The station stands there from now on: its place, whether that is accurate (PAI), its speed in
-    /// 0.01 m/s, from -16384 to 16383, and its heading in 0.1 degree. Refused for its moment alone (S1,
-    /// S2). It takes no memory.
+    /// The station stands there from now on: its place, whether that is accurate (PAI), its speed
+    /// in 0.01 m/s, from -16384 to 16383, and its heading in 0.1 degree. Refused for its moment
+    /// alone (S1, S2). It takes no memory.
     pub fn move_to(
         &mut self,
         now: u64,

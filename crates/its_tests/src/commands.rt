@@ -64,6 +64,9 @@ static SHORT: &str = "0000000000000005000100";
 /// A record of no octet, at moment 5.
 static EMPTY: &str = "00000000000000050000";
 
+/// Standard input with nothing in it.
+pub(crate) static NOTHING: &[u8] = b"";
+
 /// What a command left: its status, standard output and standard error.
 #[derive(Drop)]
 struct Left {

@@ -10,7 +10,7 @@ ghost use Rattle.its_station.specs.State.{StationState};
 ghost use Rattle.its_station.specs.Steps.{IsStepOf, Says, refusal_of};
 ghost use Rattle.its_station.specs.Requests.{TellsSent, TellsTick};
 ghost use Rattle.its_station.specs.Receiving.{Tells, IsRelay};
-ghost use Rattle.its_station.specs.Runs.{IsShort};
+ghost use Rattle.its_station.specs.Runs.{Fits};
 ghost use Rattle.its_world.specs.Frames.{AreFrames};
 ghost use Rattle.its_world.specs.Entries.{TellsEntry, TellsGiven, IsToldBy, IsGivenBy};
 
@@ -75,8 +75,7 @@ impl Given {
     ) -> Result<Given, NoMemory>
         requires empty { room.items ≡ [] }
         requires size { vec_len room ≡ 0 }
-        requires room { 1394 ≤ vec_capacity room }
-        requires short { IfOk answer IsShort }
+        requires room { IfOk answer (Fits (vec_capacity room)) }
         ensures given { (new : StationState) (step : Step) → IsStepOf Tells answer.entry new step →
             IfOk result (λ given. IsGivenBy given new step) }
         ensures memory { OnErr result (answer.entry ≡ Err Refused.NoMemory) }

@@ -25,14 +25,14 @@ pub struct Run {
 
 impl World {
     /// Does the events in order, until memory runs out: then neither the event that met it nor any
-    /// after it is done, the world stands as after those before it, and `run` may be called again. The
-    /// speed of each `MoveTo` has to be in its range.
+    /// after it is done, the world stands as after those before it, and `run` may be called again.
+    /// The speed of each `MoveTo` has to be in its range.
     ///
-    /// For every run at whose end the world stood, these events continue it as the model does, and of
-    /// the longer run hold the laws over every schedule of losses, repeats and reorderings: what is
-    /// delivered of a packet for an area was sent earlier to that port for an area that holds the
-    /// receiver then; a relay is the received packet, one hop fewer; no station delivers a send twice
-    /// unless, between, as many others came as it remembers, its source's session broke or it
+    /// For every run at whose end the world stood, these events continue it as the model does, and
+    /// of the longer run hold the laws over every schedule of losses, repeats and reorderings: what
+    /// is delivered of a packet for an area was sent earlier to that port for an area that holds
+    /// the receiver then; a relay is the received packet, one hop fewer; no station delivers a send
+    /// twice unless, between, as many others came as it remembers, its source's session broke or it
     /// restarted.
     pub fn run(&mut self, events: &[Event]) -> Run
         requires { All (λ event. IsInRange event.what) events.now }

@@ -25,8 +25,8 @@ pub(crate) fn refuse_shared(alloc: Global, configs: &[Config]) -> Result<(), Wor
     }
 }
 
-/// The first station that has the MID of an earlier one, behind that one; `None` where no two stations
-/// share one. `NoMemory` where the map of MIDs finds no memory.
+/// The first station that has the MID of an earlier one, behind that one; `None` where no two
+/// stations share one. `NoMemory` where the map of MIDs finds no memory.
 fn first_shared(alloc: Global, configs: &[Config]) -> Result<Option<(usize, usize)>, NoMemory>
     ensures apart { result ≡ Ok None → AreApart configs.now }
     ensures shared { IfOk result (λ found.

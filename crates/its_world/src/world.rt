@@ -22,12 +22,13 @@ use crate::shared::refuse_shared;
 use its_gnvalue::NoMemory;
 use its_linkframe::{one_frame, one_frame_fault};
 use its_loctable::SortedTable;
-use its_station::{MAX_PAYLOAD, Station};
+use its_station::Station;
 use std::alloc::Global;
 use std::marker::Model;
 
-/// Stations, and all frames that they gave, numbered from 0 in the order in which they were given. A
-/// frame that is delivered to nobody is lost; one may be delivered often, late, and to any station.
+/// Stations, and all frames that they gave, numbered from 0 in the order in which they were given.
+/// A frame that is delivered to nobody is lost; one may be delivered often, late, and to any
+/// station.
 #[derive(Drop)]
 pub struct World {
     pub(crate) alloc: Global,
@@ -44,8 +45,8 @@ impl Model for World {
 }
 
 impl World {
-    /// The world of these configs, at most 65535, in which nothing happened yet. Refused by `SameMid`
-    /// (M1) exactly where two stations share a MID, and else by `NoMemory` (M2).
+    /// The world of these configs, at most 65535, in which nothing happened yet. Refused by
+    /// `SameMid` (M1) exactly where two stations share a MID, and else by `NoMemory` (M2).
     pub fn new(alloc: Global, configs: &[Config]) -> Result<World, WorldFault>
         requires ranges { All IsConfig configs.now }
         requires count { length configs.now ≤ 65535 }
@@ -154,7 +155,8 @@ fn ask(
         }
         What::SendGeoanycast(r) => Given::of_send(station.send_geoanycast(moment, &r.lend())),
         What::Deliver(_) => {
-            let room = Vec::with_capacity(alloc, MAX_PAYLOAD)?;
+            // What is delivered is a part of the frame, so its room is taken before the call.
+            let room = Vec::with_capacity(alloc, frame.len())?;
             Given::of_frame(station.receive(moment, frame), room)
         }
     }

@@ -1,6 +1,6 @@
 //! Whole texts: help on standard output, refused arguments on standard error.
 
-use super::left_by;
+use super::{left_by, left_by_input};
 use its_commands::Status;
 use std::test::Fail;
 use std::{env, fs};
@@ -18,7 +18,8 @@ Commands:
   help    Print this message or the help of the given subcommand(s)
 
 Options:
-  -h, --help  Print help
+  -h, --help     Print help
+  -V, --version  Print version
 ";
 
 static SHOW_HELP: &str = "\
@@ -27,10 +28,13 @@ Prints a line for each record of a capture
 Usage: geostation show <FILE>
 
 Arguments:
-  <FILE>  The capture
+  <FILE>  The capture, or - for standard input
 
 Options:
   -h, --help  Print help
+
+Example:
+  geostation show first.cap
 ";
 
 static CHECK_HELP: &str = "\
@@ -39,10 +43,13 @@ Prints a line for each refused record of a capture, and a count
 Usage: geostation check <FILE>
 
 Arguments:
-  <FILE>  The capture
+  <FILE>  The capture, or - for standard input
 
 Options:
   -h, --help  Print help
+
+Example:
+  geostation check first.cap
 ";
 
 static IMPORT_HELP: &str = "\
@@ -51,11 +58,14 @@ Makes a capture of lines of a moment and hexadecimal digits
 Usage: geostation import <FILE> <OUT>
 
 Arguments:
-  <FILE>  The lines
+  <FILE>  The lines, or - for standard input
   <OUT>   The capture that is made
 
 Options:
   -h, --help  Print help
+
+Example, of a line with a frame of one octet at moment 5:
+  echo '5 00' | geostation import - short.cap
 ";
 
 static SIM_HELP: &str = "\
@@ -64,10 +74,13 @@ Runs a scenario and prints a line for each event
 Usage: geostation sim <SCENARIO>
 
 Arguments:
-  <SCENARIO>  The scenario
+  <SCENARIO>  The scenario, or - for standard input
 
 Options:
   -h, --help  Print help
+
+Example:
+  geostation sim warning.toml
 ";
 
 static NO_COMMAND: &str = "\
@@ -122,7 +135,7 @@ event = [{station = 0, at = 7, do = \"open\", port = 2002}]
 static NO_TEXT: &str = "error: an argument is not UTF-8\n";
 
 #[test]
-fn help_that_was_asked_for_is_output(rt: HostRuntime) -> Result<(), Fail> {
+fn help_and_the_version_are_output(rt: HostRuntime) -> Result<(), Fail> {
     let cases = [
         ("geostation --help", HELP),
         ("geostation help", HELP),
@@ -130,6 +143,8 @@ fn help_that_was_asked_for_is_output(rt: HostRuntime) -> Result<(), Fail> {
         ("geostation check --help", CHECK_HELP),
         ("geostation import --help", IMPORT_HELP),
         ("geostation sim --help", SIM_HELP),
+        ("geostation --version", "geostation 0.1.0\n"),
+        ("geostation -V", "geostation 0.1.0\n"),
     ];
     for (line, help) in cases {
         let left = left_by(&rt, line.as_bytes());
@@ -193,5 +208,43 @@ fn commands_are_dispatched(rt: HostRuntime) -> Result<(), Fail> {
     assert_eq!(rt; run.status, Status::Done);
     assert_eq!(rt; run.out.as_slice(), b"0 7 0 opened\n".as_slice());
     assert!(rt; run.err.is_empty());
+    Ok(())
+}
+
+/// A record of one octet, at moment 5.
+static SHORT: &[u8] = &[0, 0, 0, 0, 0, 0, 0, 5, 0, 1, 0];
+
+/// A file that is `-` is standard input, but one that is `./-` isn't.
+#[test]
+fn a_dash_is_standard_input(rt: HostRuntime) -> Result<(), Fail> {
+    let cases: [(&str, &[u8], &str); 4] = [
+        ("geostation show -", SHORT, "5 refused L1\n"),
+        (
+            "geostation check -",
+            SHORT,
+            "record 0: L1\n1 records, 1 refused\n",
+        ),
+        ("geostation sim -", ONE_EVENT.as_bytes(), "0 7 0 opened\n"),
+        ("geostation show ./-", SHORT, ""),
+    ];
+    for (line, input, printed) in cases {
+        let left = left_by_input(&rt, line.as_bytes(), input);
+        assert_eq!(rt; left.out.as_slice(), printed.as_bytes(), "{line}");
+        assert_eq!(rt; left.err.is_empty(), !printed.is_empty(), "{line}");
+    }
+    Ok(())
+}
+
+/// `import` reads its lines from standard input where they are `-`.
+#[test]
+fn lines_come_from_standard_input(rt: HostRuntime) -> Result<(), Fail> {
+    let folder = env::temp_dir(&rt)?;
+    let made = folder.join(rt.alloc(), "geostation-dash.cap")?;
+    let line = format!(in rt.alloc(); "geostation import - {}", made.as_str())?;
+    let left = left_by_input(&rt, line.as_bytes(), b"5 00\n");
+    let capture = fs::read(&rt, made.as_str())?;
+    fs::remove_file(&rt, made.as_str())?;
+    assert_eq!(rt; left.status, Status::Done);
+    assert_eq!(rt; capture.as_slice(), SHORT);
     Ok(())
 }

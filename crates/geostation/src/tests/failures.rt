@@ -59,7 +59,13 @@ fn the_program_fails_where_its_output_does(rt: HostRuntime) -> Result<(), Fail> 
             rt: &rt,
             line: b"geostation --help",
         });
-        let status = program::run(&rt, arguments, Failing { room, flushes }, &mut err);
+        let status = program::run(
+            &rt,
+            arguments,
+            b"".as_slice(),
+            Failing { room, flushes },
+            &mut err,
+        );
         assert_eq!(rt; status, Status::Failed, "{room}");
         assert!(rt; err.is_empty(), "{room}");
     }
@@ -73,10 +79,16 @@ fn runs_short_of_memory(rt: &HostRuntime, line: &[u8], whole: &[u8]) -> Result<b
     let (mut refused, mut done, mut wrong) = (false, false, false);
     for step in 0..BUDGETS {
         wrong |= !shortage.leave(step * STEP);
-        let (mut printed, mut said) = ([0u8; 600], [0u8; 64]);
+        let (mut printed, mut said) = ([0u8; 700], [0u8; 64]);
         let mut err = said.as_mut_slice();
         let arguments = env::args(&Given { rt, line });
-        match program::run(rt, arguments, printed.as_mut_slice(), &mut err) {
+        match program::run(
+            rt,
+            arguments,
+            b"".as_slice(),
+            printed.as_mut_slice(),
+            &mut err,
+        ) {
             Status::Done => {
                 done = true;
                 wrong |= written(&printed) != whole || !written(&said).is_empty();

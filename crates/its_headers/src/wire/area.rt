@@ -1,7 +1,6 @@
 //! The area of a geobroadcast and of a geoanycast (EN 302 636-4-1 clause 9, EN 302 931).
 
 ghost use Rattle.std.specs.Prelude.{◌≡◌, ◌≤◌, ◌+◌, length};
-ghost use Rattle.its_geometry.specs.Area.{HasMeasures};
 ghost use Rattle.its_headers.specs.Encoding.{area_octets, IsArea};
 ghost use Rattle.its_headers.specs.Format.{Gives, walk};
 ghost use Rattle.its_headers.specs.Layout.{area_format, area_at, is_second, is_angle};
@@ -11,13 +10,14 @@ use crate::wire::fields::{
     ANGLE, AREA_LATITUDE, AREA_LONGITUDE, DISTANCE_A, DISTANCE_B, fault, put_u16, put_u32, u16_at,
     u16_in, u32_at, u32_in,
 };
-use crate::wire::position::{is_latitude, is_longitude, place_of};
+use crate::wire::position::{is_latitude, is_longitude};
 use its_faults::{Fault, FaultKind};
 use its_geometry::{Area, Shape};
 use its_gnvalue::Place;
 
 /// Checks the area, of a shape that the sub-type names.
 #[tactic(auto, unfolding(crate::specs::Layout::area_format))]
+#[inline(always)]
 pub(crate) fn check_area(octets: &[u8], shape: Shape) -> Result<(), Fault>
     ensures { Gives (λ _. (area_at shape octets.now, 54)) result
         (walk (area_format shape) 40 octets.now) }
@@ -71,21 +71,7 @@ pub(crate) fn area_in(octets: &[u8], shape: Shape) -> Area
     let a = u16_in(octets, DISTANCE_A);
     let b = u16_in(octets, DISTANCE_B);
     let angle = u16_in(octets, ANGLE);
-    area_of(shape, place_of(lat, lon), a, b, angle)
-}
-
-/// The area of these measures, which the shape may have.
-fn area_of(shape: Shape, centre: Place, a: u16, b: u16, angle: u16) -> Area
-    requires { HasMeasures shape a b angle }
-    ensures { result ≡ record { shape = shape; centre = centre; a = a; b = b; angle = angle } }
-{
-    let made = match shape {
-        Shape::Circle => Area::circle(centre, a),
-        Shape::Rectangle => Area::rectangle(centre, a, b, angle),
-        Shape::Ellipse => Area::ellipse(centre, a, b, angle),
-    };
-    let Ok(area) = made else { unreachable!() };
-    area
+    Area::within(shape, Place::within(lat, lon), a, b, angle)
 }
 
 /// Writes an area, 14 octets.

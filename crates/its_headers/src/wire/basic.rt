@@ -20,6 +20,7 @@ const NEXT_COMMON: u8 = 1;
 
 /// Checks the Basic Header, and gives the hops that are left.
 #[tactic(auto, unfolding(crate::specs::Layout::basic_format))]
+#[inline(always)]
 pub(crate) fn check_basic(octets: &[u8]) -> Result<u8, Fault>
     ensures some_left { IfOk result (λ left. 0 < left) }
     ensures reading { Gives (λ left. ((big_number 1 (drop 2 octets.now), left), 4)) result

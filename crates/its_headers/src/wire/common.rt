@@ -54,6 +54,7 @@ pub(crate) struct CommonHeader {
 
 /// Checks the Common Header of a packet that has so many hops left.
 #[tactic(auto, using(crate::proofs::Walks::walk_after), unfolding(crate::specs::Layout::common_format))]
+#[inline(always)]
 pub(crate) fn check_common(octets: &[u8], left: u8) -> Result<CommonHeader, Fault>
     ensures size { IfOk result (λ c. IsLength c.kind c.length) }
     ensures reading { Gives
@@ -94,6 +95,7 @@ pub(crate) fn check_common(octets: &[u8], left: u8) -> Result<CommonHeader, Faul
 
 /// Header type and sub-type, which the next header in front of them allows.
 #[tactic(auto, unfolding(crate::specs::Layout::type_format))]
+#[inline(always)]
 fn type_and_sub_type(octets: &[u8]) -> Result<(u8, u8), Fault>
     ensures { Gives (λ x. ((x.0, x.1), 6)) result (walk type_format 4 octets.now) }
 {

@@ -2,7 +2,7 @@
 //! heading.
 
 ghost use Rattle.std.specs.Prelude.{◌≡◌, ◌≤◌, ◌<◌, ◌+◌, ◌%◌, ◌^◌, length, nat_le};
-ghost use Rattle.its_gnvalue.specs.Values.{IsSpeed, IsLatitude, IsLongitude};
+ghost use Rattle.its_gnvalue.specs.Values.{IsSpeed};
 ghost use Rattle.its_headers.specs.Encoding.{vector_octets, motion, IsVector};
 ghost use Rattle.its_headers.specs.Format.{Gives, walk};
 ghost use Rattle.its_headers.specs.Layout.{vector_format, vector_at};
@@ -21,6 +21,7 @@ const ACCURATE: u16 = 0x8000;
 
 /// Checks the vector that begins at this octet.
 #[tactic(auto, unfolding(crate::specs::Layout::vector_format))]
+#[inline(always)]
 pub(crate) fn check_vector(octets: &[u8], at: usize) -> Result<(), Fault>
     requires { at ≤ 16 }
     ensures { Gives (λ _. (vector_at at octets.now, at + 24)) result
@@ -68,27 +69,13 @@ pub(crate) fn vector_in(octets: &[u8], at: usize) -> LongPv
     requires fits { IsVector (vector_at at octets.now) }
     ensures { result ≡ vector_at at octets.now }
 {
-    let Ok(address) = GnAddress::from_u64(u64_in(octets, at + ADDRESS)) else {
-        unreachable!()
-    };
+    let address = GnAddress::within(u64_in(octets, at + ADDRESS));
     let tst = u32_in(octets, at + TIMESTAMP);
     let lat = u32_in(octets, at + LATITUDE).cast_signed();
     let lon = u32_in(octets, at + LONGITUDE).cast_signed();
     let motion = u16_in(octets, at + MOTION);
     let heading = u16_in(octets, at + HEADING);
-    vector_of(address, tst, place_of(lat, lon), motion, heading)
-}
-
-/// The place at this latitude and longitude, which were checked.
-pub(crate) fn place_of(lat: i32, lon: i32) -> Place
-    requires latitude { IsLatitude lat }
-    requires longitude { IsLongitude lon }
-    ensures { result ≡ record { latitude = lat; longitude = lon } }
-{
-    let Ok(place) = Place::new(lat, lon) else {
-        unreachable!()
-    };
-    place
+    vector_of(address, tst, Place::within(lat, lon), motion, heading)
 }
 
 /// The vector of these fields, of which `motion` is accuracy and speed.
@@ -103,10 +90,7 @@ fn vector_of(address: GnAddress, tst: u32, place: Place, motion: u16, heading: u
     } }
 {
     let (accurate, speed) = (motion >= ACCURATE, speed_of(motion % ACCURATE));
-    let Ok(vector) = LongPv::new(address, tst, place, accurate, speed, heading) else {
-        unreachable!()
-    };
-    vector
+    LongPv::within(address, tst, place, accurate, speed, heading)
 }
 
 /// The speed of which 15 bits are the two's complement.

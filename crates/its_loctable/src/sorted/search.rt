@@ -10,17 +10,9 @@ ghost use Rattle.its_loctable.specs.Slots.{slot_known};
 ghost use Rattle.its_loctable.specs.Sorted.{held, IsFoundAt, IsGapFor, IsStartAbove};
 ghost use Rattle.its_loctable.specs.Eager.{is_rising};
 
+use super::halving::search;
 use crate::slot::Slot;
 use its_gnvalue::{GnAddress, Mac};
-
-/// Where the slot of an address is, or else where it would go.
-fn search(slots: &[Slot], address: GnAddress) -> Result<usize, usize>
-    requires { IsTrue (is_rising (held slots.now)) }
-    ensures found { IfOk result (λ i. IsFoundAt slots.now address i × (i < length slots.now)) }
-    ensures absent { IfErr result (λ i. IsGapFor slots.now address i × (i ≤ length slots.now)) }
-{
-    slots.binary_search_by_key(&address, |slot| slot.address())
-}
 
 /// Whether a slot has expired.
 pub fn has_expired(slots: &[Slot], now: u64) -> bool

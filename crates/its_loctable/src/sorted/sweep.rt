@@ -46,7 +46,10 @@ fn pack(slots: &mut Vec<Slot>, now: u64) -> usize
     let mut kept = 0;
     for i in 0..slots.len() {
         if now < slots[i].until {
-            slots.swap(kept, i);
+            // A slot that stands in its place already is not copied.
+            if kept < i {
+                slots.swap(kept, i);
+            }
             kept += 1;
         }
     }

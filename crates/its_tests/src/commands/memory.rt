@@ -1,6 +1,6 @@
 //! Each command with every budget of memory from none to enough.
 
-use super::{BEACON, BEACON_LINE, GBC, GBC_LINE, joined};
+use super::{BEACON, BEACON_LINE, GBC, GBC_LINE, NOTHING, joined};
 use its_commands::{Status, check, check_file, create, import_file, read_lines, show, show_file};
 use its_shortage::{MOST, STEP, Shortage};
 use std::test::Fail;
@@ -119,8 +119,8 @@ fn shows_and_checks_a_file_short_of_memory(rt: HostRuntime) -> Result<(), Fail> 
         let (mut printed, mut said) = ([0u8; 400], [0u8; 64]);
         let (mut out, mut err) = (printed.as_mut_slice(), said.as_mut_slice());
         let status = match step % 2 {
-            0 => show_file(&rt, made.as_str(), &mut out, &mut err),
-            _ => check_file(&rt, made.as_str(), &mut out, &mut err),
+            0 => show_file(&rt, made.as_str(), NOTHING, &mut out, &mut err),
+            _ => check_file(&rt, made.as_str(), NOTHING, &mut out, &mut err),
         };
         let whole = match step % 2 {
             0 => BEACON_LINE.as_bytes(),
@@ -158,7 +158,7 @@ fn imports_a_file_short_of_memory(rt: HostRuntime) -> Result<(), Fail> {
         let _ = fs::remove_file(&rt, to);
         let mut said = [0u8; 64];
         let mut err = said.as_mut_slice();
-        let status = import_file(&rt, from, to, &mut err);
+        let status = import_file(&rt, from, NOTHING, to, &mut err);
         let size = fs::metadata(&rt, to).ok().map(|made| made.len());
         if status == Status::Done {
             done = done.saturating_add(1);

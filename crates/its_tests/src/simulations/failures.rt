@@ -1,6 +1,7 @@
 //! A reader or an output that fails, files, and every budget of memory from none to enough.
 
 use super::{DELIVER, OPEN, SEND, STATIONS, scenario, simulation_of};
+use crate::commands::NOTHING;
 use its_commands::{Status, simulate, simulate_file};
 use its_shortage::{MOST, STEP, Shortage};
 use std::io::Read;
@@ -77,12 +78,12 @@ fn a_file_is_run(rt: HostRuntime) -> Result<(), Fail> {
     let text = scenario(rt.alloc(), STATIONS, &[OPEN, SEND, DELIVER])?;
     fs::write(&rt, made.as_str(), text.as_str())?;
     let (mut out, mut err) = (Vec::new(rt.alloc()), Vec::new(rt.alloc()));
-    let status = simulate_file(&rt, made.as_str(), &mut out, &mut err);
+    let status = simulate_file(&rt, made.as_str(), NOTHING, &mut out, &mut err);
     fs::remove_file(&rt, made.as_str())?;
     assert_eq!(rt; out.as_slice(), LINES.as_bytes());
     assert_eq!(rt; status, Status::Done);
     assert!(rt; err.is_empty());
-    let status = simulate_file(&rt, made.as_str(), &mut out, &mut err);
+    let status = simulate_file(&rt, made.as_str(), NOTHING, &mut out, &mut err);
     let said = format!(in rt.alloc(); "geostation: cannot read {}\n", made.as_str())?;
     assert_eq!(rt; status, Status::Failed);
     assert_eq!(rt; err.as_slice(), said.as_bytes());

@@ -1,6 +1,5 @@
 use Rattle.std.proofs.Common.{◌≡◌, ℕ, List, ap}
 use Rattle.its_faults.specs.declared.frame.FrameFault.{FrameFault}
-use Rattle.its_headers.specs.Encoding.{IsBytes}
 use Rattle.its_model.specs.Calls.{Call}
 use Rattle.its_model.specs.Calls.Call.{Own, Receive, Junk}
 use Rattle.its_model.specs.Packet.{Transmission}

@@ -1,10 +1,10 @@
-use Rattle.std.proofs.Common.{◌≡◌, refl, sym, subst, rules}
+use Rattle.std.proofs.Common.{refl, sym, subst, rules}
 use Rattle.std.proofs.Math.Facts.{to_z-of_z}
 use mir.Val.{SFits}
 use mir.Syntax.{w16}
 use Rattle.its_model.specs.Calls.{Own, Moved, Opened, Closed, Restarted, GbcRequest, ShbRequest}
 use Rattle.its_model.specs.Calls.OwnCall.{Move, Open, Close, Tick, SendShb, SendGbc, SendGac, Restart}
-use Rattle.its_model.specs.Station.{StationModel, station_step}
+use Rattle.its_model.specs.Station.{station_step}
 use Rattle.its_station.specs.declared.run.Call.{Call}
 use Rattle.its_station.specs.Requests.{TellsSent, owned_gbc, owned_shb}
 use Rattle.its_station.specs.Steps.{IsStepOf}

@@ -1,4 +1,4 @@
-use Rattle.std.proofs.Common.{[], refl, sym, ap, subst, ◌∙◌, arith}
+use Rattle.std.proofs.Common.{[], refl, ap, subst, arith}
 use Rattle.its_model.specs.Calls.{Restarted, Own}
 use Rattle.its_model.specs.Calls.OwnCall.{Restart}
 use Rattle.its_station.specs.Steps.{Says}

@@ -1,16 +1,15 @@
-use Rattle.std.proofs.Common.{◌≡◌, ◌≤◌, ℕ, List, Some, None, Bool, true, false, cond, eqb, length, refl, sym, ap, ◌∙◌, tests, arith}
+use Rattle.std.proofs.Common.{◌≡◌, ◌≤◌, ℕ, Some, None, true, false, cond, eqb, length, refl, sym, ◌∙◌, tests, arith}
 use Rattle.std.proofs.lemmas.Bool.{lt-ltb, le-ltb}
 use Rattle.its_model.specs.Packet.{area_body}
-use Rattle.its_model.specs.History.{Reception}
 use Rattle.its_model.specs.Calls as model
 use Rattle.its_model.specs.Calls.{Own, GbcRequest, area_call}
-use Rattle.its_model.specs.Station.{area_packet, area_refusal, first, payload_refusal}
+use Rattle.its_model.specs.Station.{area_packet, area_refusal, first}
 use Rattle.its_station.specs.State.{model_of}
 use Rattle.its_station.specs.Requests.{TellsSent, gbc_request, kind_of_cast}
 use Rattle.its_station.specs.declared.refused.Refused.TheVariants as refused
 use Rattle.its_station.proofs.AreaCalls.{performed_area, refusal_area}
 use Rattle.its_station.proofs.Hearing.{moment_refused}
-use Rattle.its_station.proofs.Stations.{Represents-later, own_done_step, own_refused_later, nothing_refused}
+use Rattle.its_station.proofs.Stations.{Represents-later, own_done_step, own_refused_later}
 use Rattle.its_station.proofs.station.Station.send_to_area.Goals as goal
 
 some_hops : (n : ℕ) → (n ≡ 0 → ⊥) → eqb n 0 ≡ false

@@ -1,4 +1,4 @@
-use Rattle.std.proofs.Common.{Some, None, cond, refl, sym, ap, ◌∙◌}
+use Rattle.std.proofs.Common.{Some, None, cond, refl, sym, ◌∙◌}
 use Rattle.std.proofs.lemmas.Bool.{lt-ltb, le-ltb}
 use Rattle.its_model.specs.Calls as model
 use Rattle.its_model.specs.Calls.{Own}
