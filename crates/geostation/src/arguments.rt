@@ -18,6 +18,8 @@ pub enum Subcommand<'a> {
     Import { file: &'a str, out: &'a str },
     /// To run the scenario in the file.
     Sim { file: &'a str },
+    /// To run the scenario in the file over sockets.
+    Mesh { file: &'a str },
 }
 
 const SHOW_EXAMPLE: &str = "\
@@ -35,6 +37,10 @@ Example, of a line with a frame of one octet at moment 5:
 const SIM_EXAMPLE: &str = "\
 Example:
   geostation sim warning.toml";
+
+const MESH_EXAMPLE: &str = "\
+Example:
+  geostation mesh warning.toml";
 
 fn required<'a>(alloc: Global, name: &'a str, help: &'a str) -> Arg<'a> {
     Arg::new(alloc, name).required(true).help(help)
@@ -58,6 +64,10 @@ fn command<'a>(alloc: Global) -> Result<Command<'a>, Error> {
         .about("Runs a scenario and prints a line for each event")
         .after_help(SIM_EXAMPLE)
         .arg(required(alloc, "SCENARIO", "The scenario, or - for standard input"))?;
+    let mesh = Command::new(alloc, "mesh")
+        .about("Runs a scenario over UDP sockets on the loopback")
+        .after_help(MESH_EXAMPLE)
+        .arg(required(alloc, "SCENARIO", "The scenario, or - for standard input"))?;
     Ok(
         Command::new(alloc, "geostation")
             .about("Shows, checks and makes captures of GeoNetworking frames, and runs scenarios")
@@ -66,7 +76,8 @@ fn command<'a>(alloc: Global) -> Result<Command<'a>, Error> {
             .subcommand(show)?
             .subcommand(check)?
             .subcommand(import)?
-            .subcommand(sim)?,
+            .subcommand(sim)?
+            .subcommand(mesh)?,
     )
 }
 
@@ -85,6 +96,9 @@ fn matched<'a>(matches: &ArgMatches<'a>) -> Option<Subcommand<'a>> {
             out: inner.get_str("OUT")?,
         }),
         "sim" => Some(Subcommand::Sim {
+            file: inner.get_str("SCENARIO")?,
+        }),
+        "mesh" => Some(Subcommand::Mesh {
             file: inner.get_str("SCENARIO")?,
         }),
         _ => None,

@@ -3,10 +3,12 @@
 use crate::arguments;
 use crate::arguments::Subcommand;
 use its_commands::{Fault, Status, check_file, import_file, show_file, simulate_file};
+use its_mesh::mesh_file;
 use std::alloc::AllocError;
 use std::env::Args;
 use std::io;
 use std::io::{BufWriter, ErrorKind, Read, Write};
+use std::net::Net;
 use std::rt::Files;
 
 /// Runs the command that the arguments name, the program's own name being the first of them, and
@@ -14,7 +16,7 @@ use std::rt::Files;
 /// Gives the exit status.
 ///
 /// Arguments that could not be taken are refused where one is not UTF-8; else memory ran out.
-pub fn run<R: Files + AllocGlobal, I: Read + Drop, W: Write + Drop, E: Write>(
+pub fn run<R: Files + Net + AllocGlobal, I: Read + Drop, W: Write + Drop, E: Write>(
     rt: &R,
     arguments: io::Result<Args>,
     input: I,
@@ -49,7 +51,7 @@ fn collected<R: AllocGlobal, E: Write>(
 }
 
 /// Runs the command that the arguments name, with a buffer before standard output.
-fn run_buffered<R: Files + AllocGlobal, I: Read + Drop, W: Write + Drop, E: Write>(
+fn run_buffered<R: Files + Net + AllocGlobal, I: Read + Drop, W: Write + Drop, E: Write>(
     rt: &R,
     arguments: &[String],
     input: I,
@@ -69,7 +71,7 @@ where
     }
 }
 
-fn dispatch<R: Files + AllocGlobal, I: Read + Drop, W: Write, E: Write>(
+fn dispatch<R: Files + Net + AllocGlobal, I: Read + Drop, W: Write, E: Write>(
     rt: &R,
     arguments: &[String],
     input: I,
@@ -84,6 +86,7 @@ where
         Ok(Subcommand::Check { file }) => check_file(rt, file, input, out, err),
         Ok(Subcommand::Import { file, out: target }) => import_file(rt, file, input, target, err),
         Ok(Subcommand::Sim { file }) => simulate_file(rt, file, input, out, err),
+        Ok(Subcommand::Mesh { file }) => mesh_file(rt, file, input, out, err),
         Err(error) => explain(&error, out, err),
     }
 }

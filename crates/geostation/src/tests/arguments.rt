@@ -15,6 +15,7 @@ Commands:
   check   Prints a line for each refused record of a capture, and a count
   import  Makes a capture of lines of a moment and hexadecimal digits
   sim     Runs a scenario and prints a line for each event
+  mesh    Runs a scenario over UDP sockets on the loopback
   help    Print this message or the help of the given subcommand(s)
 
 Options:
@@ -83,9 +84,24 @@ Example:
   geostation sim warning.toml
 ";
 
+static MESH_HELP: &str = "\
+Runs a scenario over UDP sockets on the loopback
+
+Usage: geostation mesh <SCENARIO>
+
+Arguments:
+  <SCENARIO>  The scenario, or - for standard input
+
+Options:
+  -h, --help  Print help
+
+Example:
+  geostation mesh warning.toml
+";
+
 static NO_COMMAND: &str = "\
 error: 'geostation' requires a subcommand but one was not provided
-  [subcommands: show, check, import, sim, help]
+  [subcommands: show, check, import, sim, mesh, help]
 
 Usage: geostation <COMMAND>
 
@@ -143,6 +159,7 @@ fn help_and_the_version_are_output(rt: HostRuntime) -> Result<(), Fail> {
         ("geostation check --help", CHECK_HELP),
         ("geostation import --help", IMPORT_HELP),
         ("geostation sim --help", SIM_HELP),
+        ("geostation mesh --help", MESH_HELP),
         ("geostation --version", "geostation 0.1.0\n"),
         ("geostation -V", "geostation 0.1.0\n"),
     ];
@@ -193,6 +210,8 @@ fn commands_are_dispatched(rt: HostRuntime) -> Result<(), Fail> {
     let checked = left_by(&rt, check.as_bytes());
     let sim = format!(in alloc; "geostation sim {}", scenario.as_str())?;
     let run = left_by(&rt, sim.as_bytes());
+    let mesh = format!(in alloc; "geostation mesh {}", scenario.as_str())?;
+    let meshed = left_by(&rt, mesh.as_bytes());
     fs::remove_file(&rt, scenario.as_str())?;
     fs::remove_file(&rt, from)?;
     fs::remove_file(&rt, to)?;
@@ -208,6 +227,9 @@ fn commands_are_dispatched(rt: HostRuntime) -> Result<(), Fail> {
     assert_eq!(rt; run.status, Status::Done);
     assert_eq!(rt; run.out.as_slice(), b"0 7 0 opened\n".as_slice());
     assert!(rt; run.err.is_empty());
+    assert_eq!(rt; meshed.status, Status::Done);
+    assert_eq!(rt; meshed.out.as_slice(), b"7 0 opened\n".as_slice());
+    assert!(rt; meshed.err.is_empty());
     Ok(())
 }
 
@@ -217,7 +239,7 @@ static SHORT: &[u8] = &[0, 0, 0, 0, 0, 0, 0, 5, 0, 1, 0];
 /// A file that is `-` is standard input, but one that is `./-` isn't.
 #[test]
 fn a_dash_is_standard_input(rt: HostRuntime) -> Result<(), Fail> {
-    let cases: [(&str, &[u8], &str); 4] = [
+    let cases: [(&str, &[u8], &str); 5] = [
         ("geostation show -", SHORT, "5 refused L1\n"),
         (
             "geostation check -",
@@ -225,6 +247,7 @@ fn a_dash_is_standard_input(rt: HostRuntime) -> Result<(), Fail> {
             "record 0: L1\n1 records, 1 refused\n",
         ),
         ("geostation sim -", ONE_EVENT.as_bytes(), "0 7 0 opened\n"),
+        ("geostation mesh -", ONE_EVENT.as_bytes(), "7 0 opened\n"),
         ("geostation show ./-", SHORT, ""),
     ];
     for (line, input, printed) in cases {

@@ -1,6 +1,6 @@
 //! What comes by a socket, whoever sent it.
 
-use super::{AFTER, BEFORE, FRAME, SEND, STATIONS, left_of, left_with, scenario};
+use super::{AFTER, BEFORE, DELIVER, FRAME, SEND, STATIONS, left_of, left_with, scenario};
 use crate::scripted::Scripted;
 use its_commands::Status;
 use std::alloc::Global;
@@ -9,7 +9,7 @@ use std::test::Fail;
 /// So many octets, of which the first are these and the others 0.
 fn padded(alloc: Global, digits: &str, length: usize) -> Result<Vec<u8>, Fail> {
     let mut datagram = hex::decode(alloc, digits)?;
-    while datagram.len() < length {
+    for _ in datagram.len()..length {
         datagram.push(0)?;
     }
     Ok(datagram)
@@ -181,23 +181,22 @@ fn a_flood(rt: HostRuntime) -> Result<(), Fail> {
     Ok(())
 }
 
-/// How often sockets are asked after events where nothing comes.
+static TICK: &str = "station = 0, at = 0, do = \"tick\", jitter = 1";
+
+static ABSENT: &str = "station = 9, at = 0, do = \"tick\", jitter = 1";
+
+/// How often two sockets are asked after events where nothing comes.
 #[test]
 fn four_quiet_rounds(rt: HostRuntime) -> Result<(), Fail> {
-    let one = "station = [{address = \"1400020000000001\", lat = 0, lon = 0}]\n";
-    let deliver = "station = 0, at = 0, do = \"deliver\", frame = 0";
-    let quiet = "station = 0, at = 0, do = \"tick\", jitter = 1";
-    let absent = "station = 9, at = 0, do = \"tick\", jitter = 1";
-    let cases: [(&str, &[&str], u32); 6] = [
-        (one, &[], 0),
-        (one, &[deliver], 0),
-        (one, &[quiet], 4),
-        (one, &[quiet, deliver, absent], 8),
-        (STATIONS, &[quiet], 8),
-        ("", &[absent], 0),
+    let cases: [(&[&str], u32); 5] = [
+        (&[], 0),
+        (&[DELIVER], 0),
+        (&[TICK], 8),
+        (&[ABSENT], 8),
+        (&[TICK, DELIVER, ABSENT], 16),
     ];
-    for (stations, events, want) in cases {
-        let text = scenario(rt.alloc(), stations, events)?;
+    for (events, want) in cases {
+        let text = scenario(rt.alloc(), STATIONS, events)?;
         let mut sockets = Scripted::new(rt.alloc(), &[], None);
         let left = left_of(rt.alloc(), text.as_bytes(), &mut sockets);
         assert_eq!(rt; left.status, Status::Done, "{text}");

@@ -122,13 +122,11 @@ impl Sockets for Slots {
     }
 
     fn receive(&mut self, station: usize, buffer: &mut [u8]) -> Received {
-        if buffer.len() < 76 {
-            return Received::Failed;
-        }
         match self.slots.get_mut(station).and_then(|slot| slot.take()) {
             Some(frame) => {
-                buffer[..76].copy_from_slice(&frame);
-                Received::Done(76)
+                let count = frame.len().min(buffer.len());
+                buffer[..count].copy_from_slice(&frame[..count]);
+                Received::Done(count)
             }
             None => Received::WouldBlock,
         }

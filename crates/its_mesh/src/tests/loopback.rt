@@ -15,12 +15,12 @@ fn a_file_is_run(rt: HostRuntime) -> Result<(), Fail> {
     let text = scenario(rt.alloc(), STATIONS, &[OPEN, SEND, DELIVER])?;
     fs::write(&rt, made.as_str(), text.as_str())?;
     let (mut out, mut err) = (Vec::new(rt.alloc()), Vec::new(rt.alloc()));
-    let status = mesh_file(&rt, made.as_str(), &mut out, &mut err);
+    let status = mesh_file(&rt, made.as_str(), b"".as_slice(), &mut out, &mut err);
     fs::remove_file(&rt, made.as_str())?;
     assert_eq!(rt; out.as_slice(), LINES.as_bytes());
     assert_eq!(rt; status, Status::Done);
     assert!(rt; err.is_empty());
-    let status = mesh_file(&rt, made.as_str(), &mut out, &mut err);
+    let status = mesh_file(&rt, made.as_str(), b"".as_slice(), &mut out, &mut err);
     let said = format!(in rt.alloc(); "geostation: cannot read {}\n", made.as_str())?;
     assert_eq!(rt; status, Status::Failed);
     assert_eq!(rt; err.as_slice(), said.as_bytes());
