@@ -6,6 +6,7 @@ ghost use Rattle.its_loctable.specs.Eager.{is_rising};
 
 use crate::slot::Slot;
 use its_gnvalue::GnAddress;
+use std::hint::select_unpredictable;
 
 /// How many slots a search with no loop is made for: the greatest capacity of a table.
 const MOST_SLOTS: usize = 4096;
@@ -70,8 +71,8 @@ fn halve(slots: &[Slot], last: usize, half: usize, address: GnAddress) -> usize
     ensures small { result + half ≤ 4096 }
 {
     let middle = last + half;
-    match slots.get(middle) {
-        Some(slot) if slot.address() <= address => middle,
-        _ => last,
-    }
+    let Some(slot) = slots.get(middle) else {
+        return last;
+    };
+    select_unpredictable(slot.address() <= address, middle, last)
 }
