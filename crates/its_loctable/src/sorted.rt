@@ -36,9 +36,9 @@ pub struct SortedTable {
     spare: Vec<Recent>,
     /// No slot expires before this moment: until then there is nothing to sweep.
     first_end: u64,
-    /// Where a call found a slot or its gap last, which the next call tries first. Each use checks
-    /// it.
-    last_place: Cell<usize>,
+    /// Where a call found a slot, or else its gap, last: the next call tries that first. Each use
+    /// checks it.
+    last_place: Cell<Result<usize, usize>>,
     ghost rising: { IsTrue (is_rising (held slots.items)) },
     ghost total: { vec_len slots + vec_len spare ≡ capacity },
     ghost room: { capacity ≤ vec_capacity slots },
@@ -57,10 +57,7 @@ impl SortedTable {
             IsGapFor self.now.slots.items address i × (i ≤ vec_len self.now.slots)) }
     {
         let place = search_from(&self.slots, self.last_place.get(), address);
-        match place {
-            Ok(i) => self.last_place.set(i),
-            Err(i) => self.last_place.set(i),
-        }
+        self.last_place.set(place);
         place
     }
 
@@ -216,7 +213,7 @@ impl LocationStore for SortedTable {
             slots,
             spare,
             first_end: u64::MAX,
-            last_place: Cell::new(0),
+            last_place: Cell::new(Err(0)),
         })
     }
 
@@ -251,7 +248,7 @@ impl LocationStore for SortedTable {
 
     fn next_neighbour(&self, now: u64, after: Option<GnAddress>) -> Option<LongPv> {
         let (place, slot) = neighbour_above(&self.slots, now, self.last_place.get(), after)?;
-        self.last_place.set(place);
+        self.last_place.set(Ok(place));
         Some(slot.vector)
     }
 

@@ -6,6 +6,7 @@ ghost use Rattle.its_loctable.specs.Eager.{is_rising};
 
 use crate::slot::Slot;
 use its_gnvalue::GnAddress;
+use std::hint::select_unpredictable;
 
 /// How many slots a search with no loop is made for: the greatest capacity of a table.
 const MOST_SLOTS: usize = 4096;
@@ -35,8 +36,8 @@ pub fn search(slots: &[Slot], address: GnAddress) -> Result<usize, usize>
     }
 }
 
-/// The last slot that doesn't come after an address; 0 where all do. Twelve halvings with no loop
-/// become conditional moves, where those of a loop are branches that are foretold half of the time.
+/// The last slot that doesn't come after an address; 0 where all do. Halvings with no loop become
+/// conditional moves, where those of a loop are branches that are foretold half of the time.
 fn last_up_to(slots: &[Slot], address: GnAddress) -> usize
     requires rising { IsTrue (is_rising (held slots.now)) }
     requires few { length slots.now ≤ 4096 }
@@ -44,18 +45,33 @@ fn last_up_to(slots: &[Slot], address: GnAddress) -> usize
     ensures above { AreAbove slots.now address (result + 1) }
     ensures small { result + 1 ≤ 4096 }
 {
-    let last = halve(slots, 0, 2048, address);
-    let last = halve(slots, last, 1024, address);
-    let last = halve(slots, last, 512, address);
-    let last = halve(slots, last, 256, address);
-    let last = halve(slots, last, 128, address);
-    let last = halve(slots, last, 64, address);
+    let last = sixty_four(slots, address);
     let last = halve(slots, last, 32, address);
     let last = halve(slots, last, 16, address);
     let last = halve(slots, last, 8, address);
     let last = halve(slots, last, 4, address);
     let last = halve(slots, last, 2, address);
     halve(slots, last, 1, address)
+}
+
+/// Where those sixty-four slots begin among which the last is that doesn't come after an address: a
+/// small table has no more.
+fn sixty_four(slots: &[Slot], address: GnAddress) -> usize
+    requires rising { IsTrue (is_rising (held slots.now)) }
+    requires few { length slots.now ≤ 4096 }
+    ensures up_to { IsUpTo slots.now address result }
+    ensures above { AreAbove slots.now address (result + 64) }
+    ensures small { result + 64 ≤ 4096 }
+{
+    if slots.len() <= 64 {
+        return 0;
+    }
+    let last = halve(slots, 0, 2048, address);
+    let last = halve(slots, last, 1024, address);
+    let last = halve(slots, last, 512, address);
+    let last = halve(slots, last, 256, address);
+    let last = halve(slots, last, 128, address);
+    halve(slots, last, 64, address)
 }
 
 /// One halving: the later of two places that are so far apart, where its slot doesn't come after
@@ -70,8 +86,8 @@ fn halve(slots: &[Slot], last: usize, half: usize, address: GnAddress) -> usize
     ensures small { result + half ≤ 4096 }
 {
     let middle = last + half;
-    match slots.get(middle) {
-        Some(slot) if slot.address() <= address => middle,
-        _ => last,
-    }
+    let Some(slot) = slots.get(middle) else {
+        return last;
+    };
+    select_unpredictable(slot.address() <= address, middle, last)
 }

@@ -33,28 +33,43 @@ fn is_gap(slots: &[Slot], place: usize, address: GnAddress) -> bool
     place == slots.len() || address < slots[place].address()
 }
 
-/// As `search`, but a place is tried first, where the slot of the address or its gap may well be.
-pub fn search_from(slots: &[Slot], place: usize, address: GnAddress) -> Result<usize, usize>
+/// Whether the slot at a place has an address.
+fn is_slot_of(slots: &[Slot], place: usize, address: GnAddress) -> bool
+    ensures { IsTrue result → IsFoundAt slots.now address place × (place < length slots.now) }
+{
+    match slots.get(place) {
+        Some(slot) => slot.address() == address,
+        None => false,
+    }
+}
+
+/// As `search`, but the last answer is tried first: the place of a slot for this one, or a gap for
+/// this one's.
+pub fn search_from(
+    slots: &[Slot],
+    last: Result<usize, usize>,
+    address: GnAddress,
+) -> Result<usize, usize>
     requires { IsTrue (is_rising (held slots.now)) }
     ensures found { IfOk result (λ i. IsFoundAt slots.now address i × (i < length slots.now)) }
     ensures absent { IfErr result (λ i. IsGapFor slots.now address i × (i ≤ length slots.now)) }
 {
-    match slots.get(place) {
-        Some(slot) if slot.address() == address => Ok(place),
-        _ if is_gap(slots, place, address) => Err(place),
+    match last {
+        Ok(place) if is_slot_of(slots, place, address) => Ok(place),
+        Err(place) if is_gap(slots, place, address) => Err(place),
         _ => search(slots, address),
     }
 }
 
 /// Where the slots above an address begin.
-fn start_above(slots: &[Slot], place: usize, after: Option<GnAddress>) -> usize
+fn start_above(slots: &[Slot], last: Result<usize, usize>, after: Option<GnAddress>) -> usize
     requires { IsTrue (is_rising (held slots.now)) }
     ensures start { IsStartAbove slots.now after result }
     ensures within { result ≤ length slots.now }
 {
     match after {
         None => 0,
-        Some(address) => match search_from(slots, place, address) {
+        Some(address) => match search_from(slots, last, address) {
             Ok(i) => i + 1,
             Err(i) => i,
         },
@@ -75,19 +90,19 @@ fn first_neighbour(slots: &[Slot], now: u64, start: usize) -> Option<(usize, &Sl
     None
 }
 
-/// The live neighbour of least address above one, and its place. That of the one is tried before a
+/// The live neighbour of least address above one, and its place. The last answer is tried before a
 /// search.
 pub fn neighbour_above(
     slots: &[Slot],
     now: u64,
-    place: usize,
+    last: Result<usize, usize>,
     after: Option<GnAddress>,
 ) -> Option<(usize, &Slot)>
     requires { IsTrue (is_rising (held slots.now)) }
     ensures { option_map (λ found. found.1.now) result
         ≡ find (λ s. nat_lt now s.until && is_next_neighbour after (slot_known s)) slots.now }
 {
-    first_neighbour(slots, now, start_above(slots, place, after))
+    first_neighbour(slots, now, start_above(slots, last, after))
 }
 
 /// The live source of least address that has a MID.

@@ -1,20 +1,33 @@
-use Rattle.std.proofs.Common.{◌≡◌, ◌+◌, ◌<◌, ℕ, false, length, is_le, nat_cmp, sym, ◌∙◌, arith}
+use Rattle.std.proofs.Common.{◌≡◌, ◌+◌, ◌*◌, ◌<◌, ℕ, Bool, true, false, cond, List, length, is_le}
+use Rattle.std.proofs.Common.{nat_cmp, refl, sym, subst, ◌∙◌, arith}
 use Rattle.std.proofs.lemmas.Bool.{ltb-true}
 use Rattle.std.proofs.lemmas.Bool.Decides.{nat_tests}
-use Rattle.its_loctable.specs.Sorted.{held}
+use Rattle.its_loctable.specs.declared.slot.Slot.{Slot}
+use Rattle.its_loctable.specs.Sorted.{held, AreAbove}
 use Rattle.its_loctable.proofs.EagerLemmas.{rising-true}
-use Rattle.its_loctable.proofs.SortedLemmas.{above_from}
+use Rattle.its_loctable.proofs.SortedLemmas.{key, above_from, above_later}
 use Rattle.its_loctable.proofs.sorted.halving.halve.Goals as goal
 
 le-false : (m n : ℕ) → is_le (nat_cmp m n) ≡ false → n < m
 le-false m n e = grind (arith, nat_tests)
 
-pub returns-in_default-clause-above : goal.returns-in_default-clause-above
-returns-in_default-clause-above c =
+chosen : (xs : List Slot) (a last half : ℕ) (b : Bool) → AreAbove xs a (last + 2 * half)
+    → (b ≡ false → AreAbove xs a (last + half)) → AreAbove xs a (cond b (last + half) last + half)
+chosen xs a last half true above rest =
+    above_later xs a (last + 2 * half) (last + half + half) (omega arith) above
+chosen xs a last half false above rest = rest refl
+
+pub returns-clause-above : goal.returns-clause-above
+returns-clause-above c =
     let xs = c.args.slots.now in
+    let a = c.args.address in
+    let middle = c.args.last + c.args.half in
     let slot = c.in-Some.slot.now in
-    let within = ltb-true (c.args.last + c.args.half) (length xs) (sym c.in-Some.ensures.lookup.0) in
-    let more = le-false c.address.result c.args.address (sym c.le.ensures ∙ c.if-le.false) in
-    let after : c.args.address < slot.vector.address = omega (arith, more, c.address.ensures) in
-    above_from xs c.args.address (c.args.last + c.args.half) (c.args.last + c.args.half) slot
-    (rising-true (held xs) c.requires.rising) within c.in-Some.ensures.lookup.1 after (omega arith)
+    let within = ltb-true middle (length xs) (sym c.in-Some.ensures.lookup.0) in
+    let after : c.le.result ≡ false → a < key slot =
+    (λ e. let more = le-false c.address.result a (sym c.le.ensures ∙ e)
+    in omega (arith, more, c.address.ensures)) in
+    subst (λ n. AreAbove xs a (n + c.args.half)) (sym c.select_unpredictable.ensures)
+    (chosen xs a c.args.last c.args.half c.le.result c.requires.above
+    (λ e. above_from xs a middle middle slot (rising-true (held xs) c.requires.rising) within
+    c.in-Some.ensures.lookup.1 (after e) (omega arith)))
