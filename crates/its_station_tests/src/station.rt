@@ -9,6 +9,7 @@ mod flood;
 mod isolation;
 mod memory;
 mod numbers;
+mod refusals;
 mod restart;
 mod rows;
 

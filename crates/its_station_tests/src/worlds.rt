@@ -1,0 +1,113 @@
+//! Worlds of stations: schedules, refusals, and memory that runs out.
+
+ghost use Rattle.std.specs.Prelude.{IfOk};
+ghost use Rattle.its_world.specs.Events.{IsConfig, IsInRange};
+
+mod memory;
+mod refusals;
+mod schedules;
+
+use its_geometry::Area;
+use its_gnvalue::{GnAddress, Lifetime, Place, TrafficClass};
+use its_station::{OwnedGbcRequest, Why};
+use its_world::{Config, Entry, EntryFault, Event, What};
+use std::alloc::Global;
+use std::test::Fail;
+
+const FIRST: u64 = 0x1400_0200_0000_0001;
+
+const SECOND: u64 = 0x1400_0200_0000_0002;
+
+const THIRD: u64 = 0x1400_0200_0000_0003;
+
+/// The port of all requests.
+const PORT: u16 = 2002;
+
+/// How many octets of a frame stand before its packet.
+const LINK: usize = 14;
+
+/// The first geobroadcast of the first station, which never moved.
+static GEOBROADCAST: &str =
+    "ffffffffffff020000000001894711001a0a2040008000060a000000000014000200000000010000000000\
+    00000000000000000000000000000000000000006400000000000007d200006869";
+
+/// What came of an event. A packet counts as delivered where it is "hi" for `PORT`, with info 0.
+#[derive(Clone, Copy, Debug, PartialEq, Eq)]
+enum Fate {
+    Opened,
+    Sent(usize),
+    /// Delivered, and relayed as this frame.
+    Relayed(usize),
+    Ignored(Why),
+    Refused(EntryFault),
+    /// Anything else.
+    Other,
+}
+
+fn fate_of(entry: &Entry) -> Fate {
+    match entry {
+        Entry::Opened => Fate::Opened,
+        Entry::Sent(frame) => Fate::Sent(*frame),
+        Entry::Ignored(why) => Fate::Ignored(*why),
+        Entry::Refused(fault) => Fate::Refused(*fault),
+        Entry::Accepted {
+            handed: Some(handed),
+            sent: Some(frame),
+        } if handed.port == PORT
+            && handed.info == 0
+            && handed.payload.as_slice() == b"hi".as_slice() => { Fate::Relayed(*frame) }
+        _ => Fate::Other,
+    }
+}
+
+/// A station that remembers eight numbers of each of 64 sources.
+fn config(address: u64, lat: i32, lon: i32) -> Result<Config, Fail>
+    ensures { IfOk result IsConfig }
+{
+    Ok(Config {
+        address: GnAddress::from_u64(address)?,
+        place: Place::new(lat, lon)?,
+        capacity: 64,
+        remember: 8,
+    })
+}
+
+fn open(station: usize) -> Event
+    ensures { IsInRange result.what }
+{
+    Event {
+        station,
+        moment: 0,
+        what: What::Open(PORT),
+    }
+}
+
+/// The first station sends "hi" for a circle of 100 m round it, over at most ten hops.
+fn send(alloc: Global) -> Result<Event, Fail>
+    ensures { IfOk result (λ event. IsInRange event.what) }
+{
+    let request = OwnedGbcRequest {
+        port: PORT,
+        info: 0,
+        class: TrafficClass::from_octet(0),
+        lifetime: Lifetime::from_octet(26),
+        max_hops: 10,
+        area: Area::circle(Place::new(0, 0)?, 100)?,
+        payload: Vec::from_slice(alloc, b"hi")?,
+    };
+    Ok(Event {
+        station: 0,
+        moment: 1000,
+        what: What::SendGeobroadcast(request),
+    })
+}
+
+fn deliver(station: usize, frame: usize) -> Event
+    ensures { IsInRange result.what }
+{
+    Event {
+        station,
+        moment: 1010,
+        what: What::Deliver(frame),
+    }
+}
