@@ -1,6 +1,8 @@
 //! Events that are refused, and texts that are no scenarios.
 
-use super::{DELIVER, OPEN, SEND, left_by, scenario, simulation_of};
+use super::{
+    DELIVER, OPEN, SEND, append_event, left_by, scenario, scenario_begun, simulation_of,
+};
 use its_commands::Status;
 use std::alloc::Global;
 use std::process::Abort;
@@ -12,6 +14,23 @@ fn has_lines(rt: &impl Abort, alloc: Global, events: &[&str], want: &str) -> Res
     assert_eq!(rt; left.out.as_slice(), want.as_bytes(), "{want}");
     assert_eq!(rt; left.status, Status::Done, "{want}");
     assert!(rt; left.err.is_empty(), "{want}");
+    Ok(())
+}
+
+/// A station has 64 open ports at most.
+fn a_port_too_many(rt: &impl Abort, alloc: Global) -> Result<(), Fail> {
+    let (mut text, mut want) = (scenario_begun(alloc)?, String::new(alloc));
+    for port in 0..65 {
+        let event = format!(in alloc; "station = 0, at = 5, do = \"open\", port = {port}")?;
+        append_event(&mut text, event.as_str())?;
+        let entry = if port < 64 { "opened" } else { "refused S8 B3" };
+        let line = format!(in alloc; "{port} 5 0 {entry}\n")?;
+        want.push_str(line.as_str())?;
+    }
+    text.push_str("]\n")?;
+    let left = simulation_of(alloc, text.as_bytes());
+    assert_eq!(rt; left.out.as_slice(), want.as_bytes());
+    assert_eq!(rt; left.status, Status::Done);
     Ok(())
 }
 
@@ -31,7 +50,43 @@ fn a_refused_event_has_its_line(rt: HostRuntime) -> Result<(), Fail> {
     let want = "0 1000 0 opened\n1 999 0 refused S1\n2 4611686018427387905 0 refused S2\n\
         3 1000 0 refused S8 B2\n4 1000 0 refused S8 B4\n5 1000 0 refused S9\n\
         6 4611686018427387904 0 closed\n";
-    has_lines(&rt, alloc, &events, want)
+    has_lines(&rt, alloc, &events, want)?;
+    a_port_too_many(&rt, alloc)
+}
+
+/// So many stations with the smallest location tables, each with an address of its own.
+fn crowd(alloc: Global, stations: u32) -> Result<String, Fail> {
+    let mut text = "station = [\n".to_string(alloc)?;
+    for number in 0..stations {
+        let address = 0x1400_0200_0000_0000 + u64::from(number);
+        let station = format!(in alloc;
+            "{{address = \"{address:016x}\", lat = 0, lon = 0, capacity = 1, remember = 1}},\n"
+        )?;
+        text.push_str(station.as_str())?;
+    }
+    text.push_str(
+        "]\nevent = [{station = 65534, at = 0, do = \"open\", port = 1},\n\
+        {station = 65535, at = 0, do = \"open\", port = 1}]\n",
+    )?;
+    Ok(text)
+}
+
+/// 65535 stations are a world; one more is too many, and no event is done.
+#[test]
+fn as_many_stations_as_may_be(rt: HostRuntime) -> Result<(), Fail> {
+    let lines = "0 0 65534 opened\n1 0 65535 refused M4\n";
+    let too_many = "geostation: scenario: too many stations\n";
+    for (stations, out, err, status) in [
+        (65_535, lines, "", Status::Done),
+        (65_536, "", too_many, Status::Refused),
+    ] {
+        let text = crowd(rt.alloc(), stations)?;
+        let left = simulation_of(rt.alloc(), text.as_bytes());
+        assert_eq!(rt; left.err.as_slice(), err.as_bytes());
+        assert_eq!(rt; left.out.as_slice(), out.as_bytes());
+        assert_eq!(rt; left.status, status);
+    }
+    Ok(())
 }
 
 /// A packet without a hop isn't sent, and takes no number of a frame.
