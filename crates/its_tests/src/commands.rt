@@ -4,6 +4,7 @@ mod captures;
 mod devices;
 mod files;
 mod imports;
+mod large;
 mod memory;
 
 use its_commands::{Status, check, read_lines, show, write_records};

@@ -2,6 +2,7 @@
 
 mod entries;
 mod failures;
+mod large;
 mod refusals;
 
 use its_commands::{Status, simulate};

@@ -1,8 +1,6 @@
 //! Events that are refused, and texts that are no scenarios.
 
-use super::{
-    DELIVER, OPEN, SEND, append_event, left_by, scenario, scenario_begun, simulation_of,
-};
+use super::{DELIVER, OPEN, SEND, append_event, left_by, scenario, scenario_begun, simulation_of};
 use its_commands::Status;
 use std::alloc::Global;
 use std::process::Abort;
