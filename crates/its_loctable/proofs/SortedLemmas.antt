@@ -111,12 +111,18 @@ gap_between (x ∷ xs) a (suc (suc i)) h le below above = (
 -- the slot at a place, seen from either side, and the places behind it
 pub up_to : (xs : List Slot) (a i : ℕ) (s : Slot) → i < length xs → s ≡ get_or xs i s → key s ≤ a
     → IsUpTo xs a i
-up_to xs a i s lt is le = inr (lt, λ d. omega (arith, le, ap key (get_or_default xs i d s lt ∙ sym is)))
+up_to xs a i s lt is le =
+    inr (lt, λ d. omega (arith, le, ap key (get_or_default xs i d s lt ∙ sym is)))
 
 pub above_from : (xs : List Slot) (a i n : ℕ) (s : Slot) → IsRising (held xs) → i < length xs
     → s ≡ get_or xs i s → a < key s → i ≤ n → AreAbove xs a n
 above_from xs a i n s h lt is more le = λ k d from within.
-    omega (arith, more, rises xs i k d h (omega arith) within, ap key (get_or_default xs i d s lt ∙ sym is))
+    omega (
+      arith,
+      more,
+      rises xs i k d h (omega arith) within,
+      ap key (get_or_default xs i d s lt ∙ sym is),
+    )
 
 pub above_past : (xs : List Slot) (a n : ℕ) → length xs ≤ n → AreAbove xs a n
 above_past xs a n le = λ k d from within. absurd (omega arith)
@@ -129,7 +135,12 @@ pub gap_behind : (xs : List Slot) (a i : ℕ) (s : Slot) → IsRising (held xs) 
     → s ≡ get_or xs i s → key s < a → AreAbove xs a (i + 1) → IsGapFor xs a (i + 1)
 gap_behind xs a i s h lt is less above = gap_between xs a (i + 1) h (omega arith)
     (λ k d e. let here : k ≡ i = omega (arith, e) in
-    omega (arith, less, ap (λ n. key (get_or xs n d)) here, ap key (get_or_default xs i d s lt ∙ sym is)))
+    omega (
+      arith,
+      less,
+      ap (λ n. key (get_or xs n d)) here,
+      ap key (get_or_default xs i d s lt ∙ sym is),
+    ))
     (λ d within. above (i + 1) d (omega arith) within)
 
 -- a binary search by address ends at the slot of the address, or at the gap for it

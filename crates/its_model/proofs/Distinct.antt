@@ -1,5 +1,6 @@
 -- Lists of numbers that have each once: facts on lists alone.
-use Rattle.std.proofs.Common.{◌≡◌, ℕ, zero, suc, ◌<◌, ◌≤◌, List, [], ◌∷◌, length, Bool, true, false, cond, eqb, not, ◌&&◌, ◌||◌, refl, sym, ap, subst, ◌∙◌, inl}
+use Rattle.std.proofs.Common.{◌≡◌, ℕ, zero, suc, ◌<◌, ◌≤◌, List, [], ◌∷◌, length, Bool, true, false}
+use Rattle.std.proofs.Common.{cond, eqb, not, ◌&&◌, ◌||◌, refl, sym, ap, subst, ◌∙◌, inl}
 use Rattle.std.proofs.Common.{inr, arith}
 use Rattle.std.specs.Prelude.{filter}
 use Rattle.std.proofs.lemmas.Bool.Decides.{nat_tests}
@@ -13,13 +14,15 @@ Below n [] = Unit {0}
 Below n (x ∷ xs) = (x < n) × Below n xs
 
 -- what isn't there isn't there after a filter
-absent_filter : (p : ℕ → Bool) (xs : List ℕ) (x : ℕ) → is_among x xs ≡ false → is_among x (filter p xs) ≡ false
+absent_filter : (p : ℕ → Bool) (xs : List ℕ) (x : ℕ) → is_among x xs ≡ false
+    → is_among x (filter p xs) ≡ false
 absent_filter p [] x h = refl
 absent_filter p (y ∷ xs) x h =
     let s = or_false (eqb y x) (is_among x xs) h in
     one (p y) s.0 (absent_filter p xs x s.1)
   where
-    one : (b : Bool) → eqb y x ≡ false → is_among x (filter p xs) ≡ false → is_among x (cond b (y ∷ filter p xs) (filter p xs)) ≡ false
+    one : (b : Bool) → eqb y x ≡ false → is_among x (filter p xs) ≡ false
+        → is_among x (cond b (y ∷ filter p xs) (filter p xs)) ≡ false
     one true e h = rw e h
     one false e h = h
 
@@ -28,7 +31,8 @@ pub differ_filter : (p : ℕ → Bool) (xs : List ℕ) → AreDistinct xs → Ar
 differ_filter p [] h = tt
 differ_filter p (x ∷ xs) h = one (p x) (absent_filter p xs x h.0) (differ_filter p xs h.1)
   where
-    one : (b : Bool) → is_among x (filter p xs) ≡ false → AreDistinct (filter p xs) → AreDistinct (cond b (x ∷ filter p xs) (filter p xs))
+    one : (b : Bool) → is_among x (filter p xs) ≡ false → AreDistinct (filter p xs)
+        → AreDistinct (cond b (x ∷ filter p xs) (filter p xs))
     one true a d = (a, d)
     one false a d = d
 
@@ -55,7 +59,8 @@ length_without : (n : ℕ) (xs : List ℕ) → AreDistinct xs → length xs ≤ 
 length_without n [] h = omega arith
 length_without n (x ∷ xs) h =
     elim (eq_test x n) [
-      | inl e ↦ rw e.0 (omega (arith, length_absent n xs (subst (λ (i : ℕ). is_among i xs ≡ false) e.1 h.0)))
+      | inl e ↦ rw e.0
+          (omega (arith, length_absent n xs (subst (λ (i : ℕ). is_among i xs ≡ false) e.1 h.0)))
       | inr e ↦ rw e.0 (omega (arith, length_without n xs h.1))
     ]
 
@@ -63,7 +68,12 @@ length_without n (x ∷ xs) h =
 pub no_more_than : (n : ℕ) (xs : List ℕ) → Below n xs → AreDistinct xs → length xs ≤ n
 no_more_than zero [] b d = omega arith
 no_more_than zero (x ∷ xs) b d = absurd (omega arith)
-no_more_than (suc n) xs b d = omega (arith, length_without n xs d, no_more_than n (without n xs) (below_without n xs b) (differ_filter (λ x. not (eqb x n)) xs d))
+no_more_than (suc n) xs b d =
+    omega (
+      arith,
+      length_without n xs d,
+      no_more_than n (without n xs) (below_without n xs b) (differ_filter (λ x. not (eqb x n)) xs d),
+    )
 
 -- A list without repetition is no longer than one that has its members.
 pub shorter_or_same : (n : ℕ) (xs : List ℕ) → length (without n xs) ≤ length xs
@@ -78,11 +88,13 @@ shorter n [] h = cc
 shorter n (x ∷ xs) h =
     elim (eq_test x n) [
       | inl e ↦ rw e.0 (omega (arith, shorter_or_same n xs))
-      | inr e ↦ rw e.0 (omega (arith, shorter n xs (subst (λ b. (b || is_among n xs) ≡ true) e.0 h)))
+      | inr e ↦ rw e.0
+          (omega (arith, shorter n xs (subst (λ b. (b || is_among n xs) ≡ true) e.0 h)))
     ]
 
 -- what a filter keeps
-one_filtered : (b c : Bool) (p : ℕ → Bool) (s x : ℕ) (xs : List ℕ) → p x ≡ b → eqb x s ≡ c → is_among s (filter p xs) ≡ (p s && is_among s xs)
+one_filtered : (b c : Bool) (p : ℕ → Bool) (s x : ℕ) (xs : List ℕ) → p x ≡ b → eqb x s ≡ c
+    → is_among s (filter p xs) ≡ (p s && is_among s xs)
     → is_among s (cond b (x ∷ filter p xs) (filter p xs)) ≡ (p s && (c || is_among s xs))
 one_filtered b true p s x xs is same h =
     let same_p : p s ≡ b = ap p (sym (eqb_tells_same x s same)) ∙ is in
@@ -91,27 +103,36 @@ one_filtered b true p s x xs is same h =
     eqb_tells_same : (m n : ℕ) → eqb m n ≡ true → m ≡ n
     eqb_tells_same m n e = grind (arith, nat_tests)
 
-    both : (d : Bool) → p s ≡ d → is_among s (cond d (x ∷ filter p xs) (filter p xs)) ≡ (p s && true)
+    both : (d : Bool) → p s ≡ d
+        → is_among s (cond d (x ∷ filter p xs) (filter p xs)) ≡ (p s && true)
     both true e = rw (e, same) refl
     both false e = h ∙ rw e refl
 one_filtered true false p s x xs is off h = rw off h
 one_filtered false false p s x xs is off h = h
 
 -- what is among those that pass a test
-pub among_filter : (p : ℕ → Bool) (s : ℕ) (xs : List ℕ) → is_among s (filter p xs) ≡ (p s && is_among s xs)
+pub among_filter : (p : ℕ → Bool) (s : ℕ) (xs : List ℕ)
+    → is_among s (filter p xs) ≡ (p s && is_among s xs)
 among_filter p s [] = sym (and_false (p s))
 among_filter p s (x ∷ xs) = one_filtered (p x) (eqb x s) p s x xs refl refl (among_filter p s xs)
 
 -- one that is there is taken away
-pub length_without_one : (n : ℕ) (xs : List ℕ) → AreDistinct xs → is_among n xs ≡ true → length xs ≡ suc (length (without n xs))
+pub length_without_one : (n : ℕ) (xs : List ℕ) → AreDistinct xs → is_among n xs ≡ true
+    → length xs ≡ suc (length (without n xs))
 length_without_one n xs d h = omega (arith, length_without n xs d, shorter n xs h)
 
 -- a list without repetition is no longer than one that has all its numbers
-pub subset_le : (xs ys : List ℕ) → AreDistinct xs → ((s : ℕ) → is_among s xs ≡ true → is_among s ys ≡ true) → length xs ≤ length ys
+pub subset_le : (xs ys : List ℕ) → AreDistinct xs
+    → ((s : ℕ) → is_among s xs ≡ true → is_among s ys ≡ true) → length xs ≤ length ys
 subset_le [] ys d h = omega arith
 subset_le (x ∷ xs) ys d h =
     let mine : is_among x (x ∷ xs) ≡ true = ap (λ b. b || is_among x xs) (eqb_same x) in
-    omega (arith, shorter x ys (h x mine), subset_le xs (without x ys) d.1 (λ s i. still s i (h s (or_true (eqb x s) (is_among s xs) i))))
+    omega (
+      arith,
+      shorter x ys (h x mine),
+      subset_le xs (without x ys) d.1
+          (λ s i. still s i (h s (or_true (eqb x s) (is_among s xs) i))),
+    )
   where
     or_true : (b c : Bool) → c ≡ true → (b || c) ≡ true
     or_true true c e = refl
@@ -121,5 +142,6 @@ subset_le (x ∷ xs) ys d h =
     still s i there =
         elim (eq_test s x) [
           | inl e ↦ cc (i, d.0, ap (λ n. is_among n xs) e.1)
-          | inr e ↦ among_filter (λ y. not (eqb y x)) s ys ∙ ap (λ b. not b && is_among s ys) e.0 ∙ there
+          | inr e ↦ among_filter (λ y. not (eqb y x)) s ys ∙ ap (λ b. not b && is_among s ys) e.0
+              ∙ there
         ]

@@ -1,5 +1,7 @@
 -- Tests of numbers, and counts of a list.
-use Rattle.std.proofs.Common.{◌≡◌, ◌≢◌, ◌⊎◌, ℕ, ◌+◌, ◌<◌, ◌≤◌, List, [], ◌∷◌, ◌++◌, Bool, true, false, cond, eqb, ◌&&◌, ◌||◌, refl, ap, ◌∙◌, zero-add, inl, inr, arith}
+use Rattle.std.proofs.Common.{◌≡◌, ◌≢◌, ◌⊎◌, ℕ, ◌+◌, ◌<◌, ◌≤◌, List, [], ◌∷◌, ◌++◌, Bool, true}
+use Rattle.std.proofs.Common.{false, cond, eqb, ◌&&◌, ◌||◌, refl, ap, ◌∙◌, zero-add, inl, inr}
+use Rattle.std.proofs.Common.{arith}
 use Rattle.std.specs.Prelude.{nat_lt}
 use Rattle.std.specs.List.{count_by}
 use Rattle.std.proofs.lemmas.Bool.Decides.{nat_tests}
@@ -42,14 +44,19 @@ same_either true x = refl
 same_either false x = refl
 
 -- std's sum is a fold from the left
-pub count_cons : {X : Type 0} (p : X → Bool) (x : X) (xs : List X) → count_by p (x ∷ xs) ≡ cond (p x) 1 0 + count_by p xs
+pub count_cons : {X : Type 0} (p : X → Bool) (x : X) (xs : List X)
+    → count_by p (x ∷ xs) ≡ cond (p x) 1 0 + count_by p xs
 count_cons p x xs = sum_by-cons (λ y. cond (p y) 1 0) x xs
 
 -- one more that doesn't count
-pub count_no : {X : Type 0} (p : X → Bool) (x : X) (xs : List X) → p x ≡ false → count_by p (x ∷ xs) ≡ count_by p xs
-count_no p x xs h = count_cons p x xs ∙ ap (λ b. cond b 1 0 + count_by p xs) h ∙ zero-add (count_by p xs)
+pub count_no : {X : Type 0} (p : X → Bool) (x : X) (xs : List X) → p x ≡ false
+    → count_by p (x ∷ xs) ≡ count_by p xs
+count_no p x xs h =
+    count_cons p x xs ∙ ap (λ b. cond b 1 0 + count_by p xs) h ∙ zero-add (count_by p xs)
 
 -- one more at the end
-pub count_snoc : {X : Type 0} (p : X → Bool) (xs : List X) (x : X) → count_by p (xs ++ x ∷ []) ≡ cond (p x) 1 0 + count_by p xs
+pub count_snoc : {X : Type 0} (p : X → Bool) (xs : List X) (x : X)
+    → count_by p (xs ++ x ∷ []) ≡ cond (p x) 1 0 + count_by p xs
 count_snoc p [] x = count_cons p x []
-count_snoc p (y ∷ xs) x = count_cons p y (xs ++ x ∷ []) ∙ omega (arith, count_snoc p xs x, count_cons p y xs)
+count_snoc p (y ∷ xs) x =
+    count_cons p y (xs ++ x ∷ []) ∙ omega (arith, count_snoc p xs x, count_cons p y xs)

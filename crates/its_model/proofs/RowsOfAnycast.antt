@@ -10,7 +10,8 @@ use Rattle.its_model.specs.Calls.Answer.{Opened, Sent, Ignored, Accepted}
 use Rattle.its_model.specs.Calls.Why.{Duplicate}
 use Rattle.its_model.specs.Station.{verdict, own_step, receive_step}
 use Rattle.its_model.specs.World.What.{Deliver}
-use Rattle.its_model.proofs.Scenes.{three, second_far, hi, gbc_hi, gac_hi, open_port, by, after, at, Happens}
+use Rattle.its_model.proofs.Scenes.{three, second_far, hi, gbc_hi, gac_hi, open_port, by, after, at}
+use Rattle.its_model.proofs.Scenes.{Happens}
 
 -- Inside its area it stops, whether the port is open or not; outside it goes on as a geobroadcast does.
 handed_out_and_not_relayed : Happens three (
@@ -38,7 +39,8 @@ unfolding own_step receive_step verdict known stations_at decision area_holds sq
 relayed_outside = refl
 
 -- both kinds take their numbers from one count
-one_count_for_both : map (λ t. number_in t.pdu.body) (after three (by 0 1000 gbc_hi ∷ by 0 1000 gac_hi ∷ by 0 1000 gbc_hi ∷ [])).air
+one_count_for_both : map (λ t. number_in t.pdu.body)
+    (after three (by 0 1000 gbc_hi ∷ by 0 1000 gac_hi ∷ by 0 1000 gbc_hi ∷ [])).air
     ≡ Some 0 ∷ Some 1 ∷ Some 2 ∷ []
 unfolding own_step receive_step verdict known stations_at decision area_holds squared_distance
 one_count_for_both = refl

@@ -13,7 +13,8 @@ use Rattle.its_model.specs.Calls.Refusal.{TableFull}
 use Rattle.its_model.specs.Station.{verdict, own_step, receive_step}
 use Rattle.its_model.specs.World.{Config}
 use Rattle.its_model.specs.World.What.{Deliver}
-use Rattle.its_model.proofs.Scenes.{address, place, station, here, three, hi, gbc_hi, open_port, tick, at, Happens}
+use Rattle.its_model.proofs.Scenes.{address, place, station, here, three, hi, gbc_hi, open_port}
+use Rattle.its_model.proofs.Scenes.{tick, at, Happens}
 
 ninth_makes_the_first_forgotten : Happens three (
     at 1 0 open_port Opened
@@ -96,7 +97,9 @@ unfolding own_step receive_step verdict known stations_at decision area_holds sq
 beacon_keeps_the_session = refl
 
 abbrev second_small : List Config
-second_small = station 1 here 64 ∷ station 2 (place (pos 449) (pos 0)) 1 ∷ station 3 (place (pos 0) (pos 449)) 64 ∷ []
+second_small =
+    station 1 here 64 ∷ station 2 (place (pos 449) (pos 0)) 1
+    ∷ station 3 (place (pos 0) (pos 449)) 64 ∷ []
 
 -- A duplicate is told before a full table; and a refused beacon is accepted once the other source has gone.
 no_room_until_the_other_is_gone : Happens second_small (
@@ -132,16 +135,27 @@ full_table_takes_a_live_source = refl
 
 -- Of the vectors of a session the one of the newest timestamp is current, whichever came last.
 abbrev vector_of : ℕ → ℕ → PositionVector
-vector_of timestamp heading = record { address = address 1; timestamp = timestamp; place = here; accurate = false; speed = pos 0; heading = heading }
+vector_of timestamp heading =
+    record {
+      address = address 1;
+      timestamp = timestamp;
+      place = here;
+      accurate = false;
+      speed = pos 0;
+      heading = heading;
+    }
 
 abbrev heard : ℕ → PositionVector → Reception
 heard moment vector = record { moment = moment; vector = vector; number = None }
 
-newer_vector_is_taken : current_vector (address 1) 30 (heard 20 (vector_of 2 7) ∷ heard 10 (vector_of 1 5) ∷ []) ≡ Some (vector_of 2 7)
+newer_vector_is_taken : current_vector (address 1) 30 (heard 20 (vector_of 2 7)
+    ∷ heard 10 (vector_of 1 5) ∷ []) ≡ Some (vector_of 2 7)
 newer_vector_is_taken = refl
 
-older_vector_is_not : current_vector (address 1) 30 (heard 20 (vector_of 1 5) ∷ heard 10 (vector_of 2 7) ∷ []) ≡ Some (vector_of 2 7)
+older_vector_is_not : current_vector (address 1) 30 (heard 20 (vector_of 1 5)
+    ∷ heard 10 (vector_of 2 7) ∷ []) ≡ Some (vector_of 2 7)
 older_vector_is_not = refl
 
-equally_old_vector_is_not : current_vector (address 1) 30 (heard 20 (vector_of 1 5) ∷ heard 10 (vector_of 1 7) ∷ []) ≡ Some (vector_of 1 7)
+equally_old_vector_is_not : current_vector (address 1) 30 (heard 20 (vector_of 1 5)
+    ∷ heard 10 (vector_of 1 7) ∷ []) ≡ Some (vector_of 1 7)
 equally_old_vector_is_not = refl

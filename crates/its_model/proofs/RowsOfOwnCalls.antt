@@ -1,5 +1,6 @@
 -- A station's own calls: small worlds, evaluated.
-use Rattle.std.proofs.Common.{◌≡◌, ℕ, ◌+◌, ◌^◌, List, [], ◌∷◌, map, Option, zero, suc, replicate, Some, None, true, false, refl}
+use Rattle.std.proofs.Common.{◌≡◌, ℕ, ◌+◌, ◌^◌, List, [], ◌∷◌, map, Option, zero, suc, replicate}
+use Rattle.std.proofs.Common.{Some, None, true, false, refl}
 use Rattle.std.specs.Prelude.{pos}
 use Rattle.its_gnvalue.specs.Values.{broadcast}
 use Rattle.its_geometry.specs.Area.{area_holds}
@@ -12,12 +13,15 @@ use Rattle.its_model.specs.Packet.Body.{beacon, shb}
 use Rattle.its_model.specs.Calls.{GbcRequest}
 use Rattle.its_model.specs.Calls.OwnCall.{Move, Open, Close, Tick, SendShb, SendGbc}
 use Rattle.its_model.specs.Calls.Answer.{Opened, Closed, Quiet, Sent, Accepted, Refused}
-use Rattle.its_model.specs.Calls.Refusal.{MomentEarlier, MomentTooLate, JitterRange, AlreadyOpen, PortsFull, NotOpen, PayloadTooLong, HopLimitZero}
+use Rattle.its_model.specs.Calls.Refusal.{MomentEarlier, MomentTooLate, JitterRange, AlreadyOpen}
+use Rattle.its_model.specs.Calls.Refusal.{PortsFull, NotOpen, PayloadTooLong, HopLimitZero}
 use Rattle.its_model.specs.Calls.Refusal.{NoSuchStation, NoSuchFrame}
 use Rattle.its_model.specs.Calls.Call.{Own}
-use Rattle.its_model.specs.Station.{StationModel, new_station, verdict, own_step, receive_step, station_step}
+use Rattle.its_model.specs.Station.{StationModel, new_station, verdict, own_step, receive_step}
+use Rattle.its_model.specs.Station.{station_step}
 use Rattle.its_model.specs.World.What.{Calls, Deliver}
-use Rattle.its_model.proofs.Scenes.{mac, address, here, three, hi, request, gbc_with_hops, gbc_hi, open_port, tick, by, after, at, Happens}
+use Rattle.its_model.proofs.Scenes.{mac, address, here, three, hi, request, gbc_with_hops, gbc_hi}
+use Rattle.its_model.proofs.Scenes.{open_port, tick, by, after, at, Happens}
 
 abbrev numbers_on_the_air : List Transmission → List (Option ℕ)
 numbers_on_the_air air = map (λ t. number_in t.pdu.body) air
@@ -49,13 +53,17 @@ first_number = refl
 -- a request that is too long and has no hops is refused as too long, and one of 1394 octets is taken
 too_long_before_no_hops : Happens three (
     at 0 1000 (Calls (SendGbc (record too_long { max_hops = 0 }))) (Refused PayloadTooLong)
-    ∷ at 0 1000 (Calls (SendGbc (record request { message = record hi { payload = replicate 1394 0 } }))) (Sent 0)
+    ∷ at 0 1000
+    (Calls (SendGbc (record request { message = record hi { payload = replicate 1394 0 } })))
+    (Sent 0)
     ∷ [])
 unfolding own_step receive_step verdict known stations_at decision area_holds squared_distance
 too_long_before_no_hops = refl
 
 -- a move takes its moment modulo 2^32
-timestamp_of_a_move : (station_step (new_station (address 1) here 64 8) (2 ^ 32 + 5) (Own (Move here true (pos 0) 0))).station.vector.timestamp ≡ 5
+timestamp_of_a_move :
+    (station_step (new_station (address 1) here 64 8) (2 ^ 32 + 5)
+    (Own (Move here true (pos 0) 0))).station.vector.timestamp ≡ 5
 unfolding own_step
 timestamp_of_a_move = refl
 
@@ -63,7 +71,15 @@ timestamp_of_a_move = refl
 abbrev pdu_of : Body → Pdu
 pdu_of body =
     record {
-      vector = record { address = address 1; timestamp = 0; place = here; accurate = false; speed = pos 0; heading = 0 };
+      vector = record {
+        address = address 1;
+        timestamp = 0;
+        place = here;
+        accurate = false;
+        speed =
+            pos 0;
+        heading = 0;
+      };
       lifetime = 26;
       class = 0;
       mobile = true;
@@ -72,12 +88,19 @@ pdu_of body =
     }
 
 beacon_on_the_air : (after three (by 0 0 tick ∷ [])).air
-    ≡ record { pdu = pdu_of beacon; hops_left = 1; link_source = mac 1; link_target = broadcast } ∷ []
+    ≡ record { pdu = pdu_of beacon; hops_left = 1; link_source = mac 1; link_target = broadcast }
+    ∷ []
 unfolding own_step
 beacon_on_the_air = refl
 
-single_hop_on_the_air : (after three (by 0 0 (Calls (SendShb (record { class = 0; message = hi }))) ∷ [])).air
-    ≡ record { pdu = pdu_of (shb (0 ∷ 0 ∷ 0 ∷ 0 ∷ []) hi); hops_left = 1; link_source = mac 1; link_target = broadcast } ∷ []
+single_hop_on_the_air :
+    (after three (by 0 0 (Calls (SendShb (record { class = 0; message = hi }))) ∷ [])).air
+    ≡ record {
+      pdu = pdu_of (shb (0 ∷ 0 ∷ 0 ∷ 0 ∷ []) hi);
+      hops_left = 1;
+      link_source = mac 1;
+      link_target = broadcast;
+    } ∷ []
 unfolding own_step
 single_hop_on_the_air = refl
 
@@ -85,7 +108,8 @@ single_hop_on_the_air = refl
 abbrev at_the_last_number : StationModel
 at_the_last_number = record (new_station (address 1) here 64 8) { next_number = 65535 }
 
-after_the_last_number_comes_the_first : (station_step at_the_last_number 0 (Own (SendGbc request))).station.next_number ≡ 0
+after_the_last_number_comes_the_first :
+    (station_step at_the_last_number 0 (Own (SendGbc request))).station.next_number ≡ 0
 unfolding own_step receive_step verdict known stations_at decision area_holds squared_distance
 after_the_last_number_comes_the_first = refl
 
@@ -141,11 +165,13 @@ abbrev ports_to : ℕ → List ℕ
 ports_to zero = []
 ports_to (suc n) = n ∷ ports_to n
 
-one_of_64_ports_is_open : (station_step (with_ports (ports_to 64)) 0 (Own (Open 63))).answer ≡ Refused AlreadyOpen
+one_of_64_ports_is_open : (station_step (with_ports (ports_to 64)) 0 (Own (Open 63))).answer
+    ≡ Refused AlreadyOpen
 unfolding own_step receive_step verdict known stations_at decision area_holds squared_distance
 one_of_64_ports_is_open = refl
 
-no_65th_port : (station_step (with_ports (ports_to 64)) 0 (Own (Open 64))).answer ≡ Refused PortsFull
+no_65th_port : (station_step (with_ports (ports_to 64)) 0 (Own (Open 64))).answer
+    ≡ Refused PortsFull
 unfolding own_step receive_step verdict known stations_at decision area_holds squared_distance
 no_65th_port = refl
 

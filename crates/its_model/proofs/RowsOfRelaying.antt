@@ -14,9 +14,11 @@ use Rattle.its_model.specs.Calls.OwnCall.{SendShb}
 use Rattle.its_model.specs.Calls.Answer.{Moved, Opened, Sent, Ignored, Accepted}
 use Rattle.its_model.specs.Calls.Why.{NotForMe, OwnSource, SenderMismatch, Duplicate}
 use Rattle.its_model.specs.Calls.Call.{Receive}
-use Rattle.its_model.specs.Station.{StationModel, new_station, verdict, beacon_of, shb_of, own_step, receive_step, station_step}
+use Rattle.its_model.specs.Station.{StationModel, new_station, verdict, beacon_of, shb_of, own_step}
+use Rattle.its_model.specs.Station.{receive_step, station_step}
 use Rattle.its_model.specs.World.What.{Calls, Deliver}
-use Rattle.its_model.proofs.Scenes.{place, mac, address, here, three, second_far, hi, circle, gbc_with_hops, gbc_hi, open_port, move, by, after, at, Happens}
+use Rattle.its_model.proofs.Scenes.{place, mac, address, here, three, second_far, hi, circle}
+use Rattle.its_model.proofs.Scenes.{gbc_with_hops, gbc_hi, open_port, move, by, after, at, Happens}
 
 -- A geobroadcast is handed out at its port and relayed; its source ignores the relayed frame.
 sent_handed_and_relayed : Happens three (
@@ -33,7 +35,15 @@ abbrev first_frame : Transmission
 first_frame =
     record {
       pdu = record {
-        vector = record { address = address 1; timestamp = 0; place = here; accurate = false; speed = pos 0; heading = 0 };
+        vector = record {
+          address = address 1;
+          timestamp = 0;
+          place = here;
+          accurate = false;
+          speed =
+              pos 0;
+          heading = 0;
+        };
         lifetime = 26;
         class = 0;
         mobile = true;
@@ -45,7 +55,8 @@ first_frame =
       link_target = broadcast;
     }
 
-frames_on_the_air : (after three (by 1 0 open_port ∷ by 0 1000 gbc_hi ∷ by 1 1010 (Deliver 0) ∷ [])).air
+frames_on_the_air :
+    (after three (by 1 0 open_port ∷ by 0 1000 gbc_hi ∷ by 1 1010 (Deliver 0) ∷ [])).air
     ≡ first_frame ∷ record first_frame { hops_left = 9; link_source = mac 2 } ∷ []
 unfolding own_step receive_step verdict known stations_at decision area_holds squared_distance
 frames_on_the_air = refl
@@ -135,28 +146,38 @@ second_station = new_station (address 2) (place (pos 449) (pos 0)) 64 8
 abbrev answer_to : Transmission → Answer Transmission
 answer_to t = (station_step second_station 0 (Receive t)).answer
 
-to_another_station : answer_to (record (beacon_of first_station) { link_target = mac 3 }) ≡ Ignored NotForMe
+to_another_station : answer_to (record (beacon_of first_station) { link_target = mac 3 })
+    ≡ Ignored NotForMe
 unfolding own_step receive_step verdict known stations_at decision area_holds squared_distance
 to_another_station = refl
 
-to_the_station_itself : answer_to (record (beacon_of first_station) { link_target = mac 2 }) ≡ Accepted None None
+to_the_station_itself : answer_to (record (beacon_of first_station) { link_target = mac 2 })
+    ≡ Accepted None None
 unfolding own_step receive_step verdict known stations_at decision area_holds squared_distance
 to_the_station_itself = refl
 
 -- its own packet, to another station, from another sender
-not_for_me_before_own_source : answer_to (record (beacon_of second_station) { link_target = mac 3; link_source = mac 3 }) ≡ Ignored NotForMe
+not_for_me_before_own_source : answer_to (record (beacon_of second_station) {
+  link_target = mac 3;
+  link_source = mac 3;
+}) ≡ Ignored NotForMe
 unfolding own_step receive_step verdict known stations_at decision area_holds squared_distance
 not_for_me_before_own_source = refl
 
-own_source_before_sender_mismatch : answer_to (record (beacon_of second_station) { link_source = mac 3 }) ≡ Ignored OwnSource
+own_source_before_sender_mismatch : answer_to (record (beacon_of second_station) {
+  link_source = mac 3;
+}) ≡ Ignored OwnSource
 unfolding own_step receive_step verdict known stations_at decision area_holds squared_distance
 own_source_before_sender_mismatch = refl
 
-single_hop_of_another_sender : answer_to (record (shb_of first_station (record { class = 0; message = hi })) { link_source = mac 3 }) ≡ Ignored SenderMismatch
+single_hop_of_another_sender : answer_to
+    (record (shb_of first_station (record { class = 0; message = hi })) { link_source = mac 3 })
+    ≡ Ignored SenderMismatch
 unfolding own_step receive_step verdict known stations_at decision area_holds squared_distance
 single_hop_of_another_sender = refl
 
 -- a beacon that comes from another link address than its source's
-beacon_of_another_sender : answer_to (record (beacon_of first_station) { link_source = mac 3 }) ≡ Ignored SenderMismatch
+beacon_of_another_sender : answer_to (record (beacon_of first_station) { link_source = mac 3 })
+    ≡ Ignored SenderMismatch
 unfolding own_step receive_step verdict known stations_at decision area_holds squared_distance
 beacon_of_another_sender = refl

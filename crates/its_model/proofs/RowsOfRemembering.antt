@@ -15,7 +15,8 @@ use Rattle.its_model.proofs.Scenes.{place, station, here, hi, gbc_hi, open_port,
 
 -- the second one remembers so many numbers
 abbrev second_remembers : ℕ → List Config
-second_remembers remember = station 1 here 64 ∷ record (station 2 (place (pos 449) (pos 0)) 64) { remember = remember } ∷ []
+second_remembers remember =
+    station 1 here 64 ∷ record (station 2 (place (pos 449) (pos 0)) 64) { remember = remember } ∷ []
 
 one_number_is_outlived_by_one : Happens (second_remembers 1) (
     at 1 0 open_port Opened

@@ -6,12 +6,14 @@ use Rattle.its_geometry.specs.Offsets.{squared_distance}
 use Rattle.its_model.specs.History.{known}
 use Rattle.its_model.specs.Stations.{stations_at}
 use Rattle.its_model.specs.Decision.{decision}
-use Rattle.its_model.specs.Calls.Answer.{Moved, Opened, Restarted, Quiet, Sent, Ignored, Accepted, Refused}
+use Rattle.its_model.specs.Calls.Answer.{Moved, Opened, Restarted, Quiet, Sent, Ignored, Accepted}
+use Rattle.its_model.specs.Calls.Answer.{Refused}
 use Rattle.its_model.specs.Calls.Why.{Duplicate}
 use Rattle.its_model.specs.Calls.Refusal.{MomentEarlier}
 use Rattle.its_model.specs.Station.{verdict, own_step, receive_step}
 use Rattle.its_model.specs.World.What.{Deliver}
-use Rattle.its_model.proofs.Scenes.{place, three, second_far, hi, gbc_hi, gac_hi, open_port, restart, move, tick, at, Happens}
+use Rattle.its_model.proofs.Scenes.{place, three, second_far, hi, gbc_hi, gac_hi, open_port}
+use Rattle.its_model.proofs.Scenes.{restart, move, tick, at, Happens}
 
 -- What it had accepted it accepts again, and its ports have to be opened again.
 restarted_it_hears_anew : Happens three (

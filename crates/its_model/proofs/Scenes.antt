@@ -7,7 +7,8 @@ use Rattle.its_geometry.specs.declared.area.Shape.TheVariants.{Circle}
 use Rattle.its_model.specs.Packet.{Message}
 use Rattle.its_model.specs.Calls.{GbcRequest, Answer}
 use Rattle.its_model.specs.Calls.OwnCall.{Open, Move, Tick, SendGbc, SendGac, Restart}
-use Rattle.its_model.specs.World.{What, Event, WorldModel, Config, default_remember, opening, world_run, entries}
+use Rattle.its_model.specs.World.{What, Event, WorldModel, Config, default_remember, opening}
+use Rattle.its_model.specs.World.{world_run, entries}
 use Rattle.its_model.specs.World.What.{Calls}
 
 -- in tenths of a microdegree
@@ -24,7 +25,13 @@ address n = 5120 * 2 ^ 48 + mac n
 
 -- a config
 abbrev pub station : ℕ → Position → ℕ → Config
-station n where_it_is capacity = record { address = address n; place = where_it_is; capacity = capacity; remember = default_remember }
+station n where_it_is capacity =
+    record {
+      address = address n;
+      place = where_it_is;
+      capacity = capacity;
+      remember = default_remember;
+    }
 
 -- the place (0, 0)
 abbrev pub here : Position
@@ -32,11 +39,14 @@ here = place (pos 0) (pos 0)
 
 -- at (0, 0), at (449, 0) and at (0, 449)
 abbrev pub three : List Config
-three = station 1 here 64 ∷ station 2 (place (pos 449) (pos 0)) 64 ∷ station 3 (place (pos 0) (pos 449)) 64 ∷ []
+three = station 1 here 64 ∷ station 2 (place (pos 449) (pos 0)) 64
+    ∷ station 3 (place (pos 0) (pos 449)) 64 ∷ []
 
 -- the same with the second one far away
 abbrev pub second_far : List Config
-second_far = station 1 here 64 ∷ station 2 (place (pos 100000) (pos 0)) 64 ∷ station 3 (place (pos 0) (pos 449)) 64 ∷ []
+second_far =
+    station 1 here 64 ∷ station 2 (place (pos 100000) (pos 0)) 64
+    ∷ station 3 (place (pos 0) (pos 449)) 64 ∷ []
 
 -- hi, to port 2002
 abbrev pub hi : Message
@@ -92,7 +102,8 @@ at station moment what entry = (by station moment what, entry)
 
 -- from the opening world on, these events have these entries
 abbrev pub Happens : List Config → List (Event × Answer ℕ) → Type 0
-Happens configs lines = entries (after configs (map (λ line. line.0) lines)).log ≡ map (λ line. line.1) lines
+Happens configs lines =
+    entries (after configs (map (λ line. line.0) lines)).log ≡ map (λ line. line.1) lines
 
 -- to whom each frame goes
 abbrev pub targets : WorldModel → List ℕ

@@ -25,7 +25,8 @@ both front end = (front, refl)
 -- of a packet for an area: number, two reserved octets, vector, area, two reserved octets
 abbrev area_front : PositionVector → ℕ → GeoArea → List ℕ
 area_front v number area =
-    bytes_high_first 2 number ++ bytes_high_first 2 0 ++ vector_octets v ++ area_octets area ++ bytes_high_first 2 0
+    bytes_high_first 2 number ++ bytes_high_first 2 0 ++ vector_octets v ++ area_octets area
+    ++ bytes_high_first 2 0
 
 -- an extended header ends with the payload, if there is one
 payload_last : (v : PositionVector) (b : Body) → EndsWith (extended_header v b) (payload_of b)
@@ -36,8 +37,10 @@ payload_last v (gac number area message) = both (area_front v number area) (mess
 
 -- what comes before octets leaves their end
 behind : (front w end : List ℕ) → EndsWith w end → EndsWith (front ++ w) end
-behind front w end ends =
-    (front ++ ends.0, ap (λ (octets : List ℕ). front ++ octets) ends.1 ∙ sym (append_assoc front ends.0 end))
+behind front w end ends = (
+  front ++ ends.0,
+  ap (λ (octets : List ℕ). front ++ octets) ends.1 ∙ sym (append_assoc front ends.0 end),
+)
 
 -- a frame ends with its packet's payload
 frame_end : (t : Transmission) (w : List ℕ) → EncodesFrame t w → EndsWith w (payload_of t.pdu.body)
@@ -46,7 +49,8 @@ frame_end t w enc =
     let extended = extended_header t.pdu.vector t.pdu.body in
     let headers = basic_header t.pdu t.hops_left ++ common_header t.pdu in
     let packet = behind headers extended payload (payload_last t.pdu.vector t.pdu.body) in
-    let ends = behind (link_header t.link_target t.link_source) (headers ++ extended) payload packet in
+    let ends = behind (link_header t.link_target t.link_source) (headers
+    ++ extended) payload packet in
     (ends.0, enc.octets ∙ ends.1)
 
 -- the end of the payload is the end of the frame

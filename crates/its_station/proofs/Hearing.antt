@@ -1,5 +1,7 @@
 -- What a station does with a frame.
-use Rattle.std.proofs.Common.{◌≡◌, ℕ, ◌≤◌, ◌^◌, List, ◌∷◌, Option, Some, None, Bool, true, false, not, cond, eqb, leb, ◌&&◌, refl, sym, ap, subst, ◌∙◌, true≢false, is_some, unwrap_or}
+use Rattle.std.proofs.Common.{◌≡◌, ℕ, ◌≤◌, ◌^◌, List, ◌∷◌, Option, Some, None, Bool, true, false}
+use Rattle.std.proofs.Common.{not, cond, eqb, leb, ◌&&◌, refl, sym, ap, subst, ◌∙◌, true≢false}
+use Rattle.std.proofs.Common.{is_some, unwrap_or}
 use Rattle.std.specs.Prelude.{Result, Ok, Err, IfOk, IfErr, IfSome, Vec}
 use Rattle.std.specs.Option.{option_map}
 use Rattle.std.specs.declared.alloc.Global.{Global}
@@ -13,7 +15,11 @@ use Rattle.its_model.specs.Decision.{Decision, To}
 use Rattle.its_model.specs.Calls as model
 use Rattle.its_model.specs.Calls.{Answer, Refusal}
 use Rattle.its_model.specs.Station as station
-use Rattle.its_model.specs.Station.{StationModel, Step, Verdict, moment_refusal, verdict, receive_step, receive_step_by, is_for, is_sender_wrong, is_repeated, or_else, handing, relayed, sent_on, decided, after_hearing, first, own_refusal, own_step, station_step, junk_step_by}
+use Rattle.its_model.specs.Station.{StationModel, Step, Verdict, moment_refusal, verdict}
+use Rattle.its_model.specs.Station.{receive_step, receive_step_by, is_for, is_sender_wrong}
+use Rattle.its_model.specs.Station.{is_repeated, or_else, handing, relayed, sent_on, decided}
+use Rattle.its_model.specs.Station.{after_hearing, first, own_refusal, own_step, station_step}
+use Rattle.its_model.specs.Station.{junk_step_by}
 use Rattle.its_headers.specs.Fields.{area_in}
 use Rattle.its_linkframe.specs.Frames.{EncodesFrame, IsFrame, transmission_of}
 use Rattle.its_linkframe.specs.FrameFaults.{IsFrameFault}
@@ -34,7 +40,8 @@ use Rattle.its_station.specs.declared.outcome.Why.{Why}
 use Rattle.its_station.specs.declared.outcome.Why.TheVariants as why
 use Rattle.its_station.specs.State.{StationState, IsPast, RepresentsStation, SamePorts, model_of}
 use Rattle.its_station.specs.Steps.{IsStepOf}
-use Rattle.its_station.specs.Receiving.{IsFrameCall, Tells, IsRelay, report_of, copy_of, said_by, why_of, why_found, accept_step}
+use Rattle.its_station.specs.Receiving.{IsFrameCall, Tells, IsRelay, report_of, copy_of, said_by}
+use Rattle.its_station.specs.Receiving.{why_of, why_found, accept_step}
 use Rattle.its_station.specs.declared.refused.Refused.TheVariants as refused
 use Rattle.its_faults.specs.declared.frame.FrameFault.{FrameFault}
 use Rattle.its_station.specs.Steps.{refusal_of}
@@ -42,87 +49,134 @@ use Rattle.its_station.proofs.Stations.{represents, Represents-later, own_refuse
 
 -- ---- the table's answer
 
-pub verdict_accepted : (remember capacity now : ℕ) (h : SourceReport) (history : List Reception) → is_repeated remember h.number h.vector.address now history ≡ false
-    → is_full capacity h.vector.address (stations_at remember now history) ≡ false → verdict_at remember capacity now h history ≡ Ok verdicts.Accepted
+pub verdict_accepted : (remember capacity now : ℕ) (h : SourceReport) (history : List Reception)
+    → is_repeated remember h.number h.vector.address now history ≡ false
+    → is_full capacity h.vector.address (stations_at remember now history) ≡ false
+    → verdict_at remember capacity now h history ≡ Ok verdicts.Accepted
 unfolding verdict_at
-verdict_accepted remember capacity now h history new room = λ i. cond (new i) (Ok verdicts.Duplicate) (cond (room i) (Err refusals.Full) (Ok verdicts.Accepted))
+verdict_accepted remember capacity now h history new room =
+    λ i. cond (new i) (Ok verdicts.Duplicate)
+    (cond (room i) (Err refusals.Full) (Ok verdicts.Accepted))
 
 -- an answer that isn't the one owed is want of memory
-pub memory_only : (r : Result StoreVerdict StoreRefused) (P : Type 0) → ((r ≡ Err refusals.NoMemory → ⊥) → r ≡ Ok verdicts.Accepted) → (r ≡ Err refusals.NoMemory → P) → (r ≡ Ok verdicts.Accepted → ⊥) → P
+pub memory_only : (r : Result StoreVerdict StoreRefused) (P : Type 0)
+    → ((r ≡ Err refusals.NoMemory → ⊥) → r ≡ Ok verdicts.Accepted) → (r ≡ Err refusals.NoMemory → P)
+    → (r ≡ Ok verdicts.Accepted → ⊥) → P
 memory_only (Ok v) P owed memory ne = absurd (ne (owed (λ e. cc)))
 memory_only (Err refusals.NoMemory) P owed memory ne = memory refl
 memory_only (Err refusals.Full) P owed memory ne = absurd (ne (owed (λ e. cc)))
 
 -- ---- the frame that goes on
 
-pub frame_of_relay : (w : Vec ℕ Global) (o : Option Transmission) → IsRelay (Some w) o → IsFrame w.items
+pub frame_of_relay : (w : Vec ℕ Global) (o : Option Transmission) → IsRelay (Some w) o
+    → IsFrame w.items
 frame_of_relay w None h = absurd h
 frame_of_relay w (Some t) h = record { transmission = t; encodes = h }
 
 -- a frame that goes on to all goes on to whom the decision says
-redirected : (s : StationModel) (now : ℕ) (t : Transmission) (area own : GeoArea) (mac : ℕ) (copy new : Vec ℕ Global)
+redirected : (s : StationModel) (now : ℕ) (t : Transmission) (area own : GeoArea) (mac : ℕ)
+    (copy new : Vec ℕ Global)
     → area ≡ own → To mac ≡ decided s now area (Some t.link_source)
-    → ((u : Transmission) → EncodesFrame u copy.items → EncodesFrame (record u { link_target = mac }) new.items)
+    → ((u : Transmission) → EncodesFrame u copy.items
+    → EncodesFrame (record u { link_target = mac }) new.items)
     → (b : Bool) → IsRelay (Some copy) (cond b (Some (relay t (mid_of s.address) broadcast)) None)
     → IsRelay (Some new) (cond b (sent_on s t (decided s now own (Some t.link_source))) None)
 redirected s now t area own mac copy new same d keep true enc =
-    subst (λ (x : Decision). IsRelay (Some new) (sent_on s t x)) (d ∙ ap (λ a. decided s now a (Some t.link_source)) same) (keep (relay t (mid_of s.address) broadcast) enc)
+    subst (λ (x : Decision). IsRelay (Some new) (sent_on s t x)) (d
+    ∙ ap (λ a. decided s now a (Some t.link_source)) same)
+    (keep (relay t (mid_of s.address) broadcast) enc)
 redirected s now t area own mac copy new same d keep false enc = absurd enc
 
-pub directed_to : (s : StationModel) (now : ℕ) (t : Transmission) (body : Body) (area : GeoArea) (mac : ℕ) (copy new : Vec ℕ Global)
+pub directed_to : (s : StationModel) (now : ℕ) (t : Transmission) (body : Body) (area : GeoArea)
+    (mac : ℕ) (copy new : Vec ℕ Global)
     → mid_of s.vector.address ≡ mid_of s.address
     → Some area ≡ area_in body → To mac ≡ decided s now area (Some t.link_source)
-    → ((u : Transmission) → EncodesFrame u copy.items → EncodesFrame (record u { link_target = mac }) new.items)
+    → ((u : Transmission) → EncodesFrame u copy.items
+    → EncodesFrame (record u { link_target = mac }) new.items)
     → IsRelay (Some copy) (copy_of s.vector t body) → IsRelay (Some new) (relayed s now t body)
 directed_to s now t beacon area mac copy new own e d keep enc = absurd enc
 directed_to s now t (shb media message) area mac copy new own e d keep enc = absurd enc
 directed_to s now t (gbc number its message) area mac copy new own e d keep enc =
-    redirected s now t area its mac copy new (ap (λ o. unwrap_or o area) e) d keep (leb 2 t.hops_left)
-    (subst (λ (m : ℕ). IsRelay (Some copy) (cond (leb 2 t.hops_left) (Some (relay t m broadcast)) None)) own enc)
-directed_to s now t (gac number its message) area mac copy new own e d keep enc = by (area_holds its s.vector.place)
-    (subst (λ (m : ℕ). IsRelay (Some copy) (cond (not (area_holds its s.vector.place) && leb 2 t.hops_left) (Some (relay t m broadcast)) None)) own enc)
+    redirected s now t area its mac copy new (ap (λ o. unwrap_or o area) e) d keep
+    (leb 2 t.hops_left)
+    (subst (λ (m : ℕ).
+    IsRelay (Some copy) (cond (leb 2 t.hops_left) (Some (relay t m broadcast)) None)) own enc)
+directed_to s now t (gac number its message) area mac copy new own e d keep enc =
+    by (area_holds its s.vector.place)
+    (subst (λ (m : ℕ).
+    IsRelay (Some copy)
+    (cond (not (area_holds its s.vector.place) && leb 2 t.hops_left)
+    (Some (relay t m broadcast)) None)) own enc)
   where
-    by : (h : Bool) → IsRelay (Some copy) (cond (not h && leb 2 t.hops_left) (Some (relay t (mid_of s.address) broadcast)) None)
-        → IsRelay (Some new) (cond h None (cond (leb 2 t.hops_left) (sent_on s t (decided s now its (Some t.link_source))) None))
+    by : (h : Bool)
+        → IsRelay (Some copy)
+        (cond (not h && leb 2 t.hops_left) (Some (relay t (mid_of s.address) broadcast)) None)
+        → IsRelay (Some new)
+        (cond h None
+        (cond (leb 2 t.hops_left) (sent_on s t (decided s now its (Some t.link_source))) None))
     by true enc = absurd enc
-    by false enc = redirected s now t area its mac copy new (ap (λ o. unwrap_or o area) e) d keep (leb 2 t.hops_left) enc
+    by false enc =
+        redirected s now t area its mac copy new (ap (λ o. unwrap_or o area) e) d keep
+        (leb 2 t.hops_left) enc
 
 -- ---- a packet that is accepted
 
-pub accepted : (old new : StationState) (now : ℕ) (t : Transmission) (ports : List ℕ) (history : List Reception) (h : SourceReport) (handed : Option Handed) (sent : Option (Vec ℕ Global))
-    → h ≡ report_of t.pdu → new ≡ record old { clock = now; content = new.content } → IsPast old ports history
+pub accepted : (old new : StationState) (now : ℕ) (t : Transmission) (ports : List ℕ)
+    (history : List Reception) (h : SourceReport) (handed : Option Handed)
+    (sent : Option (Vec ℕ Global))
+    → h ≡ report_of t.pdu → new ≡ record old { clock = now; content = new.content }
+    → IsPast old ports history
     → Represents new.remember new.content (table.reception now h ∷ history) now
     → option_map said_by handed ≡ handing (model_of old ports history) t.pdu.body
     → IsRelay sent (relayed (model_of new ports (table.reception now h ∷ history)) now t t.pdu.body)
-    → IsStepOf Tells (Ok (outcomes.Accepted handed sent)) new (accept_step (model_of old ports history) now t)
+    → IsStepOf Tells (Ok (outcomes.Accepted handed sent)) new
+    (accept_step (model_of old ports history) now t)
 accepted old new now t ports history h handed sent heard fields past now_table handing_is relay_is =
     let r : table.reception now h ≡ station.reception now t = ap (table.reception now) heard in
-    let s : model_of new ports (table.reception now h ∷ history) ≡ after_hearing (model_of old ports history) now t = λ i. model_of (fields i) ports (r i ∷ history) in
+    let s : model_of new ports (table.reception now h ∷ history)
+    ≡ after_hearing (model_of old ports history) now t =
+    λ i. model_of (fields i) ports (r i ∷ history) in
     let after : IsPast new ports (table.reception now h ∷ history) = record {
       ports = subst (λ (st : StationState). SamePorts st.ports ports) (sym fields) past.ports;
-      table = subst (λ (m : ℕ). Represents new.remember new.content (table.reception now h ∷ history) m) (sym (ap (λ (st : StationState). st.clock) fields)) now_table;
+      table = subst
+          (λ (m : ℕ). Represents new.remember new.content (table.reception now h ∷ history) m)
+          (sym (ap (λ (st : StationState). st.clock) fields)) now_table;
     } in (
       record {
         relayed = relayed (after_hearing (model_of old ports history) now t) now t t.pdu.body;
-        is = ap (λ m. model.Answer.Accepted m (relayed (after_hearing (model_of old ports history) now t) now t t.pdu.body))
+        is = ap (λ m.
+            model.Answer.Accepted m
+            (relayed (after_hearing (model_of old ports history) now t) now t t.pdu.body))
             (sym handing_is);
         frame = subst (λ (m : StationModel). IsRelay sent (relayed m now t t.pdu.body)) s relay_is;
       },
-      subst (RepresentsStation new) s (represents new ports (table.reception now h ∷ history) after),
+      subst (RepresentsStation new) s
+          (represents new ports (table.reception now h ∷ history) after),
     )
 
 -- ---- the judgement
 
-moment_fine : (s : StationModel) (now : ℕ) → s.clock ≤ now → now ≤ 2 ^ 62 → moment_refusal s now ≡ None
-moment_fine s now from to = λ i. cond (le-ltb now s.clock from i) (Some model.Refusal.MomentEarlier) (cond (le-ltb (2 ^ 62) now to i) (Some model.Refusal.MomentTooLate) None)
+moment_fine : (s : StationModel) (now : ℕ) → s.clock ≤ now → now ≤ 2 ^ 62
+    → moment_refusal s now ≡ None
+moment_fine s now from to =
+    λ i. cond (le-ltb now s.clock from i) (Some model.Refusal.MomentEarlier)
+    (cond (le-ltb (2 ^ 62) now to i) (Some model.Refusal.MomentTooLate) None)
 
 abbrev pub verdict_of : Option Why → Bool → Verdict
 verdict_of (Some reason) full = station.Verdict.Ignore (why_of reason)
 verdict_of None true = station.Verdict.Refuse model.Refusal.TableFull
 verdict_of None false = station.Verdict.Accept
 
-chain : (a b c d e : Bool) → (cond a (station.Verdict.Ignore model.Why.NotForMe) (cond b (station.Verdict.Ignore model.Why.OwnSource) (cond c (station.Verdict.Ignore model.Why.SenderMismatch) (cond d (station.Verdict.Ignore model.Why.Duplicate) (cond e (station.Verdict.Refuse model.Refusal.TableFull) station.Verdict.Accept)))))
-    ≡ verdict_of (cond a (Some why.NotForMe) (cond b (Some why.OwnSource) (cond c (Some why.SenderMismatch) (cond d (Some why.Duplicate) None)))) e
+chain : (a b c d e : Bool)
+    → (cond a (station.Verdict.Ignore model.Why.NotForMe)
+    (cond b (station.Verdict.Ignore model.Why.OwnSource)
+    (cond c (station.Verdict.Ignore model.Why.SenderMismatch)
+    (cond d (station.Verdict.Ignore model.Why.Duplicate)
+    (cond e (station.Verdict.Refuse model.Refusal.TableFull) station.Verdict.Accept)))))
+    ≡ verdict_of
+    (cond a (Some why.NotForMe)
+    (cond b (Some why.OwnSource)
+    (cond c (Some why.SenderMismatch) (cond d (Some why.Duplicate) None)))) e
 chain true b c d e = refl
 chain false true c d e = refl
 chain false false true d e = refl
@@ -131,94 +185,180 @@ chain false false false false true = refl
 chain false false false false false = refl
 
 pub verdict_is : (s : StationModel) (now : ℕ) (t : Transmission) → s.clock ≤ now → now ≤ 2 ^ 62
-    → verdict s now t ≡ verdict_of (why_found s now t) (is_full s.capacity t.pdu.vector.address (stations_at s.remember now s.history))
+    → verdict s now t
+    ≡ verdict_of (why_found s now t)
+    (is_full s.capacity t.pdu.vector.address (stations_at s.remember now s.history))
 unfolding verdict
 verdict_is s now t from to =
-    ap (λ o. or_else o (cond (not (is_for s t)) (station.Verdict.Ignore model.Why.NotForMe) (cond (eqb t.pdu.vector.address s.address) (station.Verdict.Ignore model.Why.OwnSource) (cond (is_sender_wrong t t.pdu.body) (station.Verdict.Ignore model.Why.SenderMismatch) (cond (is_repeated s.remember (number_in t.pdu.body) t.pdu.vector.address now s.history) (station.Verdict.Ignore model.Why.Duplicate) (cond (is_full s.capacity t.pdu.vector.address (stations_at s.remember now s.history)) (station.Verdict.Refuse model.Refusal.TableFull) station.Verdict.Accept)))))) (moment_fine s now from to)
-    ∙ chain (not (is_for s t)) (eqb t.pdu.vector.address s.address) (is_sender_wrong t t.pdu.body) (is_repeated s.remember (number_in t.pdu.body) t.pdu.vector.address now s.history) (is_full s.capacity t.pdu.vector.address (stations_at s.remember now s.history))
+    ap (λ o. or_else o
+    (cond (not (is_for s t)) (station.Verdict.Ignore model.Why.NotForMe)
+    (cond (eqb t.pdu.vector.address s.address) (station.Verdict.Ignore model.Why.OwnSource)
+    (cond (is_sender_wrong t t.pdu.body) (station.Verdict.Ignore model.Why.SenderMismatch)
+    (cond (is_repeated s.remember (number_in t.pdu.body) t.pdu.vector.address now s.history)
+    (station.Verdict.Ignore model.Why.Duplicate)
+    (cond (is_full s.capacity t.pdu.vector.address (stations_at s.remember now s.history))
+    (station.Verdict.Refuse model.Refusal.TableFull) station.Verdict.Accept))))))
+    (moment_fine s now from to)
+    ∙ chain (not (is_for s t)) (eqb t.pdu.vector.address s.address) (is_sender_wrong t t.pdu.body)
+    (is_repeated s.remember (number_in t.pdu.body) t.pdu.vector.address now s.history)
+    (is_full s.capacity t.pdu.vector.address (stations_at s.remember now s.history))
 
-pub step_is : (s : StationModel) (now : ℕ) (t : Transmission) → s.clock ≤ now → now ≤ 2 ^ 62 → (o : Option Why) (full : Bool) → why_found s now t ≡ o
-    → is_full s.capacity t.pdu.vector.address (stations_at s.remember now s.history) ≡ full → receive_step s now t ≡ receive_step_by s now t (verdict_of o full)
+pub step_is : (s : StationModel) (now : ℕ) (t : Transmission) → s.clock ≤ now → now ≤ 2 ^ 62
+    → (o : Option Why) (full : Bool) → why_found s now t ≡ o
+    → is_full s.capacity t.pdu.vector.address (stations_at s.remember now s.history) ≡ full
+    → receive_step s now t ≡ receive_step_by s now t (verdict_of o full)
 unfolding receive_step
-step_is s now t from to o full p q = ap (receive_step_by s now t) (verdict_is s now t from to ∙ (λ i. verdict_of (p i) (q i)))
+step_is s now t from to o full p q =
+    ap (receive_step_by s now t) (verdict_is s now t from to ∙ (λ i. verdict_of (p i) (q i)))
 
-last : (a b c d : Bool) → cond a (Some why.NotForMe) (cond b (Some why.OwnSource) (cond c (Some why.SenderMismatch) (cond d (Some why.Duplicate) None))) ≡ None → d ≡ false
+last : (a b c d : Bool)
+    → cond a (Some why.NotForMe)
+    (cond b (Some why.OwnSource)
+    (cond c (Some why.SenderMismatch) (cond d (Some why.Duplicate) None))) ≡ None → d ≡ false
 last true b c d e = absurd (true≢false (ap is_some e))
 last false true c d e = absurd (true≢false (ap is_some e))
 last false false true d e = absurd (true≢false (ap is_some e))
 last false false false true e = absurd (true≢false (ap is_some e))
 last false false false false e = refl
 
-pub not_repeated : (s : StationModel) (now : ℕ) (t : Transmission) → why_found s now t ≡ None → is_repeated s.remember (number_in t.pdu.body) t.pdu.vector.address now s.history ≡ false
-not_repeated s now t e = last (not (is_for s t)) (eqb t.pdu.vector.address s.address) (is_sender_wrong t t.pdu.body) (is_repeated s.remember (number_in t.pdu.body) t.pdu.vector.address now s.history) e
+pub not_repeated : (s : StationModel) (now : ℕ) (t : Transmission) → why_found s now t ≡ None
+    → is_repeated s.remember (number_in t.pdu.body) t.pdu.vector.address now s.history ≡ false
+not_repeated s now t e =
+    last (not (is_for s t)) (eqb t.pdu.vector.address s.address) (is_sender_wrong t t.pdu.body)
+    (is_repeated s.remember (number_in t.pdu.body) t.pdu.vector.address now s.history) e
 
 -- ---- the step of a frame
 
-pub ignored : (old new : StationState) (now : ℕ) (t : Transmission) (ports : List ℕ) (history : List Reception) (reason : Why)
-    → new ≡ record old { clock = now } → old.clock ≤ now → now ≤ 2 ^ 62 → IsPast old ports history → Some reason ≡ why_found (model_of old ports history) now t
-    → IsStepOf Tells (Ok (outcomes.Ignored reason)) new (receive_step (model_of old ports history) now t)
+pub ignored : (old new : StationState) (now : ℕ) (t : Transmission) (ports : List ℕ)
+    (history : List Reception) (reason : Why)
+    → new ≡ record old { clock = now } → old.clock ≤ now → now ≤ 2 ^ 62 → IsPast old ports history
+    → Some reason ≡ why_found (model_of old ports history) now t
+    → IsStepOf Tells (Ok (outcomes.Ignored reason)) new
+    (receive_step (model_of old ports history) now t)
 ignored old new now t ports history reason fields from to past e =
     let m = model_of old ports history in
-    let step : receive_step m now t ≡ receive_step_by m now t (station.Verdict.Ignore (why_of reason)) = step_is m now t from to (Some reason) (is_full m.capacity t.pdu.vector.address (stations_at m.remember now m.history)) (sym e) refl in
-    let after : IsPast (record old { clock = now }) ports history = record { ports = past.ports; table = Represents-later old.remember old.content history old.clock now from past.table } in (
+    let step : receive_step m now t
+    ≡ receive_step_by m now t (station.Verdict.Ignore (why_of reason)) =
+    step_is m now t from to (Some reason)
+    (is_full m.capacity t.pdu.vector.address (stations_at m.remember now m.history))
+    (sym e) refl in
+    let after : IsPast (record old { clock = now }) ports history =
+    record {
+      ports = past.ports;
+      table = Represents-later old.remember old.content history old.clock now from past.table;
+    } in (
       ap (λ (x : Step). x.answer) step,
-      subst (λ (st : StationState). RepresentsStation st (receive_step m now t).station) (sym fields)
-          (subst (λ (x : Step). RepresentsStation (record old { clock = now }) x.station) (sym step) (represents (record old { clock = now }) ports history after)),
+      subst (λ (st : StationState). RepresentsStation st (receive_step m now t).station)
+          (sym fields)
+          (subst (λ (x : Step). RepresentsStation (record old { clock = now }) x.station) (sym step)
+          (represents (record old { clock = now }) ports history after)),
     )
 
-pub is_full_step : (old : StationState) (now : ℕ) (t : Transmission) (ports : List ℕ) (history : List Reception)
-    → old.clock ≤ now → now ≤ 2 ^ 62 → IsPast old ports history → None ≡ why_found (model_of old ports history) now t
+pub is_full_step : (old : StationState) (now : ℕ) (t : Transmission) (ports : List ℕ)
+    (history : List Reception)
+    → old.clock ≤ now → now ≤ 2 ^ 62 → IsPast old ports history
+    → None ≡ why_found (model_of old ports history) now t
     → true ≡ is_full old.capacity t.pdu.vector.address (stations_at old.remember now history)
     → IsStepOf Tells (Err refused.TableFull) old (receive_step (model_of old ports history) now t)
 is_full_step old now t ports history from to past e full =
     let m = model_of old ports history in
-    let step : receive_step m now t ≡ receive_step_by m now t (station.Verdict.Refuse model.Refusal.TableFull) = step_is m now t from to None true (sym e) (sym full) in
-    (ap (λ (x : Step). x.answer) step, subst (λ (x : Step). RepresentsStation old x.station) (sym step) (represents old ports history past))
+    let step : receive_step m now t
+    ≡ receive_step_by m now t (station.Verdict.Refuse model.Refusal.TableFull) =
+    step_is m now t from to None true (sym e) (sym full) in (
+      ap (λ (x : Step). x.answer) step,
+      subst (λ (x : Step). RepresentsStation old x.station) (sym step)
+          (represents old ports history past),
+    )
 
-pub accept_is : (r : Result Outcome Refused) (old new : StationState) (now : ℕ) (t : Transmission) (ports : List ℕ) (history : List Reception)
+pub accept_is : (r : Result Outcome Refused) (old new : StationState) (now : ℕ) (t : Transmission)
+    (ports : List ℕ) (history : List Reception)
     → old.clock ≤ now → now ≤ 2 ^ 62 → None ≡ why_found (model_of old ports history) now t
     → false ≡ is_full old.capacity t.pdu.vector.address (stations_at old.remember now history)
-    → IsStepOf Tells r new (accept_step (model_of old ports history) now t) → IsStepOf Tells r new (receive_step (model_of old ports history) now t)
+    → IsStepOf Tells r new (accept_step (model_of old ports history) now t)
+    → IsStepOf Tells r new (receive_step (model_of old ports history) now t)
 accept_is r old new now t ports history from to e room step =
-    subst (λ (x : Step). IsStepOf Tells r new x) (sym (step_is (model_of old ports history) now t from to None false (sym e) (sym room))) step
+    subst (λ (x : Step). IsStepOf Tells r new x)
+    (sym (step_is (model_of old ports history) now t from to None false (sym e)
+    (sym room))) step
 
 -- ---- any call
 
-received : (s : StationModel) (now : ℕ) (t : Transmission) (r : Refusal) → moment_refusal s now ≡ Some r → receive_step s now t ≡ record { answer = model.Answer.Refused r; station = s }
+received : (s : StationModel) (now : ℕ) (t : Transmission) (r : Refusal)
+    → moment_refusal s now ≡ Some r
+    → receive_step s now t ≡ record { answer = model.Answer.Refused r; station = s }
 unfolding receive_step verdict
-received s now t r e = ap (λ o. receive_step_by s now t (or_else o (cond (not (is_for s t)) (station.Verdict.Ignore model.Why.NotForMe) (cond (eqb t.pdu.vector.address s.address) (station.Verdict.Ignore model.Why.OwnSource) (cond (is_sender_wrong t t.pdu.body) (station.Verdict.Ignore model.Why.SenderMismatch) (cond (is_repeated s.remember (number_in t.pdu.body) t.pdu.vector.address now s.history) (station.Verdict.Ignore model.Why.Duplicate) (cond (is_full s.capacity t.pdu.vector.address (stations_at s.remember now s.history)) (station.Verdict.Refuse model.Refusal.TableFull) station.Verdict.Accept))))))) e
+received s now t r e =
+    ap (λ o. receive_step_by s now t
+    (or_else o (cond (not (is_for s t)) (station.Verdict.Ignore model.Why.NotForMe)
+    (cond (eqb t.pdu.vector.address s.address) (station.Verdict.Ignore model.Why.OwnSource)
+    (cond (is_sender_wrong t t.pdu.body) (station.Verdict.Ignore model.Why.SenderMismatch)
+    (cond (is_repeated s.remember (number_in t.pdu.body) t.pdu.vector.address now s.history)
+    (station.Verdict.Ignore model.Why.Duplicate)
+    (cond (is_full s.capacity t.pdu.vector.address (stations_at s.remember now s.history))
+    (station.Verdict.Refuse model.Refusal.TableFull) station.Verdict.Accept))))))) e
 
-refused_by_moment : (s : StationModel) (now : ℕ) (call : model.Call) (r : Refusal) → moment_refusal s now ≡ Some r → station_step s now call ≡ record { answer = model.Answer.Refused r; station = s }
-refused_by_moment s now (model.Call.Own call) r e = own_refused s now call r (ap (λ o. first o (own_refusal s call)) e)
+refused_by_moment : (s : StationModel) (now : ℕ) (call : model.Call) (r : Refusal)
+    → moment_refusal s now ≡ Some r
+    → station_step s now call ≡ record { answer = model.Answer.Refused r; station = s }
+refused_by_moment s now (model.Call.Own call) r e =
+    own_refused s now call r (ap (λ o. first o (own_refusal s call)) e)
 refused_by_moment s now (model.Call.Receive t) r e = received s now t r e
 refused_by_moment s now (model.Call.Junk fault) r e = ap (junk_step_by s fault) e
 
 -- a call at a moment that is refused
-pub moment_refused : {T : Type 0} (says : T → Answer Transmission → Type 0) (st : StationState) (now : ℕ) (call : model.Call) (e : Refused)
-    → ((ports : List ℕ) (history : List Reception) → refusal_of e ≡ moment_refusal (model_of st ports history) now)
-    → (s : StationModel) → RepresentsStation st s → IsStepOf says (Err e) st (station_step s now call)
-moment_refused says st now call e owed = at_model st (λ s. IsStepOf says (Err e) st (station_step s now call)) (λ ports history past. by ports history past (refusal_of e) (owed ports history))
+pub moment_refused : {T : Type 0} (says : T → Answer Transmission
+    → Type 0) (st : StationState) (now : ℕ) (call : model.Call) (e : Refused)
+    → ((ports : List ℕ) (history : List Reception)
+    → refusal_of e ≡ moment_refusal (model_of st ports history) now)
+    → (s : StationModel) → RepresentsStation st s
+    → IsStepOf says (Err e) st (station_step s now call)
+moment_refused says st now call e owed =
+    at_model st (λ s. IsStepOf says (Err e) st (station_step s now call))
+    (λ ports history past. by ports history past (refusal_of e) (owed ports history))
   where
-    by : (ports : List ℕ) (history : List Reception) → IsPast st ports history → (o : Option Refusal) → o ≡ moment_refusal (model_of st ports history) now
-        → IfSome o (λ refusal. ((station_step (model_of st ports history) now call).answer ≡ model.Answer.Refused refusal) × RepresentsStation st (station_step (model_of st ports history) now call).station)
+    by : (ports : List ℕ) (history : List Reception) → IsPast st ports history
+        → (o : Option Refusal) → o ≡ moment_refusal (model_of st ports history) now
+        → IfSome o (λ refusal.
+        ((station_step (model_of st ports history) now call).answer
+        ≡ model.Answer.Refused refusal)
+        × RepresentsStation st (station_step (model_of st ports history) now call).station)
     by ports history past None is = tt
     by ports history past (Some r) is =
-        let step = refused_by_moment (model_of st ports history) now call r (sym is) in
-        (ap (λ (x : Step). x.answer) step, subst (λ (x : Step). RepresentsStation st x.station) (sym step) (represents st ports history past))
+        let step = refused_by_moment (model_of st ports history) now call r (sym is) in (
+          ap (λ (x : Step). x.answer) step,
+          subst (λ (x : Step). RepresentsStation st x.station) (sym step)
+              (represents st ports history past),
+        )
 
 -- the call as which octets come, from what was read of them
-pub call_of : (w : List ℕ) (r : Result FrameView FrameFault) → IfOk r (λ v. EncodesFrame (transmission_of v) w) → IfErr r (IsFrameFault w) → (call : model.Call) × IsFrameCall w call
+pub call_of : (w : List ℕ) (r : Result FrameView FrameFault)
+    → IfOk r (λ v. EncodesFrame (transmission_of v) w) → IfErr r (IsFrameFault w)
+    → (call : model.Call) × IsFrameCall w call
 call_of w (Ok v) found fault = (model.Call.Receive (transmission_of v), found)
 call_of w (Err f) found fault = (model.Call.Junk f, fault)
 
 -- octets that are no frame
-pub junk : (st : StationState) (now : ℕ) (fault : FrameFault) → ((ports : List ℕ) (history : List Reception) → None ≡ moment_refusal (model_of st ports history) now)
-    → (s : StationModel) → RepresentsStation st s → IsStepOf Tells (Err (refused.Frame fault)) st (junk_step_by s fault (moment_refusal s now))
-junk st now fault owed = at_model st (λ s. IsStepOf Tells (Err (refused.Frame fault)) st (junk_step_by s fault (moment_refusal s now)))
-    (λ ports history past. subst (λ (o : Option Refusal). IsStepOf Tells (Err (refused.Frame fault)) st (junk_step_by (model_of st ports history) fault o)) (owed ports history) (refl, represents st ports history past))
+pub junk : (st : StationState) (now : ℕ) (fault : FrameFault)
+    → ((ports : List ℕ) (history : List Reception)
+    → None ≡ moment_refusal (model_of st ports history) now)
+    → (s : StationModel) → RepresentsStation st s
+    → IsStepOf Tells (Err (refused.Frame fault)) st
+    (junk_step_by s fault (moment_refusal s now))
+junk st now fault owed =
+    at_model st
+    (λ s. IsStepOf Tells (Err (refused.Frame fault)) st
+    (junk_step_by s fault (moment_refusal s now)))
+    (λ ports history past.
+    subst (λ (o : Option Refusal).
+    IsStepOf Tells (Err (refused.Frame fault)) st
+    (junk_step_by (model_of st ports history) fault o)) (owed ports history) (
+      refl,
+      represents st ports history past,
+    ))
 
 -- a frame, from what holds of it for each past
 pub heard : (r : Result Outcome Refused) (old new : StationState) (now : ℕ) (t : Transmission)
-    → ((ports : List ℕ) (history : List Reception) → IsPast old ports history → IsStepOf Tells r new (receive_step (model_of old ports history) now t))
+    → ((ports : List ℕ) (history : List Reception) → IsPast old ports history
+    → IsStepOf Tells r new (receive_step (model_of old ports history) now t))
     → (s : StationModel) → RepresentsStation old s → IsStepOf Tells r new (receive_step s now t)
 heard r old new now t f = at_model old (λ s. IsStepOf Tells r new (receive_step s now t)) f

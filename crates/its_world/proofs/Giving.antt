@@ -1,5 +1,6 @@
 -- What a station gives.
-use Rattle.std.proofs.Common.{◌≡◌, ℕ, List, [], ◌∷◌, ◌++◌, length, Option, Some, None, Ok, Err, refl, sym, ap, subst, ◌∙◌}
+use Rattle.std.proofs.Common.{◌≡◌, ℕ, List, [], ◌∷◌, ◌++◌, length, Option, Some, None, Ok, Err}
+use Rattle.std.proofs.Common.{refl, sym, ap, subst, ◌∙◌}
 use Rattle.std.specs.Prelude.{Result, IfOk, Vec}
 use Rattle.std.specs.declared.alloc.Global.{Global}
 use Rattle.its_gnvalue.specs.declared.fault.NoMemory.{NoMemory}
@@ -17,22 +18,33 @@ use Rattle.its_world.specs.Entries.{IsGivenBy}
 use Rattle.its_world.proofs.Worlds.{length_frames, frame_last}
 
 -- what is given is the step's, of the call that was made
-pub given_call : (r : Result Given NoMemory) (P : Call → Type 0) (x : Call) (old new : StationState) (moment : ℕ) → P x
-    → ((s : StationModel) → RepresentsStation old s → IfOk r (λ given. IsGivenBy given new (station_step s moment x)))
-    → IfOk r (λ given. (c : Call) × P c × ((s : StationModel) → RepresentsStation old s → IsGivenBy given new (station_step s moment c)))
+pub given_call : (r : Result Given NoMemory) (P : Call
+    → Type 0) (x : Call) (old new : StationState) (moment : ℕ) → P x
+    → ((s : StationModel) → RepresentsStation old s
+    → IfOk r (λ given. IsGivenBy given new (station_step s moment x)))
+    → IfOk r (λ given. (c : Call) × P c
+    × ((s : StationModel) → RepresentsStation old s
+    → IsGivenBy given new (station_step s moment c)))
 given_call (Err n) P x old new moment is f = tt
 given_call (Ok given) P x old new moment is f = (x, is, f)
 
 -- a relayed frame gets the next number
-pub relay_numbered : (w : Vec ℕ Global) (relayed : Option Transmission) (frames : List (Vec ℕ Global)) (air : List Transmission) → AreFrames frames air → IsRelay (Some w) relayed
-    → (Some (length frames) ≡ numbered (length air) relayed) × AreFrames (frames ++ w ∷ []) (with_one_more air relayed)
+pub relay_numbered : (w : Vec ℕ Global) (relayed : Option Transmission)
+    (frames : List (Vec ℕ Global)) (air : List Transmission) → AreFrames frames air
+    → IsRelay (Some w) relayed
+    → (Some (length frames) ≡ numbered (length air) relayed)
+    × AreFrames (frames ++ w ∷ []) (with_one_more air relayed)
 relay_numbered w None frames air h is = absurd is
-relay_numbered w (Some t) frames air h is = (ap Some (length_frames frames air h), frame_last frames air w t h is)
+relay_numbered w (Some t) frames air h is =
+    (ap Some (length_frames frames air h), frame_last frames air w t h is)
 
 -- so does one that is sent
-pub sent_numbered : (w : Vec ℕ Global) (answer : Answer Transmission) (frames : List (Vec ℕ Global)) (air : List Transmission) → AreFrames frames air → TellsSent w answer
-    → (entry_of (length air) answer ≡ model.Answer.Sent (length frames)) × AreFrames (frames ++ w ∷ []) (with_one_more air (frame_of answer))
+pub sent_numbered : (w : Vec ℕ Global) (answer : Answer Transmission) (frames : List (Vec ℕ Global))
+    (air : List Transmission) → AreFrames frames air → TellsSent w answer
+    → (entry_of (length air) answer ≡ model.Answer.Sent (length frames))
+    × AreFrames (frames ++ w ∷ []) (with_one_more air (frame_of answer))
 sent_numbered w answer frames air h told = (
   ap (entry_of (length air)) told.is ∙ ap model.Answer.Sent (sym (length_frames frames air h)),
-  subst (λ (a : Answer Transmission). AreFrames (frames ++ w ∷ []) (with_one_more air (frame_of a))) (sym told.is) (frame_last frames air w told.sent h told.frame),
+  subst (λ (a : Answer Transmission). AreFrames (frames ++ w ∷ []) (with_one_more air (frame_of a)))
+      (sym told.is) (frame_last frames air w told.sent h told.frame),
 )

@@ -1,6 +1,7 @@
 -- A walk over MIDs with a map of those that it met.
 use Rattle.std.proofs.Common.{◌≡◌, ◌≢◌, ℕ, ◌+◌, ◌<◌, Bool, true, false, cond, Option, Some, None}
-use Rattle.std.proofs.Common.{IsSome, List, [], ◌∷◌, zero, suc, length, take, get_or, slice_index, refl, sym, ap, ◌∙◌, subst, arith, tests, eqb, below_more}
+use Rattle.std.proofs.Common.{IsSome, List, [], ◌∷◌, zero, suc, length, take, get_or, slice_index}
+use Rattle.std.proofs.Common.{refl, sym, ap, ◌∙◌, subst, arith, tests, eqb, below_more}
 use Rattle.std.proofs.lemmas.List.{get_or-map}
 use Rattle.its_gnvalue.specs.Values.{mid_of}
 use Rattle.its_world.specs.declared.config.Config.{Config}
@@ -53,7 +54,8 @@ knows_more known new eq numbers n v same knows told =
 
 -- what the map gives for a MID is the place of that MID among the first
 abbrev pub Places : (ℕ → Option ℕ) → List ℕ → ℕ → Type 0
-Places known numbers count = (mid i : ℕ) → known mid ≡ Some i → (i < count) × (slice_index numbers i ≡ mid)
+Places known numbers count =
+    (mid i : ℕ) → known mid ≡ Some i → (i < count) × (slice_index numbers i ≡ mid)
 
 places_by : (known : ℕ → Option ℕ) (numbers : List ℕ) (n : ℕ) (mid i : ℕ) (b : Bool) →
     (b ≡ true → slice_index numbers n ≡ mid) → Places known numbers n →
@@ -70,11 +72,13 @@ pub places_more : (known new : ℕ → Option ℕ) (eq : ℕ → ℕ → Bool) (
     ((q : ℕ) → new q ≡ cond (eq (slice_index numbers n) q) (Some n) (known q)) →
     Places new numbers (n + 1)
 places_more known new eq numbers n same places told mid i e =
-    places_by known numbers n mid i (eq (slice_index numbers n) mid) (same (slice_index numbers n) mid) places
+    places_by known numbers n mid i (eq (slice_index numbers n) mid)
+    (same (slice_index numbers n) mid) places
     (sym (told mid) ∙ e)
 
 -- MIDs at the front of a list
-pub mids_take : (configs : List Config) (n i : ℕ) → i < n → slice_index (mids (take n configs)) i ≡ slice_index (mids configs) i
+pub mids_take : (configs : List Config) (n i : ℕ) → i < n
+    → slice_index (mids (take n configs)) i ≡ slice_index (mids configs) i
 mids_take [] zero i lt = refl
 mids_take [] (suc n) i lt = refl
 mids_take (c ∷ configs) zero i lt = absurd (omega arith)
@@ -82,10 +86,12 @@ mids_take (c ∷ configs) (suc n) zero lt = refl
 mids_take (c ∷ configs) (suc n) (suc i) lt = mids_take configs n i (omega arith)
 
 -- the MID at an index
-pub mid_here : (configs : List Config) (n : ℕ) (config : Config) (mid : ℕ) → n < length configs → config ≡ get_or configs n config → mid ≡ mid_of config.address
+pub mid_here : (configs : List Config) (n : ℕ) (config : Config) (mid : ℕ) → n < length configs
+    → config ≡ get_or configs n config → mid ≡ mid_of config.address
     → slice_index (mids configs) n ≡ mid
 mid_here configs n config mid within is value =
-    get_or-map (λ (c : Config). mid_of c.address) configs n config 0 within ∙ sym (ap (λ (c : Config). mid_of c.address) is) ∙ sym value
+    get_or-map (λ (c : Config). mid_of c.address) configs n config 0 within
+    ∙ sym (ap (λ (c : Config). mid_of c.address) is) ∙ sym value
 
 -- numbers that a test tells apart
 pub told_apart : (a b : ℕ) → eqb a b ≡ false → a ≢ b

@@ -31,6 +31,7 @@ impl Read for Repeated<'_> {
 }
 
 /// A writer that counts lines, and keeps nothing.
+#[derive(Drop)]
 struct Lines {
     count: u32,
 }

@@ -10,7 +10,15 @@ use Rattle.its_forwarding.proofs.nearest.nearest_neighbour.Goals as goal
 use Rattle.its_forwarding.proofs.nearest.nearest_neighbour.Goals.{then-take, else-take}
 
 pub loop-vector-init : goal.loop-vector-init
-loop-vector-init g c = record { centre = ap (λ n. n.centre) c.than-nearer.ensures; walked = λ history rep. ap (λ n. walk c.args.centre.place n None (neighbours_above None (stations_at (g.S.LocationStore.remember c.args.store.now) c.args.now history))) (ap (λ n. n.least) c.than-nearer.ensures) }
+loop-vector-init g c =
+    record {
+      centre = ap (λ n. n.centre) c.than-nearer.ensures;
+      walked = λ history rep.
+          ap (λ n. walk c.args.centre.place n None
+          (neighbours_above None
+          (stations_at (g.S.LocationStore.remember c.args.store.now) c.args.now history)))
+          (ap (λ n. n.least) c.than-nearer.ensures);
+    }
 
 pub loop-vector-preserved : goal.loop-vector-preserved
 loop-vector-preserved g c =
@@ -28,17 +36,22 @@ loop-vector-preserved g c =
       walked = λ history rep.
           let all = stations_at (g.S.LocationStore.remember c.args.store.now) c.args.now history in
           let step = walk-step here limit c.loop-vector.best c.loop-vector.after all v
-          (is_first c.loop-vector.after all v (stations_at-Rises (g.S.LocationStore.remember c.args.store.now) c.args.now history) (c.in-Some.ensures.next history rep)) in
+          (is_first c.loop-vector.after all v
+          (stations_at-Rises (g.S.LocationStore.remember c.args.store.now) c.args.now history)
+          (c.in-Some.ensures.next history rep)) in
           elim c.if-take.branch [
             | then-take w ↦
                 let yes : ltb d limit ≡ true = sym test ∙ w.if-take.true in
-                let is : c.take.new.self.least ≡ d = (let lt : d < limit = ltb-true _ _ yes in omega (arith, least)) in
-                (λ i. walk here (is i) ((w.best-is ∙ ap Some a) i) (neighbours_above (Some (a i)) all))
+                let is : c.take.new.self.least ≡ d =
+                (let lt : d < limit = ltb-true _ _ yes in omega (arith, least)) in
+                (λ i. walk here (is i) ((w.best-is ∙ ap Some a) i)
+                (neighbours_above (Some (a i)) all))
                 ∙ sym (step ∙ cond-true (ltb d limit) _ _ yes)
                 ∙ c.loop-vector.invariant.walked history rep
             | else-take w ↦
                 let no : ltb d limit ≡ false = sym test ∙ w.if-take.false in
-                let is : c.take.new.self.least ≡ limit = (let le : limit ≤ d = ltb-false _ _ no in omega (arith, least)) in
+                let is : c.take.new.self.least ≡ limit =
+                (let le : limit ≤ d = ltb-false _ _ no in omega (arith, least)) in
                 (λ i. walk here (is i) (w.best-is i) (neighbours_above (Some (a i)) all))
                 ∙ sym (step ∙ cond-false (ltb d limit) _ _ no)
                 ∙ c.loop-vector.invariant.walked history rep
@@ -48,6 +61,7 @@ loop-vector-preserved g c =
 pub returns : goal.returns
 returns g c = λ history rep.
     let all = stations_at (g.S.LocationStore.remember c.args.store.now) c.args.now history in
-    sym (ap (walk c.args.centre.place c.loop-vector.nearer.least c.loop-vector.best) (is_last c.loop-vector.after all (c.in_default.ensures.next history rep)))
+    sym (ap (walk c.args.centre.place c.loop-vector.nearer.least c.loop-vector.best)
+    (is_last c.loop-vector.after all (c.in_default.ensures.next history rep)))
     ∙ c.loop-vector.invariant.walked history rep
     ∙ walk-next_hop c.args.centre.place c.args.limit all

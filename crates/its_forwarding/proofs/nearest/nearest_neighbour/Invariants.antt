@@ -10,9 +10,15 @@ abbrev pub invariant-loop-vector : goal.invariant-loop-vector
 invariant-loop-vector g l =
     record {
       centre : l.nearer.centre ≡ l.fn.centre.place;
-      walked : (history : List Reception) → Represents (g.S.LocationStore.remember l.store) (g.S.LocationStore.content l.store) history l.now
-          → walk l.fn.centre.place l.nearer.least l.best (neighbours_above l.after (stations_at (g.S.LocationStore.remember l.store) l.now history))
-          ≡ walk l.fn.centre.place l.fn.limit None (neighbours_above None (stations_at (g.S.LocationStore.remember l.store) l.now history));
+      walked : (history : List Reception)
+          → Represents (g.S.LocationStore.remember l.store)
+          (g.S.LocationStore.content l.store) history l.now
+          → walk l.fn.centre.place l.nearer.least l.best
+          (neighbours_above l.after
+          (stations_at (g.S.LocationStore.remember l.store) l.now history))
+          ≡ walk l.fn.centre.place l.fn.limit None
+          (neighbours_above None
+          (stations_at (g.S.LocationStore.remember l.store) l.now history));
     }
 
 abbrev pub decreases-loop-vector : goal.decreases-loop-vector

@@ -15,9 +15,11 @@ either : (b : Bool) (o : Option Known) → cond b Broadcast (toward o) ≢ Drop
 either true o = λ e. cc
 either false o = goes_somewhere o
 
-not_dropped : (stations : List Known) (own : Position) (area : GeoArea) → decision stations own area None ≢ Drop
+not_dropped : (stations : List Known) (own : Position) (area : GeoArea)
+    → decision stations own area None ≢ Drop
 unfolding decision
-not_dropped stations own area = either (area_holds area own) (next_hop area.centre (squared_distance area.centre own) stations)
+not_dropped stations own area =
+    either (area_holds area own) (next_hop area.centre (squared_distance area.centre own) stations)
 
 pub returns : goal.returns
 returns c = not_dropped

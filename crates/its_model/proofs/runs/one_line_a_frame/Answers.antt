@@ -7,13 +7,20 @@ use Rattle.its_model.proofs.runs.one_line_a_frame.Goals as goal
 pub returns-clause-given : goal.returns-clause-given
 returns-clause-given c = λ configs events k lt. (
     let sound = run_sound configs events in
-    each_given (world_run (opening configs) events).log k sound.names (omega (arith, sound.frames.even, lt)))
+    each_given (world_run (opening configs) events).log k sound.names
+    (omega (arith, sound.frames.even, lt)))
 
 pub returns-clause-origins : goal.returns-clause-origins
 returns-clause-origins c = λ configs events. (run_sound configs events).frames.even
 
 pub returns-clause-rises : goal.returns-clause-rises
-returns-clause-rises c = λ configs events later between older first second k m e. numbers_rise (world_run (opening configs) events).log later between older first second k m (run_sound configs events).names e
+returns-clause-rises c =
+    λ configs events later between older first second k m e.
+    numbers_rise (world_run (opening configs) events).log later between older first second k m
+    (run_sound configs events).names e
 
 pub returns-clause-origin : goal.returns-clause-origin
-returns-clause-origin c = λ configs events later before line k e. origin_is (world_run (opening configs) events).log later before line k (run_sound configs events).names e
+returns-clause-origin c =
+    λ configs events later before line k e.
+    origin_is (world_run (opening configs) events).log later before line k
+    (run_sound configs events).names e

@@ -10,4 +10,5 @@ pub returns-clause-origins : goal.returns-clause-origins
 returns-clause-origins c = origins_stay
 
 pub returns-clause-log : goal.returns-clause-log
-returns-clause-log c = λ configs events later before e. earlier_log (opening configs) events later before refl e
+returns-clause-log c =
+    λ configs events later before e. earlier_log (opening configs) events later before refl e

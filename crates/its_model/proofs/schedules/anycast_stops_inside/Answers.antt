@@ -4,4 +4,6 @@ use Rattle.its_model.proofs.Theorems.{anycast_stops_inside}
 use Rattle.its_model.proofs.schedules.anycast_stops_inside.Goals as goal
 
 pub returns : goal.returns
-returns c = λ configs events. anycast_stops_inside configs (world_run (opening configs) events) (run_sound configs events)
+returns c =
+    λ configs events.
+    anycast_stops_inside configs (world_run (opening configs) events) (run_sound configs events)

@@ -7,4 +7,7 @@ pub returns : goal.returns
 returns c = λ configs events. (
     let w = world_run (opening configs) events in
     let sound = run_sound configs events in
-    record { again = accepted_again_was_forgotten configs w sound; duplicate = duplicate_was_accepted configs w sound })
+    record {
+      again = accepted_again_was_forgotten configs w sound;
+      duplicate = duplicate_was_accepted configs w sound;
+    })

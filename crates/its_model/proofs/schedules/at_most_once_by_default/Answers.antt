@@ -4,4 +4,7 @@ use Rattle.its_model.proofs.Acceptances.{accepted_again_by_default}
 use Rattle.its_model.proofs.schedules.at_most_once_by_default.Goals as goal
 
 pub returns : goal.returns
-returns c = λ configs events. accepted_again_by_default configs (world_run (opening configs) events) (run_sound configs events)
+returns c =
+    λ configs events.
+    accepted_again_by_default configs (world_run (opening configs) events)
+    (run_sound configs events)

@@ -9,4 +9,9 @@ pub returns : goal.returns
 returns c = λ configs events. (
     let w = world_run (opening configs) events in
     let sound = run_sound configs events in
-    record { few = frames_are_few configs w sound; one_a_station = one_frame_a_station configs w sound; number_and_hops = frames_have_number_and_hops configs w sound })
+    record {
+      few = frames_are_few configs w sound;
+      one_a_station = one_frame_a_station configs w sound;
+      number_and_hops =
+          frames_have_number_and_hops configs w sound;
+    })

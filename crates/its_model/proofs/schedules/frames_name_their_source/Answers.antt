@@ -4,4 +4,6 @@ use Rattle.its_model.proofs.Theorems.{frames_name_their_source}
 use Rattle.its_model.proofs.schedules.frames_name_their_source.Goals as goal
 
 pub returns : goal.returns
-returns c = λ configs events. frames_name_their_source configs (world_run (opening configs) events) (run_sound configs events)
+returns c =
+    λ configs events.
+    frames_name_their_source configs (world_run (opening configs) events) (run_sound configs events)

@@ -5,4 +5,6 @@ pub returns-clause-full : goal.returns-clause-full
 returns-clause-full c = is_full-stations_at
 
 pub returns-clause-count : goal.returns-clause-count
-returns-clause-count c = λ remember moment history sources distinct same. counted remember sources moment history distinct same
+returns-clause-count c =
+    λ remember moment history sources distinct same.
+    counted remember sources moment history distinct same

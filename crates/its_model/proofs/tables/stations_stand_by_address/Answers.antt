@@ -1,4 +1,5 @@
-use Rattle.its_model.proofs.StationLemmas.{stations_at-Rises, by_address-stations_at, stations_at-is}
+use Rattle.its_model.proofs.StationLemmas.{stations_at-Rises, by_address-stations_at}
+use Rattle.its_model.proofs.StationLemmas.{stations_at-is}
 use Rattle.its_model.proofs.tables.stations_stand_by_address.Goals as goal
 
 pub returns-clause-rises : goal.returns-clause-rises

@@ -1,4 +1,5 @@
-use Rattle.its_model.proofs.Renewal.{known_nothing, known_own, known_other, known_stays, is_some-known}
+use Rattle.its_model.proofs.Renewal.{known_nothing, known_own, known_other, known_stays}
+use Rattle.its_model.proofs.Renewal.{is_some-known}
 use Rattle.its_model.proofs.StationLemmas.{address-known}
 use Rattle.its_model.proofs.tables.what_is_known_is_renewed.Goals as goal
 
@@ -18,4 +19,5 @@ pub returns-clause-live : goal.returns-clause-live
 returns-clause-live c = is_some-known
 
 pub returns-clause-address : goal.returns-clause-address
-returns-clause-address c = λ remember source moment history k is. address-known remember source moment history k is
+returns-clause-address c =
+    λ remember source moment history k is. address-known remember source moment history k is

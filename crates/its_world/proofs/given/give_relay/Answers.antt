@@ -9,5 +9,9 @@ use Rattle.its_world.proofs.given.give_relay.Goals as goal
 
 pub returns-in-Some : goal.returns-in-Some
 returns-in-Some c = λ relayed frames h is. (
-    let told = relay_numbered c.in-Some.frame relayed c.args.air.now.items frames h (subst (λ (o : Option (Vec ℕ Global)). IsRelay o relayed) c.in-Some.is is) in
-    (ap Some c.give.ensures.number ∙ told.0, subst (λ (xs : List (Vec ℕ Global)). AreFrames xs (with_one_more frames relayed)) (sym c.give.ensures.given) told.1))
+    let told = relay_numbered c.in-Some.frame relayed c.args.air.now.items frames h
+    (subst (λ (o : Option (Vec ℕ Global)). IsRelay o relayed) c.in-Some.is is) in (
+      ap Some c.give.ensures.number ∙ told.0,
+      subst (λ (xs : List (Vec ℕ Global)). AreFrames xs (with_one_more frames relayed))
+          (sym c.give.ensures.given) told.1,
+    ))

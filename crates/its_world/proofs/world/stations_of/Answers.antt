@@ -14,9 +14,17 @@ loop-config-preserved c =
     let i = c.loop-config.config-index in
     let configs = c.args.configs.now in
     let x = c.config-item.result in
-    let front : map station_of (map config_of (take (i + 1) configs)) ≡ map station_of (map config_of (take i configs)) ++ station_of (config_of x) ∷ [] =
-    ap (λ (l : List Config). map station_of (map config_of l)) (take_more configs i x c.loop-config-test.true ∙ ap (λ (y : Config). take i configs ++ y ∷ []) (sym c.config-item.is))
-    ∙ ap (map station_of) (map-append config_of (take i configs) (x ∷ [])) ∙ map-append station_of (map config_of (take i configs)) (config_of x ∷ []) in
+    let front : map station_of (map config_of (take (i + 1) configs))
+    ≡ map station_of (map config_of (take i configs)) ++ station_of (config_of x) ∷ [] =
+    ap (λ (l : List Config). map station_of (map config_of l))
+    (take_more configs i x c.loop-config-test.true
+    ∙ ap (λ (y : Config). take i configs ++ y ∷ []) (sym c.config-item.is))
+    ∙ ap (map station_of) (map-append config_of (take i configs) (x ∷ []))
+    ∙ map-append station_of (map config_of (take i configs)) (config_of x ∷ []) in
     subst (λ (l : List StationModel). RepresentStations c.push.new.self.items l) (sym front)
-    (subst (λ (l : List StationState). RepresentStations l (map station_of (map config_of (take i configs)) ++ station_of (config_of x) ∷ [])) (sym c.in_ok-push.ensures.items)
-    (station_last c.loop-config.stations.items (map station_of (map config_of (take i configs))) c.in-Ok.station (station_of (config_of x)) c.loop-config.invariant c.in-Ok.ensures.represents))
+    (subst (λ (l : List StationState).
+    RepresentStations l (map station_of (map config_of (take i configs))
+    ++ station_of (config_of x) ∷ [])) (sym c.in_ok-push.ensures.items)
+    (station_last c.loop-config.stations.items
+    (map station_of (map config_of (take i configs))) c.in-Ok.station
+    (station_of (config_of x)) c.loop-config.invariant c.in-Ok.ensures.represents))

@@ -6,4 +6,6 @@ use Rattle.its_world.proofs.world.stations_of.Given as goal
 
 -- the stations of the configs so far
 abbrev pub invariant-loop-config : goal.invariant-loop-config
-invariant-loop-config l = RepresentStations l.stations.items (opening (map config_of (take l.config-index l.configs))).stations
+invariant-loop-config l =
+    RepresentStations l.stations.items
+    (opening (map config_of (take l.config-index l.configs))).stations

@@ -13,14 +13,16 @@ use Rattle.its_loctable.proofs.sorted.halving.search.Goals as goal
 lt-true : (m n : ℕ) → is_lt (nat_cmp m n) ≡ true → m < n
 lt-true m n e = grind (arith, nat_tests)
 
-pub returns-then-slots-gt-MOST_SLOTS-clause-found : goal.returns-then-slots-gt-MOST_SLOTS-clause-found
+pub returns-then-slots-gt-MOST_SLOTS-clause-found :
+    goal.returns-then-slots-gt-MOST_SLOTS-clause-found
 returns-then-slots-gt-MOST_SLOTS-clause-found c =
     (searched c.args.slots.now c.args.address c.binary_search_by_key.result
     (rising-true (held c.args.slots.now) c.requires) c.binary_search_by_key.ensures.bound
     (c.binary_search_by_key.ensures.position (λ (s : Slot). s.vector.address)
     (answers_always _ _ _ (λ f a r g called. search rules)))).0
 
-pub returns-then-slots-gt-MOST_SLOTS-clause-absent : goal.returns-then-slots-gt-MOST_SLOTS-clause-absent
+pub returns-then-slots-gt-MOST_SLOTS-clause-absent :
+    goal.returns-then-slots-gt-MOST_SLOTS-clause-absent
 returns-then-slots-gt-MOST_SLOTS-clause-absent c =
     (searched c.args.slots.now c.args.address c.binary_search_by_key.result
     (rising-true (held c.args.slots.now) c.requires) c.binary_search_by_key.ensures.bound

@@ -14,18 +14,33 @@ use Rattle.its_station.proofs.station.Station.direct.Goals as goal
 pub sent_to-requires : goal.sent_to-requires
 sent_to-requires g c =
     let t = transmission_of c.args.frame.now in
-    let copy = subst (λ (o : Option (Vec ℕ Global)). IsRelay o (copy_of c.args.self.now.vector t t.pdu.body)) c.in-Some-Some.is-0 c.requires.copy in
+    let copy = subst
+    (λ (o : Option (Vec ℕ Global)).
+    IsRelay o (copy_of c.args.self.now.vector t t.pdu.body)) c.in-Some-Some.is-0 c.requires.copy
+    in
     frame_of_relay c.in-Some-Some.octets (copy_of c.args.self.now.vector t t.pdu.body) copy
 
 pub returns-in-To : goal.returns-in-To
 returns-in-To g c = λ ports history rep.
     let t = transmission_of c.args.frame.now in
-    let copy = subst (λ (o : Option (Vec ℕ Global)). IsRelay o (copy_of c.args.self.now.vector t t.pdu.body)) c.in-Some-Some.is-0 c.requires.copy in
-    let rep' = subst (λ (st : StationState). Represents st.remember st.content history c.args.now) (sym c.self.view_is) rep in
-    directed_to (model_of c.args.self.now ports history) c.args.now t t.pdu.body c.in-Some-Some.area c.in-To.mac c.in-Some-Some.octets c.sent_to.result
+    let copy = subst
+    (λ (o : Option (Vec ℕ Global)).
+    IsRelay o (copy_of c.args.self.now.vector t t.pdu.body)) c.in-Some-Some.is-0 c.requires.copy
+    in
+    let rep' = subst (λ (st : StationState). Represents st.remember st.content history c.args.now)
+    (sym c.self.view_is) rep in
+    directed_to
+    (model_of c.args.self.now ports history) c.args.now t t.pdu.body c.in-Some-Some.area
+    c.in-To.mac c.in-Some-Some.octets c.sent_to.result
     refl (sym c.in-Some-Some.is-1 ∙ c.area.ensures)
     (c.in-To.ensures history rep'
-    ∙ ap (λ (p : Position). decision (stations_at (g.S.LocationStore.remember c.self.inside.store) c.args.now history) p c.in-Some-Some.area (Some t.link_source)) (c.place.ensures ∙ ap (λ (st : StationState). st.vector.place) c.self.view_is)
-    ∙ ap (λ (st : StationState). decision (stations_at st.remember c.args.now history) c.args.self.now.vector.place c.in-Some-Some.area (Some t.link_source)) c.self.view_is)
+    ∙ ap (λ (p : Position).
+    decision (stations_at
+    (g.S.LocationStore.remember c.self.inside.store) c.args.now history) p c.in-Some-Some.area
+    (Some t.link_source)) (c.place.ensures
+    ∙ ap (λ (st : StationState). st.vector.place) c.self.view_is)
+    ∙ ap (λ (st : StationState).
+    decision (stations_at st.remember c.args.now history) c.args.self.now.vector.place
+    c.in-Some-Some.area (Some t.link_source)) c.self.view_is)
     c.sent_to.ensures
     copy

@@ -9,13 +9,21 @@ use Rattle.its_station.proofs.station.Station.move_to.Goals as goal
 
 pub returns-in-Err-clause-step : goal.returns-in-Err-clause-step
 returns-in-Err-clause-step g c =
-    moment_refused {T = Unit {0}} (Says Moved) c.args.self.now c.args.now (Own (Move c.args.place c.args.pai c.args.speed c.args.heading)) c.in-Err.refused c.in-Err.ensures.refusal
+    moment_refused {T = Unit {0}} (Says Moved) c.args.self.now c.args.now
+    (Own (Move c.args.place c.args.pai c.args.speed c.args.heading)) c.in-Err.refused
+    c.in-Err.ensures.refusal
 
 pub returns-clause-step : goal.returns-clause-step
 returns-clause-step g c =
     let fields = simp (to_z-of_z c.ranges.speed) at c.set_vector.ensures in
-    own_done_step {T = Unit {0}} (Says Moved) tt c.args.self.now c.set_vector.new.self _ c.args.now (Move c.args.place c.args.pai c.args.speed c.args.heading)
-    (λ ports history. Moved) (λ ports. ports) (λ history. history) fields c.in_default.ensures.refusal
+    own_done_step {T = Unit {0}} (Says Moved) tt c.args.self.now c.set_vector.new.self _ c.args.now
+    (Move c.args.place c.args.pai c.args.speed c.args.heading)
+    (λ ports history. Moved) (λ ports. ports)
+    (λ history. history) fields c.in_default.ensures.refusal
     (λ ports history past. refl) (λ ports history. refl)
-    (λ ports history past. record { ports = past.ports; table = Represents-later _ _ _ _ _ c.in_default.ensures.time.0 past.table })
+    (λ ports history past. record {
+      ports = past.ports;
+      table =
+          Represents-later _ _ _ _ _ c.in_default.ensures.time.0 past.table;
+    })
     (λ ports history past. refl)

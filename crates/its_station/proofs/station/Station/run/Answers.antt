@@ -9,5 +9,7 @@ returns-clause-run g c = λ s rep.
     record {
       run = run;
       isolated = λ address place capacity remember past source was falls full.
-          ap (λ (m : StationModel). answers_for source run.done (answers_of m run.done)) was ∙ c.sources_are_isolated.ensures address place capacity remember past run.done source falls full;
+          ap (λ (m : StationModel). answers_for source run.done (answers_of m run.done)) was
+          ∙ c.sources_are_isolated.ensures address place capacity remember past run.done source
+          falls full;
     }

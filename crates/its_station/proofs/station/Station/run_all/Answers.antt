@@ -1,4 +1,5 @@
-use Rattle.std.proofs.Common.{ℕ, ◌∙◌, ◌++◌, ◌∷◌, [], List, length, take, ap, arith, sym, subst, length-append}
+use Rattle.std.proofs.Common.{ℕ, ◌∙◌, ◌++◌, ◌∷◌, [], List, length, take, ap, arith, sym, subst}
+use Rattle.std.proofs.Common.{length-append}
 use Rattle.std.proofs.lemmas.List.{take_more}
 use Rattle.its_station.specs.declared.run.Call.{Call}
 use Rattle.its_station.specs.declared.run.Reply.{Reply}
@@ -12,12 +13,22 @@ loop-call-preserved g c =
     let calls = c.args.calls.now in
     let x = c.call-item.result in
     let old = c.loop-call.replies.items in
-    let items = c.in-Ok-push.ensures.items ∙ ap (λ (l : List Reply). l ++ c.in-Ok.reply ∷ []) c.reserve.ensures.items in
-    let front = take_more calls i x c.loop-call-test.true ∙ ap (λ (y : ℕ × Call). take i calls ++ y ∷ []) (sym c.call-item.is) in
+    let items =
+    c.in-Ok-push.ensures.items
+    ∙ ap (λ (l : List Reply). l ++ c.in-Ok.reply ∷ []) c.reserve.ensures.items in
+    let front =
+    take_more calls i x c.loop-call-test.true
+    ∙ ap (λ (y : ℕ × Call). take i calls ++ y ∷ []) (sym c.call-item.is) in
     record {
-      count = ap length items ∙ omega (arith, length-append old (c.in-Ok.reply ∷ []), c.loop-call.invariant.count);
+      count = ap length items
+          ∙ omega (arith, length-append old (c.in-Ok.reply ∷ []), c.loop-call.invariant.count);
       run = λ s rep.
-          subst (λ (l : List (ℕ × Call)). IsRunOf s l c.push.new.self.items c.make_call.new.self) (sym front)
-          (subst (λ (l : List Reply). IsRunOf s (take i calls ++ x ∷ []) l c.make_call.new.self) (sym items)
-          (run_more s (take i calls) old c.loop-call.self c.make_call.new.self x c.in-Ok.reply c.calls_go_on.ensures.station c.calls_go_on.ensures.answers (c.loop-call.invariant.run s rep) c.in-Ok.ensures.step));
+          subst (λ (l : List (ℕ × Call)). IsRunOf s l c.push.new.self.items c.make_call.new.self)
+          (sym front)
+          (subst (λ (l : List Reply). IsRunOf s (take i calls ++ x ∷ []) l c.make_call.new.self)
+          (sym items)
+          (run_more s
+          (take i calls) old c.loop-call.self c.make_call.new.self x c.in-Ok.reply
+          c.calls_go_on.ensures.station c.calls_go_on.ensures.answers
+          (c.loop-call.invariant.run s rep) c.in-Ok.ensures.step));
     }

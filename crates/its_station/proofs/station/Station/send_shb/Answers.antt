@@ -12,19 +12,37 @@ use Rattle.its_station.proofs.Stations.{Represents-later, own_done_step, own_ref
 use Rattle.its_station.proofs.station.Station.send_shb.Goals as goal
 
 pub returns-in-Err-clause-step : goal.returns-in-Err-clause-step
-returns-in-Err-clause-step g c = moment_refused TellsSent c.args.self.now c.args.now (Own (SendShb (shb_request c.args.r.now))) c.in-Err.refused c.in-Err.ensures.refusal
+returns-in-Err-clause-step g c =
+    moment_refused TellsSent c.args.self.now c.args.now
+    (Own (SendShb (shb_request c.args.r.now))) c.in-Err.refused c.in-Err.ensures.refusal
 
 pub returns-then-r-gt-MAX_PAYLOAD-clause-step : goal.returns-then-r-gt-MAX_PAYLOAD-clause-step
 returns-then-r-gt-MAX_PAYLOAD-clause-step g c =
-    own_refused_later TellsSent c.args.self.now c.args.now (SendShb (shb_request c.args.r.now)) refused.PayloadTooLong c.in_default.ensures.refusal
-    (λ ports history. λ i. cond (sym (lt-ltb 1394 (length c.args.r.now.payload.now) c.if-r-gt-MAX_PAYLOAD.true) i) (Some model.Refusal.PayloadTooLong) None)
+    own_refused_later TellsSent c.args.self.now c.args.now
+    (SendShb (shb_request c.args.r.now)) refused.PayloadTooLong c.in_default.ensures.refusal
+    (λ ports history. λ i.
+    cond (sym (lt-ltb 1394 (length c.args.r.now.payload.now) c.if-r-gt-MAX_PAYLOAD.true) i)
+    (Some model.Refusal.PayloadTooLong) None)
 
 pub returns-clause-step : goal.returns-clause-step
 returns-clause-step g c =
     let r = shb_request c.args.r.now in
-    own_done_step TellsSent c.in-Ok.frame c.args.self.now c.set_sent.new.self _ c.args.now (SendShb r)
-    (λ ports history. model.Answer.Sent (shb_of (model_of c.args.self.now ports history) r)) (λ ports. ports) (λ history. history) c.set_sent.ensures c.in_default.ensures.refusal
-    (λ ports history past. λ i. cond (le-ltb 1394 (length c.args.r.now.payload.now) c.if-r-gt-MAX_PAYLOAD.false i) (Some model.Refusal.PayloadTooLong) None)
+    own_done_step TellsSent c.in-Ok.frame c.args.self.now c.set_sent.new.self _ c.args.now
+    (SendShb r)
+    (λ ports history. model.Answer.Sent (shb_of (model_of c.args.self.now ports history) r))
+    (λ ports. ports) (λ history. history) c.set_sent.ensures c.in_default.ensures.refusal
+    (λ ports history past. λ i.
+    cond (le-ltb 1394 (length c.args.r.now.payload.now) c.if-r-gt-MAX_PAYLOAD.false i)
+    (Some model.Refusal.PayloadTooLong) None)
     (λ ports history. refl)
-    (λ ports history past. record { ports = past.ports; table = Represents-later _ _ _ _ _ c.in_default.ensures.time.0 past.table })
-    (λ ports history past. record { sent = shb_of (model_of c.args.self.now ports history) r; is = refl; frame = c.in-Ok.ensures ports history })
+    (λ ports history past. record {
+      ports = past.ports;
+      table =
+          Represents-later _ _ _ _ _ c.in_default.ensures.time.0 past.table;
+    })
+    (λ ports history past. record {
+      sent = shb_of (model_of c.args.self.now ports history) r;
+      is = refl;
+      frame =
+          c.in-Ok.ensures ports history;
+    })

@@ -1,4 +1,5 @@
-use Rattle.std.proofs.Common.{◌≡◌, ◌≤◌, ℕ, Some, None, true, false, cond, eqb, length, refl, sym, ◌∙◌, tests, arith}
+use Rattle.std.proofs.Common.{◌≡◌, ◌≤◌, ℕ, Some, None, true, false, cond, eqb, length, refl, sym}
+use Rattle.std.proofs.Common.{◌∙◌, tests, arith}
 use Rattle.std.proofs.lemmas.Bool.{lt-ltb, le-ltb}
 use Rattle.its_model.specs.Packet.{area_body}
 use Rattle.its_model.specs.Calls as model
@@ -19,26 +20,41 @@ no_hops : (n : ℕ) → n ≡ 0 → eqb n 0 ≡ true
 no_hops n h = grind (arith, tests)
 
 -- a request that is short and has hops is allowed
-allowed : (r : GbcRequest) → length r.message.payload ≤ 1394 → (r.max_hops ≡ 0 → ⊥) → area_refusal r ≡ None
+allowed : (r : GbcRequest) → length r.message.payload ≤ 1394 → (r.max_hops ≡ 0 → ⊥)
+    → area_refusal r ≡ None
 allowed r short some =
-    λ i. first (cond (le-ltb 1394 (length r.message.payload) short i) (Some model.Refusal.PayloadTooLong) None) (cond (some_hops r.max_hops some i) (Some model.Refusal.HopLimitZero) None)
+    λ i. first (cond (le-ltb 1394 (length r.message.payload) short i)
+    (Some model.Refusal.PayloadTooLong) None)
+    (cond (some_hops r.max_hops some i) (Some model.Refusal.HopLimitZero) None)
 
 pub returns-in-Err-clause-step : goal.returns-in-Err-clause-step
 returns-in-Err-clause-step g c =
-    moment_refused TellsSent c.args.self.now c.args.now (Own (area_call (kind_of_cast c.args.cast) (gbc_request c.args.r.now))) c.in-Err.refused c.in-Err.ensures.refusal
+    moment_refused TellsSent c.args.self.now c.args.now
+    (Own (area_call (kind_of_cast c.args.cast)
+    (gbc_request c.args.r.now))) c.in-Err.refused c.in-Err.ensures.refusal
 
 pub returns-then-r-gt-MAX_PAYLOAD-clause-step : goal.returns-then-r-gt-MAX_PAYLOAD-clause-step
 returns-then-r-gt-MAX_PAYLOAD-clause-step g c =
     let r = gbc_request c.args.r.now in
-    own_refused_later TellsSent c.args.self.now c.args.now (area_call (kind_of_cast c.args.cast) r) refused.PayloadTooLong c.in_default.ensures.refusal
-    (λ ports history. (λ i. first (cond (sym (lt-ltb 1394 (length c.args.r.now.payload.now) c.if-r-gt-MAX_PAYLOAD.true) i) (Some model.Refusal.PayloadTooLong) None) (cond (eqb r.max_hops 0) (Some model.Refusal.HopLimitZero) None))
+    own_refused_later TellsSent c.args.self.now c.args.now
+    (area_call (kind_of_cast c.args.cast) r) refused.PayloadTooLong c.in_default.ensures.refusal
+    (λ ports history.
+    (λ i. first
+    (cond (sym (lt-ltb 1394 (length c.args.r.now.payload.now) c.if-r-gt-MAX_PAYLOAD.true) i)
+    (Some model.Refusal.PayloadTooLong) None)
+    (cond (eqb r.max_hops 0) (Some model.Refusal.HopLimitZero) None))
     ∙ sym (refusal_area (kind_of_cast c.args.cast) (model_of c.args.self.now ports history) r))
 
 pub returns-then-r-eq0-clause-step : goal.returns-then-r-eq0-clause-step
 returns-then-r-eq0-clause-step g c =
     let r = gbc_request c.args.r.now in
-    own_refused_later TellsSent c.args.self.now c.args.now (area_call (kind_of_cast c.args.cast) r) refused.HopLimitZero c.in_default.ensures.refusal
-    (λ ports history. sym (λ i. first (cond (le-ltb 1394 (length c.args.r.now.payload.now) c.if-r-gt-MAX_PAYLOAD.false i) (Some model.Refusal.PayloadTooLong) None) (cond (no_hops r.max_hops c.if-r-eq0.true i) (Some model.Refusal.HopLimitZero) None))
+    own_refused_later TellsSent c.args.self.now c.args.now
+    (area_call (kind_of_cast c.args.cast) r) refused.HopLimitZero c.in_default.ensures.refusal
+    (λ ports history.
+    sym (λ i. first
+    (cond (le-ltb 1394 (length c.args.r.now.payload.now) c.if-r-gt-MAX_PAYLOAD.false i)
+    (Some model.Refusal.PayloadTooLong) None)
+    (cond (no_hops r.max_hops c.if-r-eq0.true i) (Some model.Refusal.HopLimitZero) None))
     ∙ sym (refusal_area (kind_of_cast c.args.cast) (model_of c.args.self.now ports history) r))
 
 pub returns-clause-step : goal.returns-clause-step
@@ -48,12 +64,19 @@ returns-clause-step g c =
     let st = c.args.self.now in
     let body = area_body kind st.next_number r.area r.message in
     own_done_step TellsSent c.in-Ok.frame st c.set_numbered.new.self _ c.args.now (area_call kind r)
-    (λ ports history. model.Answer.Sent (area_packet (model_of st ports history) c.args.now r body)) (λ ports. ports) (λ history. history) c.set_numbered.ensures c.in_default.ensures.refusal
-    (λ ports history past. refusal_area kind (model_of st ports history) r ∙ allowed r c.if-r-gt-MAX_PAYLOAD.false c.if-r-eq0.false)
+    (λ ports history. model.Answer.Sent (area_packet (model_of st ports history) c.args.now r body))
+    (λ ports. ports) (λ history. history) c.set_numbered.ensures c.in_default.ensures.refusal
+    (λ ports history past. refusal_area kind (model_of st ports history) r
+    ∙ allowed r c.if-r-gt-MAX_PAYLOAD.false c.if-r-eq0.false)
     (λ ports history. performed_area kind (model_of st ports history) c.args.now r)
-    (λ ports history past. record { ports = past.ports; table = Represents-later _ _ _ _ _ c.in_default.ensures.time.0 past.table })
+    (λ ports history past. record {
+      ports = past.ports;
+      table =
+          Represents-later _ _ _ _ _ c.in_default.ensures.time.0 past.table;
+    })
     (λ ports history past. record {
       sent = area_packet (model_of st ports history) c.args.now r body;
       is = refl;
-      frame = c.in-Ok.ensures ports history (Represents-later _ _ _ _ _ c.in_default.ensures.time.0 past.table);
+      frame = c.in-Ok.ensures ports history
+          (Represents-later _ _ _ _ _ c.in_default.ensures.time.0 past.table);
     })

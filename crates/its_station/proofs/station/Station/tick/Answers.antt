@@ -12,33 +12,71 @@ use Rattle.its_station.proofs.Stations.{Represents-later, own_done_step, own_ref
 use Rattle.its_station.proofs.station.Station.tick.Goals as goal
 
 pub returns-in-Err-clause-step : goal.returns-in-Err-clause-step
-returns-in-Err-clause-step g c = moment_refused TellsTick c.args.self.now c.args.now (Own (Tick c.args.jitter)) c.in-Err.refused c.in-Err.ensures.refusal
+returns-in-Err-clause-step g c =
+    moment_refused TellsTick c.args.self.now c.args.now
+    (Own (Tick c.args.jitter)) c.in-Err.refused c.in-Err.ensures.refusal
 
-pub returns-then-jitter-gt-MAX_JITTER-clause-step : goal.returns-then-jitter-gt-MAX_JITTER-clause-step
+pub returns-then-jitter-gt-MAX_JITTER-clause-step :
+    goal.returns-then-jitter-gt-MAX_JITTER-clause-step
 returns-then-jitter-gt-MAX_JITTER-clause-step g c =
-    own_refused_later TellsTick c.args.self.now c.args.now (Tick c.args.jitter) refused.JitterRange c.in_default.ensures.refusal
-    (λ ports history. λ i. cond (sym (lt-ltb 750 c.args.jitter c.if-jitter-gt-MAX_JITTER.true) i) (Some model.Refusal.JitterRange) None)
+    own_refused_later TellsTick c.args.self.now c.args.now
+    (Tick c.args.jitter) refused.JitterRange c.in_default.ensures.refusal
+    (λ ports history. λ i.
+    cond (sym (lt-ltb 750 c.args.jitter c.if-jitter-gt-MAX_JITTER.true) i)
+    (Some model.Refusal.JitterRange) None)
 
 pub returns-then-not-is_beacon_due-clause-step : goal.returns-then-not-is_beacon_due-clause-step
 returns-then-not-is_beacon_due-clause-step g c =
     let now = c.args.now in
     let due = sym c.is_beacon_due.ensures ∙ c.if-not-is_beacon_due.true in
     own_done_step TellsTick None c.args.self.now c.set_clock.new.self _ now (Tick c.args.jitter)
-    (λ ports history. model.Answer.Quiet) (λ ports. ports) (λ history. history) c.set_clock.ensures c.in_default.ensures.refusal
-    (λ ports history past. λ i. cond (le-ltb 750 c.args.jitter c.if-jitter-gt-MAX_JITTER.false i) (Some model.Refusal.JitterRange) None)
+    (λ ports history. model.Answer.Quiet) (λ ports. ports)
+    (λ history. history) c.set_clock.ensures c.in_default.ensures.refusal
+    (λ ports history past. λ i.
+    cond (le-ltb 750 c.args.jitter c.if-jitter-gt-MAX_JITTER.false i)
+    (Some model.Refusal.JitterRange) None)
     (λ ports history. let m = model_of c.args.self.now ports history in
-    λ i. cond {A = Step} (due i) (record { answer = model.Answer.Sent (beacon_of m); station = after_sending m now }) (record { answer = model.Answer.Quiet; station = record m { clock = now } }))
-    (λ ports history past. record { ports = past.ports; table = Represents-later _ _ _ _ _ c.in_default.ensures.time.0 past.table })
+    λ i. cond {A = Step} (due i) (record {
+      answer = model.Answer.Sent (beacon_of m);
+      station = after_sending m now;
+    }) (record {
+      answer = model.Answer.Quiet;
+      station = record m { clock = now };
+    }))
+    (λ ports history past. record {
+      ports = past.ports;
+      table =
+          Represents-later _ _ _ _ _ c.in_default.ensures.time.0 past.table;
+    })
     (λ ports history past. refl)
 
 pub returns-clause-step : goal.returns-clause-step
 returns-clause-step g c =
     let now = c.args.now in
     let due = sym c.is_beacon_due.ensures ∙ c.if-not-is_beacon_due.false in
-    own_done_step TellsTick (Some c.in-Ok.frame) c.args.self.now c.set_sent.new.self _ now (Tick c.args.jitter)
-    (λ ports history. model.Answer.Sent (beacon_of (model_of c.args.self.now ports history))) (λ ports. ports) (λ history. history) c.set_sent.ensures c.in_default.ensures.refusal
-    (λ ports history past. λ i. cond (le-ltb 750 c.args.jitter c.if-jitter-gt-MAX_JITTER.false i) (Some model.Refusal.JitterRange) None)
+    own_done_step TellsTick (Some c.in-Ok.frame) c.args.self.now c.set_sent.new.self _ now
+    (Tick c.args.jitter)
+    (λ ports history. model.Answer.Sent (beacon_of (model_of c.args.self.now ports history)))
+    (λ ports. ports) (λ history. history) c.set_sent.ensures c.in_default.ensures.refusal
+    (λ ports history past. λ i.
+    cond (le-ltb 750 c.args.jitter c.if-jitter-gt-MAX_JITTER.false i)
+    (Some model.Refusal.JitterRange) None)
     (λ ports history. let m = model_of c.args.self.now ports history in
-    λ i. cond {A = Step} (due i) (record { answer = model.Answer.Sent (beacon_of m); station = after_sending m now }) (record { answer = model.Answer.Quiet; station = record m { clock = now } }))
-    (λ ports history past. record { ports = past.ports; table = Represents-later _ _ _ _ _ c.in_default.ensures.time.0 past.table })
-    (λ ports history past. record { sent = beacon_of (model_of c.args.self.now ports history); is = refl; frame = c.in-Ok.ensures ports history })
+    λ i. cond {A = Step} (due i) (record {
+      answer = model.Answer.Sent (beacon_of m);
+      station = after_sending m now;
+    }) (record {
+      answer = model.Answer.Quiet;
+      station = record m { clock = now };
+    }))
+    (λ ports history past. record {
+      ports = past.ports;
+      table =
+          Represents-later _ _ _ _ _ c.in_default.ensures.time.0 past.table;
+    })
+    (λ ports history past. record {
+      sent = beacon_of (model_of c.args.self.now ports history);
+      is = refl;
+      frame =
+          c.in-Ok.ensures ports history;
+    })

@@ -11,5 +11,9 @@ use Rattle.its_world.proofs.given.Given.enter.Goals as goal
 
 pub returns-in-Sent : goal.returns-in-Sent
 returns-in-Sent c = λ answer frames h is. (
-    let told = sent_numbered c.in-Sent.frame answer c.args.air.now.items frames h (subst (λ (g : Given). TellsGiven g answer) c.in-Sent.is is) in
-    (told.0 ∙ ap model.Answer.Sent (sym c.give.ensures.number), subst (λ (xs : List (Vec ℕ Global)). AreFrames xs (with_one_more frames (frame_of answer))) (sym c.give.ensures.given) told.1))
+    let told = sent_numbered c.in-Sent.frame answer c.args.air.now.items frames h
+    (subst (λ (g : Given). TellsGiven g answer) c.in-Sent.is is) in (
+      told.0 ∙ ap model.Answer.Sent (sym c.give.ensures.number),
+      subst (λ (xs : List (Vec ℕ Global)). AreFrames xs (with_one_more frames (frame_of answer)))
+          (sym c.give.ensures.given) told.1,
+    ))

@@ -9,5 +9,6 @@ use Rattle.its_world.proofs.world.World.run_all.Given as goal
 abbrev pub invariant-loop-event : goal.invariant-loop-event
 invariant-loop-event l = record {
   count : length l.log.items ≡ l.event-index;
-  run : (w : WorldModel) → RepresentsWorld l.fn.self w → IsRunOf w (map event_of (take l.event-index l.events)) l.log.items l.self;
+  run : (w : WorldModel) → RepresentsWorld l.fn.self w
+      → IsRunOf w (map event_of (take l.event-index l.events)) l.log.items l.self;
 }
