@@ -9,9 +9,9 @@ use crate::sockets::{Sent, Sockets};
 use its_commands::{Fault, Status};
 use its_loctable::SortedTable;
 use its_scenario::{EventEntry, StationEntry};
-use its_simulation::{EntryText, world_event};
+use its_simulation::{EntryText, configs_of, world_event};
 use its_station::{Call, Station};
-use its_world::Entry;
+use its_world::{Entry, stations_of};
 use std::alloc::{AllocError, Global};
 use std::io;
 use std::io::{ErrorKind, Write};
@@ -41,7 +41,8 @@ impl<'a, S: Sockets, W: Write, E: Write> Mesh<'a, S, W, E> {
         out: &'a mut W,
         err: &'a mut E,
     ) -> Result<Mesh<'a, S, W, E>, Fault<'f>> {
-        let stations = stations_of(alloc, entries)?;
+        let configs = configs_of(alloc, entries)?;
+        let stations = stations_of(alloc, configs.as_slice()).map_err(|_| AllocError)?;
         for number in 0..entries.len() {
             make_socket(sockets, number)?;
         }
@@ -120,22 +121,6 @@ impl<'a, S: Sockets, W: Write, E: Write> Mesh<'a, S, W, E> {
         let _ = fault.report(self.err);
         self.failed = true;
     }
-}
-
-/// New stations of these entries.
-fn stations_of(
-    alloc: Global,
-    entries: &[StationEntry],
-) -> Result<Vec<Station<SortedTable>>, AllocError> {
-    let mut stations = Vec::with_capacity(alloc, entries.len())?;
-    for entry in entries {
-        let (address, place) = (entry.address, entry.place);
-        let Ok(station) = Station::new(alloc, address, place, entry.capacity, entry.remember) else {
-            return Err(AllocError);
-        };
-        stations.push(station)?;
-    }
-    Ok(stations)
 }
 
 /// Makes the socket of the station of this number.

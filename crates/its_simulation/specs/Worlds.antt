@@ -17,7 +17,10 @@ station_config s =
 -- what is sent to all in reach
 abbrev pub single_hop_request : SingleHop → ShbRequest
 single_hop_request s =
-    record { class = s.class; message = record { port = s.port; info = s.info; payload = s.payload.items } }
+    record {
+      class = s.class;
+      message = record { port = s.port; info = s.info; payload = s.payload.items };
+    }
 
 -- what is sent to those in an area
 abbrev pub geocast_request : Geocast → GbcRequest

@@ -11,4 +11,4 @@ pub use entry::EntryText;
 pub use fault::SimulationFault;
 pub use hexadecimal::Hex;
 pub use simulation::simulate;
-pub use world::{world_config, world_event};
+pub use world::{configs_of, world_event};

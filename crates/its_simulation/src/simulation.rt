@@ -8,9 +8,9 @@ ghost use Rattle.its_simulation.specs.Worlds.{station_config};
 
 use crate::entry::EntryText;
 use crate::fault::SimulationFault;
-use crate::world::{world_config, world_event};
-use its_scenario::{Scenario, StationEntry};
-use its_world::{Config, Event, World};
+use crate::world::{configs_of, world_event};
+use its_scenario::Scenario;
+use its_world::{Event, World};
 use std::alloc::{AllocError, Global};
 use std::io::Write;
 
@@ -32,7 +32,8 @@ pub fn simulate<W: Write>(
     ensures { IfOk result (λ lines. lines ≡ vec_len scenario.events) }
 {
     let Scenario { stations, events } = scenario;
-    let mut world = world_of(alloc, stations.as_slice())?;
+    let configs = configs_of(alloc, stations.as_slice())?;
+    let mut world = World::new(alloc, configs.as_slice())?;
     let mut piece = Vec::with_capacity(alloc, events.len().min(PIECE))?;
     let mut lines = 0;
     for entry in events {
@@ -43,19 +44,6 @@ pub fn simulate<W: Write>(
         }
     }
     run_piece(&mut world, lines, piece.as_slice(), out)
-}
-
-/// The world of the stations.
-fn world_of(alloc: Global, stations: &[StationEntry]) -> Result<World, SimulationFault>
-    requires { length stations.now ≤ 65535 }
-    ensures { IfOk result (λ world.
-        RepresentsWorld world (opening (map station_config stations.now))) }
-{
-    let mut configs = Vec::with_capacity(alloc, stations.len())?;
-    for station in stations {
-        configs.push(world_config(station))?;
-    }
-    Ok(World::new(alloc, configs.as_slice())?)
 }
 
 /// Runs events that follow so many others, and writes their lines. Gives the number of lines so

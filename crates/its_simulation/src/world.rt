@@ -1,6 +1,6 @@
 //! The stations and events of a scenario as those of a world.
 
-ghost use Rattle.std.specs.Prelude.{◌≡◌};
+ghost use Rattle.std.specs.Prelude.{◌≡◌, All, IfOk, length, map};
 ghost use Rattle.its_station.specs.Requests.{owned_gbc, owned_shb};
 ghost use Rattle.its_world.specs.Events.{IsConfig, IsInRange, config_of, event_of, what_of};
 ghost use Rattle.its_simulation.specs.Worlds.{station_config, entry_event, action_what};
@@ -9,9 +9,24 @@ ghost use Rattle.its_simulation.specs.Worlds.{single_hop_request, geocast_reques
 use its_scenario::{Action, EventEntry, Geocast, SingleHop, StationEntry};
 use its_station::{OwnedGbcRequest, OwnedShbRequest};
 use its_world::{Config, Event, What};
+use std::alloc::{AllocError, Global};
 
-/// How the station begins in a world.
-pub fn world_config(station: &StationEntry) -> Config
+/// How the stations begin in a world, in their order.
+pub fn configs_of(alloc: Global, stations: &[StationEntry]) -> Result<Vec<Config>, AllocError>
+    ensures value { IfOk result (λ configs.
+        map config_of configs.items ≡ map station_config stations.now) }
+    ensures range { IfOk result (λ configs. All IsConfig configs.items) }
+    ensures count { IfOk result (λ configs. length configs.items ≡ length stations.now) }
+{
+    let mut configs = Vec::with_capacity(alloc, stations.len())?;
+    for station in stations {
+        configs.push(world_config(station))?;
+    }
+    Ok(configs)
+}
+
+/// How a station begins in a world.
+fn world_config(station: &StationEntry) -> Config
     ensures value { config_of result ≡ station_config station.now }
     ensures range { IsConfig result }
 {

@@ -19,7 +19,8 @@ use Rattle.its_world.specs.declared.entry.EntryFault.TheVariants as faults
 
 -- a refusal is this answer
 abbrev pub TellsFault : {F : Type 0} → EntryFault → Answer F → Type 0
-TellsFault (faults.Station refused) answer = IsSomeAnd (refusal_of refused) (λ refusal. answer ≡ model.Answer.Refused refusal)
+TellsFault (faults.Station refused) answer =
+    IsSomeAnd (refusal_of refused) (λ refusal. answer ≡ model.Answer.Refused refusal)
 TellsFault faults.NoSuchFrame answer = answer ≡ model.Answer.Refused model.Refusal.NoSuchFrame
 TellsFault faults.NoSuchStation answer = answer ≡ model.Answer.Refused model.Refusal.NoSuchStation
 
@@ -32,7 +33,8 @@ TellsEntry entries.Restarted answer = answer ≡ model.Answer.Restarted
 TellsEntry entries.Quiet answer = answer ≡ model.Answer.Quiet
 TellsEntry (entries.Sent k) answer = answer ≡ model.Answer.Sent k
 TellsEntry (entries.Ignored why) answer = answer ≡ model.Answer.Ignored (why_of why)
-TellsEntry (entries.Accepted handed sent) answer = answer ≡ model.Answer.Accepted (option_map delivered handed) sent
+TellsEntry (entries.Accepted handed sent) answer =
+    answer ≡ model.Answer.Accepted (option_map delivered handed) sent
 TellsEntry (entries.Refused fault) answer = TellsFault fault answer
 
 -- these are the model's, one for one
@@ -60,7 +62,8 @@ IsToldBy (entries.Refused fault) answer = TellsFault fault answer
 abbrev pub TellsGiven : Given → Answer Transmission → Type 0
 TellsGiven (givens.Told entry) answer = IsToldBy entry answer
 TellsGiven (givens.Sent frame) answer = TellsSent frame answer
-TellsGiven (givens.Accepted handed sent) answer = TellsAccepted (option_map delivered handed) sent answer
+TellsGiven (givens.Accepted handed sent) answer =
+    TellsAccepted (option_map delivered handed) sent answer
 
 -- a station's answer, and the station after it, are those of the step
 abbrev pub IsGivenBy : Given → StationState → Step → Type 0

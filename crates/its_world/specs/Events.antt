@@ -11,7 +11,8 @@ use Rattle.its_world.specs.declared.event.What.TheVariants as whats
 
 -- what happens, in the model
 abbrev pub what_of : What → model.What
-what_of (whats.MoveTo place pai speed heading) = model.What.Calls (asked.OwnCall.Move place pai speed heading)
+what_of (whats.MoveTo place pai speed heading) =
+    model.What.Calls (asked.OwnCall.Move place pai speed heading)
 what_of (whats.Open port) = model.What.Calls (asked.OwnCall.Open port)
 what_of (whats.Close port) = model.What.Calls (asked.OwnCall.Close port)
 what_of (whats.Tick jitter) = model.What.Calls (asked.OwnCall.Tick jitter)
@@ -32,7 +33,8 @@ IsInRange what = Unit {0}
 
 -- how a station begins
 abbrev pub config_of : Config → model.Config
-config_of c = record { address = c.address; place = c.place; capacity = c.capacity; remember = c.remember }
+config_of c =
+    record { address = c.address; place = c.place; capacity = c.capacity; remember = c.remember }
 
 -- the numbers of a config are in their ranges
 abbrev pub IsConfig : Config → Type 0

@@ -11,7 +11,8 @@ mids configs = map (λ c. mid_of c.address) configs
 
 -- no two of the first stations have the same MID
 abbrev pub AreApartBelow : ℕ → List Config → Type 0
-AreApartBelow count configs = (i j : ℕ) → i < j → j < count → slice_index (mids configs) i ≢ slice_index (mids configs) j
+AreApartBelow count configs =
+    (i j : ℕ) → i < j → j < count → slice_index (mids configs) i ≢ slice_index (mids configs) j
 
 -- no two stations have the same MID
 abbrev pub AreApart : List Config → Type 0
@@ -24,7 +25,8 @@ pub record ShareMid (configs : List Config) (first second : ℕ) : Type 0 where
   pub same : slice_index (mids configs) first ≡ slice_index (mids configs) second
   pub earlier : AreApartBelow second configs
 
--- two stations share a MID, and the fault names the first such pair; or none do, and it is another one
+-- two stations share a MID, and the fault names the first such pair; or none do, and it is another
+-- one
 abbrev pub IsMidFault : WorldFault → List Config → Type 0
 IsMidFault (faults.SameMid first second) configs = ShareMid configs first second
 IsMidFault faults.NoMemory configs = AreApart configs

@@ -6,7 +6,8 @@ use Rattle.its_model.specs.World.{WorldModel}
 use Rattle.its_station.specs.State.{StationState, RepresentsStation}
 use Rattle.its_world.specs.Frames.{AreFrames}
 
--- a world as contracts see it: its stations, and the octets of all frames that they gave, each at its number
+-- a world as contracts see it: its stations, and the octets of all frames that they gave, each at
+-- its number
 pub record WorldState : Type 0 where
   pub stations : List StationState
   pub frames : List (Vec ℕ Global)
@@ -16,9 +17,11 @@ abbrev pub RepresentStations : List StationState → List StationModel → Type 
 RepresentStations [] [] = Unit {0}
 RepresentStations [] (s ∷ models) = ⊥
 RepresentStations (st ∷ states) [] = ⊥
-RepresentStations (st ∷ states) (s ∷ models) = RepresentsStation st s × RepresentStations states models
+RepresentStations (st ∷ states) (s ∷ models) =
+    RepresentsStation st s × RepresentStations states models
 
--- Each station represents its model station, each frame encodes the model's, and there are no others.
+-- Each station represents its model station, each frame encodes the model's, and there are no
+-- others.
 pub record RepresentsWorld (st : WorldState) (w : WorldModel) : Type 0 where
   pub stations : RepresentStations st.stations w.stations
   pub frames : AreFrames st.frames w.air

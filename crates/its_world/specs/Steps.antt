@@ -16,4 +16,5 @@ IsAskedBy (Deliver k) w asked = IsFrameCall w asked
 -- the octets that an event delivers, if there are such ones; those of an own call are of no account
 abbrev pub IsDelivered : List (Vec ℕ Global) → What → Option (List ℕ) → Type 0
 IsDelivered frames (Calls call) octets = IsSome octets
-IsDelivered frames (Deliver k) octets = octets ≡ option_map (λ (w : Vec ℕ Global). w.items) (slice_get frames k)
+IsDelivered frames (Deliver k) octets =
+    octets ≡ option_map (λ (w : Vec ℕ Global). w.items) (slice_get frames k)

@@ -23,8 +23,8 @@ pub struct Config {
 /// Why a world isn't made.
 #[derive(Clone, Copy, Debug, PartialEq, Eq)]
 pub enum WorldFault {
-    /// M1: the second of these stations is the first that has the MID of an earlier one, the first of
-    /// these.
+    /// M1: the second of these stations is the first that has the MID of an earlier one, the first
+    /// of these.
     SameMid(usize, usize),
     /// M2: an allocation failed.
     NoMemory,

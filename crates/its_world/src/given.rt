@@ -1,7 +1,7 @@
 //! What a station of a world gives for an event, before its frame has a number.
 
-ghost use Rattle.std.specs.Prelude.{◌≡◌, ◌<◌, ◌≤◌, ◌++◌, ◌∷◌, [], List, Option, Some};
-ghost use Rattle.std.specs.Prelude.{Err, IfOk, OnErr, MatchResult, IsSome, length, vec_len, vec_capacity};
+ghost use Rattle.std.specs.Prelude.{◌≡◌, ◌<◌, ◌≤◌, ◌++◌, ◌∷◌, [], List, Option, Some, Err, IfOk};
+ghost use Rattle.std.specs.Prelude.{OnErr, MatchResult, IsSome, length, vec_len, vec_capacity};
 ghost use Rattle.its_model.specs.Packet.{Transmission};
 ghost use Rattle.its_model.specs.Calls.{Answer};
 ghost use Rattle.its_model.specs.Station.{Step};

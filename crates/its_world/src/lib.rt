@@ -8,10 +8,12 @@ mod event;
 mod given;
 mod run;
 mod shared;
+mod stations;
 mod world;
 
 pub use config::{Config, WorldFault};
 pub use entry::{Entry, EntryCode, EntryFault};
 pub use event::{Event, What};
 pub use run::Run;
+pub use stations::stations_of;
 pub use world::World;

@@ -8,7 +8,7 @@ ghost use Rattle.its_model.specs.Station.{StationModel, station_step};
 ghost use Rattle.its_model.specs.World.{WorldModel, opening, world_step, entries};
 ghost use Rattle.its_headers.specs.Encoding.{IsBytes};
 ghost use Rattle.its_station.specs.State.{StationState, RepresentsStation};
-ghost use Rattle.its_world.specs.State.{RepresentsWorld, RepresentStations};
+ghost use Rattle.its_world.specs.State.{RepresentsWorld};
 ghost use Rattle.its_world.specs.Events.{IsConfig, IsInRange, config_of, event_of, what_of};
 ghost use Rattle.its_world.specs.Entries.{TellsEntry, IsGivenBy};
 ghost use Rattle.its_world.specs.Mids.{AreApart, IsMidFault};
@@ -19,6 +19,7 @@ use crate::entry::{Entry, EntryFault};
 use crate::event::{Event, What};
 use crate::given::Given;
 use crate::shared::refuse_shared;
+use crate::stations::stations_of;
 use its_gnvalue::NoMemory;
 use its_linkframe::{one_frame, one_frame_fault};
 use its_loctable::SortedTable;
@@ -160,26 +161,4 @@ fn ask(
             Given::of_frame(station.receive(moment, frame), room)
         }
     }
-}
-
-/// New stations of these configs.
-fn stations_of(alloc: Global, configs: &[Config]) -> Result<Vec<Station<SortedTable>>, NoMemory>
-    requires { All IsConfig configs.now }
-    ensures { IfOk result (λ stations.
-        RepresentStations stations.items (opening (map config_of configs.now)).stations) }
-{
-    let mut stations = Vec::with_capacity(alloc, configs.len())?;
-    for config in configs {
-        let Ok(station) = Station::new(
-            alloc,
-            config.address,
-            config.place,
-            config.capacity,
-            config.remember,
-        ) else {
-            return Err(NoMemory);
-        };
-        stations.push(station)?;
-    }
-    Ok(stations)
 }

@@ -7,7 +7,7 @@ use Rattle.its_world.specs.declared.config.Config.{Config}
 use Rattle.its_world.specs.State.{RepresentStations}
 use Rattle.its_world.specs.Events.{config_of}
 use Rattle.its_world.proofs.Worlds.{station_last}
-use Rattle.its_world.proofs.world.stations_of.Goals as goal
+use Rattle.its_world.proofs.stations.stations_of.Goals as goal
 
 pub loop-config-preserved : goal.loop-config-preserved
 loop-config-preserved c =

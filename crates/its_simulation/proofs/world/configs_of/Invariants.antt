@@ -1,7 +1,7 @@
 use Rattle.std.proofs.Common.{◌≡◌, All, map, take, length}
 use Rattle.its_world.specs.Events.{IsConfig, config_of}
 use Rattle.its_simulation.specs.Worlds.{station_config}
-use Rattle.its_simulation.proofs.simulation.world_of.Given as goal
+use Rattle.its_simulation.proofs.world.configs_of.Given as goal
 
 -- the configs of the stations so far
 abbrev pub invariant-loop-station : goal.invariant-loop-station

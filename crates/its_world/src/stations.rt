@@ -1,0 +1,34 @@
+//! The stations that a world begins with.
+
+ghost use Rattle.std.specs.Prelude.{All, map, IfOk};
+ghost use Rattle.its_model.specs.World.{opening};
+ghost use Rattle.its_world.specs.State.{RepresentStations};
+ghost use Rattle.its_world.specs.Events.{IsConfig, config_of};
+
+use crate::config::Config;
+use its_gnvalue::NoMemory;
+use its_loctable::SortedTable;
+use its_station::Station;
+use std::alloc::Global;
+
+/// New stations of these configs, in their order. It takes all memory of their location tables.
+pub fn stations_of(alloc: Global, configs: &[Config]) -> Result<Vec<Station<SortedTable>>, NoMemory>
+    requires { All IsConfig configs.now }
+    ensures { IfOk result (λ stations.
+        RepresentStations stations.items (opening (map config_of configs.now)).stations) }
+{
+    let mut stations = Vec::with_capacity(alloc, configs.len())?;
+    for config in configs {
+        let Ok(station) = Station::new(
+            alloc,
+            config.address,
+            config.place,
+            config.capacity,
+            config.remember,
+        ) else {
+            return Err(NoMemory);
+        };
+        stations.push(station)?;
+    }
+    Ok(stations)
+}
