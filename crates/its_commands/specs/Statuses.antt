@@ -5,11 +5,13 @@ use Rattle.its_commands.specs.declared.status.Status.TheVariants.{Done, Refused,
 use Rattle.its_commands.specs.declared.status.Status.TheVariants.{Failed}
 use Rattle.its_commands.specs.declared.fault.Fault.{Fault}
 use Rattle.its_commands.specs.declared.fault.Fault.TheVariants.{CannotRead, CannotWrite}
-use Rattle.its_commands.specs.declared.fault.Fault.TheVariants.{OutOfMemory, Line, Scenario, NoOutput}
-use Rattle.its_commands.specs.declared.fault.Fault.TheVariants.{NoSocket, SendFailed, ReceiveFailed}
+use Rattle.its_commands.specs.declared.fault.Fault.TheVariants.{OutOfMemory, Line, Scenario}
+use Rattle.its_commands.specs.declared.fault.Fault.TheVariants.{NoOutput, NoSocket, SendFailed}
+use Rattle.its_commands.specs.declared.fault.Fault.TheVariants.{ReceiveFailed}
 use Rattle.its_commands.specs.declared.walk.Walked.{Walked}
 
--- done; a refused record, line, capture or scenario; refused arguments; a file or socket that failed, or no memory
+-- done; a refused record, line, capture or scenario; refused arguments; a file or socket that
+-- failed, or no memory
 abbrev pub exit_code : Status → ℕ
 exit_code Done = 0
 exit_code Refused = 1

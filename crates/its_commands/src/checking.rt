@@ -12,11 +12,12 @@ use std::io;
 use std::io::{Read, Write};
 
 /// A line for each refused record.
+#[derive(Drop)]
 struct RefusedRecords;
 
 impl RecordLines for RefusedRecords {
     fn print<W: Write>(
-        &self,
+        &mut self,
         place: u64,
         _moment: u64,
         frame: Result<FrameView<'_>, FrameFault>,
@@ -55,7 +56,7 @@ fn check_capture<'a, R: Read + Drop, W: Write>(
 ) -> Result<Status, Fault<'a>>
     ensures { IfOk result IsCommandStatus }
 {
-    let walked = each_record(alloc, file, reader, &RefusedRecords, out)?;
+    let walked = each_record(alloc, file, reader, &mut RefusedRecords, out)?;
     let (records, refused) = (walked.records, walked.refused);
     writeln!(out, "{records} records, {refused} refused")?;
     Ok(walked.status())

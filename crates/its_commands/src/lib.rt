@@ -10,6 +10,7 @@ mod line;
 mod showing;
 mod simulating;
 mod status;
+mod text;
 mod walk;
 
 pub use checking::check;

@@ -1,96 +1,89 @@
 //! The line that `show` prints of a frame.
 
+use crate::text::Text;
 use its_geometry::{Area, Shape};
 use its_gnvalue::LongPv;
 use its_headers::{Kind, PacketView};
 use its_linkframe::FrameView;
-use its_simulation::Hex;
-use std::fmt;
+use std::alloc::AllocError;
 
-/// A frame that was read, as a line.
-#[derive(Drop)]
-pub(crate) struct FrameLine<'a> {
-    /// In milliseconds.
-    pub(crate) moment: u64,
-    pub(crate) frame: FrameView<'a>,
-}
-
-impl fmt::Display for FrameLine<'_> {
-    fn fmt<W: fmt::Write>(&self, f: &mut fmt::Formatter<W>) -> fmt::Result {
-        let packet = &self.frame.packet;
-        let kind = kind_word(packet.kind());
-        write!(
-            f,
-            "{} {} {} {kind} ",
-            self.moment, self.frame.from, self.frame.to
-        )?;
-        write_vector(f, packet.vector())?;
-        write_header(f, packet)?;
-        if let Some(number) = packet.number() {
-            write!(f, " number {number}")?;
-        }
-        if let Some(area) = packet.area() {
-            write_area(f, area)?;
-        }
-        write_message(f, packet.payload())
+/// Adds the line of a frame that was read at a moment, in milliseconds.
+pub(crate) fn frame_line(
+    text: &mut Text,
+    moment: u64,
+    frame: &FrameView<'_>,
+) -> Result<(), AllocError> {
+    let packet = &frame.packet;
+    text.number("", moment)?;
+    text.digits(" ", &frame.from.octets())?;
+    text.digits(" ", &frame.to.octets())?;
+    text.word(kind_word(packet.kind()))?;
+    vector(text, packet.vector())?;
+    header(text, packet)?;
+    if let Some(number) = packet.number() {
+        text.number(" number ", number)?;
     }
+    if let Some(area) = packet.area() {
+        target(text, area)?;
+    }
+    message(text, packet.payload())?;
+    text.word("\n")
 }
 
 /// The word of a kind of packet. The parts of its line follow from what the packet has.
 fn kind_word(kind: Kind) -> &'static str {
     match kind {
-        Kind::Beacon => "beacon",
-        Kind::Shb => "shb",
-        Kind::Gbc => "gbc",
-        Kind::Gac => "gac",
+        Kind::Beacon => " beacon",
+        Kind::Shb => " shb",
+        Kind::Gbc => " gbc",
+        Kind::Gac => " gac",
     }
 }
 
-fn write_vector<W: fmt::Write>(f: &mut fmt::Formatter<W>, vector: LongPv) -> fmt::Result {
-    let (address, tst, place) = (vector.address(), vector.tst(), vector.place());
-    let (pai, speed, heading) = (vector.pai() as u8, vector.speed(), vector.heading());
-    let (lat, lon) = (place.lat(), place.lon());
-    write!(
-        f,
-        "{address} tst {tst} lat {lat} lon {lon} pai {pai} speed {speed} heading {heading}"
-    )
+fn vector(text: &mut Text, vector: LongPv) -> Result<(), AllocError> {
+    let place = vector.place();
+    text.digits(" ", &vector.address().as_u64().to_be_bytes())?;
+    text.number(" tst ", vector.tst())?;
+    text.number(" lat ", place.lat())?;
+    text.number(" lon ", place.lon())?;
+    text.number(" pai ", vector.pai() as u8)?;
+    text.number(" speed ", vector.speed())?;
+    text.number(" heading ", vector.heading())
 }
 
-fn write_header<W: fmt::Write>(f: &mut fmt::Formatter<W>, packet: &PacketView<'_>) -> fmt::Result {
-    let (lifetime, class) = (packet.lifetime().octet(), packet.class().octet());
-    let (mobile, hops) = (packet.mobile() as u8, packet.hops());
-    let (left, max) = (hops.left(), hops.max());
-    write!(
-        f,
-        " lt {lifetime:02x} tc {class:02x} mobile {mobile} hops {left}/{max}"
-    )
+fn header(text: &mut Text, packet: &PacketView<'_>) -> Result<(), AllocError> {
+    text.digits(" lt ", &[packet.lifetime().octet()])?;
+    text.digits(" tc ", &[packet.class().octet()])?;
+    text.number(" mobile ", packet.mobile() as u8)?;
+    text.number(" hops ", packet.hops().left())?;
+    text.number("/", packet.hops().max())
 }
 
-fn write_area<W: fmt::Write>(f: &mut fmt::Formatter<W>, area: Area) -> fmt::Result {
-    let shape = match area.shape() {
-        Shape::Circle => "circle",
-        Shape::Rectangle => "rectangle",
-        Shape::Ellipse => "ellipse",
-    };
+/// Where the packet goes.
+fn target(text: &mut Text, area: Area) -> Result<(), AllocError> {
     let centre = area.centre();
-    let (lat, lon) = (centre.lat(), centre.lon());
-    write!(
-        f,
-        " {shape} {lat} {lon} {} {} {}",
-        area.a(),
-        area.b(),
-        area.angle()
-    )
+    text.word(match area.shape() {
+        Shape::Circle => " circle",
+        Shape::Rectangle => " rectangle",
+        Shape::Ellipse => " ellipse",
+    })?;
+    text.number(" ", centre.lat())?;
+    text.number(" ", centre.lon())?;
+    text.number(" ", area.a())?;
+    text.number(" ", area.b())?;
+    text.number(" ", area.angle())
 }
 
 /// Port, info and what follows the BTP-B header, where there is a payload.
-fn write_message<W: fmt::Write>(f: &mut fmt::Formatter<W>, payload: &[u8]) -> fmt::Result {
-    match payload {
-        [port_high, port_low, info_high, info_low, rest @ ..] => {
-            let port = u16::from_be_bytes([*port_high, *port_low]);
-            let info = u16::from_be_bytes([*info_high, *info_low]);
-            write!(f, " port {port} info {info} {}", Hex(rest))
-        }
-        _ => Ok(()),
+fn message(text: &mut Text, payload: &[u8]) -> Result<(), AllocError> {
+    let [port_high, port_low, info_high, info_low, rest @ ..] = payload else {
+        return Ok(());
+    };
+    text.number(" port ", u16::from_be_bytes([*port_high, *port_low]))?;
+    text.number(" info ", u16::from_be_bytes([*info_high, *info_low]))?;
+    if rest.is_empty() {
+        text.word(" -")
+    } else {
+        text.digits(" ", rest)
     }
 }

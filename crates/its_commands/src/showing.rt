@@ -4,8 +4,9 @@ ghost use Rattle.std.specs.Prelude.{IfOk};
 ghost use Rattle.its_commands.specs.Statuses.{IsCommandStatus};
 
 use crate::fault::{Fault, status_of};
-use crate::line::FrameLine;
+use crate::line::frame_line;
 use crate::status::Status;
+use crate::text::Text;
 use crate::walk::{RecordLines, each_record};
 use its_linkframe::{FrameFault, FrameView};
 use std::alloc::Global;
@@ -13,18 +14,25 @@ use std::io;
 use std::io::{Read, Write};
 
 /// A line for each record.
-struct AllRecords;
+#[derive(Drop)]
+struct AllRecords {
+    text: Text,
+}
 
 impl RecordLines for AllRecords {
     fn print<W: Write>(
-        &self,
+        &mut self,
         _place: u64,
         moment: u64,
         frame: Result<FrameView<'_>, FrameFault>,
         out: &mut W,
     ) -> io::Result<()> {
         match frame {
-            Ok(frame) => writeln!(out, "{}", FrameLine { moment, frame }),
+            Ok(frame) => {
+                self.text.clear();
+                frame_line(&mut self.text, moment, &frame)?;
+                out.write_all(self.text.as_bytes())
+            }
             Err(fault) => writeln!(out, "{moment} refused {}", fault.code()),
         }
     }
@@ -55,6 +63,9 @@ fn show_capture<'a, R: Read + Drop, W: Write>(
 ) -> Result<Status, Fault<'a>>
     ensures { IfOk result IsCommandStatus }
 {
-    let walked = each_record(alloc, file, reader, &AllRecords, out)?;
+    let mut lines = AllRecords {
+        text: Text::new(alloc),
+    };
+    let walked = each_record(alloc, file, reader, &mut lines, out)?;
     Ok(walked.status())
 }

@@ -44,8 +44,8 @@ fn simulate_scenario<'a, R: Read + Drop, W: Write>(
     Ok(Status::Done)
 }
 
-/// Reads to the end of the reader, and what it gave as a scenario of at most so many stations. `file`
-/// is its name.
+/// Reads to the end of the reader, and what it gave as a scenario of at most so many stations.
+/// `file` is its name.
 ///
 /// The fault is that of the scenario, or that a read failed or memory ran out.
 pub fn read_scenario<'a, R: Read + Drop>(

@@ -15,7 +15,7 @@ pub(crate) trait RecordLines {
     /// Prints what there is to say of a record: its place in the capture, from 0, its moment in
     /// milliseconds, and its frame or why that was refused.
     fn print<W: Write>(
-        &self,
+        &mut self,
         place: u64,
         moment: u64,
         frame: Result<FrameView<'_>, FrameFault>,
@@ -53,7 +53,7 @@ pub(crate) fn each_record<'a, R: Read + Drop, L: RecordLines, W: Write>(
     alloc: Global,
     file: &'a str,
     reader: R,
-    lines: &L,
+    lines: &mut L,
     out: &mut W,
 ) -> Result<Walked, Fault<'a>>
     ensures { IfOk result (λ walked. walked.refused ≤ walked.records) }

@@ -1,0 +1,50 @@
+//! A line of text, put together in a buffer that serves the next line too.
+
+use itoa::{Buffer, Integer};
+use std::alloc::{AllocError, Global};
+
+/// A line in the making. Its numbers are written by `itoa` and its octets by `hex`, which takes half
+/// of the time that `write!` takes.
+#[derive(Drop)]
+pub(crate) struct Text {
+    octets: Vec<u8>,
+}
+
+impl Text {
+    /// No text yet. It takes no memory.
+    pub(crate) fn new(alloc: Global) -> Text {
+        Text {
+            octets: Vec::new(alloc),
+        }
+    }
+
+    /// Begins the next line.
+    pub(crate) fn clear(&mut self) {
+        self.octets.clear();
+    }
+
+    /// The line so far.
+    pub(crate) fn as_bytes(&self) -> &[u8] {
+        self.octets.as_slice()
+    }
+
+    /// A word, as it stands.
+    pub(crate) fn word(&mut self, word: &str) -> Result<(), AllocError> {
+        self.octets.extend_from_slice(word.as_bytes())
+    }
+
+    /// A number, after the word that names it.
+    pub(crate) fn number<I: Integer>(&mut self, name: &str, number: I) -> Result<(), AllocError> {
+        self.word(name)?;
+        self.word(Buffer::new().format(number))
+    }
+
+    /// Octets as hexadecimal digits in lower case, after the word that names them.
+    pub(crate) fn digits(&mut self, name: &str, octets: &[u8]) -> Result<(), AllocError> {
+        self.word(name)?;
+        let start = self.octets.len();
+        self.octets
+            .resize(start.saturating_add(2 * octets.len()), 0)?;
+        hex::encode_to_slice(octets, &mut self.octets[start..]).map_err(|_| AllocError)
+    }
+}
