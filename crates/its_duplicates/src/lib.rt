@@ -43,7 +43,9 @@ impl Recent {
         ensures found { result ≡ list_any (λ kept. kept == number) self.now.numbers }
         ensures few { length self.now.numbers ≤ self.now.limit }
     {
-        self.ring.iter().any(|kept| *kept == number)
+        // Two slices are walked faster than the ring's own iterator.
+        let (older, newer) = self.ring.as_slices();
+        is_among(older, number) || is_among(newer, number)
     }
 
     /// Puts a number last; where as many as are kept were there, the first goes. Takes no memory.
@@ -62,4 +64,11 @@ impl Recent {
     {
         self.ring.clear();
     }
+}
+
+/// Whether a number is among these.
+fn is_among(numbers: &[u16], number: u16) -> bool
+    ensures { result ≡ list_any (λ kept. kept == number) numbers.now }
+{
+    numbers.iter().any(|kept| *kept == number)
 }

@@ -181,6 +181,11 @@ pub found-part : (xs : List Slot) (a i t : ℕ) (s : Slot) → s ≡ get_or xs i
 found-part xs a i t s is h f = found-entry_at xs a i t s h f
     ∙ ap (λ (x : Slot). live_part t (slot_entry x)) (sym is)
 
+-- a choice between something and nothing is something where the test is true
+pub is_some-cond : {X : Type 0} (b : Bool) (x : X) → b ≡ is_some (cond b (Some x) None)
+is_some-cond true x = refl
+is_some-cond false x = refl
+
 pub found_key : (xs : List Slot) (a i : ℕ) (d : Slot) → IsFoundAt xs a i → key (get_or xs i d) ≡ a
 found_key [] a i d f = absurd f
 found_key (x ∷ xs) a zero d f = f

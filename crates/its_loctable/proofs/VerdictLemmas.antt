@@ -11,7 +11,7 @@ use Rattle.its_model.specs.Stations.{stations_at, is_full}
 use Rattle.its_model.proofs.Renewal.{is_some-known}
 use Rattle.its_loctable.specs.Content.{Entry, entry_at, Represents}
 use Rattle.its_loctable.specs.Heard.{has_number, is_noted, is_repeated, verdict_at}
-use Rattle.its_loctable.specs.Eager.{judged}
+use Rattle.its_loctable.specs.Eager.{eager_verdict}
 use Rattle.its_loctable.proofs.ContentLemmas.{AreApart, room-is_full, live-is_full}
 
 take_nothing : (k : ℕ) → take {A = ℕ} k [] ≡ []
@@ -95,17 +95,17 @@ is_noted-none o None e = refl
 is_noted-none o (Some n) e = ap (λ k. has_number k n) e
 
 module _ (capacity : ℕ) (es : List Entry) (now : ℕ) (heard : SourceReport) where
-  pub judged-by : (d f : Bool) → is_noted (entry_at es heard.vector.address now) heard.number ≡ d
+  pub eager_verdict-by : (d f : Bool) → is_noted (entry_at es heard.vector.address now) heard.number ≡ d
       → (is_some (entry_at es heard.vector.address now)
       || ltb (count_by (λ (e : Entry). ltb now e.until) es) capacity) ≡ f
-      → judged capacity es now heard ≡ cond d (Ok Duplicate) (cond f (Ok Accepted) (Err Full))
-  judged-by d f p q = λ i. cond (p i) (Ok Duplicate) (cond (q i) (Ok Accepted) (Err Full))
+      → eager_verdict capacity es now heard ≡ cond d (Ok Duplicate) (cond f (Ok Accepted) (Err Full))
+  eager_verdict-by d f p q = λ i. cond (p i) (Ok Duplicate) (cond (q i) (Ok Accepted) (Err Full))
 
   -- it is the one that is owed
-  pub judged-verdict : (remember : ℕ) (history : List Reception) → now ≤ 2 ^ 62
-      → Represents remember es history now → AreApart es → judged capacity es now heard
+  pub eager_verdict-verdict : (remember : ℕ) (history : List Reception) → now ≤ 2 ^ 62
+      → Represents remember es history now → AreApart es → eager_verdict capacity es now heard
       ≡ verdict_at remember capacity now heard history
-  judged-verdict remember history small rep apart =
+  eager_verdict-verdict remember history small rep apart =
       by (is_noted (entry_at es heard.vector.address now) heard.number)
       (entry_at es heard.vector.address now)
       (ltb (count_by (λ (e : Entry). ltb now e.until) es) capacity) refl refl refl
@@ -114,12 +114,12 @@ module _ (capacity : ℕ) (es : List Entry) (now : ℕ) (heard : SourceReport) w
           → is_noted (entry_at es heard.vector.address now) heard.number ≡ d
           → entry_at es heard.vector.address now ≡ o
           → ltb (count_by (λ (e : Entry). ltb now e.until) es) capacity ≡ f
-          → judged capacity es now heard ≡ verdict_at remember capacity now heard history
-      by true o f p q r = judged-by true (is_some o || f) p (λ i. is_some (q i) || r i)
+          → eager_verdict capacity es now heard ≡ verdict_at remember capacity now heard history
+      by true o f p q r = eager_verdict-by true (is_some o || f) p (λ i. is_some (q i) || r i)
           ∙ sym (verdict-duplicate remember es history now capacity heard small rep p)
-      by false (Some k) f p q r = judged-by false true p (λ i. is_some (q i) || r i)
+      by false (Some k) f p q r = eager_verdict-by false true p (λ i. is_some (q i) || r i)
           ∙ sym (verdict-live remember es history now capacity heard small rep p (ap is_some q))
-      by false None true p q r = judged-by false true p (λ i. is_some (q i) || r i)
+      by false None true p q r = eager_verdict-by false true p (λ i. is_some (q i) || r i)
           ∙ sym (verdict-room remember es history now capacity heard small rep apart p q r)
-      by false None false p q r = judged-by false false p (λ i. is_some (q i) || r i)
+      by false None false p q r = eager_verdict-by false false p (λ i. is_some (q i) || r i)
           ∙ sym (verdict-full remember es history now capacity heard small rep apart p q r)

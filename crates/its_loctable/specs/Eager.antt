@@ -29,8 +29,8 @@ is_rising [] = true
 is_rising (e ∷ es) = list_all (λ d. nat_lt e.address d.address) es && is_rising es
 
 -- the answer to a packet, by the entries alone
-abbrev pub judged : ℕ → List Entry → ℕ → SourceReport → Result Verdict StoreRefused
-judged capacity es now heard =
+abbrev pub eager_verdict : ℕ → List Entry → ℕ → SourceReport → Result Verdict StoreRefused
+eager_verdict capacity es now heard =
     if is_noted (entry_at es heard.vector.address now) heard.number then Ok Duplicate
     else if is_some (entry_at es heard.vector.address now)
     || nat_lt (count_by (λ e. nat_lt now e.until) es) capacity then Ok Accepted

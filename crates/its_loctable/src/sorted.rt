@@ -8,7 +8,7 @@ ghost use Rattle.its_loctable.specs.Content.{entry_at};
 ghost use Rattle.its_loctable.specs.Slots.{slot_known};
 ghost use Rattle.its_loctable.specs.Sorted.{slot_entry, held, IsFoundAt, IsGapFor};
 ghost use Rattle.its_loctable.specs.Spare.{HasLimit, IsSpare};
-ghost use Rattle.its_loctable.specs.Eager.{swept, upsert, is_rising, judged, after_accept};
+ghost use Rattle.its_loctable.specs.Eager.{swept, upsert, is_rising, eager_verdict, after_accept};
 
 mod halving;
 mod search;
@@ -18,6 +18,7 @@ use crate::heard::{Heard, Known};
 use crate::refused::StoreRefused;
 use crate::slot::Slot;
 use crate::store::{LocationStore, Verdict};
+use halving::search;
 use its_duplicates::Recent;
 use its_gnvalue::{GnAddress, LongPv, Mac, NoMemory};
 use search::{has_expired, live_with_mid, neighbour_above, search_from};
@@ -49,7 +50,20 @@ pub struct SortedTable {
 }
 
 impl SortedTable {
-    /// Where the slot of an address is, or else where it would go.
+    /// Where the slot of an address is, or else where it would go. A packet begins with this call,
+    /// and seldom comes from the source of the last one.
+    fn first_place_of(&self, address: GnAddress) -> Result<usize, usize>
+        ensures found { IfOk result (λ i.
+            IsFoundAt self.now.slots.items address i × (i < vec_len self.now.slots)) }
+        ensures absent { IfErr result (λ i.
+            IsGapFor self.now.slots.items address i × (i ≤ vec_len self.now.slots)) }
+    {
+        let place = search(&self.slots, address);
+        self.last_place.set(place);
+        place
+    }
+
+    /// As `first_place_of`, but the last answer is tried first: later calls for a packet ask again.
     fn place_of(&self, address: GnAddress) -> Result<usize, usize>
         ensures found { IfOk result (λ i.
             IsFoundAt self.now.slots.items address i × (i < vec_len self.now.slots)) }
@@ -66,7 +80,7 @@ impl SortedTable {
         ensures { option_map (λ slot. slot_known slot.now) result
             ≡ entry_at (held self.now.slots.items) address now }
     {
-        match self.place_of(address) {
+        match self.first_place_of(address) {
             Ok(place) => {
                 let slot = &self.slots[place];
                 if now < slot.until { Some(slot) } else { None }
@@ -79,7 +93,10 @@ impl SortedTable {
     fn is_live(&self, now: u64, address: GnAddress) -> bool
         ensures { result ≡ is_some (entry_at (held self.now.slots.items) address now) }
     {
-        self.live_slot(now, address).is_some()
+        match self.place_of(address) {
+            Ok(place) => now < self.slots[place].until,
+            Err(_) => false,
+        }
     }
 
     /// Whether fewer slots are live than the capacity.
@@ -118,7 +135,7 @@ impl SortedTable {
         requires found { IsFoundAt self.old.slots.items heard.now.vector.address place }
         requires within { place < vec_len self.old.slots }
         ensures answer { Ok result
-            ≡ judged self.old.capacity (held self.old.slots.items) now heard.now }
+            ≡ eager_verdict self.old.capacity (held self.old.slots.items) now heard.now }
         ensures accepted { result ≡ Verdict.Accepted →
             held self.new.slots.items
             ≡ after_accept self.old.remembered (held self.old.slots.items) now heard.now }
@@ -168,7 +185,7 @@ impl SortedTable {
         requires absent { All (λ s. s.vector.address ≢ heard.now.vector.address)
             self.old.slots.items }
         ensures answer { result
-            ≡ judged self.old.capacity (held self.old.slots.items) now heard.now }
+            ≡ eager_verdict self.old.capacity (held self.old.slots.items) now heard.now }
         ensures accepted { result ≡ Ok Verdict.Accepted →
             held self.new.slots.items
             ≡ after_accept self.old.remembered (held self.old.slots.items) now heard.now }

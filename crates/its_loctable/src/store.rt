@@ -88,7 +88,7 @@ pub trait LocationStore: Sized + Drop {
             result ≡ not (is_full (limit self.now) a
             (stations_at (remember self.now) now history)) };
 
-    /// Takes a packet in, unless it is a duplicate or, judged after that, there is no room. A
+    /// Takes a packet in, unless it is a duplicate or, checked after that, there is no room. A
     /// duplicate and a refusal change nothing. Memory is asked for only where the packet is owed
     /// `Accepted` and its source isn't live.
     fn accept(&mut self, now: u64, h: &Heard) -> Result<Verdict, StoreRefused>

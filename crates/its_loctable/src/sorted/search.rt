@@ -1,7 +1,7 @@
 //! Searches in slots that stand in ascending order of their addresses.
 
 ghost use Rattle.std.specs.Prelude.{◌≡◌, ◌<◌, ◌≤◌, ◌&&◌, nat_lt, nat_le, find, drop, length};
-ghost use Rattle.std.specs.Prelude.{IsTrue, IfOk, IfErr, IfSome};
+ghost use Rattle.std.specs.Prelude.{IsTrue, IfOk, IfErr, IfSome, Some};
 ghost use Rattle.std.specs.List.{list_any};
 ghost use Rattle.std.specs.Option.{option_map, option_copied};
 ghost use Rattle.its_model.specs.Stations.{is_next_neighbour, has_mid};
@@ -61,7 +61,22 @@ pub fn search_from(
     }
 }
 
-/// Where the slots above an address begin.
+/// Where the slots above an address begin. A walk goes on from the slot that was found last.
+fn start_past(slots: &[Slot], last: Result<usize, usize>, address: GnAddress) -> usize
+    requires { IsTrue (is_rising (held slots.now)) }
+    ensures start { IsStartAbove slots.now (Some address) result }
+    ensures within { result ≤ length slots.now }
+{
+    match last {
+        Ok(place) if is_slot_of(slots, place, address) => place + 1,
+        _ => match search(slots, address) {
+            Ok(i) => i + 1,
+            Err(i) => i,
+        },
+    }
+}
+
+/// As `start_past`, and the first slot where there is no address.
 fn start_above(slots: &[Slot], last: Result<usize, usize>, after: Option<GnAddress>) -> usize
     requires { IsTrue (is_rising (held slots.now)) }
     ensures start { IsStartAbove slots.now after result }
@@ -69,10 +84,7 @@ fn start_above(slots: &[Slot], last: Result<usize, usize>, after: Option<GnAddre
 {
     match after {
         None => 0,
-        Some(address) => match search_from(slots, last, address) {
-            Ok(i) => i + 1,
-            Err(i) => i,
-        },
+        Some(address) => start_past(slots, last, address),
     }
 }
 

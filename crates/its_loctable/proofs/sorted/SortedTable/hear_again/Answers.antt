@@ -3,7 +3,7 @@ use Rattle.its_loctable.specs.Heard.{is_noted}
 use Rattle.its_loctable.specs.Sorted.{held}
 use Rattle.its_loctable.proofs.EagerLemmas.{rising-true}
 use Rattle.its_loctable.proofs.SortedLemmas.{found-part, found-room}
-use Rattle.its_loctable.proofs.VerdictLemmas.{judged-by}
+use Rattle.its_loctable.proofs.VerdictLemmas.{eager_verdict-by}
 use Rattle.its_loctable.proofs.sorted.SortedTable.hear_again.Goals as goal
 
 pub returns-then-repeats-clause-answer : goal.returns-then-repeats-clause-answer
@@ -12,7 +12,7 @@ returns-then-repeats-clause-answer c =
     let xs = table.slots.items in
     let part = found-part xs c.args.heard.now.vector.address c.args.place c.args.now
     c.index.result.now c.index.ensures (rising-true (held xs) table.rising) c.requires.found in
-    sym (judged-by table.capacity (held xs) c.args.now c.args.heard.now true _
+    sym (eager_verdict-by table.capacity (held xs) c.args.now c.args.heard.now true _
     (ap (λ o. is_noted o c.args.heard.now.number) part ∙ sym c.repeats.ensures
     ∙ c.if-repeats.true) refl)
 
@@ -26,7 +26,7 @@ returns-clause-answer c =
     c.requires.found in
     let within : c.args.place < length xs = omega (arith, table.slots.ok.0, c.requires.within) in
     let few : length xs ≤ table.capacity = omega (arith, table.slots.ok.0, table.total) in
-    sym (judged-by table.capacity (held xs) c.args.now c.args.heard.now false true
+    sym (eager_verdict-by table.capacity (held xs) c.args.now c.args.heard.now false true
     (ap (λ o. is_noted o c.args.heard.now.number) part ∙ sym c.repeats.ensures
     ∙ c.if-repeats.false)
     (found-room xs a c.args.place c.args.now table.capacity c.index.result.now rising

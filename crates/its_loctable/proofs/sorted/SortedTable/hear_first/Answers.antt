@@ -16,7 +16,7 @@ use Rattle.its_loctable.proofs.EagerLemmas.{rising-true, true-rising, IsRising-u
 use Rattle.its_loctable.proofs.SortedLemmas.{key, absent-entry_at, absent-swept, absent-room}
 use Rattle.its_loctable.proofs.SortedLemmas.{held-insert, entry-after, All-insert, swept-all}
 use Rattle.its_loctable.proofs.SortedLemmas.{length-held}
-use Rattle.its_loctable.proofs.VerdictLemmas.{judged-by, is_noted-none}
+use Rattle.its_loctable.proofs.VerdictLemmas.{eager_verdict-by, is_noted-none}
 use Rattle.its_loctable.proofs.sorted.SortedTable.hear_first.Goals as goal
 
 pub gap_for-place-requires : goal.gap_for-place-requires
@@ -91,7 +91,7 @@ returns-in-Some-clause-answer c =
       after.slots.ok.0,
       c.sweep_if_due.ensures.capacity,
     ) in
-    sym (judged-by table.capacity (held xs) c.args.now c.args.heard.now false true
+    sym (eager_verdict-by table.capacity (held xs) c.args.now c.args.heard.now false true
     (is_noted-none _ c.args.heard.now.number (absent-entry_at xs a c.args.now c.requires.absent))
     (absent-room xs a c.args.now table.capacity c.requires.absent ∙ lt-ltb _ _ few))
 
@@ -144,7 +144,7 @@ returns-in-None-clause-answer c =
       after.slots.ok.0,
       c.sweep_if_due.ensures.capacity,
     ) in
-    sym (judged-by table.capacity (held xs) c.args.now c.args.heard.now false false
+    sym (eager_verdict-by table.capacity (held xs) c.args.now c.args.heard.now false false
     (is_noted-none _ c.args.heard.now.number (absent-entry_at xs a c.args.now c.requires.absent))
     (absent-room xs a c.args.now table.capacity c.requires.absent ∙ le-ltb _ _ many))
 

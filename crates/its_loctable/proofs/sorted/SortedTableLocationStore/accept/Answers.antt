@@ -7,7 +7,7 @@ use Rattle.its_loctable.specs.Heard.{reception}
 use Rattle.its_loctable.specs.Sorted.{held, IsGapFor}
 use Rattle.its_loctable.specs.Eager.{is_rising, entry_after, after_accept}
 use Rattle.its_loctable.proofs.Accepted.{Represents-cons}
-use Rattle.its_loctable.proofs.VerdictLemmas.{judged-verdict}
+use Rattle.its_loctable.proofs.VerdictLemmas.{eager_verdict-verdict}
 use Rattle.its_loctable.proofs.SortedLemmas.{gap-absent}
 use Rattle.its_loctable.proofs.EagerLemmas.{rising-true, apart-rising, Hears-eager}
 use Rattle.its_loctable.proofs.sorted.SortedTableLocationStore.accept.Goals as goal
@@ -27,7 +27,7 @@ pub returns-in-Ok-clause-answer : goal.returns-in-Ok-clause-answer
 returns-in-Ok-clause-answer c = λ history rep _.
     let table = c.args.self.now in
     let es = held table.slots.items in
-    c.hear_again.ensures.answer ∙ judged-verdict table.capacity es c.args.now c.args.h.now
+    c.hear_again.ensures.answer ∙ eager_verdict-verdict table.capacity es c.args.now c.args.h.now
     table.remembered history c.requires rep (apart-rising es (rising-true es table.rising))
 
 pub returns-in-Ok-clause-accepted : goal.returns-in-Ok-clause-accepted
@@ -44,7 +44,7 @@ pub returns-in-Err-clause-answer : goal.returns-in-Err-clause-answer
 returns-in-Err-clause-answer c = λ history rep _.
     let table = c.args.self.now in
     let es = held table.slots.items in
-    c.hear_first.ensures.answer ∙ judged-verdict table.capacity es c.args.now c.args.h.now
+    c.hear_first.ensures.answer ∙ eager_verdict-verdict table.capacity es c.args.now c.args.h.now
     table.remembered history c.requires rep (apart-rising es (rising-true es table.rising))
 
 pub returns-in-Err-clause-accepted : goal.returns-in-Err-clause-accepted
