@@ -4,7 +4,7 @@ use super::Given;
 use super::arguments::HELP;
 use crate::program;
 use its_commands::Status;
-use its_shortage::{MOST, STEP, Shortage};
+use its_shortage::{MOST, STEP, Shortage, written};
 use std::alloc::AllocError;
 use std::io::Write;
 use std::test::Fail;
@@ -14,14 +14,6 @@ static NO_MEMORY: &[u8] = b"geostation: out of memory\n";
 
 /// The budgets are `STEP` octets apart, from none to the most.
 const BUDGETS: usize = MOST / STEP + 1;
-
-/// What was written into a buffer of zeros.
-fn written(buffer: &[u8]) -> &[u8] {
-    match buffer.split(|octet| *octet == 0).next() {
-        Some(front) => front,
-        None => buffer,
-    }
-}
 
 /// A writer that takes so many octets and then fails, or that fails only at a flush.
 #[derive(Drop)]

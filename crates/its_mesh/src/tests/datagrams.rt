@@ -63,8 +63,8 @@ fn turned_bits(alloc: Global) -> Result<Vec<Vec<u8>>, Fail> {
     Ok(outputs)
 }
 
-/// Of 608 frames with one bit turned, 16 have another type and 142 no good packet: so many have each
-/// code. A frame that is refused changes nothing.
+/// Of 608 frames with one bit turned, 16 have another type and 142 no good packet: so many have
+/// each code. A frame that is refused changes nothing.
 #[test]
 fn single_bits(rt: HostRuntime) -> Result<(), Fail> {
     let alloc = rt.alloc();

@@ -5,12 +5,12 @@ use crate::command::mesh;
 use crate::scripted::{Scripted, Trouble};
 use crate::sockets::{Received, Sent, Sockets};
 use its_commands::Status;
-use its_shortage::{MOST, STEP, Shortage};
+use its_shortage::{MOST, STEP, Shortage, written};
 use std::io;
 use std::test::Fail;
 
-/// Each call of a socket fails in turn: two are made, each is asked four times after the first event,
-/// frame 0 is sent, and so on.
+/// Each call of a socket fails in turn: two are made, each is asked four times after the first
+/// event, frame 0 is sent, and so on.
 #[test]
 fn each_call_fails_in_turn(rt: HostRuntime) -> Result<(), Fail> {
     let alloc = rt.alloc();
@@ -140,14 +140,6 @@ station = [
   {address = \"1400020000000002\", lat = 449, lon = 0, capacity = 1, remember = 1},
 ]
 ";
-
-/// What was written into a buffer of zeros.
-fn written(buffer: &[u8]) -> &[u8] {
-    match buffer.split(|octet| *octet == 0).next() {
-        Some(front) => front,
-        None => buffer,
-    }
-}
 
 /// With any budget it prints a prefix of its lines, and says that memory ran out; the whole with
 /// enough.

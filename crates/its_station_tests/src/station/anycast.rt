@@ -32,7 +32,7 @@ fn one_geoanycast<S: LocationStore>(rt: &impl Abort, alloc: Global) -> Result<()
     Ok(())
 }
 
-/// Geobroadcasts and geoanycasts have their numbers of one count, and are judged together.
+/// Geobroadcasts and geoanycasts have their numbers of one count, and are checked together.
 fn one_count<S: LocationStore>(rt: &impl Abort, alloc: Global) -> Result<(), Fail> {
     let request = request(circle()?, b"hi");
     let (mut first, mut near) = (sender::<S>(alloc)?, receiver::<S>(alloc, 449)?);

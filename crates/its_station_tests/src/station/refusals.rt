@@ -16,7 +16,7 @@ const NO_PORT_LEFT: Refused = Refused::Port(PortFault::Full);
 
 const NOT_OPEN: Refused = Refused::Port(PortFault::NotOpen);
 
-/// Moments are judged before ports, and the last moment is a good one.
+/// Moments are checked before ports, and the last moment is a good one.
 fn of_ports<S: LocationStore>(rt: &impl Abort, alloc: Global) -> Result<(), Fail> {
     let mut near = station::<S>(alloc, SECOND, 449, 0)?;
     for port in 0..64 {
@@ -47,7 +47,7 @@ fn of_ports<S: LocationStore>(rt: &impl Abort, alloc: Global) -> Result<(), Fail
     Ok(())
 }
 
-/// Moments are judged before the length of a payload; a refused broadcast sets no clock, and the
+/// Moments are checked before the length of a payload; a refused broadcast sets no clock, and the
 /// beacon stays due.
 fn of_single_hops<S: LocationStore>(rt: &impl Abort, alloc: Global) -> Result<(), Fail> {
     let octets = [0x5a; MAX_PAYLOAD + 1];

@@ -131,7 +131,7 @@ fn two_neighbours<S: LocationStore>(rt: &impl Abort, alloc: Global) -> Result<()
     Ok(())
 }
 
-/// A full table takes no other source, until one expired; a duplicate is judged before that.
+/// A full table takes no other source, until one expired; a duplicate is checked before that.
 fn one_place<S: LocationStore>(rt: &impl Abort, alloc: Global) -> Result<(), Fail> {
     let place = Place::new(449, 0)?;
     let mut near: Station<S> = Station::new(alloc, GnAddress::from_u64(SECOND)?, place, 1, 8)?;

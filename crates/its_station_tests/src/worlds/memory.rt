@@ -97,8 +97,8 @@ fn a_world_runs_short_of_memory(rt: HostRuntime) -> Result<(), Fail> {
     let mut relayed = sent.clone()?;
     *relayed.get_mut(11).ok_or("short")? = 2;
     *relayed.get_mut(LINK + 3).ok_or("short")? = 9;
-    // How often no world was made, and how often one stopped before each event; then the whole run. What
-    // `World::new` gives back is often enough for the first event.
+    // How often no world was made, and how often one stopped before each event; then the whole run.
+    // What `World::new` gives back is often enough for the first event.
     let (mut not_made, mut stopped, mut done) = (0u32, [0u32; 3], false);
     for step in 0..BUDGETS {
         let Some(begun) = begin(&rt, alloc, &configs, &events, step * APART)? else {

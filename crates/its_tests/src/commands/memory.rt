@@ -2,7 +2,7 @@
 
 use super::{BEACON, BEACON_LINE, GBC, GBC_LINE, NOTHING, joined};
 use its_commands::{Status, check, check_file, create, import_file, read_lines, show, show_file};
-use its_shortage::{MOST, STEP, Shortage};
+use its_shortage::{MOST, STEP, Shortage, written};
 use std::test::Fail;
 use std::{env, fs};
 
@@ -10,14 +10,6 @@ static NO_MEMORY: &[u8] = b"geostation: out of memory\n";
 
 /// The budgets are `STEP` octets apart, from none to the most.
 const BUDGETS: usize = MOST / STEP + 1;
-
-/// What was written into a buffer of zeros.
-fn written(buffer: &[u8]) -> &[u8] {
-    match buffer.split(|octet| *octet == 0).next() {
-        Some(front) => front,
-        None => buffer,
-    }
-}
 
 #[test]
 fn shows_short_of_memory(rt: HostRuntime) -> Result<(), Fail> {

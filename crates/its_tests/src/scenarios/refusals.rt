@@ -63,14 +63,14 @@ fn stations_with_one_mid(rt: HostRuntime) -> Result<(), Fail> {
     Ok(())
 }
 
-/// A key, a good value of it, and bad ones.
-type KeyCase = (&'static str, &'static str, &'static [&'static str]);
+/// A key, the ends of its range, and values outside it or of another kind.
+type KeyCase = (&'static str, [&'static str; 2], &'static [&'static str]);
 
 /// The keys of a station in order.
 static STATION: [KeyCase; 5] = [
     (
         "address",
-        "\"1400020000000001\"",
+        ["\"0000000000000000\"", "\"fffffeffffffffff\""],
         &[
             "1",
             "\"140002000000001\"",
@@ -79,69 +79,81 @@ static STATION: [KeyCase; 5] = [
             "\"1400030000000001\"",
         ],
     ),
-    ("lat", "900000000", &["0.0", "900000001", "-900000001"]),
+    (
+        "lat",
+        ["-900000000", "900000000"],
+        &["0.0", "900000001", "-900000001"],
+    ),
     (
         "lon",
-        "-1800000000",
+        ["-1800000000", "1800000000"],
         &["\"0\"", "1800000001", "-1800000001"],
     ),
-    ("capacity", "4096", &["0", "4097", "-1", "true"]),
-    ("remember", "64", &["0", "65", "256", "[]"]),
+    ("capacity", ["1", "4096"], &["0", "4097", "-1", "true"]),
+    ("remember", ["1", "64"], &["0", "65", "256", "[]"]),
 ];
 
 // The keys of each action in order.
 
 static MOVE: [KeyCase; 5] = [
-    ("lat", "0", &["900000001", "true"]),
-    ("lon", "0", &["1800000001"]),
-    ("pai", "false", &["0", "\"true\""]),
-    ("speed", "16383", &["16384", "-16385", "1.0"]),
-    ("heading", "0", &["65536", "-1"]),
+    (
+        "lat",
+        ["-900000000", "900000000"],
+        &["900000001", "-900000001", "true"],
+    ),
+    (
+        "lon",
+        ["-1800000000", "1800000000"],
+        &["1800000001", "-1800000001"],
+    ),
+    ("pai", ["false", "true"], &["0", "\"true\""]),
+    ("speed", ["-16384", "16383"], &["16384", "-16385", "1.0"]),
+    ("heading", ["0", "65535"], &["65536", "-1"]),
 ];
 
-static PORT: [KeyCase; 1] = [("port", "0", &["65536", "-1", "\"0\""])];
+static PORT: [KeyCase; 1] = [("port", ["0", "65535"], &["65536", "-1", "\"0\""])];
 
-static TICK: [KeyCase; 1] = [("jitter", "0", &["65536"])];
+static TICK: [KeyCase; 1] = [("jitter", ["0", "65535"], &["65536", "-1"])];
 
-static RESTART: [KeyCase; 1] = [("number", "65535", &["65536", "-1"])];
+static RESTART: [KeyCase; 1] = [("number", ["0", "65535"], &["65536", "-1"])];
 
-static DELIVER: [KeyCase; 1] = [("frame", "0", &["4294967296", "-1"])];
+static DELIVER: [KeyCase; 1] = [("frame", ["0", "4294967295"], &["4294967296", "-1"])];
 
 static SHB: [KeyCase; 4] = [
-    ("port", "0", &["65536"]),
-    ("info", "0", &["65536"]),
-    ("tc", "0", &["256"]),
-    ("payload", "\"00\"", &["\"0\"", "\"0g\"", "0"]),
+    ("port", ["0", "65535"], &["65536", "-1"]),
+    ("info", ["0", "65535"], &["65536", "-1"]),
+    ("tc", ["0", "255"], &["256", "-1"]),
+    ("payload", ["\"\"", "\"00\""], &["\"0\"", "\"0g\"", "0"]),
 ];
 
 static CIRCLE: [KeyCase; 12] = [
-    ("port", "65535", &["65536"]),
-    ("info", "65535", &["65536"]),
-    ("tc", "255", &["256"]),
-    ("lt", "255", &["256"]),
-    ("hops", "0", &["256", "-1"]),
-    ("shape", "\"circle\"", &["\"Circle\"", "0"]),
-    ("alat", "0", &["900000001"]),
-    ("alon", "0", &["1800000001"]),
-    ("a", "65535", &["0", "65536"]),
-    ("b", "0", &["1"]),
-    ("angle", "0", &["1"]),
-    ("payload", "\"\"", &["\"a\"", "[]"]),
+    ("port", ["0", "65535"], &["65536"]),
+    ("info", ["0", "65535"], &["65536"]),
+    ("tc", ["0", "255"], &["256"]),
+    ("lt", ["0", "255"], &["256"]),
+    ("hops", ["0", "255"], &["256", "-1"]),
+    ("shape", ["\"circle\""; 2], &["\"Circle\"", "0"]),
+    ("alat", ["-900000000", "900000000"], &["900000001"]),
+    ("alon", ["-1800000000", "1800000000"], &["1800000001"]),
+    ("a", ["1", "65535"], &["0", "65536"]),
+    ("b", ["0"; 2], &["1"]),
+    ("angle", ["0"; 2], &["1"]),
+    ("payload", ["\"\"", "\"00\""], &["\"a\"", "[]"]),
 ];
 
 static ELLIPSE: [KeyCase; 12] = [
-    ("port", "0", &["-1"]),
-    ("info", "0", &["-1"]),
-    ("tc", "0", &["-1"]),
-    ("lt", "0", &["-1"]),
-    ("hops", "255", &["0.5"]),
-    ("shape", "\"ellipse\"", &["\"\""]),
-    ("alat", "-900000000", &["-900000001"]),
-    ("alon", "-1800000000", &["-1800000001"]),
-    ("a", "1", &["0", "65536"]),
-    ("b", "65535", &["0", "65536"]),
-    ("angle", "359", &["360", "-1"]),
-    ("payload", "\"\"", &["1"]),
+    ("port", ["0", "65535"], &["-1"]),
+    ("info", ["0", "65535"], &["-1"]),
+    ("tc", ["0", "255"], &["-1"]),
+    ("lt", ["0", "255"], &["-1"]),
+    ("hops", ["0", "255"], &["0.5"]),
+    ("shape", ["\"ellipse\"", "\"rectangle\""], &["\"\""]),
+    ("alat", ["-900000000", "900000000"], &["-900000001"]),
+    ("alon", ["-1800000000", "1800000000"], &["-1800000001"]),
+    ("a", ["1", "65535"], &["0", "65536"]),
+    ("b", ["1", "65535"], &["0", "65536"]),
+    ("angle", ["0", "359"], &["360", "-1"]),
+    ("payload", ["\"\"", "\"00\""], &["1"]),
 ];
 
 /// Good values of the keys before this one, the value of this one, and bad values of those after
@@ -154,9 +166,9 @@ fn keys_with(
 ) -> Result<String, Fail> {
     let mut text = String::new(alloc);
     for n in 0..keys.len() {
-        let (key, good, bad) = keys[n];
+        let (key, ends, bad) = keys[n];
         let value = if n < at {
-            Some(good)
+            Some(ends[0])
         } else if n == at {
             value
         } else {
@@ -194,9 +206,38 @@ fn keys_of_a_station(rt: HostRuntime) -> Result<(), Fail> {
     Ok(())
 }
 
+/// Good values of all keys, with this one at an end of its range.
+fn keys_at_an_end(alloc: Global, keys: &[KeyCase], at: usize, end: usize) -> Result<String, Fail> {
+    let mut text = String::new(alloc);
+    for n in 0..keys.len() {
+        let (key, ends, _) = keys[n];
+        let value = ends[if n == at { end } else { 0 }];
+        text.push_str(format!(in alloc; ", {key} = {value}")?.as_str())?;
+    }
+    Ok(text)
+}
+
+/// Each key of a station is read at both ends of its range.
+#[test]
+fn keys_of_a_station_at_their_ends(rt: HostRuntime) -> Result<(), Fail> {
+    for at in 0..STATION.len() {
+        for end in 0..2 {
+            let keys = keys_at_an_end(rt.alloc(), &STATION, at, end)?;
+            let text = with_station(rt.alloc(), keys.trim_start_matches(", "))?;
+            assert_eq!(rt;
+                said(rt.alloc(), text.as_bytes())?.as_str(),
+                "read",
+                "{}",
+                keys.as_str()
+            );
+        }
+    }
+    Ok(())
+}
+
 /// Checks an action with each key in turn missing and at each of its bad values, all before it good
-/// and all after it bad; and with each key good.
-fn judge<R: AllocGlobal + Abort>(rt: &R, action: &str, keys: &[KeyCase]) -> Result<(), Fail> {
+/// and all after it bad.
+fn refuses<R: AllocGlobal + Abort>(rt: &R, action: &str, keys: &[KeyCase]) -> Result<(), Fail> {
     for at in 0..keys.len() {
         let (key, _, bad) = keys[at];
         let want = format!(in rt.alloc(); "scenario: event 0: {key}")?;
@@ -209,10 +250,24 @@ fn judge<R: AllocGlobal + Abort>(rt: &R, action: &str, keys: &[KeyCase]) -> Resu
             assert_eq!(rt; told.as_str(), want.as_str());
         }
     }
-    let given = keys_with(rt.alloc(), keys, keys.len(), None)?;
-    let told = said_of(rt.alloc(), action, given.as_str())?;
-    assert!(rt; told.as_str() == "read", "{action}");
     Ok(())
+}
+
+/// Checks an action with each key in turn at both ends of its range.
+fn reads<R: AllocGlobal + Abort>(rt: &R, action: &str, keys: &[KeyCase]) -> Result<(), Fail> {
+    for at in 0..keys.len() {
+        for end in 0..2 {
+            let given = keys_at_an_end(rt.alloc(), keys, at, end)?;
+            let told = said_of(rt.alloc(), action, given.as_str())?;
+            assert_eq!(rt; told.as_str(), "read", "{action}{}", given.as_str());
+        }
+    }
+    Ok(())
+}
+
+fn check_keys<R: AllocGlobal + Abort>(rt: &R, action: &str, keys: &[KeyCase]) -> Result<(), Fail> {
+    refuses(rt, action, keys)?;
+    reads(rt, action, keys)
 }
 
 fn said_of(alloc: Global, action: &str, keys: &str) -> Result<String, Fail> {
@@ -223,17 +278,17 @@ fn said_of(alloc: Global, action: &str, keys: &str) -> Result<String, Fail> {
 
 #[test]
 fn keys_of_each_action(rt: HostRuntime) -> Result<(), Fail> {
-    judge(&rt, "move", &MOVE)?;
-    judge(&rt, "open", &PORT)?;
-    judge(&rt, "close", &PORT)?;
-    judge(&rt, "tick", &TICK)?;
-    judge(&rt, "shb", &SHB)?;
-    judge(&rt, "gbc", &CIRCLE)?;
-    judge(&rt, "gac", &CIRCLE)?;
-    judge(&rt, "gbc", &ELLIPSE)?;
-    judge(&rt, "gac", &ELLIPSE)?;
-    judge(&rt, "restart", &RESTART)?;
-    judge(&rt, "deliver", &DELIVER)
+    check_keys(&rt, "move", &MOVE)?;
+    check_keys(&rt, "open", &PORT)?;
+    check_keys(&rt, "close", &PORT)?;
+    check_keys(&rt, "tick", &TICK)?;
+    check_keys(&rt, "shb", &SHB)?;
+    check_keys(&rt, "gbc", &CIRCLE)?;
+    check_keys(&rt, "gac", &CIRCLE)?;
+    check_keys(&rt, "gbc", &ELLIPSE)?;
+    check_keys(&rt, "gac", &ELLIPSE)?;
+    check_keys(&rt, "restart", &RESTART)?;
+    check_keys(&rt, "deliver", &DELIVER)
 }
 
 #[test]

@@ -3,7 +3,7 @@
 use super::{DELIVER, OPEN, SEND, STATIONS, scenario, simulation_of};
 use crate::commands::NOTHING;
 use its_commands::{Status, simulate, simulate_file};
-use its_shortage::{MOST, STEP, Shortage};
+use its_shortage::{MOST, STEP, Shortage, written};
 use std::io::Read;
 use std::test::Fail;
 use std::{env, fs, io};
@@ -89,14 +89,6 @@ fn a_file_is_run(rt: HostRuntime) -> Result<(), Fail> {
     assert_eq!(rt; err.as_slice(), said.as_bytes());
     assert_eq!(rt; out.as_slice(), LINES.as_bytes());
     Ok(())
-}
-
-/// What was written into a buffer of zeros.
-fn written(buffer: &[u8]) -> &[u8] {
-    match buffer.split(|octet| *octet == 0).next() {
-        Some(front) => front,
-        None => buffer,
-    }
 }
 
 /// With any budget it prints a prefix of its lines, and says that memory ran out; the whole with
