@@ -1,4 +1,5 @@
--- The header of BTP-B (EN 302 636-5-1): the destination port and its info, in two octets each, the highest first.
+-- The header of BTP-B (EN 302 636-5-1): the destination port and its info, in two octets each, the
+-- highest first.
 use Rattle.std.specs.Prelude.{ℕ, List, ◌++◌}
 use Rattle.byteorder.specs.Endian.{big_bytes}
 

@@ -50,9 +50,9 @@ pub fn split(octets: &[u8]) -> Result<(u16, u16, &[u8]), Short>
     Ok((port, info, &octets[HEADER_LENGTH..]))
 }
 
-/// Writes the header and the payload to the front of a slice, and returns how many octets that took.
-/// `NoRoom` exactly where the slice is shorter than that; the slice is unchanged then, and on success
-/// behind what was written.
+/// Writes the header and the payload to the beginning of a slice, and returns how many octets that
+/// took. `NoRoom` exactly where the slice is shorter than that; the slice is unchanged then, and on
+/// success behind what was written.
 pub fn join_into(port: u16, info: u16, payload: &[u8], out: &mut [u8]) -> Result<usize, NoRoom>
     ensures length { IfOk result (λ n. n ≡ 4 + length payload.now) }
     ensures joined { OnOk result

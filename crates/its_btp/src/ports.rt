@@ -48,7 +48,8 @@ impl fmt::Display for PortFault {
 
 impl Error for PortFault {}
 
-/// A set of at most 64 ports. It takes no memory. Contracts see the open ports as a list, each once.
+/// A set of at most 64 ports. It takes no memory. Contracts see the open ports as a list, each
+/// once.
 #[derive(Drop)]
 pub struct Ports {
     ports: [u16; MAX_OPEN_PORTS],
@@ -83,8 +84,8 @@ impl Ports {
         self.ports[..self.count].iter().any(|open| *open == port)
     }
 
-    /// Opens a port. `AlreadyOpen` (B2) where it is open, else `Full` (B3) where 64 others are; the set
-    /// is unchanged then.
+    /// Opens a port. `AlreadyOpen` (B2) where it is open, else `Full` (B3) where 64 others are; the
+    /// set is unchanged then.
     pub fn open(&mut self, port: u16) -> Result<(), PortFault>
         ensures { MatchResult result
             (λ _. (is_among port self.old ≡ false) × (length self.old < 64)

@@ -13,6 +13,7 @@ neighbours_above after stations = filter (is_next_neighbour after) stations
 abbrev pub is_within : Position → ℕ → Known → Bool
 is_within centre limit k = nat_lt (distance_of centre k) limit
 
--- of these the nearest, and the first of those that are equally near, where one is nearer than the limit
+-- of these the nearest, and the first of those that are equally near, where one is nearer than the
+-- limit
 abbrev pub nearest_below : Position → ℕ → List Known → Option Known
 nearest_below centre limit stations = closest centre (filter (is_within centre limit) stations)

@@ -17,7 +17,8 @@ abbrev pub room : Option ℕ → ℕ
 room None = 2 ^ 64 + 1
 room (Some low) = 2 ^ 64 - low
 
--- the walk: whoever is nearer than the limit is the best so far, and its distance the limit from then on
+-- the walk: whoever is nearer than the limit is the best so far, and its distance the limit from
+-- then on
 abbrev pub walk : Position → ℕ → Option ℕ → List Known → Option ℕ
 walk c limit best [] = best
 walk c limit best (k ∷ ks) =

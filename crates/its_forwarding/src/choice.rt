@@ -1,5 +1,5 @@
-//! The rules of selection, of simple and of greedy forwarding (EN 302 636-4-1 clauses 8 and 10, in this
-//! profile).
+//! The rules of selection, of simple and of greedy forwarding (EN 302 636-4-1 clauses 8 and 10, in
+//! this profile).
 
 ghost use Rattle.std.specs.Prelude.{◌≡◌, ◌^◌, ◌≤◌, List};
 ghost use Rattle.its_model.specs.History.{Reception};
@@ -24,12 +24,12 @@ pub enum Choice {
     Drop,
 }
 
-/// To whom a packet for this area goes from the own place, where it came from this sender, if it came
-/// from one: the first that applies. To all, where the area holds the own place (simple forwarding); to
-/// nobody, where the sender is known to stand in the area, by an accurate place; to the neighbour that
-/// is nearest to the area's centre, of equally near ones the one of least address, where one is nearer
-/// than the own place (greedy forwarding); to all. It takes no memory. `now` is in milliseconds, at most
-/// 2^62.
+/// To whom a packet for this area goes from the own place, where it came from this sender, if it
+/// came from one: the first that applies. To all, where the area holds the own place (simple
+/// forwarding); to nobody, where the sender is known to stand in the area, by an accurate place; to
+/// the neighbour that is nearest to the area's centre, of equally near ones the one of least
+/// address, where one is nearer than the own place (greedy forwarding); to all. It takes no memory.
+/// `now` is in milliseconds, at most 2^62.
 pub fn choose<S: LocationStore>(
     store: &S,
     now: u64,

@@ -1,5 +1,5 @@
-//! The neighbour that is nearest to a centre: a walk over the neighbours, which passes over those that
-//! lie outside a box round the centre.
+//! The neighbour that is nearest to a centre: a walk over the neighbours, which passes over those
+//! that lie outside a box round the centre.
 
 ghost use Rattle.std.specs.Prelude.{◌≡◌, ◌^◌, ◌≤◌, List};
 ghost use Rattle.std.specs.Option.{option_map};
@@ -12,8 +12,8 @@ use its_geometry::{Centre, Nearer};
 use its_gnvalue::GnAddress;
 use its_loctable::LocationStore;
 
-/// The address of the neighbour that is nearest to the centre, of equally near ones the one of least
-/// address, where one is nearer than the limit.
+/// The address of the neighbour that is nearest to the centre, of equally near ones the one of
+/// least address, where one is nearer than the limit.
 pub(crate) fn nearest_neighbour<S: LocationStore>(
     store: &S,
     now: u64,

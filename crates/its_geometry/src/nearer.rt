@@ -8,8 +8,8 @@ use crate::reach::Reach;
 use its_gnvalue::Place;
 use std::marker::Model;
 
-/// A centre, and the square of the least distance from it so far, in square centimetres. Most places
-/// that are no nearer are told by their differences of latitude and longitude alone.
+/// A centre, and the square of the least distance from it so far, in square centimetres. Most
+/// places that are no nearer are told by their differences of latitude and longitude alone.
 #[derive(Drop)]
 pub struct Nearer {
     reach: Reach,
@@ -24,8 +24,8 @@ impl Model for Nearer {
 }
 
 impl Nearer {
-    /// No place is met yet, and only those count whose squared distance is below the limit, in square
-    /// centimetres.
+    /// No place is met yet, and only those count whose squared distance is below the limit, in
+    /// square centimetres.
     pub fn than(centre: Centre, limit: u64) -> Nearer
         ensures { result ≡ record { centre = centre.place; least = limit } }
     {
@@ -34,11 +34,12 @@ impl Nearer {
         }
     }
 
-    /// Whether the place is nearer than the limit and all places before it. If so, its distance is the
-    /// least from now on.
+    /// Whether the place is nearer than the limit and all places before it. If so, its distance is
+    /// the least from now on.
     pub fn take(&mut self, place: Place) -> bool
         ensures nearer { result ≡ nat_lt (squared_distance self.old.centre place) self.old.least }
-        ensures least { self.new.least ≡ min self.old.least (squared_distance self.old.centre place) }
+        ensures least { self.new.least
+            ≡ min self.old.least (squared_distance self.old.centre place) }
         ensures centre { self.new.centre ≡ self.old.centre }
     {
         if !self.reach.holds(place) {

@@ -77,7 +77,7 @@ pub record IsSound (front : List ℕ) : Type 0 where
   pub encodes : Encodes pdu left encoded
   pub begins : half_octets encoded ≡ front ++ rest
 
--- the front of the octets up to this half octet
+-- the prefix of the octets up to this half octet
 abbrev pub front_to : ℕ → List ℕ → List ℕ
 front_to end w = take end (half_octets w)
 

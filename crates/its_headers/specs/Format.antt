@@ -1,4 +1,4 @@
--- A format says which fields follow one another, and judges each together with those before it.
+-- A format says which fields follow one another, and checks each together with those before it.
 use Rattle.std.specs.Prelude.{◌≡◌, ℕ, ◌+◌, ◌/◌, ◌%◌, List, length, drop, take, Bool, Result, Ok}
 use Rattle.std.specs.Prelude.{Err, nat_lt, if◌then◌else◌}
 use Rattle.byteorder.specs.Endian.{big_number}

@@ -1,4 +1,4 @@
--- Writing an encoding at the front of a slice.
+-- Writing an encoding at the beginning of a slice.
 use Rattle.std.specs.Prelude.{◌≡◌, ◌≤◌, ℕ, List, length, take, drop}
 use Rattle.its_model.specs.Packet.{Pdu}
 use Rattle.its_headers.specs.Encoding.{Encodes}

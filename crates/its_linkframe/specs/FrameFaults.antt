@@ -32,7 +32,7 @@ IsGeoNetworking w = IsLong w × (ether_type w ≡ 137 ∷ 71 ∷ [])
 abbrev pub IsCheckedOn : List ℕ → Type 0
 IsCheckedOn w = IsGeoNetworking w × (length w ≤ LONGEST_FRAME)
 
--- Judged in this order: under 14 octets; another type; over 1468 octets; no packet after the type,
+-- Checked in this order: under 14 octets; another type; over 1468 octets; no packet after the type,
 -- whose first fault is that of the packet; a packet with octets after it.
 abbrev pub IsFrameFault : List ℕ → FrameFault → Type 0
 IsFrameFault w faults.Short = length w < 14

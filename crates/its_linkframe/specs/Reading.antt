@@ -67,7 +67,7 @@ IsCutShort size old new faults.Failed = ⊥
 
 -- What is answered where the octets that are left are those of a capture: its first record, which
 -- leaves the capture of the others, or the end, where there is none; or else that the device failed
--- or that a growth was refused.
+-- or that memory ran out.
 abbrev pub ReadsFirst : List Captured → Option (List ℕ) → Result (Option Record) CaptureFault
     → Type 0
 ReadsFirst [] new (Ok None) = new ≡ Some []

@@ -17,7 +17,8 @@ pub(crate) fn fill<S: Source>(source: &mut S, buf: &mut [u8]) -> Option<usize>
     ensures bytes { IfSome result
         (λ n. Consumes (S.remaining source.old) (S.remaining source.new) (take n buf.new)) }
     ensures end { IfSome result (λ n. n < length buf.new → IsAtEnd (S.remaining source.new)) }
-    ensures lost { IfNone result (ConsumesPrefix (S.remaining source.old) (S.remaining source.new)) }
+    ensures lost { IfNone result
+        (ConsumesPrefix (S.remaining source.old) (S.remaining source.new)) }
 {
     let mut at = 0;
     while at < buf.len() {

@@ -29,7 +29,8 @@ pub(crate) struct Told {
 /// The call that an event asks of its station: none where it delivers a frame.
 pub(crate) fn call_of(what: What) -> Option<Call>
     requires { events.IsInRange what }
-    ensures call { (own : OwnCall) → what_of what ≡ Calls own → IsSomeAnd result (λ call. IsCall call (Own own)) }
+    ensures call { (own : OwnCall) → what_of what ≡ Calls own
+        → IsSomeAnd result (λ call. IsCall call (Own own)) }
     ensures range { IfSome result IsInRange }
 {
     match what {

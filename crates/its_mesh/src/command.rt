@@ -17,13 +17,13 @@ use std::rt::Files;
 const MOST_STATIONS: usize = 64;
 
 /// Runs the scenario in the file, of at most 64 stations, each with a UDP socket on 127.0.0.1 at a
-/// port that the system picks. Prints a line for each event but `deliver`, and for each datagram that
-/// comes: its moment, its station and what is told of it. `input` is standard input, which is read
-/// where the file is `-`.
+/// port that the system picks. Prints a line for each event but `deliver`, and for each datagram
+/// that comes: its moment, its station and what is told of it. `input` is standard input, which is
+/// read where the file is `-`.
 ///
-/// `Refused` for a text that is no scenario. `Failed` where the file could not be read, a socket not
-/// be made or standard output not written, or memory ran out: then it ends there. `Failed` too where
-/// a send or a receive failed: that is told, and it goes on.
+/// `Refused` for a text that is no scenario. `Failed` where the file could not be read, a socket
+/// not be made or standard output not written, or memory ran out: then it ends there. `Failed` too
+/// where a send or a receive failed: that is told, and it goes on.
 pub fn mesh_file<R: Files + Net + AllocGlobal, I: Read + Drop, W: Write, E: Write>(
     rt: &R,
     file: &str,

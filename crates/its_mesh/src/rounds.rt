@@ -15,8 +15,8 @@ const MOST: u32 = 64;
 /// After so many rounds in a row in which nothing came no further one is held.
 const QUIET: u32 = 4;
 
-/// The longest prefix of a datagram that is read: one octet more than a frame may have, so that what
-/// is too long for a frame stays so.
+/// The longest prefix of a datagram that is read: one octet more than a frame may have, so that
+/// what is too long for a frame stays so.
 const LONGEST_READ: usize = LONGEST_FRAME + 1;
 
 impl<'a, S: Sockets, W: Write, E: Write> Mesh<'a, S, W, E> {
@@ -43,8 +43,8 @@ impl<'a, S: Sockets, W: Write, E: Write> Mesh<'a, S, W, E> {
         Ok(came)
     }
 
-    /// Asks a station's socket until it would block or fails, or 64 datagrams came, and hands each to
-    /// the station. Gives how many came.
+    /// Asks a station's socket until it would block or fails, or 64 datagrams came, and hands each
+    /// to the station. Gives how many came.
     fn ask<'f>(&mut self, station: usize) -> Result<u32, Fault<'f>>
         ensures { IfOk result (λ count. count ≤ 64) }
     {

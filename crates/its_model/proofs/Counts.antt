@@ -23,7 +23,8 @@ abbrev accepted_in : ℕ → List Origin → List LogLine → ℕ
 accepted_in place all log =
     count_by (λ line. is_acceptance_of line.entry line.event.what place all) log
 
--- before its place is reached a send has no frame beyond its acceptances, and from then on at most one
+-- before its place is reached a send has no frame beyond its acceptances, and from then on at most
+-- one
 pub record AreFew (place : ℕ) (all : List Origin) (log : List LogLine) : Type 0 where
   pub none : length log ≤ place → frames_in place log ≤ accepted_in place all log
   pub some : frames_in place log ≤ 1 + accepted_in place all log

@@ -72,7 +72,8 @@ no_more_than (suc n) xs b d =
     omega (
       arith,
       length_without n xs d,
-      no_more_than n (without n xs) (below_without n xs b) (differ_filter (λ x. not (eqb x n)) xs d),
+      no_more_than n (without n xs) (below_without n xs b)
+          (differ_filter (λ x. not (eqb x n)) xs d),
     )
 
 -- A list without repetition is no longer than one that has its members.

@@ -1,4 +1,5 @@
--- Each frame is given by one line of the log; and what a line delivered is the frame of that number.
+-- Each frame is given by one line of the log; and what a line delivered is the frame of that
+-- number.
 use Rattle.std.proofs.Common.{◌≡◌, ◌⊎◌, ℕ, suc, ◌<◌, ◌≤◌, List, [], ◌∷◌, ◌++◌, length, Option, Some}
 use Rattle.std.proofs.Common.{None, refl, sym, ap, subst, ◌∙◌, inl, inr, arith}
 use Rattle.std.specs.Prelude.{slice_get}

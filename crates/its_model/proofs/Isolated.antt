@@ -158,7 +158,8 @@ moment_is : (a : StationModel) (moment : ℕ) → a.clock ≤ moment
 moment_is a moment le =
     ap (λ b. cond b (Some MomentEarlier) (late moment)) (not_early a.clock moment le)
 
--- What a call of the source or of the station itself leaves alike: the answer as it is seen, and the station but for its clock and what it heard of others.
+-- What a call of the source or of the station itself leaves alike: the answer as it is seen, and
+-- the station but for its clock and what it heard of others.
 record Alike (s moment : ℕ) (call : Call) (full only : Step) : Type 0 where
   pub clock : ℕ
   pub answer : seen full.answer call ≡ seen only.answer call

@@ -1,4 +1,5 @@
--- What a table of the last packets has to keep: a session grows by a packet of its source, and what is known is renewed.
+-- What a table of the last packets has to keep: a session grows by a packet of its source, and what
+-- is known is renewed.
 use Rattle.std.proofs.Common.{◌≡◌, ◌≢◌, ℕ, zero, suc, ◌+◌, ◌≤◌, List, [], ◌∷◌, take, Bool, true}
 use Rattle.std.proofs.Common.{false, cond, not, ◌||◌, Option, Some, None, eqb, refl, sym, ap}
 use Rattle.std.proofs.Common.{subst, ◌∙◌, inl, inr, arith, is_some}

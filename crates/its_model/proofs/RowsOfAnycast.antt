@@ -13,7 +13,8 @@ use Rattle.its_model.specs.World.What.{Deliver}
 use Rattle.its_model.proofs.Scenes.{three, second_far, hi, gbc_hi, gac_hi, open_port, by, after, at}
 use Rattle.its_model.proofs.Scenes.{Happens}
 
--- Inside its area it stops, whether the port is open or not; outside it goes on as a geobroadcast does.
+-- Inside its area it stops, whether the port is open or not; outside it goes on as a geobroadcast
+-- does.
 handed_out_and_not_relayed : Happens three (
     at 1 0 open_port Opened
     ∷ at 0 1000 gac_hi (Sent 0)

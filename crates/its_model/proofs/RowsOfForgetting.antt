@@ -101,7 +101,8 @@ second_small =
     station 1 here 64 ∷ station 2 (place (pos 449) (pos 0)) 1
     ∷ station 3 (place (pos 0) (pos 449)) 64 ∷ []
 
--- A duplicate is told before a full table; and a refused beacon is accepted once the other source has gone.
+-- A duplicate is told before a full table; and a refused beacon is accepted once the other source
+-- has gone.
 no_room_until_the_other_is_gone : Happens second_small (
     at 0 1000 gbc_hi (Sent 0)
     ∷ at 1 1000 (Deliver 0) (Accepted None (Some 1))

@@ -16,8 +16,8 @@ use Rattle.its_model.specs.World.What.{Calls, Deliver}
 use Rattle.its_model.proofs.Scenes.{place, mac, address, station, here, circle, request, tick, by}
 use Rattle.its_model.proofs.Scenes.{after, targets}
 
--- Two neighbours are equally near to an area further north, and nearer than the sender: the one of least address is taken while
--- its session stands. Then it goes to all.
+-- Two neighbours are equally near to an area further north, and nearer than the sender: the one of
+-- least address is taken while its session stands. Then it goes to all.
 abbrev below_the_area : List Config
 below_the_area =
     station 1 here 64 ∷ station 2 (place (pos 50) (pos 50000)) 64
@@ -74,7 +74,8 @@ abbrev decided_by : List Reception → Position → GeoArea → Option ℕ → D
 decided_by history own area sender =
     decision (stations_at default_remember 1000 history) own area sender
 
--- Of two live sources with the sender's MAC the one of least address is asked where it is; neither is a neighbour.
+-- Of two live sources with the sender's MAC the one of least address is asked where it is; neither
+-- is a neighbour.
 sender_by_least_address : decided_by (says (address 1) here true (Some 0)
     ∷ says (mac 1) here false (Some 0) ∷ [])
     (place (pos 100000) (pos 0)) (circle here 100) (Some (mac 1)) ≡ Broadcast

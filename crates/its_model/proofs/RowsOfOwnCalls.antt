@@ -50,7 +50,8 @@ first_number : numbers_on_the_air (after three (
 unfolding own_step receive_step verdict known stations_at decision area_holds squared_distance
 first_number = refl
 
--- a request that is too long and has no hops is refused as too long, and one of 1394 octets is taken
+-- a request that is too long and has no hops is refused as too long, and one of 1394 octets is
+-- taken
 too_long_before_no_hops : Happens three (
     at 0 1000 (Calls (SendGbc (record too_long { max_hops = 0 }))) (Refused PayloadTooLong)
     ∷ at 0 1000

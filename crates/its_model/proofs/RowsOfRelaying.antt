@@ -30,7 +30,8 @@ sent_handed_and_relayed : Happens three (
 unfolding own_step receive_step verdict known stations_at decision area_holds squared_distance
 sent_handed_and_relayed = refl
 
--- The frames of that world: the packet as it was sent, and the same with one hop fewer from the relayer.
+-- The frames of that world: the packet as it was sent, and the same with one hop fewer from the
+-- relayer.
 abbrev first_frame : Transmission
 first_frame =
     record {
@@ -86,7 +87,8 @@ handed_out_once : Happens three (
 unfolding own_step receive_step verdict known stations_at decision area_holds squared_distance
 handed_out_once = refl
 
--- Accepted outside the area, it is a duplicate once the station is inside; but one that comes first then is handed out.
+-- Accepted outside the area, it is a duplicate once the station is inside; but one that comes first
+-- then is handed out.
 moved_in_too_late : Happens second_far (
     at 1 0 open_port Opened
     ∷ at 0 1000 gbc_hi (Sent 0)
@@ -106,7 +108,8 @@ moved_in_before : Happens second_far (
 unfolding own_step receive_step verdict known stations_at decision area_holds squared_distance
 moved_in_before = refl
 
--- A station outside drops what comes from a sender whose accurate place is inside, by the entry that this very packet made.
+-- A station outside drops what comes from a sender whose accurate place is inside, by the entry
+-- that this very packet made.
 dropped_where_the_sender_is_inside : Happens second_far (
     at 1 0 open_port Opened
     ∷ at 0 500 (move here true) Moved

@@ -37,7 +37,8 @@ restarted_its_ports_are_closed : Happens three (
 unfolding own_step receive_step verdict known stations_at decision area_holds squared_distance
 restarted_its_ports_are_closed = refl
 
--- A sender that restarts from a number that others remember is taken for its own duplicate, and from another one it is heard.
+-- A sender that restarts from a number that others remember is taken for its own duplicate, and
+-- from another one it is heard.
 number_that_was_sent_before : Happens three (
     at 1 0 open_port Opened
     ∷ at 0 1000 gbc_hi (Sent 0)

@@ -1,4 +1,5 @@
--- Lists of what is known of stations, in ascending order of their addresses; and that the stations of a history are one.
+-- Lists of what is known of stations, in ascending order of their addresses; and that the stations
+-- of a history are one.
 use Rattle.std.proofs.Common.{◌≡◌, ℕ, ◌+◌, ◌≤◌, ◌<◌, Bool, true, false, cond, ◌||◌, ◌≢◌, List, []}
 use Rattle.std.proofs.Common.{◌∷◌, Option, Some, None, refl, sym, ap, subst, ◌∙◌, eqb, ltb}
 use Rattle.std.proofs.Common.{arith, ⊎_elim, true≢false, unwrap_or, is_some}
@@ -198,7 +199,8 @@ Up-put n [] h = (tt, tt)
 Up-put n (x ∷ xs) h =
     elim (ltb n x) as (λ b. ltb n x ≡ b
     → Up (cond b (n ∷ x ∷ xs) (cond (eqb n x) (x ∷ xs) (x ∷ put n xs)))) [
-      | true ↦ λ e. let lt : n < x = ltb-true n x e in ((lt, Above-weaker n x xs (omega arith) h.0), h)
+      | true ↦ λ e. let lt : n < x = ltb-true n x e in
+          ((lt, Above-weaker n x xs (omega arith) h.0), h)
       | false ↦ λ e. elim (eqb n x) as (λ b. eqb n x ≡ b → Up (cond b (x ∷ xs) (x ∷ put n xs))) [
         | true ↦ λ _. h
         | false ↦ λ d. let le : x ≤ n = ltb-false n x e in let ne : n ≡ x → ⊥ = eqb-false n x d in (

@@ -193,7 +193,8 @@ not_own a b h = grind (arith, nat_tests)
 is_own : (a b : ℕ) → a ≡ b → eqb a b ≡ true
 is_own a b h = grind (arith, nat_tests)
 
--- what comes in time from another source and the right sender, isn't repeated and has room, is accepted
+-- what comes in time from another source and the right sender, isn't repeated and has room, is
+-- accepted
 pub is_accepted : (s : StationModel) (moment : ℕ) (t : Transmission)
     → s.clock ≤ moment → moment ≤ last_moment → is_for s t ≡ true → t.pdu.vector.address ≢ s.address
     → is_sender_wrong t t.pdu.body ≡ false

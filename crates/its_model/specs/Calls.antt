@@ -1,4 +1,5 @@
--- What is asked of a station, and what it answers (EN 302 636-4-1 clauses 8 and 10, in this profile).
+-- What is asked of a station, and what it answers (EN 302 636-4-1 clauses 8 and 10, in this
+-- profile).
 use Rattle.std.specs.Prelude.{ℕ, ℤ, Bool, Option}
 use Rattle.its_gnvalue.specs.Values.{Position}
 use Rattle.its_geometry.specs.Area.{GeoArea}
@@ -63,7 +64,8 @@ pub data Refusal : Type 0 where
   NoSuchFrame : Refusal  -- M3, of a world
   NoSuchStation : Refusal  -- M4, of a world
 
--- What is answered. F is what stands for the frame that is given: the frame itself, or its number in a world.
+-- What is answered. F is what stands for the frame that is given: the frame itself, or its number
+-- in a world.
 pub data Answer (F : Type 0) : Type 0 where
   Moved : Answer F
   Opened : Answer F

@@ -1,5 +1,5 @@
--- To whom a geobroadcast goes: the rules of selection, of simple and of greedy forwarding (EN 302 636-4-1 clauses 8 and 10,
--- in this profile).
+-- To whom a geobroadcast goes: the rules of selection, of simple and of greedy forwarding (EN 302
+-- 636-4-1 clauses 8 and 10, in this profile).
 use Rattle.std.specs.Prelude.{◌≡◌, ◌⊎◌, ℕ, ◌<◌, ◌≤◌, Bool, false, ◌&&◌, nat_lt, if◌then◌else◌}
 use Rattle.std.specs.Prelude.{List, [], ◌∷◌, filter, Option, Some, None}
 use Rattle.its_gnvalue.specs.Values.{Position, mid_of}
@@ -35,7 +35,8 @@ is_nearer centre limit k = k.neighbour && nat_lt (distance_of centre k) limit
 -- the nearer to the centre: of two that are equally near, the first
 abbrev pub nearer_of : Position → Known → Option Known → Known
 nearer_of centre k None = k
-nearer_of centre k (Some other) = if nat_lt (distance_of centre other) (distance_of centre k) then other else k
+nearer_of centre k (Some other) =
+    if nat_lt (distance_of centre other) (distance_of centre k) then other else k
 
 -- the nearest of these, and the first of those that are equally near
 abbrev pub closest : Position → List Known → Option Known
@@ -51,16 +52,19 @@ abbrev pub toward : Option Known → Decision
 toward None = Broadcast
 toward (Some k) = To (mid_of k.vector.address)
 
--- The first that applies: inside the area to all (simple forwarding); nobody, where the sender is inside; the neighbour
--- nearest to the area's centre, where one is nearer than this station (greedy forwarding); to all.
+-- The first that applies: inside the area to all (simple forwarding); nobody, where the sender is
+-- inside; the neighbour nearest to the area's centre, where one is nearer than this station (greedy
+-- forwarding); to all.
 unfoldable pub decision : List Known → Position → GeoArea → Option ℕ → Decision
 decision stations own area sender =
     if area_holds area own then Broadcast
     else if is_sender_inside area sender stations then Drop
     else toward (next_hop area.centre (squared_distance area.centre own) stations)
 
--- A word of the law on this choice: by distance, and then by address, one comes before another or is the same.
+-- A word of the law on this choice: by distance, and then by address, one comes before another or
+-- is the same.
 abbrev pub Precedes : Position → Known → Known → Type 0
 Precedes centre k other =
     (distance_of centre k < distance_of centre other)
-    ⊎ ((distance_of centre k ≡ distance_of centre other) × (k.vector.address ≤ other.vector.address))
+    ⊎ ((distance_of centre k ≡ distance_of centre other)
+    × (k.vector.address ≤ other.vector.address))

@@ -1,7 +1,7 @@
--- What can be read off a log. All logs have the newest line first, so what stands behind a line came before it, and how
--- many lines stand behind it is its place.
-use Rattle.std.specs.Prelude.{◌≡◌, ◌⊎◌, ℕ, ◌+◌, ◌≤◌, List, [], ◌∷◌, length, filter, Bool, true, false, not, ◌&&◌}
-use Rattle.std.specs.Prelude.{Option, Some, None, if◌then◌else◌, ◌==◌, slice_get}
+-- What can be read off a log. All logs have the newest line first, so what stands behind a line
+-- came before it, and how many lines stand behind it is its place.
+use Rattle.std.specs.Prelude.{◌≡◌, ◌⊎◌, ℕ, ◌+◌, ◌≤◌, List, [], ◌∷◌, length, filter, Bool, true}
+use Rattle.std.specs.Prelude.{false, not, ◌&&◌, Option, Some, None, if◌then◌else◌, ◌==◌, slice_get}
 use Rattle.std.specs.List.{list_any}
 use Rattle.its_gnvalue.specs.Values.{Position}
 use Rattle.its_model.specs.Packet.{Transmission}
@@ -30,7 +30,8 @@ abbrev pub deeper : Option Origin → Option Origin
 deeper None = None
 deeper (Some o) = Some (record { event = o.event; before = o.before; depth = o.depth + 1 })
 
--- of a frame that an event gave: a call is its own origin, and a relayed frame has that of the frame that was delivered
+-- of a frame that an event gave: a call is its own origin, and a relayed frame has that of the
+-- frame that was delivered
 abbrev pub origin_by : What → Event → List LogLine → List Origin → Option Origin
 origin_by (Calls call) e before earlier = Some (record { event = e; before = before; depth = 0 })
 origin_by (Deliver k) e before earlier = deeper (slice_get earlier k)
@@ -54,15 +55,17 @@ moved_by entry what old = old
 
 -- the place of station j after one more line
 abbrev pub position_after : ℕ → LogLine → Position → Position
-position_after j line old = if line.event.station == j then moved_by line.entry line.event.what old else old
+position_after j line old =
+    if line.event.station == j then moved_by line.entry line.event.what old else old
 
--- where station j stands after these lines: where its last move took it that wasn't refused, else where it began
+-- where station j stands after these lines: where its last move took it that wasn't refused, else
+-- where it began
 abbrev pub position_at : Position → ℕ → List LogLine → Position
 position_at start j [] = start
 position_at start j (line ∷ before) = position_after j line (position_at start j before)
 
--- by a restart that wasn't refused to the number that it names, and by a geobroadcast or geoanycast that was sent to the
--- number after
+-- by a restart that wasn't refused to the number that it names, and by a geobroadcast or geoanycast
+-- that was sent to the number after
 abbrev pub renumbered_by : Answer ℕ → What → ℕ → ℕ
 renumbered_by Restarted (Calls (Restart number)) old = number
 renumbered_by (Sent k) (Calls (SendGbc request)) old = number_after old
@@ -71,10 +74,11 @@ renumbered_by entry what old = old
 
 -- the next number of station j after one more line
 abbrev pub next_number_after : ℕ → LogLine → ℕ → ℕ
-next_number_after j line old = if line.event.station == j then renumbered_by line.entry line.event.what old else old
+next_number_after j line old =
+    if line.event.station == j then renumbered_by line.entry line.event.what old else old
 
--- The next number of station j after these lines: from its last restart on, or from 0, it counts what it sent to areas,
--- modulo 65536 (profile).
+-- The next number of station j after these lines: from its last restart on, or from 0, it counts
+-- what it sent to areas, modulo 65536 (profile).
 abbrev pub sequence_number_at : ℕ → List LogLine → ℕ
 sequence_number_at j [] = 0
 sequence_number_at j (line ∷ before) = next_number_after j line (sequence_number_at j before)
@@ -89,15 +93,17 @@ heard_in entry delivered moment older = older
 
 -- what station j accepted, after one more line
 abbrev pub heard_at : ℕ → LogLine → List Reception → List Reception
-heard_at j line older = if line.event.station == j then heard_in line.entry line.delivered line.event.moment older else older
+heard_at j line older = if line.event.station == j
+    then heard_in line.entry line.delivered line.event.moment older else older
 
--- the packets that station j accepted by these lines since its last restart among them, the newest first
+-- the packets that station j accepted by these lines since its last restart among them, the newest
+-- first
 abbrev pub receptions_at : ℕ → List LogLine → List Reception
 receptions_at j [] = []
 receptions_at j (line ∷ before) = heard_at j line (receptions_at j before)
 
--- Of a first moment, those of receptions after it, and a last one, two that follow each other are an entry's life or more
--- apart.
+-- Of a first moment, those of receptions after it, and a last one, two that follow each other are
+-- an entry's life or more apart.
 abbrev pub IsBroken : ℕ → List Reception → ℕ → Type 0
 IsBroken last [] first = first + entry_life ≤ last
 IsBroken last (r ∷ older) first = (r.moment + entry_life ≤ last) ⊎ IsBroken r.moment older first
@@ -109,7 +115,8 @@ distinct (n ∷ ns) = n ∷ filter (λ m. not (m == n)) (distinct ns)
 
 -- Among the numbers of these, at least so many differ from this one and from each other.
 abbrev pub HasOthers : ℕ → ℕ → List Reception → Type 0
-HasOthers count number receptions = count ≤ length (filter (λ n. not (n == number)) (distinct (numbers_of receptions)))
+HasOthers count number receptions =
+    count ≤ length (filter (λ n. not (n == number)) (distinct (numbers_of receptions)))
 
 -- a restart that wasn't refused
 abbrev pub is_restart : Answer ℕ → Bool
@@ -124,16 +131,17 @@ is_restart_of j line = (line.event.station == j) && is_restart line.entry
 abbrev pub has_restarted : ℕ → List LogLine → Bool
 has_restarted j log = list_any (is_restart_of j) log
 
--- The first line, at which station j accepted a packet of this source with this number, and what it accepted of the source
--- since: until the later line the source's session broke, or as many others came as are remembered.
+-- The first line, at which station j accepted a packet of this source with this number, and what it
+-- accepted of the source since: until the later line the source's session broke, or as many others
+-- came as are remembered.
 abbrev pub IsOutlived : ℕ → ℕ → ℕ → ℕ → LogLine → List LogLine → LogLine → Type 0
 IsOutlived remember j source number first between later =
     let receptions = of_source source (receptions_at j between) in
     IsBroken later.event.moment receptions first.event.moment ⊎ HasOthers remember number receptions
 
--- Station j, which remembers so many numbers of a source, accepted a packet of this source with this number by the first
--- line. By the later line it has forgotten it: between them it restarted, or the source's session broke, or as many others
--- of the source were accepted as are remembered.
+-- Station j, which remembers so many numbers of a source, accepted a packet of this source with
+-- this number by the first line. By the later line it has forgotten it: between them it restarted,
+-- or the source's session broke, or as many others of the source were accepted as are remembered.
 abbrev pub Forgotten : ℕ → ℕ → ℕ → ℕ → LogLine → List LogLine → LogLine → Type 0
 Forgotten remember j source number first between later =
     (has_restarted j between ≡ true) ⊎ IsOutlived remember j source number first between later

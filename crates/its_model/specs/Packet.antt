@@ -9,16 +9,17 @@ pub record Message : Type 0 where
   pub info : ℕ
   pub payload : List ℕ
 
--- What the kinds of packet have beside the rest. A beacon: nothing. A single-hop broadcast: four octets of
--- media-dependent data and a message. A geobroadcast, and a geoanycast: a sequence number, an area and a message.
+-- What the kinds of packet have beside the rest. A beacon: nothing. A single-hop broadcast: four
+-- octets of media-dependent data and a message. A geobroadcast, and a geoanycast: a sequence
+-- number, an area and a message.
 pub data Body : Type 0 where
   beacon : Body
   shb : (media : List ℕ) (message : Message) → Body
   gbc : (number : ℕ) (area : GeoArea) (message : Message) → Body
   gac : (number : ℕ) (area : GeoArea) (message : Message) → Body
 
--- What stays the same from hop to hop: the source's vector, the octets of lifetime and traffic class, whether the source
--- is mobile, the greatest number of hops, and the body.
+-- What stays the same from hop to hop: the source's vector, the octets of lifetime and traffic
+-- class, whether the source is mobile, the greatest number of hops, and the body.
 pub record Pdu : Type 0 where
   pub vector : PositionVector
   pub lifetime : ℕ
@@ -41,7 +42,8 @@ number_in (shb media message) = None
 number_in (gbc number area message) = Some number
 number_in (gac number area message) = Some number
 
--- The two kinds of packet for an area: a geobroadcast is for all stations inside, and a geoanycast for any one of them.
+-- The two kinds of packet for an area: a geobroadcast is for all stations inside, and a geoanycast
+-- for any one of them.
 pub data AreaKind : Type 0 where
   geobroadcast : AreaKind
   geoanycast : AreaKind
@@ -53,4 +55,5 @@ area_body geoanycast number area message = gac number area message
 
 -- the same packet, one hop fewer, with link addresses of its own
 abbrev pub relay : Transmission → ℕ → ℕ → Transmission
-relay t source target = record { pdu = t.pdu; hops_left = t.hops_left - 1; link_source = source; link_target = target }
+relay t source target =
+    record { pdu = t.pdu; hops_left = t.hops_left - 1; link_source = source; link_target = target }

@@ -1,7 +1,7 @@
--- What holds after every schedule. A log is split at a line, `later ++ line ∷ before`, and at two lines,
--- `later ++ second ∷ (between ++ first ∷ older)`: the newest line stands first.
-use Rattle.std.specs.Prelude.{◌≡◌, ℕ, ◌+◌, ◌-◌, ◌≤◌, ◌<◌, List, ◌∷◌, ◌++◌, length, Bool, true, false, Option, Some, None}
-use Rattle.std.specs.Prelude.{◌==◌, slice_get}
+-- What holds after every schedule. A log is split at a line, `later ++ line ∷ before`, and at two
+-- lines, `later ++ second ∷ (between ++ first ∷ older)`: the newest line stands first.
+use Rattle.std.specs.Prelude.{◌≡◌, ℕ, ◌+◌, ◌-◌, ◌≤◌, ◌<◌, List, ◌∷◌, ◌++◌, length, Bool, true}
+use Rattle.std.specs.Prelude.{false, Option, Some, None, ◌==◌, slice_get}
 use Rattle.std.specs.List.{count_by}
 use Rattle.its_gnvalue.specs.Values.{mid_of}
 use Rattle.its_geometry.specs.Area.{GeoArea, area_holds}
@@ -13,8 +13,8 @@ use Rattle.its_model.specs.Calls.Why.{Duplicate}
 use Rattle.its_model.specs.Station.{StationModel}
 use Rattle.its_model.specs.World.{What, LogLine, WorldModel, Config, frame_of, default_remember}
 use Rattle.its_model.specs.World.What.{Calls, Deliver}
-use Rattle.its_model.specs.Log.{Origin, place_of, origins, position_at, sequence_number_at, receptions_at, has_restarted}
-use Rattle.its_model.specs.Log.{IsOutlived, Forgotten}
+use Rattle.its_model.specs.Log.{Origin, place_of, origins, position_at, sequence_number_at}
+use Rattle.its_model.specs.Log.{receptions_at, has_restarted, IsOutlived, Forgotten}
 
 -- ---- words of the laws
 
@@ -35,9 +35,11 @@ pub record IsGivenBy (log : List LogLine) (k : ℕ) : Type 0 where
   pub split : log ≡ later ++ line ∷ before
   pub gives : frame_of line.entry ≡ Some k
 
--- Station j is what its log makes it: it keeps its address, its capacity and how many numbers it remembers, stands where its
--- last move took it, has its next number, and its history is what it accepted since its last restart.
-pub record IsAsLogged (configs : List Config) (log : List LogLine) (j : ℕ) (s : StationModel) : Type 0 where
+-- Station j is what its log makes it: it keeps its address, its capacity and how many numbers it
+-- remembers, stands where its last move took it, has its next number, and its history is what it
+-- accepted since its last restart.
+pub record IsAsLogged (configs : List Config) (log : List LogLine) (j : ℕ)
+    (s : StationModel) : Type 0 where
   pub config : Config
   pub configured : slice_get configs j ≡ Some config
   pub address : s.address ≡ config.address
@@ -65,13 +67,16 @@ pub record IsOfSend (w : WorldModel) (kind : AreaKind) (place k : ℕ) : Type 0 
   pub at_place : place_of origin ≡ place
   pub sent : origin.event.what ≡ Calls (area_call kind request)
 
--- ---- All laws on packets for an area hold of geobroadcasts and of geoanycasts alike, each kind for itself: `area_body
--- geobroadcast` is the body of a geobroadcast, and `area_call geobroadcast` the call that sends one.
+-- ---- All laws on packets for an area hold of geobroadcasts and of geoanycasts alike, each kind
+-- for itself: `area_body geobroadcast` is the body of a geobroadcast, and `area_call geobroadcast`
+-- the call that sends one.
 
--- ---- What is handed out was sent before, to that port, for an area that holds the receiver where it stands then.
+-- ---- What is delivered to a port was sent before, to that port, for an area that holds the
+-- receiver where it stands then.
 
--- frame k, of which station j hands out this message after these lines, was sent so
-pub record WasSentForHere (kind : AreaKind) (configs : List Config) (before : List LogLine) (j k : ℕ) (message : Message) : Type 0 where
+-- frame k, of which station j delivers this message to its port after these lines, was sent so
+pub record WasSentForHere (kind : AreaKind) (configs : List Config) (before : List LogLine)
+    (j k : ℕ) (message : Message) : Type 0 where
   pub origin : Origin
   pub request : GbcRequest
   pub config : Config
@@ -88,14 +93,16 @@ HandedAsSent configs w =
     (kind : AreaKind) (later before : List LogLine) (line : LogLine) (k : ℕ) (t : Transmission)
     (number : ℕ) (area : GeoArea) (sent message : Message) (relayed : Option ℕ)
     → w.log ≡ later ++ line ∷ before
-    → line.event.what ≡ Deliver k → slice_get w.air k ≡ Some t → t.pdu.body ≡ area_body kind number area sent
+    → line.event.what ≡ Deliver k → slice_get w.air k ≡ Some t
+    → t.pdu.body ≡ area_body kind number area sent
     → line.entry ≡ Accepted (Some message) relayed
     → WasSentForHere kind configs before line.event.station k message
 
--- ---- A frame that is given for a delivery is the frame that was delivered, with one hop fewer, from the station's own link
--- address.
+-- ---- A frame that is given for a delivery is the frame that was delivered, with one hop fewer,
+-- from the station's own link address.
 
--- frame m is frame k, relayed by station j: the same packet with one hop fewer left, from the station's own link address
+-- frame m is frame k, relayed by station j: the same packet with one hop fewer left, from the
+-- station's own link address
 pub record IsRelayed (configs : List Config) (w : WorldModel) (j k m : ℕ) : Type 0 where
   pub packet : Transmission
   pub config : Config
@@ -118,11 +125,12 @@ RelaysAreFaithful configs w =
     → line.event.what ≡ Deliver k → frame_of line.entry ≡ Some m
     → IsRelayed configs w line.event.station k m
 
--- ---- No station accepts one packet for an area twice, unless it forgot it between: so it hands it out once. And what it
--- ignores as a duplicate it accepted, and didn't forget.
+-- ---- No station accepts one packet for an area twice, unless it forgot it between: so it hands it
+-- out once. And what it ignores as a duplicate it accepted, and didn't forget.
 
 -- station j forgot this packet between these lines
-pub record WasForgotten (configs : List Config) (j : ℕ) (t : Transmission) (first : LogLine) (between : List LogLine) (later : LogLine) : Type 0 where
+pub record WasForgotten (configs : List Config) (j : ℕ) (t : Transmission) (first : LogLine)
+    (between : List LogLine) (later : LogLine) : Type 0 where
   pub receiver : Config
   pub is_receiver : slice_get configs j ≡ Some receiver
   pub number : ℕ
@@ -132,13 +140,17 @@ pub record WasForgotten (configs : List Config) (j : ℕ) (t : Transmission) (fi
 -- accepted again, so forgotten between
 abbrev pub AcceptedAgainWasForgotten : List Config → WorldModel → Type 0
 AcceptedAgainWasForgotten configs w =
-    (kind : AreaKind) (later between older : List LogLine) (first second : LogLine) (j k m place : ℕ) (t u : Transmission)
+    (kind : AreaKind) (later between older : List LogLine) (first second : LogLine)
+    (j k m place : ℕ) (t u : Transmission)
     → w.log ≡ later ++ second ∷ (between ++ first ∷ older)
-    → Accepts w first j k t → Accepts w second j m u → IsOfSend w kind place k → IsOfSend w kind place m
+    → Accepts w first j k t → Accepts w second j m u → IsOfSend w kind place k
+    → IsOfSend w kind place m
     → WasForgotten configs j t first between second
 
--- by an earlier line the station of the later one accepted a packet of the same source and number, and didn't forget it
-pub record WasAccepted (configs : List Config) (w : WorldModel) (before : List LogLine) (later : LogLine) (t : Transmission) : Type 0 where
+-- by an earlier line the station of the later one accepted a packet of the same source and number,
+-- and didn't forget it
+pub record WasAccepted (configs : List Config) (w : WorldModel) (before : List LogLine)
+    (later : LogLine) (t : Transmission) : Type 0 where
   pub between : List LogLine
   pub older : List LogLine
   pub first : LogLine
@@ -152,7 +164,8 @@ pub record WasAccepted (configs : List Config) (w : WorldModel) (before : List L
   pub same_source : packet.pdu.vector.address ≡ t.pdu.vector.address
   pub number_is : number_in t.pdu.body ≡ Some number
   pub same_number : number_in packet.pdu.body ≡ Some number
-  pub not_forgotten : Forgotten receiver.remember later.event.station t.pdu.vector.address number first between later → ⊥
+  pub not_forgotten : Forgotten receiver.remember later.event.station t.pdu.vector.address number
+      first between later → ⊥
 
 -- ignored as a duplicate, so accepted before
 abbrev pub DuplicateWasAccepted : List Config → WorldModel → Type 0
@@ -167,9 +180,10 @@ pub record AtMostOnce (configs : List Config) (w : WorldModel) : Type 0 where
   pub again : AcceptedAgainWasForgotten configs w
   pub duplicate : DuplicateWasAccepted configs w
 
--- The default case: station j remembers eight numbers, and didn't restart between these lines. Then the source's session broke,
--- or eight others of the source were accepted.
-pub record WasOutlivedByEight (j : ℕ) (t : Transmission) (first : LogLine) (between : List LogLine) (later : LogLine) : Type 0 where
+-- The default case: station j remembers eight numbers, and didn't restart between these lines. Then
+-- the source's session broke, or eight others of the source were accepted.
+pub record WasOutlivedByEight (j : ℕ) (t : Transmission) (first : LogLine) (between : List LogLine)
+    (later : LogLine) : Type 0 where
   pub number : ℕ
   pub number_is : number_in t.pdu.body ≡ Some number
   pub outlived : IsOutlived 8 j t.pdu.vector.address number first between later
@@ -177,15 +191,19 @@ pub record WasOutlivedByEight (j : ℕ) (t : Transmission) (first : LogLine) (be
 -- accepted again by a station of the default that didn't restart
 abbrev pub AcceptedAgainByDefault : List Config → WorldModel → Type 0
 AcceptedAgainByDefault configs w =
-    (kind : AreaKind) (later between older : List LogLine) (first second : LogLine) (j k m place : ℕ) (t u : Transmission)
+    (kind : AreaKind) (later between older : List LogLine) (first second : LogLine)
+    (j k m place : ℕ) (t u : Transmission)
     (receiver : Config)
     → w.log ≡ later ++ second ∷ (between ++ first ∷ older)
-    → Accepts w first j k t → Accepts w second j m u → IsOfSend w kind place k → IsOfSend w kind place m
-    → slice_get configs j ≡ Some receiver → receiver.remember ≡ default_remember → has_restarted j between ≡ false
+    → Accepts w first j k t → Accepts w second j m u → IsOfSend w kind place k
+    → IsOfSend w kind place m
+    → slice_get configs j ≡ Some receiver → receiver.remember ≡ default_remember
+    → has_restarted j between ≡ false
     → WasOutlivedByEight j t first between second
 
--- ---- A send makes at most one frame more than it is accepted; a packet for an area that was never forgotten makes at most as
--- many frames as there are stations; and each of its frames has its number, and the hops that its relays left.
+-- ---- A send makes at most one frame more than it is accepted; a packet for an area that was never
+-- forgotten makes at most as many frames as there are stations; and each of its frames has its
+-- number, and the hops that its relays left.
 
 -- the origin, if there is one, is at this place of the log
 abbrev pub is_at : ℕ → Option Origin → Bool
@@ -199,7 +217,8 @@ is_acceptance_of entry what place all = false
 
 -- how often frames of the send at this place were accepted
 abbrev pub acceptances_of : ℕ → WorldModel → ℕ
-acceptances_of place w = count_by (λ line. is_acceptance_of line.entry line.event.what place (origins w.log)) w.log
+acceptances_of place w =
+    count_by (λ line. is_acceptance_of line.entry line.event.what place (origins w.log)) w.log
 
 -- how many frames of it there are, the first one among them
 abbrev pub frames_of : ℕ → WorldModel → ℕ
@@ -214,18 +233,23 @@ abbrev pub IsNeverForgotten : AreaKind → ℕ → List Config → WorldModel �
 IsNeverForgotten kind place configs w =
     (later between older : List LogLine) (first second : LogLine) (j k m : ℕ) (t u : Transmission)
     → w.log ≡ later ++ second ∷ (between ++ first ∷ older)
-    → Accepts w first j k t → Accepts w second j m u → IsOfSend w kind place k → IsOfSend w kind place m
+    → Accepts w first j k t → Accepts w second j m u → IsOfSend w kind place k
+    → IsOfSend w kind place m
     → WasForgotten configs j t first between second → ⊥
 
 -- then there are at most as many as stations
 abbrev pub OneFrameAStation : List Config → WorldModel → Type 0
 OneFrameAStation configs w =
     (kind : AreaKind) (place k : ℕ)
-    → IsOfSend w kind place k → IsNeverForgotten kind place configs w → frames_of place w ≤ length w.stations
+    → IsOfSend w kind place k → IsNeverForgotten kind place configs w
+    → frames_of place w ≤ length w.stations
 
--- the frame of this origin carries what was asked for, with the sender's number then, and one hop fewer for each relay
-pub record HasNumberAndHops (kind : AreaKind) (t : Transmission) (o : Origin) (r : GbcRequest) : Type 0 where
-  pub body : t.pdu.body ≡ area_body kind (sequence_number_at o.event.station o.before) r.area r.message
+-- the frame of this origin carries what was asked for, with the sender's number then, and one hop
+-- fewer for each relay
+pub record HasNumberAndHops (kind : AreaKind) (t : Transmission) (o : Origin)
+    (r : GbcRequest) : Type 0 where
+  pub body : t.pdu.body
+      ≡ area_body kind (sequence_number_at o.event.station o.before) r.area r.message
   pub greatest : t.pdu.max_hops ≡ r.max_hops
   pub hops : t.hops_left + o.depth ≡ r.max_hops
   pub depth : o.depth < r.max_hops
@@ -234,7 +258,8 @@ pub record HasNumberAndHops (kind : AreaKind) (t : Transmission) (o : Origin) (r
 abbrev pub FramesHaveNumberAndHops : WorldModel → Type 0
 FramesHaveNumberAndHops w =
     (kind : AreaKind) (k : ℕ) (t : Transmission) (o : Origin) (r : GbcRequest)
-    → slice_get w.air k ≡ Some t → slice_get (origins w.log) k ≡ Some o → o.event.what ≡ Calls (area_call kind r)
+    → slice_get w.air k ≡ Some t → slice_get (origins w.log) k ≡ Some o
+    → o.event.what ≡ Calls (area_call kind r)
     → HasNumberAndHops kind t o r
 
 -- all three
@@ -256,7 +281,7 @@ NoneFromInside configs w =
     → slice_get configs line.event.station ≡ Some receiver
     → area_holds area (position_at receiver.place line.event.station before) ≡ true → relayed ≡ None
 
--- handed out, it gives no frame
+-- delivered, it gives no frame
 abbrev pub NoneOnceHandedOut : WorldModel → Type 0
 NoneOnceHandedOut w =
     (later before : List LogLine) (line : LogLine) (k : ℕ) (t : Transmission)

@@ -1,7 +1,8 @@
--- A station, and what each call answers and makes of it (EN 302 636-4-1 clauses 8 and 10, in this profile). A call is judged
--- first, and then done by that judgement.
-use Rattle.std.specs.Prelude.{ℕ, ◌+◌, ◌%◌, ◌^◌, pos, List, [], ◌∷◌, length, filter, Bool, true, false, not, ◌&&◌, ◌||◌}
-use Rattle.std.specs.Prelude.{Option, Some, None, if◌then◌else◌, ◌==◌, nat_lt, nat_le}
+-- A station, and what each call answers and makes of it (EN 302 636-4-1 clauses 8 and 10, in this
+-- profile). A call is checked first, and then done by what that gave.
+use Rattle.std.specs.Prelude.{ℕ, ◌+◌, ◌%◌, ◌^◌, pos, List, [], ◌∷◌, length, filter, Bool, true}
+use Rattle.std.specs.Prelude.{false, not, ◌&&◌, ◌||◌, Option, Some, None, if◌then◌else◌, ◌==◌}
+use Rattle.std.specs.Prelude.{nat_lt, nat_le}
 use Rattle.its_gnvalue.specs.Values.{Position, PositionVector, mid_of, broadcast}
 use Rattle.its_geometry.specs.Area.{GeoArea, area_holds}
 use Rattle.its_model.specs.Packet.{Message, Body, Transmission, number_in, relay}
@@ -11,16 +12,19 @@ use Rattle.its_model.specs.Stations.{stations_at, is_full}
 use Rattle.its_model.specs.Decision.{Decision, decision}
 use Rattle.its_model.specs.Decision.Decision.{Broadcast, To, Drop}
 use Rattle.its_model.specs.Calls.{ShbRequest, GbcRequest, OwnCall, Call, Why, Refusal, Answer}
-use Rattle.its_model.specs.Calls.OwnCall.{Move, Open, Close, Tick, SendShb, SendGbc, SendGac, Restart}
+use Rattle.its_model.specs.Calls.OwnCall.{Move, Open, Close, Tick, SendShb, SendGbc, SendGac}
+use Rattle.its_model.specs.Calls.OwnCall.{Restart}
 use Rattle.its_model.specs.Calls.Call.{Own, Receive, Junk}
 use Rattle.its_model.specs.Calls.Why.{NotForMe, OwnSource, SenderMismatch, Duplicate}
-use Rattle.its_model.specs.Calls.Refusal.{MomentEarlier, MomentTooLate, JitterRange, BadFrame, AlreadyOpen, PortsFull, NotOpen}
-use Rattle.its_model.specs.Calls.Refusal.{PayloadTooLong, HopLimitZero, TableFull}
-use Rattle.its_model.specs.Calls.Answer.{Moved, Opened, Closed, Restarted, Quiet, Sent, Ignored, Accepted, Refused}
+use Rattle.its_model.specs.Calls.Refusal.{MomentEarlier, MomentTooLate, JitterRange, BadFrame}
+use Rattle.its_model.specs.Calls.Refusal.{AlreadyOpen, PortsFull, NotOpen, PayloadTooLong}
+use Rattle.its_model.specs.Calls.Refusal.{HopLimitZero, TableFull}
+use Rattle.its_model.specs.Calls.Answer.{Moved, Opened, Closed, Restarted, Quiet, Sent, Ignored}
+use Rattle.its_model.specs.Calls.Answer.{Accepted, Refused}
 use Rattle.its_faults.specs.declared.frame.FrameFault.{FrameFault}
 
--- The clock is the moment of the last call that wasn't refused, and no beacon is due before `beacon_from`. There is no table:
--- what is known of others is a function of the history.
+-- The clock is the moment of the last call that wasn't refused, and no beacon is due before
+-- `beacon_from`. There is no table: what is known of others is a function of the history.
 pub record StationModel : Type 0 where
   pub address : ℕ
   pub capacity : ℕ  -- of how many sources it can know at once
@@ -30,7 +34,8 @@ pub record StationModel : Type 0 where
   pub next_number : ℕ
   pub ports : List ℕ  -- those that are open, each once
   pub beacon_from : ℕ
-  pub history : List Reception  -- every packet that it accepted since its last restart, the newest first
+  -- every packet that it accepted since its last restart, the newest first
+  pub history : List Reception
 
 -- a station to which nothing happened yet
 abbrev pub new_station : ℕ → Position → ℕ → ℕ → StationModel
@@ -40,7 +45,14 @@ new_station address place capacity remember =
       capacity = capacity;
       remember = remember;
       clock = 0;
-      vector = record { address = address; timestamp = 0; place = place; accurate = false; speed = pos 0; heading = 0 };
+      vector = record {
+        address = address;
+        timestamp = 0;
+        place = place;
+        accurate = false;
+        speed = pos 0;
+        heading = 0;
+      };
       next_number = 0;
       ports = [];
       beacon_from = 0;
@@ -76,7 +88,7 @@ beacon_wait = 3000
 
 -- ---- the station's own calls
 
--- The moment of a call is judged before all else.
+-- The moment of a call is checked before all else.
 abbrev pub moment_refusal : StationModel → ℕ → Option Refusal
 moment_refusal s moment =
     if nat_lt moment s.clock then Some MomentEarlier
@@ -85,7 +97,8 @@ moment_refusal s moment =
 
 -- too long to be sent
 abbrev pub payload_refusal : Message → Option Refusal
-payload_refusal message = if nat_lt max_request_payload (length message.payload) then Some PayloadTooLong else None
+payload_refusal message =
+    if nat_lt max_request_payload (length message.payload) then Some PayloadTooLong else None
 
 -- of two refusals the first one that applies
 abbrev pub first : Option Refusal → Option Refusal → Option Refusal
@@ -94,7 +107,8 @@ first None other = other
 
 -- a packet for an area: too long, or over no hops
 abbrev pub area_refusal : GbcRequest → Option Refusal
-area_refusal r = first (payload_refusal r.message) (if r.max_hops == 0 then Some HopLimitZero else None)
+area_refusal r =
+    first (payload_refusal r.message) (if r.max_hops == 0 then Some HopLimitZero else None)
 
 -- what else a call of its own is refused for: the port, the jitter, the payload, or no hops
 abbrev pub own_refusal : StationModel → OwnCall → Option Refusal
@@ -110,11 +124,19 @@ own_refusal s (SendGbc r) = area_refusal r
 own_refusal s (SendGac r) = area_refusal r
 own_refusal s (Restart number) = None
 
--- a beacon: over one hop, to all, with the lifetime octet of 60 s; every station says that it is mobile (profile)
+-- a beacon: over one hop, to all, with the lifetime octet of 60 s; every station says that it is
+-- mobile (profile)
 abbrev pub beacon_of : StationModel → Transmission
 beacon_of s =
     record {
-      pdu = record { vector = s.vector; lifetime = 26; class = 0; mobile = true; max_hops = 1; body = beacon };
+      pdu = record {
+        vector = s.vector;
+        lifetime = 26;
+        class = 0;
+        mobile = true;
+        max_hops = 1;
+        body = beacon;
+      };
       hops_left = 1;
       link_source = mid_of s.address;
       link_target = broadcast;
@@ -143,9 +165,11 @@ target_of Broadcast = broadcast
 target_of (To mac) = mac
 target_of Drop = broadcast
 
--- to whom a packet for an area goes from where the station is, by what it knows of others at a moment
+-- to whom a packet for an area goes from where the station is, by what it knows of others at a
+-- moment
 abbrev pub decided : StationModel → ℕ → GeoArea → Option ℕ → Decision
-decided s moment area sender = decision (stations_at s.remember moment s.history) s.vector.place area sender
+decided s moment area sender =
+    decision (stations_at s.remember moment s.history) s.vector.place area sender
 
 -- a packet for an area: with all its hops
 abbrev pub area_packet : StationModel → ℕ → GbcRequest → Body → Transmission
@@ -182,14 +206,17 @@ number_after number = (number + 1) % 65536
 
 -- the station after a packet with its next number
 abbrev pub after_numbering : StationModel → ℕ → StationModel
-after_numbering s moment = record (after_sending s moment) { next_number = number_after s.next_number }
+after_numbering s moment =
+    record (after_sending s moment) { next_number = number_after s.next_number }
 
--- the station after a restart: what it heard is gone and its ports are closed, but it stands where it stood
+-- the station after a restart: what it heard is gone and its ports are closed, but it stands where
+-- it stood
 abbrev pub after_restart : StationModel → ℕ → ℕ → StationModel
-after_restart s moment number =
-    record s { clock = moment; next_number = number; ports = []; beacon_from = moment; history = [] }
+after_restart s moment next =
+    record s { clock = moment; next_number = next; ports = []; beacon_from = moment; history = [] }
 
--- A call of its own that isn't refused. A move takes the moment for the vector's timestamp (profile).
+-- A call of its own that isn't refused. A move takes the moment for the vector's timestamp
+-- (profile).
 abbrev pub performed : StationModel → ℕ → OwnCall → Step
 performed s moment (Move place accurate speed heading) =
     record {
@@ -206,26 +233,38 @@ performed s moment (Move place accurate speed heading) =
         };
       };
     }
-performed s moment (Open port) = record { answer = Opened; station = record s { clock = moment; ports = port ∷ s.ports } }
+performed s moment (Open port) =
+    record { answer = Opened; station = record s { clock = moment; ports = port ∷ s.ports } }
 performed s moment (Close port) =
-    record { answer = Closed; station = record s { clock = moment; ports = filter (λ other. not (other == port)) s.ports } }
+    record {
+      answer = Closed;
+      station = record s {
+        clock = moment;
+        ports = filter (λ other. not (other == port)) s.ports;
+      };
+    }
 performed s moment (Tick jitter) =
     if nat_le (s.beacon_from + jitter) moment
     then record { answer = Sent (beacon_of s); station = after_sending s moment }
     else record { answer = Quiet; station = record s { clock = moment } }
-performed s moment (SendShb r) = record { answer = Sent (shb_of s r); station = after_sending s moment }
-performed s moment (SendGbc r) = record { answer = Sent (gbc_of s moment r); station = after_numbering s moment }
-performed s moment (SendGac r) = record { answer = Sent (gac_of s moment r); station = after_numbering s moment }
-performed s moment (Restart number) = record { answer = Restarted; station = after_restart s moment number }
+performed s moment (SendShb r) =
+    record { answer = Sent (shb_of s r); station = after_sending s moment }
+performed s moment (SendGbc r) =
+    record { answer = Sent (gbc_of s moment r); station = after_numbering s moment }
+performed s moment (SendGac r) =
+    record { answer = Sent (gac_of s moment r); station = after_numbering s moment }
+performed s moment (Restart number) =
+    record { answer = Restarted; station = after_restart s moment number }
 
 -- by its judgement: refused, and then nothing changes, or performed
 abbrev pub own_step_by : StationModel → ℕ → OwnCall → Option Refusal → Step
 own_step_by s moment call (Some refusal) = record { answer = Refused refusal; station = s }
 own_step_by s moment call None = performed s moment call
 
--- a call of its own: the moment is judged first
+-- a call of its own: the moment is checked first
 unfoldable pub own_step : StationModel → ℕ → OwnCall → Step
-own_step s moment call = own_step_by s moment call (first (moment_refusal s moment) (own_refusal s call))
+own_step s moment call =
+    own_step_by s moment call (first (moment_refusal s moment) (own_refusal s call))
 
 -- ---- a frame
 
@@ -254,33 +293,41 @@ is_sender_wrong t (gac number area message) = false
 -- a packet with a number that is remembered of its source
 abbrev pub is_repeated : ℕ → Option ℕ → ℕ → ℕ → List Reception → Bool
 is_repeated remember None source moment history = false
-is_repeated remember (Some number) source moment history = is_remembered remember source number moment history
+is_repeated remember (Some number) source moment history =
+    is_remembered remember source number moment history
 
--- The first that applies: a frame for another station, a packet of its own, one from a wrong sender or one that it remembers
--- is ignored; one for which there is no room is refused (profile, in this order).
+-- The first that applies: a frame for another station, a packet of its own, one from a wrong sender
+-- or one that it remembers is ignored; one for which there is no room is refused (profile, in this
+-- order).
 unfoldable pub verdict : StationModel → ℕ → Transmission → Verdict
 verdict s moment t =
     or_else (moment_refusal s moment)
     (if not (is_for s t) then Ignore NotForMe
     else if t.pdu.vector.address == s.address then Ignore OwnSource
     else if is_sender_wrong t t.pdu.body then Ignore SenderMismatch
-    else if is_repeated s.remember (number_in t.pdu.body) t.pdu.vector.address moment s.history then Ignore Duplicate
-    else if is_full s.capacity t.pdu.vector.address (stations_at s.remember moment s.history) then Refuse TableFull
+    else if is_repeated s.remember (number_in t.pdu.body) t.pdu.vector.address moment s.history
+    then Ignore Duplicate
+    else if is_full s.capacity t.pdu.vector.address (stations_at s.remember moment s.history)
+    then Refuse TableFull
     else Accept)
 
 -- a packet, as it is put into the history
 abbrev pub reception : ℕ → Transmission → Reception
-reception moment t = record { moment = moment; vector = t.pdu.vector; number = number_in t.pdu.body }
+reception moment t =
+    record { moment = moment; vector = t.pdu.vector; number = number_in t.pdu.body }
 
 -- the station after it accepted a packet
 abbrev pub after_hearing : StationModel → ℕ → Transmission → StationModel
 after_hearing s moment t = record s { clock = moment; history = reception moment t ∷ s.history }
 
--- a message for an area is handed out where its port is open and the area holds the station where it is now
+-- a message for an area is delivered where its port is open and the area holds the station where
+-- it is now
 abbrev pub handed_inside : StationModel → GeoArea → Message → Option Message
-handed_inside s area message = if is_among message.port s.ports && area_holds area s.vector.place then Some message else None
+handed_inside s area message =
+    if is_among message.port s.ports && area_holds area s.vector.place then Some message else None
 
--- What is handed out: the message of a single-hop broadcast whose port is open, and a message for an area inside of it.
+-- What is delivered: the message of a single-hop broadcast whose port is open, and a message for
+-- an area inside of it.
 abbrev pub handing : StationModel → Body → Option Message
 handing s beacon = None
 handing s (shb media message) = if is_among message.port s.ports then Some message else None
@@ -298,22 +345,25 @@ abbrev pub passed_on : StationModel → ℕ → Transmission → GeoArea → Opt
 passed_on s moment t area =
     if nat_le 2 t.hops_left then sent_on s t (decided s moment area (Some t.link_source)) else None
 
--- What is sent on: a geobroadcast, and outside of its area a geoanycast. One that has come inside has arrived. The station
--- has accepted the packet, so it knows of its source.
+-- What is sent on: a geobroadcast, and outside of its area a geoanycast. One that has come inside
+-- has arrived. The station has accepted the packet, so it knows of its source.
 abbrev pub relayed : StationModel → ℕ → Transmission → Body → Option Transmission
 relayed s moment t beacon = None
 relayed s moment t (shb media message) = None
 relayed s moment t (gbc number area message) = passed_on s moment t area
-relayed s moment t (gac number area message) = if area_holds area s.vector.place then None else passed_on s moment t area
+relayed s moment t (gac number area message) =
+    if area_holds area s.vector.place then None else passed_on s moment t area
 
--- By its judgement: a frame that is ignored sets the clock alone. One that is accepted is put into the history before it is
--- decided to whom it goes on.
+-- By its judgement: a frame that is ignored sets the clock alone. One that is accepted is put into
+-- the history before it is decided to whom it goes on.
 abbrev pub receive_step_by : StationModel → ℕ → Transmission → Verdict → Step
 receive_step_by s moment t (Refuse refusal) = record { answer = Refused refusal; station = s }
-receive_step_by s moment t (Ignore why) = record { answer = Ignored why; station = record s { clock = moment } }
+receive_step_by s moment t (Ignore why) =
+    record { answer = Ignored why; station = record s { clock = moment } }
 receive_step_by s moment t Accept =
     record {
-      answer = Accepted (handing s t.pdu.body) (relayed (after_hearing s moment t) moment t t.pdu.body);
+      answer = Accepted (handing s t.pdu.body)
+          (relayed (after_hearing s moment t) moment t t.pdu.body);
       station = after_hearing s moment t;
     }
 

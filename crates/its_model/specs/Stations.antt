@@ -1,7 +1,8 @@
--- All stations that are live at a moment, and what is looked for among them (EN 302 636-4-1 clauses 8 and 10, in this
--- profile).
-use Rattle.std.specs.Prelude.{◌≡◌, ℕ, ◌<◌, Bool, true, false, not, ◌&&◌, ◌==◌, nat_lt, nat_le, if◌then◌else◌}
-use Rattle.std.specs.Prelude.{List, [], ◌∷◌, Option, Some, None, is_some, find, length}
+-- All stations that are live at a moment, and what is looked for among them (EN 302 636-4-1 clauses
+-- 8 and 10, in this profile).
+use Rattle.std.specs.Prelude.{◌≡◌, ℕ, ◌<◌, Bool, true, false, not, ◌&&◌, ◌==◌, nat_lt, nat_le}
+use Rattle.std.specs.Prelude.{if◌then◌else◌, List, [], ◌∷◌, Option, Some, None, is_some, find}
+use Rattle.std.specs.Prelude.{length}
 use Rattle.std.specs.List.{filter_map}
 use Rattle.its_gnvalue.specs.Values.{mid_of}
 use Rattle.its_model.specs.History.{Reception, Known, is_among, known}
@@ -18,7 +19,8 @@ sources (r ∷ older) = put r.vector.address (sources older)
 
 -- what is known of each live source, in ascending order of their addresses
 unfoldable pub stations_at : ℕ → ℕ → List Reception → List Known
-stations_at remember moment history = filter_map (λ source. known remember source moment history) (sources history)
+stations_at remember moment history =
+    filter_map (λ source. known remember source moment history) (sources history)
 
 -- it is known by this address
 abbrev pub has_address : ℕ → Known → Bool
@@ -49,9 +51,11 @@ is_next_neighbour after k = k.neighbour && is_above after k.vector.address
 abbrev pub next_neighbour : Option ℕ → List Known → Option Known
 next_neighbour after stations = find (is_next_neighbour after) stations
 
--- There is no room for a source: it isn't among these, and they are as many as the capacity (profile).
+-- There is no room for a source: it isn't among these, and they are as many as the capacity
+-- (profile).
 abbrev pub is_full : ℕ → ℕ → List Known → Bool
-is_full capacity source stations = not (is_some (by_address source stations)) && nat_le capacity (length stations)
+is_full capacity source stations =
+    not (is_some (by_address source stations)) && nat_le capacity (length stations)
 
 -- ---- words of the laws on these lists
 

@@ -1,12 +1,14 @@
--- Many stations and all frames that they gave, over every schedule of calls and deliveries. A frame that is delivered to
--- nobody is lost; one may be delivered often, late, and to any station.
-use Rattle.std.specs.Prelude.{ℕ, List, [], ◌∷◌, ◌++◌, map, reverse, length, Option, Some, None, slice_get, slice_set}
+-- Many stations and all frames that they gave, over every schedule of calls and deliveries. A frame
+-- that is delivered to nobody is lost; one may be delivered often, late, and to any station.
+use Rattle.std.specs.Prelude.{ℕ, List, [], ◌∷◌, ◌++◌, map, reverse, length, Option, Some, None}
+use Rattle.std.specs.Prelude.{slice_get, slice_set}
 use Rattle.its_gnvalue.specs.Values.{Position}
 use Rattle.its_model.specs.Packet.{Transmission}
 use Rattle.its_model.specs.Calls.{OwnCall, Refusal, Answer}
 use Rattle.its_model.specs.Calls.Call.{Own, Receive}
 use Rattle.its_model.specs.Calls.Refusal.{NoSuchStation, NoSuchFrame}
-use Rattle.its_model.specs.Calls.Answer.{Moved, Opened, Closed, Restarted, Quiet, Sent, Ignored, Accepted, Refused}
+use Rattle.its_model.specs.Calls.Answer.{Moved, Opened, Closed, Restarted, Quiet, Sent, Ignored}
+use Rattle.its_model.specs.Calls.Answer.{Accepted, Refused}
 use Rattle.its_model.specs.Station.{StationModel, Step, station_step, new_station}
 
 -- a station's own call, or the delivery of a frame of the world, by its number
@@ -20,7 +22,8 @@ pub record Event : Type 0 where
   pub moment : ℕ
   pub what : What
 
--- an event that was done: the frame that was delivered, if one was, and the entry, in which a number names a frame
+-- an event that was done: the frame that was delivered, if one was, and the entry, in which a
+-- number names a frame
 pub record LogLine : Type 0 where
   pub event : Event
   pub delivered : Option Transmission
@@ -88,7 +91,11 @@ with_one_more xs (Some x) = xs ++ x ∷ []
 -- an event for which there is no station or no frame: it is logged as refused
 abbrev pub passed_over : WorldModel → Event → Refusal → WorldModel
 passed_over w e refusal =
-    record { stations = w.stations; air = w.air; log = record { event = e; delivered = None; entry = Refused refusal } ∷ w.log }
+    record {
+      stations = w.stations;
+      air = w.air;
+      log = record { event = e; delivered = None; entry = Refused refusal } ∷ w.log;
+    }
 
 -- an event that its station answered: a frame that it gave gets the next number
 abbrev pub answered : WorldModel → Event → Option Transmission → Step → WorldModel
@@ -96,7 +103,8 @@ answered w e delivered step =
     record {
       stations = slice_set w.stations e.station step.station;
       air = with_one_more w.air (frame_of step.answer);
-      log = record { event = e; delivered = delivered; entry = entry_of (length w.air) step.answer } ∷ w.log;
+      log = record { event = e; delivered = delivered; entry = entry_of (length w.air) step.answer }
+          ∷ w.log;
     }
 
 -- a delivery of a frame, if there is such a one

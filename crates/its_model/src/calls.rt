@@ -1,5 +1,6 @@
 //! What a station owes at each call.
-ghost use Rattle.std.specs.Prelude.{◌≡◌, ◌≢◌, ℕ, ◌≤◌, List, length, Option, Some, None, IsTrue, IsFalse};
+ghost use Rattle.std.specs.Prelude.{◌≡◌, ◌≢◌, ℕ, ◌≤◌, List, length, Option, Some, None, IsTrue};
+ghost use Rattle.std.specs.Prelude.{IsFalse};
 ghost use Rattle.its_geometry.specs.Area.{GeoArea, area_holds};
 ghost use Rattle.its_gnvalue.specs.Values.{Position, mid_of};
 ghost use Rattle.its_model.specs.Packet.{AreaKind, Message, Transmission, area_body};
@@ -11,18 +12,22 @@ ghost use Rattle.its_model.specs.Decision.Decision.{Drop};
 ghost use Rattle.its_model.specs.Calls.{Call, Refusal};
 ghost use Rattle.its_model.specs.Calls.Call.{Receive};
 ghost use Rattle.its_model.specs.Calls.Answer.{Accepted, Refused};
-ghost use Rattle.its_model.specs.Station.{StationModel, last_moment, max_open_ports, is_for, station_step};
+ghost use Rattle.its_model.specs.Station.{StationModel, last_moment, max_open_ports, is_for};
+ghost use Rattle.its_model.specs.Station.{station_step};
 
-/// A call that is refused changes nothing; one that isn't sets the clock to its moment, which isn't earlier.
+/// A call that is refused changes nothing; one that isn't sets the clock to its moment, which isn't
+/// earlier.
 pub fn a_refused_call_changes_nothing()
     ensures refused { (s : StationModel) (moment : ℕ) (call : Call) (refusal : Refusal) →
-        (station_step s moment call).answer ≡ Refused refusal → (station_step s moment call).station ≡ s }
+        (station_step s moment call).answer ≡ Refused refusal
+        → (station_step s moment call).station ≡ s }
     ensures done { (s : StationModel) (moment : ℕ) (call : Call) →
         ((refusal : Refusal) → (station_step s moment call).answer ≢ Refused refusal) →
-        (s.clock ≤ moment) × (moment ≤ last_moment) × ((station_step s moment call).station.clock ≡ moment) }
+        (s.clock ≤ moment) × (moment ≤ last_moment)
+        × ((station_step s moment call).station.clock ≡ moment) }
 {}
 
-/// A packet of another source that comes to a station in time and finds room is handed out in that
+/// A packet of another source that comes to a station in time and finds room is delivered in that
 /// very call, where its port is open: a geobroadcast or geoanycast that isn't remembered and whose
 /// area holds the station, and a single-hop broadcast from its source's own link address.
 pub fn a_handing_is_owed()
@@ -56,7 +61,9 @@ pub fn open_ports_are_few()
         AreDistinct after.ports × (length after.ports ≤ max_open_ports) }
 {}
 
-/// A geobroadcast of a station's own goes to someone: where there is no sender, the decision isn't to drop it.
+/// A geobroadcast of a station's own goes to someone: where there is no sender, the decision isn't
+/// to drop it.
 pub fn no_send_is_dropped()
-    ensures { (stations : List Known) (own : Position) (area : GeoArea) → decision stations own area None ≢ Drop }
+    ensures { (stations : List Known) (own : Position) (area : GeoArea)
+        → decision stations own area None ≢ Drop }
 {}

@@ -11,8 +11,8 @@ pub fn calls_go_on()
         answers_of s (first ++ next) ≡ answers_of s first ++ answers_of (station_run s first) next }
 {}
 
-/// What a station's own applications and one source see of it is what they see without the frames of
-/// others, as long as its table is never full.
+/// What a station's own applications and one source see of it is what they see without the frames
+/// of others, as long as its table is never full.
 pub fn sources_are_isolated()
     ensures { SourcesAreIsolated }
 {}

@@ -1,6 +1,7 @@
-//! The protocol apart from octets and tables: what stations and a world of them do, and what holds of that over every
-//! schedule. The definitions are in `specs/`. Here each law is the contract of a public function with an empty body,
-//! which a proof calls to have the law at hand; nothing of this crate runs.
+//! The protocol apart from octets and tables: what stations and a world of them do, and what holds
+//! of that over every schedule. The definitions are in `specs/`. Here each law is the contract of a
+//! public function with an empty body, which a proof calls to have the law at hand; nothing of this
+//! crate runs.
 #![tactic(auto)]
 
 mod calls;

@@ -2,8 +2,8 @@
 ghost use Rattle.std.specs.Prelude.{◌≡◌, ℕ, ◌<◌, List, ◌∷◌, ◌++◌, length, take, Some, slice_get};
 ghost use Rattle.its_model.specs.Packet.{Transmission};
 ghost use Rattle.its_model.specs.Station.{StationModel};
-ghost use Rattle.its_model.specs.World.{WorldModel, LogLine, Config, Event, opening, frame_of, world_run};
-ghost use Rattle.its_model.specs.World.{entries, events_in};
+ghost use Rattle.its_model.specs.World.{WorldModel, LogLine, Config, Event, opening, frame_of};
+ghost use Rattle.its_model.specs.World.{world_run, entries, events_in};
 ghost use Rattle.its_model.specs.World.What.{Deliver};
 ghost use Rattle.its_model.specs.Log.{Origin, origin_by, origins};
 ghost use Rattle.its_model.specs.Schedules.{IsAsLogged, IsGivenBy, IsInLog};
@@ -14,9 +14,9 @@ pub fn runs_go_on()
         world_run w (first ++ next) ≡ world_run (world_run w first) next }
 {}
 
-/// What a run did stays as it goes on: a frame keeps its number and its origin, and an earlier log is
-/// that of a shorter run, of its first events. So what a law says of a run's end it says of each line
-/// before.
+/// What a run did stays as it goes on: a frame keeps its number and its origin, and an earlier log
+/// is that of a shorter run, of its first events. So what a law says of a run's end it says of each
+/// line before.
 pub fn what_was_done_stays()
     ensures frames { (w : WorldModel) (first next : List Event) (k : ℕ) (t : Transmission) →
         slice_get (world_run w first).air k ≡ Some t →
@@ -28,8 +28,8 @@ pub fn what_was_done_stays()
         (world_run (opening configs) (take (length before) events)).log ≡ before }
 {}
 
-/// Each event has one line in the log, and a line's place is how many lines came before it: it is the
-/// event and the entry at that place, counted from the oldest.
+/// Each event has one line in the log, and a line's place is how many lines came before it: it is
+/// the event and the entry at that place, counted from the oldest.
 pub fn one_line_an_event()
     ensures events { (configs : List Config) (events : List Event) →
         events_in (world_run (opening configs) events).log ≡ events }
@@ -39,9 +39,9 @@ pub fn one_line_an_event()
         slice_get (entries (later ++ line ∷ before)) (length before) ≡ Some line.entry }
 {}
 
-/// Each frame was given by one line of the log, the later frame by the later line; and its origin is
-/// what that line makes it: a call is its own origin, and a delivery passes on that of the frame that
-/// was delivered, one deeper.
+/// Each frame was given by one line of the log, the later frame by the later line; and its origin
+/// is what that line makes it: a call is its own origin, and a delivery passes on that of the frame
+/// that was delivered, one deeper.
 pub fn one_line_a_frame()
     ensures given { (configs : List Config) (events : List Event) (k : ℕ) →
         let w = world_run (opening configs) events in
@@ -80,5 +80,6 @@ pub fn a_line_has_its_frame()
 
 /// A frame's origin is a line of the log, by which a frame was given.
 pub fn an_origin_is_in_the_log()
-    ensures { (log : List LogLine) (k : ℕ) (o : Origin) → slice_get (origins log) k ≡ Some o → IsInLog o log }
+    ensures { (log : List LogLine) (k : ℕ) (o : Origin) → slice_get (origins log) k ≡ Some o
+        → IsInLog o log }
 {}

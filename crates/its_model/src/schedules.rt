@@ -1,13 +1,15 @@
-//! What holds after every schedule of calls and deliveries: frames lost, repeated, late, in any order. Each law is of
-//! geobroadcasts, and of geoanycasts in the same words, but for the one on geoanycasts alone.
+//! What holds after every schedule of calls and deliveries: frames lost, repeated, late, in any
+//! order. Each law is of geobroadcasts, and of geoanycasts in the same words, but for the one on
+//! geoanycasts alone.
 ghost use Rattle.std.specs.Prelude.{List};
 ghost use Rattle.its_model.specs.World.{Config, Event, opening, world_run};
-ghost use Rattle.its_model.specs.Schedules.{HandedAsSent, RelaysAreFaithful, AtMostOnce, FloodingIsBounded};
-ghost use Rattle.its_model.specs.Schedules.{AcceptedAgainByDefault, AnycastStopsInside, FramesNameTheirSource};
+ghost use Rattle.its_model.specs.Schedules.{HandedAsSent, RelaysAreFaithful, AtMostOnce};
+ghost use Rattle.its_model.specs.Schedules.{FloodingIsBounded, AcceptedAgainByDefault};
+ghost use Rattle.its_model.specs.Schedules.{AnycastStopsInside, FramesNameTheirSource};
 ghost use Rattle.its_model.specs.Schedules.{HoldsOfSchedules};
 
-/// What is handed out of a packet for an area was sent earlier, to that port, for an area that holds
-/// the receiver where it stands then.
+/// What is delivered to a port of a packet for an area was sent earlier, to that port, for an area
+/// that holds the receiver where it stands then.
 pub fn handed_as_sent()
     ensures { (configs : List Config) (events : List Event) →
         HandedAsSent configs (world_run (opening configs) events) }
@@ -19,8 +21,8 @@ pub fn relays_are_faithful()
         RelaysAreFaithful configs (world_run (opening configs) events) }
 {}
 
-/// No station accepts a packet for an area twice, unless it forgot it between; and what it ignores as
-/// a duplicate it accepted before, and didn't forget.
+/// No station accepts a packet for an area twice, unless it forgot it between; and what it ignores
+/// as a duplicate it accepted before, and didn't forget.
 pub fn at_most_once()
     ensures { (configs : List Config) (events : List Event) →
         AtMostOnce configs (world_run (opening configs) events) }
@@ -33,7 +35,8 @@ pub fn at_most_once_by_default()
         AcceptedAgainByDefault configs (world_run (opening configs) events) }
 {}
 
-/// A packet for an area makes few frames, each with its number and with the hops that its relays left.
+/// A packet for an area makes few frames, each with its number and with the hops that its relays
+/// left.
 pub fn flooding_is_bounded()
     ensures { (configs : List Config) (events : List Event) →
         FloodingIsBounded configs (world_run (opening configs) events) }
@@ -45,7 +48,8 @@ pub fn anycast_stops_inside()
         AnycastStopsInside configs (world_run (opening configs) events) }
 {}
 
-/// A frame's source address is that of the station that first sent its packet, as it was configured.
+/// A frame's source address is that of the station that first sent its packet, as it was
+/// configured.
 pub fn frames_name_their_source()
     ensures { (configs : List Config) (events : List Event) →
         FramesNameTheirSource configs (world_run (opening configs) events) }

@@ -1,13 +1,14 @@
 //! What a table of the stations that were heard has to keep, and what its look-ups are to find.
-ghost use Rattle.std.specs.Prelude.{◌≡◌, ◌≢◌, ℕ, ◌+◌, ◌≤◌, ◌<◌, List, [], ◌∷◌, length, Option, Some, None};
-ghost use Rattle.std.specs.Prelude.{is_some, find, Bool, IsTrue, true, false, nat_lt, if◌then◌else◌};
-ghost use Rattle.std.specs.Prelude.{not, nat_le, ◌&&◌, ◌++◌, ◌↔◌};
+ghost use Rattle.std.specs.Prelude.{◌≡◌, ◌≢◌, ℕ, ◌+◌, ◌≤◌, ◌<◌, List, [], ◌∷◌, length, Option};
+ghost use Rattle.std.specs.Prelude.{Some, None, is_some, find, Bool, IsTrue, true, false, nat_lt};
+ghost use Rattle.std.specs.Prelude.{if◌then◌else◌, not, nat_le, ◌&&◌, ◌++◌, ◌↔◌};
 ghost use Rattle.std.specs.Int.{abs_diff};
 ghost use Rattle.std.specs.Option.{option_map, option_map_or};
 ghost use Rattle.its_gnvalue.specs.Values.{Position};
-ghost use Rattle.its_model.specs.History.{Reception, Known, entry_life, session, is_live, is_among, known, renewed};
-ghost use Rattle.its_model.specs.History.{current_vector, is_neighbour, recent_numbers, of_source, moments_to};
-ghost use Rattle.its_model.specs.History.{AreNear, IsLongestRun, NeverFell};
+ghost use Rattle.its_model.specs.History.{Reception, Known, entry_life, session, is_live, is_among};
+ghost use Rattle.its_model.specs.History.{known, renewed, current_vector, is_neighbour};
+ghost use Rattle.its_model.specs.History.{recent_numbers, of_source, moments_to, AreNear};
+ghost use Rattle.its_model.specs.History.{IsLongestRun, NeverFell};
 ghost use Rattle.its_model.specs.Stations.{stations_at, by_address, is_full, Rises, AreDistinct};
 ghost use Rattle.its_model.specs.Decision.{distance_of, next_hop, Precedes};
 
@@ -35,7 +36,8 @@ pub fn a_session_grows()
     ensures own { (source moment : ℕ) (r : Reception) (history : List Reception) →
         r.vector.address ≡ source →
         session source moment (r ∷ history)
-        ≡ (if nat_lt moment (r.moment + entry_life) then r ∷ session source r.moment history else []) }
+        ≡ (if nat_lt moment (r.moment + entry_life) then r ∷ session source r.moment history
+        else []) }
     ensures others { (source moment : ℕ) (r : Reception) (history : List Reception) →
         r.vector.address ≢ source →
         session source moment (r ∷ history) ≡ session source moment history }
@@ -65,7 +67,8 @@ pub fn what_is_known_is_renewed()
         known remember source moment history ≡ Some k → k.vector.address ≡ source }
 {}
 
-/// What is known of a source is its current vector, whether it is a neighbour, and its recent numbers.
+/// What is known of a source is its current vector, whether it is a neighbour, and its recent
+/// numbers.
 pub fn what_is_known_is_current()
     ensures vector { (remember source moment : ℕ) (history : List Reception) →
         option_map (λ (k : Known). k.vector) (known remember source moment history)
@@ -80,34 +83,44 @@ pub fn what_is_known_is_current()
 
 /// The stations rise by address, and have at each address what is known of it. No other list does.
 pub fn stations_stand_by_address()
-    ensures rises { (remember moment : ℕ) (history : List Reception) → Rises (stations_at remember moment history) }
+    ensures rises { (remember moment : ℕ) (history : List Reception)
+        → Rises (stations_at remember moment history) }
     ensures each { (remember moment : ℕ) (history : List Reception) (source : ℕ) →
-        by_address source (stations_at remember moment history) ≡ known remember source moment history }
+        by_address source (stations_at remember moment history)
+        ≡ known remember source moment history }
     ensures only { (remember moment : ℕ) (history : List Reception) (stations : List Known) →
-        Rises stations → ((source : ℕ) → by_address source stations ≡ known remember source moment history) →
+        Rises stations →
+        ((source : ℕ) → by_address source stations ≡ known remember source moment history) →
         stations ≡ stations_at remember moment history }
 {}
 
-/// A list that has each live source once is as long as the list of the stations. So there is no room for a source
-/// exactly where it isn't live and as many others are as the capacity.
+/// A list that has each live source once is as long as the list of the stations. So there is no
+/// room for a source exactly where it isn't live and as many others are as the capacity.
 pub fn live_sources_are_counted()
     ensures full { (remember capacity source moment : ℕ) (history : List Reception) →
         is_full capacity source (stations_at remember moment history)
-        ≡ (not (is_live source moment history) && nat_le capacity (length (stations_at remember moment history))) }
+        ≡ (not (is_live source moment history)
+        && nat_le capacity (length (stations_at remember moment history))) }
     ensures count { (remember moment : ℕ) (history : List Reception) (sources : List ℕ) →
-        AreDistinct sources → ((source : ℕ) → is_among source sources ≡ is_live source moment history) →
+        AreDistinct sources →
+        ((source : ℕ) → is_among source sources ≡ is_live source moment history) →
         length sources ≡ length (stations_at remember moment history) }
 {}
 
-/// Of the stations that pass a test, the one of least address is found; and nothing, where none passes.
+/// Of the stations that pass a test, the one of least address is found; and nothing, where none
+/// passes.
 pub fn the_least_address_is_found()
-    ensures found { (remember moment : ℕ) (history : List Reception) (test : Known → Bool) (k : Known) →
+    ensures found { (remember moment : ℕ) (history : List Reception) (test : Known → Bool)
+        (k : Known) →
         find test (stations_at remember moment history) ≡ Some k →
         (known remember k.vector.address moment history ≡ Some k) × (test k ≡ true) }
-    ensures least { (remember moment : ℕ) (history : List Reception) (test : Known → Bool) (k other : Known)
+    ensures least { (remember moment : ℕ) (history : List Reception) (test : Known → Bool)
+        (k other : Known)
         (source : ℕ) → find test (stations_at remember moment history) ≡ Some k →
-        known remember source moment history ≡ Some other → test other ≡ true → k.vector.address ≤ source }
-    ensures none { (remember moment : ℕ) (history : List Reception) (test : Known → Bool) (other : Known)
+        known remember source moment history ≡ Some other → test other ≡ true
+        → k.vector.address ≤ source }
+    ensures none { (remember moment : ℕ) (history : List Reception) (test : Known → Bool)
+        (other : Known)
         (source : ℕ) → find test (stations_at remember moment history) ≡ None →
         known remember source moment history ≡ Some other → test other ≡ false }
 {}
@@ -115,16 +128,19 @@ pub fn the_least_address_is_found()
 /// The next hop is, of the neighbours that are nearer than the limit, the one of least distance and
 /// then of least address; and there is none, where no neighbour is nearer.
 pub fn the_nearest_is_taken()
-    ensures found { (remember moment : ℕ) (history : List Reception) (centre : Position) (limit : ℕ) (k : Known) →
+    ensures found { (remember moment : ℕ) (history : List Reception) (centre : Position) (limit : ℕ)
+        (k : Known) →
         next_hop centre limit (stations_at remember moment history) ≡ Some k →
         (known remember k.vector.address moment history ≡ Some k)
         × (k.neighbour ≡ true) × (distance_of centre k < limit) }
     ensures least { (remember moment : ℕ) (history : List Reception) (centre : Position) (limit : ℕ)
-        (k other : Known) (source : ℕ) → next_hop centre limit (stations_at remember moment history) ≡ Some k →
+        (k other : Known) (source : ℕ) →
+        next_hop centre limit (stations_at remember moment history) ≡ Some k →
         known remember source moment history ≡ Some other →
         other.neighbour ≡ true → distance_of centre other < limit → Precedes centre k other }
     ensures none { (remember moment : ℕ) (history : List Reception) (centre : Position) (limit : ℕ)
-        (other : Known) (source : ℕ) → next_hop centre limit (stations_at remember moment history) ≡ None →
+        (other : Known) (source : ℕ) →
+        next_hop centre limit (stations_at remember moment history) ≡ None →
         known remember source moment history ≡ Some other → other.neighbour ≡ true →
         limit ≤ distance_of centre other }
 {}

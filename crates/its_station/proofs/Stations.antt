@@ -69,8 +69,8 @@ own_refused_step says st t call e owed =
               (represents st ports history past),
         )
 
--- A call of its own that is done: it is allowed, the model's step has this answer and this station, and the station afterwards
--- represents that one.
+-- A call of its own that is done: it is allowed, the model's step has this answer and this station,
+-- and the station afterwards represents that one.
 pub own_done_step : {T : Type 0} (says : T → Answer Transmission
     → Type 0) (x : T) (st new after : StationState) (t : ℕ) (call : OwnCall)
     (answer : List ℕ → List Reception → Answer Transmission) (theirs : List ℕ

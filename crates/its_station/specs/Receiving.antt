@@ -1,15 +1,18 @@
 -- What a station answers to a frame.
-use Rattle.std.specs.Prelude.{◌≡◌, ℕ, ◌++◌, not, ◌==◌, ◌&&◌, nat_le, if◌then◌else◌, Bool, true, false, List, Vec, Option, Some, None}
+use Rattle.std.specs.Prelude.{◌≡◌, ℕ, ◌++◌, not, ◌==◌, ◌&&◌, nat_le, if◌then◌else◌, Bool, true}
+use Rattle.std.specs.Prelude.{false, List, Vec, Option, Some, None}
 use Rattle.std.specs.Option.{option_map}
 use Rattle.std.specs.declared.alloc.Global.{Global}
 use Rattle.its_gnvalue.specs.Values.{Position, PositionVector, broadcast, mid_of}
 use Rattle.its_geometry.specs.Area.{area_holds}
-use Rattle.its_model.specs.Packet.{Message, Body, beacon, shb, gbc, gac, Pdu, Transmission, number_in, relay}
+use Rattle.its_model.specs.Packet.{Message, Body, beacon, shb, gbc, gac, Pdu, Transmission}
+use Rattle.its_model.specs.Packet.{number_in, relay}
 use Rattle.std.specs.Prelude.{◌⊎◌, IsTrue, IsFalse}
 use Rattle.its_model.specs.History.{is_live}
 use Rattle.its_model.specs.Calls as model
 use Rattle.its_model.specs.Calls.{Call, Answer, Why as ModelWhy}
-use Rattle.its_model.specs.Station.{StationModel, Step, is_for, is_sender_wrong, is_repeated, receive_step_by}
+use Rattle.its_model.specs.Station.{StationModel, Step, is_for, is_sender_wrong, is_repeated}
+use Rattle.its_model.specs.Station.{receive_step_by}
 use Rattle.its_model.specs.Station as station
 use Rattle.its_linkframe.specs.Frames.{EncodesFrame}
 use Rattle.its_linkframe.specs.FrameFaults.{IsFrameFault}
@@ -20,7 +23,8 @@ use Rattle.its_station.specs.declared.outcome.Outcome.TheVariants as outcomes
 use Rattle.its_station.specs.declared.outcome.Why.{Why}
 use Rattle.its_station.specs.declared.outcome.Why.TheVariants as why
 
--- The octets come to the model as this call: the frame that they are, or junk with their first fault.
+-- The octets come to the model as this call: the frame that they are, or junk with their first
+-- fault.
 abbrev pub IsFrameCall : List ℕ → Call → Type 0
 IsFrameCall w (model.Call.Own call) = ⊥
 IsFrameCall w (model.Call.Receive t) = EncodesFrame t w
@@ -44,8 +48,9 @@ IsRelay (Some w) (Some t) = EncodesFrame t w.items
 IsRelay None (Some t) = ⊥
 IsRelay (Some w) None = ⊥
 
--- an accepted frame's answer: the message that is handed out, and the frame that is sent on
-pub record TellsAccepted (handed : Option Message) (sent : Option (Vec ℕ Global)) (answer : Answer Transmission) : Type 0 where
+-- an accepted frame's answer: the message that is delivered, and the frame that is sent on
+pub record TellsAccepted (handed : Option Message) (sent : Option (Vec ℕ Global))
+    (answer : Answer Transmission) : Type 0 where
   pub relayed : Option Transmission
   pub is : answer ≡ model.Answer.Accepted handed relayed
   pub frame : IsRelay sent relayed
@@ -55,7 +60,7 @@ abbrev pub Tells : Outcome → Answer Transmission → Type 0
 Tells (outcomes.Ignored why) answer = answer ≡ model.Answer.Ignored (why_of why)
 Tells (outcomes.Accepted handed sent) answer = TellsAccepted (option_map said_by handed) sent answer
 
--- what is handed out, if anything is, is the end of these octets
+-- what is delivered, if anything is, is the end of these octets
 abbrev pub HandsOutEndOf : List ℕ → Option Handed → Type 0
 HandsOutEndOf w None = Unit {0}
 HandsOutEndOf w (Some h) = (front : List ℕ) × (w ≡ front ++ h.payload.now)
@@ -65,8 +70,8 @@ abbrev pub DeliversEndOf : List ℕ → Outcome → Type 0
 DeliversEndOf w (outcomes.Ignored why) = Unit {0}
 DeliversEndOf w (outcomes.Accepted handed sent) = HandsOutEndOf w handed
 
--- From this place, with so many hops left, a packet goes on: a geobroadcast that has another hop, and outside of its area a
--- geoanycast.
+-- From this place, with so many hops left, a packet goes on: a geobroadcast that has another hop,
+-- and outside of its area a geoanycast.
 abbrev pub goes_on : Position → ℕ → Body → Bool
 goes_on place left beacon = false
 goes_on place left (shb media message) = false
@@ -76,7 +81,8 @@ goes_on place left (gac number area message) = not (area_holds area place) && na
 -- An accepted packet takes memory only for a new entry and for the frame in which it goes on.
 abbrev pub TakesMemory : StationModel → ℕ → Transmission → Type 0
 TakesMemory s moment t =
-    IsFalse (is_live t.pdu.vector.address moment s.history) ⊎ IsTrue (goes_on s.vector.place t.hops_left t.pdu.body)
+    IsFalse (is_live t.pdu.vector.address moment s.history)
+    ⊎ IsTrue (goes_on s.vector.place t.hops_left t.pdu.body)
 
 -- ---- words of private functions
 
@@ -86,7 +92,8 @@ why_found s moment t =
     if not (is_for s t) then Some why.NotForMe
     else if t.pdu.vector.address == s.address then Some why.OwnSource
     else if is_sender_wrong t t.pdu.body then Some why.SenderMismatch
-    else if is_repeated s.remember (number_in t.pdu.body) t.pdu.vector.address moment s.history then Some why.Duplicate
+    else if is_repeated s.remember (number_in t.pdu.body) t.pdu.vector.address moment s.history
+    then Some why.Duplicate
     else None
 
 -- the step where a frame is accepted
@@ -103,7 +110,8 @@ is_inside place (gac number area message) = area_holds area place
 -- the frame in which the packet would go on to all
 abbrev pub copy_of : PositionVector → Transmission → Body → Option Transmission
 copy_of own t body =
-    if goes_on own.place t.hops_left body then Some (relay t (mid_of own.address) broadcast) else None
+    if goes_on own.place t.hops_left body then Some (relay t (mid_of own.address) broadcast)
+    else None
 
 -- what the packet says of its source
 abbrev pub report_of : Pdu → SourceReport

@@ -26,7 +26,10 @@ gbc_request r =
 
 -- a request for all in reach
 abbrev pub shb_request : ShbRequest → ModelShb
-shb_request r = record { class = r.class; message = record { port = r.port; info = r.info; payload = r.payload.now } }
+shb_request r = record {
+  class = r.class;
+  message = record { port = r.port; info = r.info; payload = r.payload.now };
+}
 
 -- the same that own their payload
 abbrev pub owned_gbc : OwnedGbcRequest → ModelGbc
@@ -41,7 +44,10 @@ owned_gbc r =
 
 -- and for all in reach
 abbrev pub owned_shb : OwnedShbRequest → ModelShb
-owned_shb r = record { class = r.class; message = record { port = r.port; info = r.info; payload = r.payload.items } }
+owned_shb r = record {
+  class = r.class;
+  message = record { port = r.port; info = r.info; payload = r.payload.items };
+}
 
 -- a kind of packet for an area
 abbrev pub kind_of_cast : AreaCast → AreaKind

@@ -1,12 +1,14 @@
 -- What many calls of a station are in the model.
-use Rattle.std.specs.Prelude.{◌≡◌, ℕ, ◌≤◌, ◌++◌, List, [], ◌∷◌, length, Option, Some, None, IsSomeAnd}
+use Rattle.std.specs.Prelude.{◌≡◌, ℕ, ◌≤◌, ◌++◌, List, [], ◌∷◌, length, Option, Some, None}
+use Rattle.std.specs.Prelude.{IsSomeAnd}
 use Rattle.std.specs.Option.{option_map}
 use Rattle.its_gnvalue.specs.Values.{Position, IsSpeed}
 use Rattle.its_model.specs.Packet.{Message, Transmission}
 use Rattle.its_model.specs.Calls as model
 use Rattle.its_model.specs.Calls.{Answer, Call as ModelCall}
 use Rattle.its_model.specs.Station.{StationModel, Step, new_station}
-use Rattle.its_model.specs.Isolation.{TimedCall, answers_of, station_run, calls_for, answers_for, NeverFalls, IsNeverFull}
+use Rattle.its_model.specs.Isolation.{TimedCall, answers_of, station_run, calls_for, answers_for}
+use Rattle.its_model.specs.Isolation.{NeverFalls, IsNeverFull}
 use Rattle.its_station.specs.declared.run.Call.{Call}
 use Rattle.its_station.specs.declared.run.Call.TheVariants as calls
 use Rattle.its_station.specs.declared.run.Delivery.{Delivery}
@@ -22,7 +24,8 @@ use Rattle.its_station.specs.Receiving.{IsFrameCall, TellsAccepted, why_of}
 
 -- a call in the model: octets are the frame that they encode, or junk with their first fault
 abbrev pub IsCall : Call → ModelCall → Type 0
-IsCall (calls.MoveTo place pai speed heading) c = c ≡ model.Call.Own (model.OwnCall.Move place pai speed heading)
+IsCall (calls.MoveTo place pai speed heading) c =
+    c ≡ model.Call.Own (model.OwnCall.Move place pai speed heading)
 IsCall (calls.Open port) c = c ≡ model.Call.Own (model.OwnCall.Open port)
 IsCall (calls.Close port) c = c ≡ model.Call.Own (model.OwnCall.Close port)
 IsCall (calls.Tick jitter) c = c ≡ model.Call.Own (model.OwnCall.Tick jitter)
@@ -62,8 +65,10 @@ TellsReply replies.Done answer = IsDone answer
 TellsReply replies.Quiet answer = answer ≡ model.Answer.Quiet
 TellsReply (replies.Sent frame) answer = TellsSent frame answer
 TellsReply (replies.Ignored why) answer = answer ≡ model.Answer.Ignored (why_of why)
-TellsReply (replies.Accepted handed sent) answer = TellsAccepted (option_map delivered handed) sent answer
-TellsReply (replies.Refused refused) answer = IsSomeAnd (refusal_of refused) (λ refusal. answer ≡ model.Answer.Refused refusal)
+TellsReply (replies.Accepted handed sent) answer =
+    TellsAccepted (option_map delivered handed) sent answer
+TellsReply (replies.Refused refused) answer =
+    IsSomeAnd (refusal_of refused) (λ refusal. answer ≡ model.Answer.Refused refusal)
 
 -- these answers, one for one
 abbrev pub AreReplies : List Reply → List (Answer Transmission) → Type 0
@@ -76,25 +81,30 @@ AreReplies (r ∷ replies) (a ∷ answers) = TellsReply r a × AreReplies replie
 abbrev pub IsReplyTo : Reply → StationState → Step → Type 0
 IsReplyTo reply new step = TellsReply reply step.answer × RepresentsStation new step.station
 
--- The calls were done as the model does them: the replies are its answers, and the station represents the one after them.
-pub record IsRunOf (s : StationModel) (calls : List (ℕ × Call)) (replies : List Reply) (new : StationState) : Type 0 where
+-- The calls were done as the model does them: the replies are its answers, and the station
+-- represents the one after them.
+pub record IsRunOf (s : StationModel) (calls : List (ℕ × Call)) (replies : List Reply)
+    (new : StationState) : Type 0 where
   pub done : List TimedCall
   pub are : AreCalls calls done
   pub answers : AreReplies replies (answers_of s done)
   pub station : RepresentsStation new (station_run s done)
 
--- Of a station that was new before some past: what a source and the applications see of the answers to what was done is what
--- they see where all frames of others were left out, before and now.
+-- Of a station that was new before some past: what a source and the applications see of the answers
+-- to what was done is what they see where all frames of others were left out, before and now.
 abbrev pub AreIsolated : StationModel → List TimedCall → Type 0
 AreIsolated s done =
     (address : ℕ) (place : Position) (capacity remember : ℕ) (past : List TimedCall) (source : ℕ)
     → let new = new_station address place capacity remember in
-    s ≡ station_run new past → NeverFalls 0 (past ++ done) → IsNeverFull (answers_of new (past ++ done))
+    s ≡ station_run new past → NeverFalls 0 (past ++ done)
+    → IsNeverFull (answers_of new (past ++ done))
     → answers_for source done (answers_of s done)
-    ≡ answers_for source (calls_for source done) (answers_of (station_run new (calls_for source past)) (calls_for source done))
+    ≡ answers_for source (calls_for source done)
+    (answers_of (station_run new (calls_for source past)) (calls_for source done))
 
 -- the same calls, answers and station, and of just these that sources are isolated
-pub record IsIsolatedRunOf (s : StationModel) (calls : List (ℕ × Call)) (replies : List Reply) (new : StationState) : Type 0 where
+pub record IsIsolatedRunOf (s : StationModel) (calls : List (ℕ × Call)) (replies : List Reply)
+    (new : StationState) : Type 0 where
   pub run : IsRunOf s calls replies new
   pub isolated : AreIsolated s run.done
 

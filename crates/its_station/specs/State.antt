@@ -43,8 +43,8 @@ pub record IsPast (st : StationState) (opened : List ℕ) (history : List Recept
   pub ports : SamePorts st.ports opened
   pub table : Represents st.remember st.content history st.clock
 
--- The station represents the one of the model: the fields agree, the same ports are open, and its table represents the
--- history from the clock on.
+-- The station represents the one of the model: the fields agree, the same ports are open, and its
+-- table represents the history from the clock on.
 pub record RepresentsStation (st : StationState) (s : StationModel) : Type 0 where
   pub fields : s ≡ model_of st s.ports s.history
   pub past : IsPast st s.ports s.history

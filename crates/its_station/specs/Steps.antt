@@ -16,7 +16,7 @@ port_refusal ports.AlreadyOpen = model.Refusal.AlreadyOpen
 port_refusal ports.Full = model.Refusal.PortsFull
 port_refusal ports.NotOpen = model.Refusal.NotOpen
 
--- what a refusal is in the model, which knows no want of memory
+-- what a refusal is in the model, which never runs out of memory
 abbrev pub refusal_of : Refused → Option Refusal
 refusal_of refused.MomentEarlier = Some model.Refusal.MomentEarlier
 refusal_of refused.MomentTooLate = Some model.Refusal.MomentTooLate
@@ -34,10 +34,12 @@ refusal_in (Ok x) = None
 refusal_in (Err e) = refusal_of e
 
 -- The answer and the station afterwards are those of the model's step, unless an allocation failed.
-abbrev pub IsStepOf : {T : Type 0} → (T → Answer Transmission → Type 0) → Result T Refused → StationState → Step → Type 0
+abbrev pub IsStepOf : {T : Type 0} → (T → Answer Transmission → Type 0) → Result T Refused
+    → StationState → Step → Type 0
 IsStepOf says (Ok x) new step = says x step.answer × RepresentsStation new step.station
 IsStepOf says (Err e) new step =
-    IfSome (refusal_of e) (λ refusal. (step.answer ≡ model.Answer.Refused refusal) × RepresentsStation new step.station)
+    IfSome (refusal_of e) (λ refusal. (step.answer ≡ model.Answer.Refused refusal)
+    × RepresentsStation new step.station)
 
 -- whatever is answered, it is this
 abbrev pub Says : {T : Type 0} → Answer Transmission → T → Answer Transmission → Type 0

@@ -11,7 +11,7 @@ pub struct Handed<'a> {
     pub payload: &'a [u8],
 }
 
-/// Why a frame is ignored, in the order in which that is judged.
+/// Why a frame is ignored, in the order in which that is checked.
 #[derive(Clone, Copy, Debug, PartialEq, Eq)]
 pub enum Why {
     /// It is to another station's link address.

@@ -1,7 +1,7 @@
 //! The ports of a station.
 
-ghost use Rattle.std.specs.Prelude.{◌≡◌, ◌≢◌, ◌<◌, ◌++◌, ◌∷◌, [], ◌==◌, not, filter, length, true, false};
-ghost use Rattle.std.specs.Prelude.{Err, OnErr, MatchResult};
+ghost use Rattle.std.specs.Prelude.{◌≡◌, ◌≢◌, ◌<◌, ◌++◌, ◌∷◌, [], ◌==◌, not, filter, length, true};
+ghost use Rattle.std.specs.Prelude.{false, Err, OnErr, MatchResult};
 ghost use Rattle.its_model.specs.Calls.{Opened, Closed, Own};
 ghost use Rattle.its_model.specs.Calls.OwnCall.{Open, Close};
 ghost use Rattle.its_model.specs.History.{is_among};

@@ -52,7 +52,7 @@ impl<S: LocationStore> Station<S> {
         ensures payload { IfOk result (DeliversEndOf frame.now) }
         ensures short { IfOk result (Fits 1394) }
     {
-        // The moment is judged first; the octets are read, as the contract names what they are.
+        // The moment is checked first; the octets are read, as the contract names what they are.
         let read = read_frame(frame);
         if let Err(refused) = self.check_moment(now) {
             return Err(refused);
@@ -193,7 +193,7 @@ impl<S: LocationStore> Station<S> {
         }
     }
 
-    /// What is handed out of a packet, inside or outside of its area.
+    /// What is delivered of a packet, inside or outside of its area.
     fn handing<'a>(&self, packet: &PacketView<'a>, inside: bool) -> Option<Handed<'a>>
         requires { inside ≡ is_inside self.now.vector.place packet.now.pdu.body }
         ensures payload { HandsOutEndOf (payload_of packet.now.pdu.body) result }

@@ -185,8 +185,8 @@ impl<S: LocationStore> Station<S> {
         }
     }
 
-    /// A frame that came. The room of the reply is taken before it is received: what is delivered is
-    /// a part of the frame.
+    /// A frame that came. The room of the reply is taken before it is received: what is delivered
+    /// is a part of the frame.
     fn receive_owned(&mut self, moment: u64, frame: &[u8]) -> Result<Reply, NoMemory>
         ensures step { IfOk result (λ reply. (c : ModelCall) × IsFrameCall frame.now c
             × ((s : StationModel) → RepresentsStation self.old s →

@@ -8,8 +8,9 @@ ghost use Rattle.its_model.specs.Packet.{area_body};
 ghost use Rattle.its_model.specs.Calls.{Own, area_call};
 ghost use Rattle.its_model.specs.Calls.OwnCall.{Tick, SendShb, SendGbc, SendGac};
 ghost use Rattle.its_model.specs.History.{Reception};
-ghost use Rattle.its_model.specs.Station.{StationModel, station_step, moment_refusal, own_refusal, first};
-ghost use Rattle.its_model.specs.Station.{beacon_of, shb_of, area_packet, target_of, decided, number_after};
+ghost use Rattle.its_model.specs.Station.{StationModel, station_step, moment_refusal, own_refusal};
+ghost use Rattle.its_model.specs.Station.{first, beacon_of, shb_of, area_packet, target_of};
+ghost use Rattle.its_model.specs.Station.{decided, number_after};
 ghost use Rattle.its_headers.specs.Fields.{message_of};
 ghost use Rattle.its_headers.specs.Packets.{pdu_of_packet, hops_left};
 ghost use Rattle.its_linkframe.specs.Frames.{EncodesFrame, sent_packet};
@@ -230,7 +231,8 @@ impl<S: LocationStore> Station<S> {
         requires size { length r.now.payload.now ≤ 1394 }
         requires hops { 0 < r.now.max_hops }
         ensures pdu { IfOk result (λ packet. pdu_of_packet packet
-            ≡ area_pdu self.now.vector self.now.next_number (kind_of_cast cast) (gbc_request r.now)) }
+            ≡ area_pdu self.now.vector self.now.next_number (kind_of_cast cast)
+            (gbc_request r.now)) }
         ensures hops { IfOk result (λ packet. hops_left packet ≡ r.now.max_hops) }
     {
         let Some(hops) = Hops::new(r.max_hops, r.max_hops) else {

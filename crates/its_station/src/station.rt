@@ -114,7 +114,7 @@ impl<S: LocationStore> Station<S> {
         Ok(())
     }
 
-    /// The moment of a call is judged first: S1, then S2.
+    /// The moment of a call is checked first: S1, then S2.
     pub(crate) fn check_moment(&self, now: u64) -> Result<(), Refused>
         ensures refusal { (ports : List ℕ) (history : List Reception) →
             refusal_in result ≡ moment_refusal (model_of self.now ports history) now }
