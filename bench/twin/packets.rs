@@ -16,8 +16,18 @@ pub enum Kind {
     Gbc(u16, Area),
     Gac(u16, Area),
 }
+impl Kind {
+    /// The length of all that stands before the payload.
+    fn headers(&self) -> usize {
+        match self {
+            Kind::Beacon => 36,
+            Kind::Shb(_) => 40,
+            Kind::Gbc(..) | Kind::Gac(..) => 56,
+        }
+    }
+}
 #[derive(Clone, Copy, Debug)]
-pub struct View<'a> {
+pub struct Parts<P> {
     pub left: u8,
     pub max: u8,
     pub lifetime: u8,
@@ -25,8 +35,10 @@ pub struct View<'a> {
     pub mobile: bool,
     pub vector: LongPv,
     pub kind: Kind,
-    pub payload: &'a [u8],
+    pub payload: P,
 }
+pub type View<'a> = Parts<&'a [u8]>;
+pub type Packet = Parts<Vec<u8>>;
 #[derive(Clone, Copy, Debug, PartialEq)]
 pub enum G {
     Truncated = 1,
@@ -84,7 +96,7 @@ fn vector(w: &[u8], p: usize) -> Result<LongPv, Fault> {
     })
 }
 #[inline(always)]
-fn judge(w: &[u8]) -> Result<(View<'_>, usize), Fault> {
+fn check(w: &[u8]) -> Result<(View<'_>, usize), Fault> {
     need(w, 1)?;
     if w[0] >> 4 != 1 {
         return Err((G::Version, 0));
@@ -199,10 +211,10 @@ fn judge(w: &[u8]) -> Result<(View<'_>, usize), Fault> {
         at + pl,
     ))
 }
-/// A whole header is read with one length test; a short one is judged step by step.
+/// A whole header is read with one length test; a short one is checked step by step.
 #[inline]
 pub fn read(w: &[u8]) -> Result<(View<'_>, usize), Fault> {
-    let Some(h) = w.first_chunk::<36>() else { return judge(w) };
+    let Some(h) = w.first_chunk::<36>() else { return check(w) };
     if h[0] != 0x11
         || h[1] != 0
         || h[3] == 0
@@ -265,7 +277,7 @@ pub fn read(w: &[u8]) -> Result<(View<'_>, usize), Fault> {
 #[cold]
 #[inline(never)]
 fn cold(w: &[u8]) -> Result<(View<'_>, usize), Fault> {
-    judge(w)
+    check(w)
 }
 
 #[derive(Clone, Copy, Debug)]
@@ -309,16 +321,6 @@ pub fn relay_frame(to: u64, from: u64, frame: &Frame<'_>) -> Vec<u8> {
     w[17] -= 1;
     w
 }
-pub struct Packet {
-    pub left: u8,
-    pub max: u8,
-    pub lifetime: u8,
-    pub class: u8,
-    pub mobile: bool,
-    pub vector: LongPv,
-    pub kind: Kind,
-    pub payload: Vec<u8>,
-}
 pub fn to_packet(v: &View<'_>) -> Packet {
     Packet {
         left: v.left,
@@ -342,11 +344,7 @@ fn put_vector(out: &mut [u8; 24], v: &LongPv) {
 }
 #[inline]
 pub fn encode_into(p: &Packet, out: &mut [u8]) -> Option<usize> {
-    let head = match p.kind {
-        Kind::Beacon => 36,
-        Kind::Shb(_) => 40,
-        Kind::Gbc(..) | Kind::Gac(..) => 56,
-    };
+    let head = p.kind.headers();
     let n = head + p.payload.len();
     let out = out.get_mut(..n)?;
     let (nh, ht) = match &p.kind {
@@ -408,12 +406,7 @@ impl View<'_> {
 }
 /// A frame of a packet of one's own.
 pub fn write_frame(to: u64, from: u64, packet: &Packet) -> Vec<u8> {
-    let head = match packet.kind {
-        Kind::Beacon => 36,
-        Kind::Shb(_) => 40,
-        _ => 56,
-    };
-    let mut w = vec![0; 14 + head + packet.payload.len()];
+    let mut w = vec![0; 14 + packet.kind.headers() + packet.payload.len()];
     w[..6].copy_from_slice(&to.to_be_bytes()[2..]);
     w[6..12].copy_from_slice(&from.to_be_bytes()[2..]);
     w[12..14].copy_from_slice(&[0x89, 0x47]);
