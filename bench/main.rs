@@ -33,7 +33,15 @@ unsafe extern "C" {
     fn bench_lookup(p: *const u64, n: usize, r: u32) -> u64;
     fn bench_remembers(p: *const u64, n: usize, r: u32) -> u64;
     fn bench_walk(p: *const u64, n: usize, r: u32) -> u64;
-    fn bench_choose(p: *const u64, n: usize, q: *const u8, m: usize, e: *const u8, l: usize, r: u32) -> u64;
+    fn bench_choose(
+        p: *const u64,
+        n: usize,
+        q: *const u8,
+        m: usize,
+        e: *const u8,
+        l: usize,
+        r: u32,
+    ) -> u64;
     fn bench_receive(b: *const u8, n: usize, p: *const u8, m: usize, stride: usize, r: u32) -> u64;
     fn bench_world(w: *const u64, n: usize, runs: u32) -> u64;
     fn bench_simulate(w: *const u64, n: usize, runs: u32) -> u64;
@@ -73,7 +81,8 @@ unsafe extern "C" {
     fn clock_gettime(clock: i32, time: *mut Timespec) -> i32;
 }
 
-/// The time that this thread has had of a processor, in nanoseconds: others on the machine don't count.
+/// The time that this thread has had of a processor, in nanoseconds: others on the machine don't
+/// count.
 fn processor_time() -> f64 {
     const THREAD: i32 = 3;
     let mut time = Timespec::default();
@@ -110,8 +119,18 @@ fn row(name: &str, calls: usize, rounds: usize, work: u32, base: bool, sides: [C
 }
 
 macro_rules! row {
-    ($name:expr, $calls:expr, $rounds:expr, $work:expr, $base:expr, |$r:ident| $ours:expr, $theirs:expr) => {
-        row(&$name, $calls, $rounds, $work, $base, [Box::new(|$r| unsafe { $ours }), Box::new(|$r| $theirs)])
+    (
+        $name:expr, $calls:expr, $rounds:expr, $work:expr, $base:expr,
+        |$r:ident| $ours:expr, $theirs:expr
+    ) => {
+        row(
+            &$name,
+            $calls,
+            $rounds,
+            $work,
+            $base,
+            [Box::new(|$r| unsafe { $ours }), Box::new(|$r| $theirs)],
+        )
     };
 }
 
@@ -260,7 +279,9 @@ fn twin_encode(octets: &[u8], stride: usize, rounds: u32, out: &mut [u8]) -> u64
         .filter_map(|w| read(w).ok())
         .map(|(v, _)| packets::to_packet(&v))
         .collect();
-    repeated(rounds, || packets.iter().filter_map(|p| encode_into(p, out)).fold(0, |sum, n| sum + n as u64))
+    repeated(rounds, || {
+        packets.iter().filter_map(|p| encode_into(p, out)).fold(0, |sum, n| sum + n as u64)
+    })
 }
 
 fn packet_rows() {
@@ -368,7 +389,9 @@ fn twin_distance(centres: &[u8], places: &[u8], rounds: u32) -> u64 {
 #[inline(never)]
 fn twin_nearest(centres: &[u8], places: &[u8], rounds: u32) -> u64 {
     let (centres, places) = (places_of(centres), places_of(places));
-    repeated(rounds, || centres.iter().filter_map(|c| nearest(*c, black_box(&places))).sum::<usize>() as u64)
+    repeated(rounds, || {
+        centres.iter().filter_map(|c| nearest(*c, black_box(&places))).sum::<usize>() as u64
+    })
 }
 
 fn place_near(random: &mut Random, spread: i32) -> (i32, i32) {

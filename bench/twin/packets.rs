@@ -193,7 +193,11 @@ fn check(w: &[u8]) -> Result<(View<'_>, usize), Fault> {
                 _ => Shape::Ellipse,
             };
             let area = Area { shape, centre: Place { lat, lon }, a, b, angle };
-            (if ht == 3 { Kind::Gac(be16(w, 12), area) } else { Kind::Gbc(be16(w, 12), area) }, v, 56)
+            (
+                if ht == 3 { Kind::Gac(be16(w, 12), area) } else { Kind::Gbc(be16(w, 12), area) },
+                v,
+                56,
+            )
         }
     };
     need(w, at + pl)?;
@@ -238,7 +242,8 @@ pub fn read(w: &[u8]) -> Result<(View<'_>, usize), Fault> {
                 return cold(w);
             }
             let v = vector(h, 16)?;
-            let (lat, lon, a, b, angle) = (be32(h, 40), be32(h, 44), be16(h, 48), be16(h, 50), be16(h, 52));
+            let (lat, lon, a, b, angle) =
+                (be32(h, 40), be32(h, 44), be16(h, 48), be16(h, 50), be16(h, 52));
             if !(-900_000_000..=900_000_000).contains(&lat)
                 || !(-1_800_000_000..=1_800_000_000).contains(&lon)
                 || a == 0
@@ -255,7 +260,11 @@ pub fn read(w: &[u8]) -> Result<(View<'_>, usize), Fault> {
                 _ => Shape::Ellipse,
             };
             let area = Area { shape, centre: Place { lat, lon }, a, b, angle };
-            (if t < 0x40 { Kind::Gac(be16(h, 12), area) } else { Kind::Gbc(be16(h, 12), area) }, v, 56)
+            (
+                if t < 0x40 { Kind::Gac(be16(h, 12), area) } else { Kind::Gbc(be16(h, 12), area) },
+                v,
+                56,
+            )
         }
         _ => return cold(w),
     };

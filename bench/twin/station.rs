@@ -1,6 +1,8 @@
 //! A station over the table, and worlds of stations.
 use crate::geometry::{Area, Place, contains};
-use crate::packets::{FrameFault, Kind, LongPv, Packet, View, read_frame, relay_frame, write_frame};
+use crate::packets::{
+    FrameFault, Kind, LongPv, Packet, View, read_frame, relay_frame, write_frame,
+};
 use crate::table::{Choice, Heard, Table, Verdict, choose};
 
 pub const BROADCAST: u64 = 0xffff_ffff_ffff;
@@ -120,9 +122,9 @@ impl Station {
         }
         self.clock = now;
         let handed = self.handing(packet);
-        let sent = copy
-            .zip(packet.area())
-            .and_then(|(copy, area)| self.target(now, area, Some(frame.from)).map(|to| sent_to(copy, to)));
+        let sent = copy.zip(packet.area()).and_then(|(copy, area)| {
+            self.target(now, area, Some(frame.from)).map(|to| sent_to(copy, to))
+        });
         Ok(Outcome::Accepted { handed, sent })
     }
 
@@ -140,7 +142,11 @@ impl Station {
 
     fn handing<'a>(&self, packet: &View<'a>) -> Option<Handed<'a>> {
         let (port, info, payload) = split(packet.payload)?;
-        (self.ports.contains(&port) && self.is_inside(packet)).then_some(Handed { port, info, payload })
+        (self.ports.contains(&port) && self.is_inside(packet)).then_some(Handed {
+            port,
+            info,
+            payload,
+        })
     }
 
     fn target(&self, now: u64, area: &Area, sender: Option<u64>) -> Option<u64> {

@@ -3,8 +3,8 @@
 use itoa::{Buffer, Integer};
 use std::alloc::{AllocError, Global};
 
-/// A line in the making. Its numbers are written by `itoa` and its octets by `hex`, which takes half
-/// of the time that `write!` takes.
+/// A line in the making. Its numbers are written by `itoa` and its octets by `hex`, in a third of
+/// the time that `write!` takes.
 #[derive(Drop)]
 pub(crate) struct Text {
     octets: Vec<u8>,

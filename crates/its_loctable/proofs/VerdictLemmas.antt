@@ -95,10 +95,12 @@ is_noted-none o None e = refl
 is_noted-none o (Some n) e = ap (λ k. has_number k n) e
 
 module _ (capacity : ℕ) (es : List Entry) (now : ℕ) (heard : SourceReport) where
-  pub eager_verdict-by : (d f : Bool) → is_noted (entry_at es heard.vector.address now) heard.number ≡ d
+  pub eager_verdict-by : (d f : Bool)
+      → is_noted (entry_at es heard.vector.address now) heard.number ≡ d
       → (is_some (entry_at es heard.vector.address now)
       || ltb (count_by (λ (e : Entry). ltb now e.until) es) capacity) ≡ f
-      → eager_verdict capacity es now heard ≡ cond d (Ok Duplicate) (cond f (Ok Accepted) (Err Full))
+      → eager_verdict capacity es now heard
+      ≡ cond d (Ok Duplicate) (cond f (Ok Accepted) (Err Full))
   eager_verdict-by d f p q = λ i. cond (p i) (Ok Duplicate) (cond (q i) (Ok Accepted) (Err Full))
 
   -- it is the one that is owed

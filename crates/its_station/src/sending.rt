@@ -219,7 +219,8 @@ impl<S: LocationStore> Station<S> {
         ensures { (ports : List ℕ) (history : List Reception) →
             Represents self.now.remember self.now.content history now → IfOk result (λ w.
             EncodesFrame (area_packet (model_of self.now ports history) now (gbc_request r.now)
-            (area_body (kind_of_cast cast) self.now.next_number r.now.area (gbc_request r.now).message))
+            (area_body (kind_of_cast cast) self.now.next_number r.now.area
+            (gbc_request r.now).message))
             w.items) }
     {
         let target = self.area_target(now, &r.area);
