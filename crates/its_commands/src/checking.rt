@@ -8,7 +8,6 @@ use crate::status::Status;
 use crate::walk::{RecordLines, each_record};
 use its_linkframe::{FrameFault, FrameView};
 use std::alloc::Global;
-use std::io;
 use std::io::{Read, Write};
 
 /// A line for each refused record.
@@ -16,17 +15,17 @@ use std::io::{Read, Write};
 struct RefusedRecords;
 
 impl RecordLines for RefusedRecords {
-    fn print<W: Write>(
+    fn print<'f, W: Write>(
         &mut self,
         place: u64,
         _moment: u64,
         frame: Result<FrameView<'_>, FrameFault>,
         out: &mut W,
-    ) -> io::Result<()> {
-        match frame {
-            Ok(_) => Ok(()),
-            Err(fault) => writeln!(out, "record {place}: {}", fault.code()),
+    ) -> Result<(), Fault<'f>> {
+        if let Err(fault) = frame {
+            writeln!(out, "record {place}: {}", fault.code())?;
         }
+        Ok(())
     }
 }
 

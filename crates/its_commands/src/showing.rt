@@ -10,7 +10,6 @@ use crate::text::Text;
 use crate::walk::{RecordLines, each_record};
 use its_linkframe::{FrameFault, FrameView};
 use std::alloc::Global;
-use std::io;
 use std::io::{Read, Write};
 
 /// A line for each record.
@@ -20,21 +19,22 @@ struct AllRecords {
 }
 
 impl RecordLines for AllRecords {
-    fn print<W: Write>(
+    fn print<'f, W: Write>(
         &mut self,
         _place: u64,
         moment: u64,
         frame: Result<FrameView<'_>, FrameFault>,
         out: &mut W,
-    ) -> io::Result<()> {
+    ) -> Result<(), Fault<'f>> {
         match frame {
             Ok(frame) => {
                 self.text.clear();
                 frame_line(&mut self.text, moment, &frame)?;
-                out.write_all(self.text.as_bytes())
+                out.write_all(self.text.as_bytes())?;
             }
-            Err(fault) => writeln!(out, "{moment} refused {}", fault.code()),
+            Err(fault) => writeln!(out, "{moment} refused {}", fault.code())?,
         }
+        Ok(())
     }
 }
 

@@ -7,20 +7,20 @@ use crate::fault::Fault;
 use crate::status::Status;
 use its_linkframe::{CaptureFault, CaptureReader, Counted, FrameFault, FrameView, read_frame};
 use std::alloc::{AllocError, Global};
-use std::io;
 use std::io::{Read, Write};
 
 /// What a command prints of the records of a capture.
 pub(crate) trait RecordLines {
     /// Prints what there is to say of a record: its place in the capture, from 0, its moment in
-    /// milliseconds, and its frame or why that was refused.
-    fn print<W: Write>(
+    /// milliseconds, and its frame or why that was refused. `NoOutput` where a write failed,
+    /// `OutOfMemory` where there was no memory for a line.
+    fn print<'f, W: Write>(
         &mut self,
         place: u64,
         moment: u64,
         frame: Result<FrameView<'_>, FrameFault>,
         out: &mut W,
-    ) -> io::Result<()>;
+    ) -> Result<(), Fault<'f>>;
 }
 
 /// What a walk met.
