@@ -64,7 +64,7 @@ fn show_capture<'a, R: Read + Drop, W: Write>(
     ensures { IfOk result IsCommandStatus }
 {
     let mut lines = AllRecords {
-        text: Text::new(alloc),
+        text: Text::new(alloc)?,
     };
     let walked = each_record(alloc, file, reader, &mut lines, out)?;
     Ok(walked.status())

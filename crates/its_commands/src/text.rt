@@ -3,6 +3,10 @@
 use itoa::{Buffer, Integer};
 use std::alloc::{AllocError, Global};
 
+/// How many octets there is room for from the beginning. No line of a frame is longer: its payload
+/// has 1394 octets at most, in two digits each.
+const ROOM: usize = 4096;
+
 /// A line in the making. Its numbers are written by `itoa` and its octets by `hex`, in a third of
 /// the time that `write!` takes.
 #[derive(Drop)]
@@ -11,11 +15,10 @@ pub(crate) struct Text {
 }
 
 impl Text {
-    /// No text yet. It takes no memory.
-    pub(crate) fn new(alloc: Global) -> Text {
-        Text {
-            octets: Vec::new(alloc),
-        }
+    /// No text yet, and room for a line.
+    pub(crate) fn new(alloc: Global) -> Result<Text, AllocError> {
+        let octets = Vec::with_capacity(alloc, ROOM)?;
+        Ok(Text { octets })
     }
 
     /// Begins the next line.
