@@ -9,7 +9,7 @@
 mod decoding;
 mod encoding;
 mod kind;
-mod laws;
+pub mod laws;
 mod packet;
 mod payload;
 mod relaying;
@@ -20,7 +20,6 @@ pub use decoding::{DecodeCode, DecodeFault, decode};
 pub use encoding::encode_into;
 pub use its_faults::{Fault, FaultCode, FaultKind};
 pub use kind::Kind;
-pub use laws::{hops_in_one_octet, one_encoding, one_first_fault};
 pub use packet::{AreaPacket, Header, Packet, SingleHopBroadcast};
 pub use payload::{LONGEST_PAYLOAD, Payload, SHORTEST_PAYLOAD};
 pub use relaying::relay_into;

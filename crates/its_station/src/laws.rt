@@ -5,7 +5,7 @@ ghost use Rattle.its_headers.specs.Encoding.{IsBytes};
 ghost use Rattle.its_model.specs.Calls.{Call};
 ghost use Rattle.its_station.specs.Receiving.{IsFrameCall};
 
-use its_linkframe::{one_frame, one_frame_fault};
+use its_linkframe::laws::{one_frame, one_frame_fault};
 
 /// Octets that come are one call of the model at most: the frame of one packet on the air, or junk
 /// with one first fault.

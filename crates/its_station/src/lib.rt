@@ -30,7 +30,7 @@
 //! the station afterwards. A call that is refused changes nothing.
 #![tactic(auto)]
 
-mod laws;
+pub mod laws;
 mod outcome;
 mod ports;
 mod receive;
@@ -41,7 +41,6 @@ mod run;
 mod sending;
 mod station;
 
-pub use laws::one_call;
 pub use outcome::{Handed, Outcome, Why};
 pub use refused::{Refused, RefusedCode};
 pub use requests::{GbcRequest, OwnedGbcRequest, OwnedShbRequest, ShbRequest};

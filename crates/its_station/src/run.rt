@@ -20,7 +20,7 @@ use crate::requests::{OwnedGbcRequest, OwnedShbRequest};
 use crate::station::Station;
 use its_gnvalue::{NoMemory, Place};
 use its_loctable::LocationStore;
-use its_model::{calls_go_on, sources_are_isolated};
+use its_model::laws::{calls_go_on, sources_are_isolated};
 use std::alloc::Global;
 
 /// A call of a station, with its arguments but for the moment. It owns its octets.

@@ -9,7 +9,7 @@ ghost use Rattle.its_world.specs.Runs.{IsRunOf, IsLawfulRunOf};
 use crate::entry::Entry;
 use crate::event::Event;
 use crate::world::World;
-use its_model::{every_schedule, runs_go_on};
+use its_model::laws::{every_schedule, runs_go_on};
 use std::alloc::Global;
 
 /// What came of the events.

@@ -21,7 +21,7 @@ use crate::given::Given;
 use crate::shared::refuse_shared;
 use crate::stations::stations_of;
 use its_gnvalue::NoMemory;
-use its_linkframe::{one_frame, one_frame_fault};
+use its_linkframe::laws::{one_frame, one_frame_fault};
 use its_loctable::SortedTable;
 use its_station::Station;
 use std::alloc::Global;

@@ -1,5 +1,0 @@
-use Rattle.its_model.proofs.Givers.{delivered_is}
-use Rattle.its_model.proofs.runs.a_line_has_its_frame.Goals as goal
-
-pub returns : goal.returns
-returns c = delivered_is
