@@ -34,6 +34,20 @@ fn take<S: LocationStore>(rt: &impl Abort, store: &mut S, now: u64, h: Heard) ->
     Ok(())
 }
 
+/// The choice for a packet of the station itself is this.
+fn expect<S: LocationStore>(
+    rt: &impl Abort,
+    store: &S,
+    now: u64,
+    own: Place,
+    area: &Area,
+    want: Choice,
+)
+    requires { now ≤ 2 ^ 62 }
+{
+    assert!(rt; choose(store, now, own, area, None) == want, "at {now}");
+}
+
 fn to(address: u64) -> Result<Choice, Fail> {
     Ok(Choice::To(GnAddress::from_u64(address)?.mid()))
 }
@@ -46,8 +60,8 @@ fn two_neighbours<S: LocationStore>(rt: &impl Abort, mut store: S) -> Result<(),
     let (second, third) = (Place::new(50, 50_000)?, Place::new(-50, 50_000)?);
     take(rt, &mut store, 100, heard(THIRD, third, false, None)?)?;
     take(rt, &mut store, 100, heard(SECOND, second, false, None)?)?;
-    assert!(rt; choose(&store, 20_099, own, &area, None) == to(SECOND)?);
-    assert!(rt; choose(&store, 20_100, own, &area, None) == Choice::Broadcast);
+    expect(rt, &store, 20_099, own, &area, to(SECOND)?);
+    expect(rt, &store, 20_100, own, &area, Choice::Broadcast);
     Ok(())
 }
 
@@ -58,11 +72,11 @@ fn inside_and_no_progress<S: LocationStore>(rt: &impl Abort, mut store: S) -> Re
     let (border, far) = (Place::new(899, 0)?, Place::new(100_000, 0)?);
     let (equal, nearer) = (Place::new(-100_000, 0)?, Place::new(-99_999, 0)?);
     take(rt, &mut store, 1000, heard(FIRST, equal, true, None)?)?;
-    assert!(rt; choose(&store, 1000, border, &area, None) == Choice::Broadcast);
-    assert!(rt; choose(&store, 1000, far, &area, None) == Choice::Broadcast);
+    expect(rt, &store, 1000, border, &area, Choice::Broadcast);
+    expect(rt, &store, 1000, far, &area, Choice::Broadcast);
     take(rt, &mut store, 1000, heard(SECOND, nearer, true, None)?)?;
-    assert!(rt; choose(&store, 1000, far, &area, None) == to(SECOND)?);
-    assert!(rt; choose(&store, 1000, border, &area, None) == Choice::Broadcast);
+    expect(rt, &store, 1000, far, &area, to(SECOND)?);
+    expect(rt, &store, 1000, border, &area, Choice::Broadcast);
     Ok(())
 }
 
@@ -74,33 +88,19 @@ fn many_equal<S: LocationStore>(rt: &impl Abort, mut store: S, count: u64) -> Re
     let (place, nearer) = (Place::new(100, 60_000)?, Place::new(99, 60_000)?);
     let count = count.min(1000);
     for i in 0..count {
-        take(
-            rt,
-            &mut store,
-            1000,
-            heard(FIRST + 1000 - i, place, false, None)?,
-        )?;
+        let equal = heard(FIRST + 1000 - i, place, false, None)?;
+        take(rt, &mut store, 1000, equal)?;
     }
-    assert!(rt;
-        choose(&store, 1000, own, &area, None) == to(FIRST + 1001 - count)?,
-        "{count}"
-    );
+    expect(rt, &store, 1000, own, &area, to(FIRST + 1001 - count)?);
     take(
         rt,
         &mut store,
         2000,
         heard(FIRST + 2000, nearer, false, None)?,
     )?;
-    take(
-        rt,
-        &mut store,
-        2000,
-        heard(FIRST + 3000, area.centre(), false, Some(0))?,
-    )?;
-    assert!(rt;
-        choose(&store, 2000, own, &area, None) == to(FIRST + 2000)?,
-        "{count}"
-    );
+    let at_the_centre = heard(FIRST + 3000, area.centre(), false, Some(0))?;
+    take(rt, &mut store, 2000, at_the_centre)?;
+    expect(rt, &store, 2000, own, &area, to(FIRST + 2000)?);
     Ok(())
 }
 

@@ -18,6 +18,7 @@ use its_gnvalue::{GnAddress, Lifetime, Place, TrafficClass};
 use its_loctable::LocationStore;
 use its_station::{GbcRequest, Handed, Outcome, Refused, Reply, Station, Why};
 use std::alloc::Global;
+use std::process::Abort;
 use std::test::Fail;
 
 const FIRST: u64 = 0x1400_0200_0000_0001;
@@ -46,6 +47,8 @@ static BEACON: &str =
 static SINGLE_HOP: &str =
     "ffffffffffff020000000001894711001a0120500080000601001400020000000001000000000000000000\
     000000000000000000000007d200006869";
+
+const DUPLICATE: Fate = Fate::Ignored(Why::Duplicate);
 
 /// What a call gave. A payload counts as delivered where it is "hi" for `PORT`, with info 0.
 #[derive(Clone, Copy, Debug, PartialEq, Eq)]
@@ -94,6 +97,23 @@ fn deliver<S: LocationStore>(
 /// What becomes of a frame.
 fn fate_of<S: LocationStore>(station: &mut Station<S>, now: u64, frame: &[u8]) -> Fate {
     deliver(station, now, frame).0
+}
+
+/// This becomes of a frame.
+fn expect<S: LocationStore>(
+    rt: &impl Abort,
+    station: &mut Station<S>,
+    now: u64,
+    frame: &[u8],
+    want: Fate,
+) {
+    assert_eq!(rt; fate_of(station, now, frame), want, "at {now}");
+}
+
+/// The frame has these octets, as digits.
+fn expect_octets(rt: &impl Abort, alloc: Global, frame: &[u8], digits: &str) -> Result<(), Fail> {
+    assert_eq!(rt; frame, hex::decode(alloc, digits)?.as_slice());
+    Ok(())
 }
 
 fn fate_of_reply(reply: &Reply) -> Fate {
@@ -153,4 +173,18 @@ fn request<'a>(area: Area, payload: &'a [u8]) -> GbcRequest<'a> {
         area,
         payload,
     }
+}
+
+/// The first geobroadcast of the first station.
+fn geobroadcast<S: LocationStore>(alloc: Global) -> Result<Vec<u8>, Fail> {
+    let request = request(circle()?, b"hi");
+    Ok(sender::<S>(alloc)?.send_geobroadcast(1000, &request)?)
+}
+
+/// The frame in which the second station passes on one that came with ten hops left.
+fn relay_of(frame: &Vec<u8>) -> Result<Vec<u8>, Fail> {
+    let mut relay = frame.clone()?;
+    *relay.get_mut(11).ok_or("short")? = 2;
+    *relay.get_mut(LINK + 3).ok_or("short")? = 9;
+    Ok(relay)
 }

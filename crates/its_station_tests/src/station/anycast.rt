@@ -1,35 +1,46 @@
 //! Geoanycasts, which stop at the first station inside of the area.
 
 use super::{
-    BEACON, Fate, GEOBROADCAST, LINK, SECOND, circle, fate_of, receiver, request, sender, station,
+    BEACON, DUPLICATE, Fate, GEOBROADCAST, LINK, SECOND, circle, expect, fate_of, receiver,
+    request, sender, station,
 };
 use its_faults::{Fault, FaultKind, FrameFault};
 use its_loctable::{LocationStore, OrderedTable, SortedTable};
-use its_station::{Refused, Why};
+use its_station::Refused;
 use std::alloc::Global;
 use std::process::Abort;
 use std::test::Fail;
 
-/// Inside it is delivered and doesn't go on, whether the port is open or not; outside it goes on.
-fn one_geoanycast<S: LocationStore>(rt: &impl Abort, alloc: Global) -> Result<(), Fail> {
+/// The first geoanycast of the first station.
+fn geoanycast<S: LocationStore>(alloc: Global) -> Result<Vec<u8>, Fail> {
     let request = request(circle()?, b"hi");
-    let frame = sender::<S>(alloc)?.send_geoanycast(1000, &request)?;
-    let mut want = hex::decode(alloc, GEOBROADCAST)?;
-    assert_eq!(rt; want.len(), 76);
-    want[LINK + 5] = 0x30;
-    assert_eq!(rt; frame.as_slice(), want.as_slice());
+    Ok(sender::<S>(alloc)?.send_geoanycast(1000, &request)?)
+}
 
-    let mut near = receiver::<S>(alloc, 449)?;
-    assert_eq!(rt; fate_of(&mut near, 1010, &frame), Fate::Delivered);
-    assert_eq!(rt;
-        fate_of(&mut near, 1011, &frame),
-        Fate::Ignored(Why::Duplicate)
-    );
-    let mut far = receiver::<S>(alloc, 100_000)?;
-    assert_eq!(rt; fate_of(&mut far, 1010, &frame), Fate::Relayed);
-    let mut closed = station::<S>(alloc, SECOND, 449, 0)?;
-    assert_eq!(rt; fate_of(&mut closed, 1010, &frame), Fate::Kept);
+/// It differs from a geobroadcast in its type alone.
+fn one_octet_differs<S: LocationStore>(rt: &impl Abort, alloc: Global) -> Result<(), Fail> {
+    let mut want = hex::decode(alloc, GEOBROADCAST)?;
+    *want.get_mut(LINK + 5).ok_or("short")? = 0x30;
+    assert_eq!(rt; geoanycast::<S>(alloc)?.as_slice(), want.as_slice());
     Ok(())
+}
+
+/// Inside it is delivered and doesn't go on, whether the port is open or not; outside it goes on.
+fn stops_inside<S: LocationStore>(rt: &impl Abort, alloc: Global) -> Result<(), Fail> {
+    let frame = geoanycast::<S>(alloc)?;
+    let mut near = receiver::<S>(alloc, 449)?;
+    expect(rt, &mut near, 1010, &frame, Fate::Delivered);
+    expect(rt, &mut near, 1011, &frame, DUPLICATE);
+    let mut far = receiver::<S>(alloc, 100_000)?;
+    expect(rt, &mut far, 1010, &frame, Fate::Relayed);
+    let mut closed = station::<S>(alloc, SECOND, 449, 0)?;
+    expect(rt, &mut closed, 1010, &frame, Fate::Kept);
+    Ok(())
+}
+
+/// The sequence number of a packet for an area is this.
+fn expect_number(rt: &impl Abort, frame: &[u8], want: [u8; 2]) {
+    assert_eq!(rt; frame.get(LINK + 12..LINK + 14), Some(want.as_slice()));
 }
 
 /// Geobroadcasts and geoanycasts have their numbers of one count, and are checked together.
@@ -38,26 +49,20 @@ fn one_count<S: LocationStore>(rt: &impl Abort, alloc: Global) -> Result<(), Fai
     let (mut first, mut near) = (sender::<S>(alloc)?, receiver::<S>(alloc, 449)?);
     let geobroadcast = first.send_geobroadcast(1000, &request)?;
     let geoanycast = first.send_geoanycast(1000, &request)?;
-    assert_eq!(rt;
-        geobroadcast.get(LINK + 12..LINK + 14),
-        Some([0, 0].as_slice())
+    expect_number(rt, &geobroadcast, [0, 0]);
+    expect_number(rt, &geoanycast, [0, 1]);
+    expect(
+        rt,
+        &mut near,
+        1010,
+        &geobroadcast,
+        Fate::DeliveredAndRelayed,
     );
-    assert_eq!(rt;
-        geoanycast.get(LINK + 12..LINK + 14),
-        Some([0, 1].as_slice())
-    );
-    assert_eq!(rt;
-        fate_of(&mut near, 1010, &geobroadcast),
-        Fate::DeliveredAndRelayed
-    );
-    assert_eq!(rt; fate_of(&mut near, 1010, &geoanycast), Fate::Delivered);
+    expect(rt, &mut near, 1010, &geoanycast, Fate::Delivered);
 
     first.restart(1020, 0)?;
-    let geoanycast = first.send_geoanycast(1030, &request)?;
-    assert_eq!(rt;
-        fate_of(&mut near, 1040, &geoanycast),
-        Fate::Ignored(Why::Duplicate)
-    );
+    let again = first.send_geoanycast(1030, &request)?;
+    expect(rt, &mut near, 1040, &again, DUPLICATE);
     Ok(())
 }
 
@@ -70,7 +75,8 @@ fn with_types<S: LocationStore>(alloc: Global, digits: &str, types: [u8; 2]) -> 
 }
 
 fn geoanycasts<S: LocationStore>(rt: &impl Abort, alloc: Global) -> Result<(), Fail> {
-    one_geoanycast::<S>(rt, alloc)?;
+    one_octet_differs::<S>(rt, alloc)?;
+    stops_inside::<S>(rt, alloc)?;
     one_count::<S>(rt, alloc)?;
     for (digits, types, kind) in [
         (GEOBROADCAST, [0x20, 0x33], FaultKind::SubType),

@@ -1,6 +1,6 @@
 //! A damaged frame between two good ones.
 
-use super::{Fate, LINK, circle, deliver, fate_of, receiver, request, sender};
+use super::{DUPLICATE, Fate, LINK, circle, deliver, fate_of, receiver, relay_of, request, sender};
 use its_faults::{Fault, FaultKind, FrameFault};
 use its_loctable::{LocationStore, OrderedTable, SortedTable};
 use its_station::{Refused, Why};
@@ -21,9 +21,7 @@ fn two_good<S: LocationStore>(alloc: Global) -> Result<Good, Fail> {
     let mut source = sender::<S>(alloc)?;
     let first = source.send_geobroadcast(1000, &request)?;
     let second = source.send_geobroadcast(1000, &request)?;
-    let mut relay = second.clone()?;
-    *relay.get_mut(11).ok_or("short")? = 2;
-    *relay.get_mut(LINK + 3).ok_or("short")? = 9;
+    let relay = relay_of(&second)?;
     Ok(Good {
         first,
         second,
@@ -111,7 +109,7 @@ fn bits<S: LocationStore>(rt: &impl Abort, alloc: Global) -> Result<(), Fail> {
             counts.count(found)?;
             let takes_number = octet == LINK + 13 && bit == 0;
             let want = if takes_number {
-                Fate::Ignored(Why::Duplicate)
+                DUPLICATE
             } else {
                 Fate::DeliveredAndRelayed
             };

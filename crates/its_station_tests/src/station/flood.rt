@@ -1,6 +1,6 @@
 //! Beacons of far more sources than a table has room for.
 
-use super::{Fate, fate_of, receiver, station};
+use super::{Fate, expect, fate_of, receiver, station};
 use its_loctable::{LocationStore, OrderedTable, SortedTable};
 use its_station::Refused;
 use std::alloc::Global;
@@ -25,9 +25,9 @@ fn flood<S: LocationStore>(rt: &impl Abort, alloc: Global) -> Result<(), Fail> {
         let found = fate_of(&mut near, 1000, &beacon(alloc, source)?);
         assert_eq!(rt; found, want, "{source}");
     }
-    assert_eq!(rt; fate_of(&mut near, 1001, &beacon(alloc, 63)?), Fate::Kept);
-    assert_eq!(rt; fate_of(&mut near, 20_999, &beacon(alloc, 64)?), full);
-    assert_eq!(rt; fate_of(&mut near, 21_000, &beacon(alloc, 64)?), Fate::Kept);
+    expect(rt, &mut near, 1001, &beacon(alloc, 63)?, Fate::Kept);
+    expect(rt, &mut near, 20_999, &beacon(alloc, 64)?, full);
+    expect(rt, &mut near, 21_000, &beacon(alloc, 64)?, Fate::Kept);
     Ok(())
 }
 

@@ -3,24 +3,45 @@
 ghost use Rattle.std.specs.Prelude.{All};
 ghost use Rattle.its_station.specs.Runs.{IsInRange};
 
-use super::{
-    Fate, PORT, SECOND, THIRD, circle, fate_of, fate_of_reply, receiver, request, sender, station,
-};
+use super::{DUPLICATE, Fate, GEOBROADCAST, PORT, SECOND, THIRD, expect, fate_of_reply, station};
 use its_faults::FrameFault;
 use its_loctable::{LocationStore, OrderedTable, SortedTable};
-use its_station::{Call, Refused, Station, Why};
+use its_station::{Call, Refused, Station};
 use std::alloc::Global;
 use std::process::Abort;
 use std::test::Fail;
 
+/// What is no frame.
+static JUNK: [u8; 3] = [0, 1, 2];
+
+const SHORT: Fate = Fate::Refused(Refused::Frame(FrameFault::Short));
+
+/// One source's packet, and another source's beacon.
+#[derive(Drop)]
+struct Frames {
+    geobroadcast: Vec<u8>,
+    beacon: Vec<u8>,
+}
+
+fn two_frames<S: LocationStore>(alloc: Global) -> Result<Frames, Fail> {
+    let geobroadcast = hex::decode(alloc, GEOBROADCAST)?;
+    let beacon = station::<S>(alloc, THIRD, 0, 449)?.tick(1012, 0)?;
+    Ok(Frames {
+        geobroadcast,
+        beacon: beacon.ok_or("no beacon")?,
+    })
+}
+
+/// A station with no open port at the place of the receiver.
+fn closed<S: LocationStore>(alloc: Global) -> Result<Station<S>, Fail> {
+    station(alloc, SECOND, 449, 0)
+}
+
 /// What one run of the calls gives.
-fn run_of<S: LocationStore>(
-    alloc: Global,
-    near: &mut Station<S>,
-    calls: &[(u64, Call)],
-) -> Result<Vec<Fate>, Fail>
+fn run_of<S: LocationStore>(alloc: Global, calls: &[(u64, Call)]) -> Result<Vec<Fate>, Fail>
     requires { All (λ call. IsInRange call.1) calls.now }
 {
+    let mut near = closed::<S>(alloc)?;
     let ran = near.run(calls);
     if ran.out_of_memory {
         return Err(Fail::from("out of memory"));
@@ -32,67 +53,106 @@ fn run_of<S: LocationStore>(
     Ok(fates)
 }
 
-/// What a run of one call gives, unless memory ran out.
-fn one<S: LocationStore>(near: &mut Station<S>, moment: u64, call: Call) -> Option<Fate>
+/// The packet and its copy, with junk and the beacon between, in one run.
+fn with_others<S: LocationStore>(
+    rt: &impl Abort,
+    alloc: Global,
+    frames: &Frames,
+) -> Result<(), Fail> {
+    let calls = [
+        (0, Call::Open(PORT)),
+        (1010, Call::Receive(frames.geobroadcast.clone()?)),
+        (1011, Call::Receive(Vec::from_slice(alloc, &JUNK)?)),
+        (1012, Call::Receive(frames.beacon.clone()?)),
+        (1013, Call::Receive(frames.geobroadcast.clone()?)),
+    ];
+    let want = [
+        Fate::Done,
+        Fate::DeliveredAndRelayed,
+        SHORT,
+        Fate::Kept,
+        DUPLICATE,
+    ];
+    assert_eq!(rt; run_of::<S>(alloc, &calls)?.as_slice(), want.as_slice());
+    Ok(())
+}
+
+/// The packet and its copy alone, in one run.
+fn alone<S: LocationStore>(rt: &impl Abort, alloc: Global, frames: &Frames) -> Result<(), Fail> {
+    let calls = [
+        (0, Call::Open(PORT)),
+        (1010, Call::Receive(frames.geobroadcast.clone()?)),
+        (1013, Call::Receive(frames.geobroadcast.clone()?)),
+    ];
+    let want = [Fate::Done, Fate::DeliveredAndRelayed, DUPLICATE];
+    assert_eq!(rt; run_of::<S>(alloc, &calls)?.as_slice(), want.as_slice());
+    Ok(())
+}
+
+/// This comes of a run of one call.
+fn expect_one<S: LocationStore>(
+    rt: &impl Abort,
+    near: &mut Station<S>,
+    moment: u64,
+    call: Call,
+    want: Fate,
+)
     requires { IsInRange call }
 {
     let calls = [(moment, call)];
     let ran = near.run(&calls);
-    ran.replies.first().map(|reply| fate_of_reply(reply))
+    let found = ran.replies.first().map(|reply| fate_of_reply(reply));
+    assert_eq!(rt; found, Some(want), "at {moment}");
 }
 
-/// A station with no open port at the place of the receiver.
-fn closed<S: LocationStore>(alloc: Global) -> Result<Station<S>, Fail> {
-    station(alloc, SECOND, 449, 0)
+/// The same calls as with others, each in a run of its own.
+fn one_by_one<S: LocationStore>(
+    rt: &impl Abort,
+    alloc: Global,
+    frames: &Frames,
+) -> Result<(), Fail> {
+    let mut near = closed::<S>(alloc)?;
+    expect_one(rt, &mut near, 0, Call::Open(PORT), Fate::Done);
+    let (packet, beacon) = (&frames.geobroadcast, &frames.beacon);
+    for (moment, octets, want) in [
+        (1010, packet.as_slice(), Fate::DeliveredAndRelayed),
+        (1011, JUNK.as_slice(), SHORT),
+        (1012, beacon.as_slice(), Fate::Kept),
+        (1013, packet.as_slice(), DUPLICATE),
+    ] {
+        let call = Call::Receive(Vec::from_slice(alloc, octets)?);
+        expect_one(rt, &mut near, moment, call, want);
+    }
+    Ok(())
 }
 
-/// One source's packet and its copy, with junk and another source's beacon between.
-fn isolated<S: LocationStore>(rt: &impl Abort, alloc: Global) -> Result<(), Fail> {
-    let request = request(circle()?, b"hi");
-    let frame = sender::<S>(alloc)?.send_geobroadcast(1000, &request)?;
-    let beacon = station::<S>(alloc, THIRD, 0, 449)?.tick(1012, 0)?;
-    let beacon = beacon.ok_or("no beacon")?;
-    let junk = [0, 1, 2];
-    let (new, duplicate) = (Fate::DeliveredAndRelayed, Fate::Ignored(Why::Duplicate));
-    let refused = Fate::Refused(Refused::Frame(FrameFault::Short));
-    let want = [Fate::Done, new, refused, Fate::Kept, duplicate];
-
-    let calls = [
-        (0, Call::Open(PORT)),
-        (1010, Call::Receive(frame.clone()?)),
-        (1011, Call::Receive(Vec::from_slice(alloc, &junk)?)),
-        (1012, Call::Receive(beacon.clone()?)),
-        (1013, Call::Receive(frame.clone()?)),
-    ];
-    let mut near = closed::<S>(alloc)?;
-    let found = run_of(alloc, &mut near, &calls)?;
-    assert_eq!(rt; found.as_slice(), want.as_slice());
-
-    let alone = [
-        (0, Call::Open(PORT)),
-        (1010, Call::Receive(frame.clone()?)),
-        (1013, Call::Receive(frame.clone()?)),
-    ];
-    let mut near = closed::<S>(alloc)?;
-    let found = run_of(alloc, &mut near, &alone)?;
-    assert_eq!(rt; found.as_slice(), [Fate::Done, new, duplicate].as_slice());
-
-    let mut near = closed::<S>(alloc)?;
-    let (octets, others) = (frame.clone()?, Vec::from_slice(alloc, &junk)?);
-    let (again, tells) = (frame.clone()?, beacon.clone()?);
-    assert!(rt; one(&mut near, 0, Call::Open(PORT)) == Some(Fate::Done));
-    assert!(rt; one(&mut near, 1010, Call::Receive(octets)) == Some(new));
-    assert!(rt; one(&mut near, 1011, Call::Receive(others)) == Some(refused));
-    assert!(rt; one(&mut near, 1012, Call::Receive(tells)) == Some(Fate::Kept));
-    assert!(rt; one(&mut near, 1013, Call::Receive(again)) == Some(duplicate));
-
+/// The same by calls of the station that borrow their octets.
+fn by_its_calls<S: LocationStore>(
+    rt: &impl Abort,
+    alloc: Global,
+    frames: &Frames,
+) -> Result<(), Fail> {
     let mut near = closed::<S>(alloc)?;
     near.open(0, PORT)?;
-    assert_eq!(rt; fate_of(&mut near, 1010, &frame), new);
-    assert_eq!(rt; fate_of(&mut near, 1011, &junk), refused);
-    assert_eq!(rt; fate_of(&mut near, 1012, &beacon), Fate::Kept);
-    assert_eq!(rt; fate_of(&mut near, 1013, &frame), duplicate);
+    expect(
+        rt,
+        &mut near,
+        1010,
+        &frames.geobroadcast,
+        Fate::DeliveredAndRelayed,
+    );
+    expect(rt, &mut near, 1011, &JUNK, SHORT);
+    expect(rt, &mut near, 1012, &frames.beacon, Fate::Kept);
+    expect(rt, &mut near, 1013, &frames.geobroadcast, DUPLICATE);
     Ok(())
+}
+
+fn isolated<S: LocationStore>(rt: &impl Abort, alloc: Global) -> Result<(), Fail> {
+    let frames = two_frames::<S>(alloc)?;
+    with_others::<S>(rt, alloc, &frames)?;
+    alone::<S>(rt, alloc, &frames)?;
+    one_by_one::<S>(rt, alloc, &frames)?;
+    by_its_calls::<S>(rt, alloc, &frames)
 }
 
 #[test]

@@ -2,10 +2,12 @@
 
 ghost use Rattle.std.specs.Prelude.{◌≤◌};
 
-use super::{Fate, LINK, PORT, SECOND, circle, fate_of, receiver, request, sender};
+use super::{
+    DUPLICATE, Fate, LINK, PORT, SECOND, circle, expect, fate_of, receiver, request, sender,
+};
 use its_gnvalue::{GnAddress, Place};
 use its_loctable::{LocationStore, OrderedTable, SortedTable};
-use its_station::{Station, Why};
+use its_station::Station;
 use std::alloc::Global;
 use std::process::Abort;
 use std::test::Fail;
@@ -32,13 +34,13 @@ fn first_again<S: LocationStore>(alloc: Global, remember: u8, sends: u64) -> Res
 }
 
 fn remembered<S: LocationStore>(rt: &impl Abort, alloc: Global) -> Result<(), Fail> {
-    let (new, duplicate) = (Fate::DeliveredAndRelayed, Fate::Ignored(Why::Duplicate));
+    let (new, old) = (Fate::DeliveredAndRelayed, DUPLICATE);
     assert_eq!(rt; first_again::<S>(alloc, 1, 2)?, new);
-    assert_eq!(rt; first_again::<S>(alloc, 2, 2)?, duplicate);
+    assert_eq!(rt; first_again::<S>(alloc, 2, 2)?, old);
     assert_eq!(rt; first_again::<S>(alloc, 8, 9)?, new);
-    assert_eq!(rt; first_again::<S>(alloc, 8, 8)?, duplicate);
+    assert_eq!(rt; first_again::<S>(alloc, 8, 8)?, old);
     assert_eq!(rt; first_again::<S>(alloc, 64, 65)?, new);
-    assert_eq!(rt; first_again::<S>(alloc, 64, 64)?, duplicate);
+    assert_eq!(rt; first_again::<S>(alloc, 64, 64)?, old);
     Ok(())
 }
 
@@ -63,11 +65,8 @@ fn counted<S: LocationStore>(rt: &impl Abort, alloc: Global) -> Result<(), Fail>
     assert_eq!(rt; last.as_slice(), first.as_slice());
 
     let mut near = receiver::<S>(alloc, 449)?;
-    assert_eq!(rt; fate_of(&mut near, 1010, &first), Fate::DeliveredAndRelayed);
-    assert_eq!(rt;
-        fate_of(&mut near, 1010, &last),
-        Fate::Ignored(Why::Duplicate)
-    );
+    expect(rt, &mut near, 1010, &first, Fate::DeliveredAndRelayed);
+    expect(rt, &mut near, 1010, &last, DUPLICATE);
     Ok(())
 }
 

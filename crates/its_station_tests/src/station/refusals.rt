@@ -1,11 +1,11 @@
 //! What refuses a call: which refusal comes first, that it changes nothing, and what it prints.
 
-use super::{Fate, PORT, SECOND, circle, fate_of, receiver, request, sender, station};
+use super::{Fate, PORT, SECOND, circle, expect, receiver, request, sender, station};
 use its_btp::PortFault;
 use its_faults::{Fault, FaultKind, FrameFault};
 use its_gnvalue::{Place, TrafficClass};
 use its_loctable::{LocationStore, OrderedTable, SortedTable};
-use its_station::{LAST_MOMENT, MAX_PAYLOAD, Refused, ShbRequest};
+use its_station::{LAST_MOMENT, MAX_PAYLOAD, Refused, ShbRequest, Station};
 use std::alloc::Global;
 use std::process::Abort;
 use std::test::Fail;
@@ -16,12 +16,18 @@ const NO_PORT_LEFT: Refused = Refused::Port(PortFault::Full);
 
 const NOT_OPEN: Refused = Refused::Port(PortFault::NotOpen);
 
-/// Moments are checked before ports, and the last moment is a good one.
-fn of_ports<S: LocationStore>(rt: &impl Abort, alloc: Global) -> Result<(), Fail> {
+/// A station with 64 open ports, with the clock at 1000.
+fn with_64_ports<S: LocationStore>(alloc: Global) -> Result<Station<S>, Fail> {
     let mut near = station::<S>(alloc, SECOND, 449, 0)?;
     for port in 0..64 {
         near.open(1000, port)?;
     }
+    Ok(near)
+}
+
+/// Moments are checked before ports.
+fn of_ports<S: LocationStore>(rt: &impl Abort, alloc: Global) -> Result<(), Fail> {
+    let mut near = with_64_ports::<S>(alloc)?;
     for (now, port, want) in [
         (999, 0, Refused::MomentEarlier),
         (LAST_MOMENT + 1, 0, Refused::MomentTooLate),
@@ -38,6 +44,13 @@ fn of_ports<S: LocationStore>(rt: &impl Abort, alloc: Global) -> Result<(), Fail
     ] {
         assert_eq!(rt; near.close(now, port), Err(want), "close {port} at {now}");
     }
+    near.close(1000, 0)?;
+    Ok(())
+}
+
+/// A port that was closed leaves its place to another, and the last moment is a good one.
+fn of_closed_ports<S: LocationStore>(rt: &impl Abort, alloc: Global) -> Result<(), Fail> {
+    let mut near = with_64_ports::<S>(alloc)?;
     near.close(1000, 0)?;
     assert_eq!(rt; near.close(1000, 0), Err(NOT_OPEN));
     near.open(1000, 64)?;
@@ -73,12 +86,37 @@ fn of_single_hops<S: LocationStore>(rt: &impl Abort, alloc: Global) -> Result<()
     Ok(())
 }
 
-/// A geoanycast is refused as a geobroadcast is; a move and a restart for their moments alone.
-fn of_other_calls<S: LocationStore>(rt: &impl Abort, alloc: Global) -> Result<(), Fail> {
+/// A geoanycast is refused as a geobroadcast is.
+fn of_geoanycasts<S: LocationStore>(rt: &impl Abort, alloc: Global) -> Result<(), Fail> {
     let octets = [0x5a; MAX_PAYLOAD + 1];
-    let (mut hopless, mut long) = (request(circle()?, b"hi"), request(circle()?, &octets));
+    let area = circle()?;
+    let (mut hopless, mut long) = (request(area, b"hi"), request(area, &octets));
     hopless.max_hops = 0;
     long.max_hops = 0;
+    let mut first = sender::<S>(alloc)?;
+    first.open(1000, PORT)?;
+    for (anycast, now, want) in [
+        (&long, 999, Refused::MomentEarlier),
+        (&long, LAST_MOMENT + 1, Refused::MomentTooLate),
+        (&long, 5000, Refused::PayloadTooLong),
+        (&hopless, 5000, Refused::HopLimitZero),
+    ] {
+        let refused = first.send_geoanycast(now, anycast).err();
+        assert_eq!(rt; refused, Some(want), "at {now}");
+    }
+    let good = first.send_geoanycast(1000, &request(area, b"hi"))?;
+    expect(
+        rt,
+        &mut receiver::<S>(alloc, 449)?,
+        1000,
+        &good,
+        Fate::Delivered,
+    );
+    Ok(())
+}
+
+/// A move, a restart, a tick and a frame are refused for their moments first.
+fn of_moments<S: LocationStore>(rt: &impl Abort, alloc: Global) -> Result<(), Fail> {
     let place = Place::new(0, 0)?;
     let mut first = sender::<S>(alloc)?;
     first.open(1000, PORT)?;
@@ -86,38 +124,22 @@ fn of_other_calls<S: LocationStore>(rt: &impl Abort, alloc: Global) -> Result<()
         (999, Refused::MomentEarlier),
         (LAST_MOMENT + 1, Refused::MomentTooLate),
     ] {
-        assert_eq!(rt;
-            first.send_geoanycast(now, &long).err(),
-            Some(want),
-            "at {now}"
-        );
-        assert_eq!(rt;
-            first.move_to(now, place, true, 1, 1),
-            Err(want),
-            "at {now}"
-        );
+        let moved = first.move_to(now, place, true, 1, 1);
+        assert_eq!(rt; moved, Err(want), "at {now}");
         assert_eq!(rt; first.restart(now, 9), Err(want), "at {now}");
         assert_eq!(rt; first.tick(now, 751).err(), Some(want), "at {now}");
-        assert_eq!(rt;
-            fate_of(&mut first, now, &[]),
-            Fate::Refused(want),
-            "at {now}"
-        );
+        expect(rt, &mut first, now, &[], Fate::Refused(want));
     }
-    let too_long = first.send_geoanycast(5000, &long).err();
-    assert_eq!(rt; too_long, Some(Refused::PayloadTooLong));
-    let no_hop = first.send_geoanycast(5000, &hopless).err();
-    assert_eq!(rt; no_hop, Some(Refused::HopLimitZero));
-    let good = first.send_geoanycast(1000, &request(circle()?, b"hi"))?;
-    let found = fate_of(&mut receiver::<S>(alloc, 449)?, 1000, &good);
-    assert_eq!(rt; found, Fate::Delivered);
+    assert!(rt; first.tick(1000, 0)?.is_some());
     Ok(())
 }
 
 fn refused_calls<S: LocationStore>(rt: &impl Abort, alloc: Global) -> Result<(), Fail> {
     of_ports::<S>(rt, alloc)?;
+    of_closed_ports::<S>(rt, alloc)?;
     of_single_hops::<S>(rt, alloc)?;
-    of_other_calls::<S>(rt, alloc)
+    of_geoanycasts::<S>(rt, alloc)?;
+    of_moments::<S>(rt, alloc)
 }
 
 #[test]

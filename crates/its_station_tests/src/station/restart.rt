@@ -1,36 +1,39 @@
 //! Stations that begin anew.
 
-use super::{Fate, PORT, circle, deliver, fate_of, receiver, request, sender};
+use super::{
+    DUPLICATE, Fate, PORT, circle, deliver, expect, fate_of, geobroadcast, receiver, request,
+    sender,
+};
 use its_gnvalue::Place;
 use its_loctable::{LocationStore, OrderedTable, SortedTable};
-use its_station::{Refused, Why};
+use its_station::Refused;
 use std::alloc::Global;
 use std::process::Abort;
 use std::test::Fail;
 
-/// What was heard is forgotten and the ports are closed; the place stays.
+/// What was heard is forgotten and the ports are closed.
 fn of_the_receiver<S: LocationStore>(rt: &impl Abort, alloc: Global) -> Result<(), Fail> {
-    let request = request(circle()?, b"hi");
-    let frame = sender::<S>(alloc)?.send_geobroadcast(1000, &request)?;
+    let frame = geobroadcast::<S>(alloc)?;
     for (open, want) in [(true, Fate::DeliveredAndRelayed), (false, Fate::Relayed)] {
         let mut near = receiver::<S>(alloc, 449)?;
-        assert_eq!(rt; fate_of(&mut near, 1010, &frame), Fate::DeliveredAndRelayed);
+        expect(rt, &mut near, 1010, &frame, Fate::DeliveredAndRelayed);
         near.restart(1011, 0)?;
         if open {
             near.open(1012, PORT)?;
         }
-        assert_eq!(rt; fate_of(&mut near, 1013, &frame), want);
+        expect(rt, &mut near, 1013, &frame, want);
     }
+    Ok(())
+}
 
-    let inside = Place::new(449, 0)?;
+/// The place stays.
+fn of_the_place<S: LocationStore>(rt: &impl Abort, alloc: Global) -> Result<(), Fail> {
+    let (frame, inside) = (geobroadcast::<S>(alloc)?, Place::new(449, 0)?);
     let mut moved = receiver::<S>(alloc, 100_000)?;
     moved.move_to(500, inside, false, 0, 0)?;
     moved.restart(1011, 0)?;
     moved.open(1012, PORT)?;
-    assert_eq!(rt;
-        fate_of(&mut moved, 1013, &frame),
-        Fate::DeliveredAndRelayed
-    );
+    expect(rt, &mut moved, 1013, &frame, Fate::DeliveredAndRelayed);
     Ok(())
 }
 
@@ -51,23 +54,18 @@ fn refused<S: LocationStore>(rt: &impl Abort, alloc: Global) -> Result<(), Fail>
     let request = request(circle()?, b"hi");
     let (mut first, mut near) = (sender::<S>(alloc)?, receiver::<S>(alloc, 449)?);
     let frame = first.send_geobroadcast(1000, &request)?;
-    assert_eq!(rt; fate_of(&mut near, 1010, &frame), Fate::DeliveredAndRelayed);
+    expect(rt, &mut near, 1010, &frame, Fate::DeliveredAndRelayed);
     assert_eq!(rt; near.restart(1009, 0), Err(Refused::MomentEarlier));
-    assert_eq!(rt;
-        fate_of(&mut near, 1011, &frame),
-        Fate::Ignored(Why::Duplicate)
-    );
+    expect(rt, &mut near, 1011, &frame, DUPLICATE);
     let next = first.send_geobroadcast(1012, &request)?;
-    assert_eq!(rt; fate_of(&mut near, 1012, &next), Fate::DeliveredAndRelayed);
+    expect(rt, &mut near, 1012, &next, Fate::DeliveredAndRelayed);
     Ok(())
 }
 
 fn restarts<S: LocationStore>(rt: &impl Abort, alloc: Global) -> Result<(), Fail> {
     of_the_receiver::<S>(rt, alloc)?;
-    assert_eq!(rt;
-        of_the_sender::<S>(alloc, 0)?,
-        Fate::Ignored(Why::Duplicate)
-    );
+    of_the_place::<S>(rt, alloc)?;
+    assert_eq!(rt; of_the_sender::<S>(alloc, 0)?, DUPLICATE);
     assert_eq!(rt; of_the_sender::<S>(alloc, 7)?, Fate::DeliveredAndRelayed);
     refused::<S>(rt, alloc)
 }

@@ -1,8 +1,8 @@
 //! Geobroadcasts, beacons and single-hop broadcasts from station to station.
 
 use super::{
-    BEACON, FIRST, Fate, GEOBROADCAST, LINK, PORT, SECOND, SINGLE_HOP, THIRD, circle, deliver,
-    fate_of, receiver, request, sender, station,
+    BEACON, DUPLICATE, Fate, GEOBROADCAST, LINK, PORT, SECOND, SINGLE_HOP, THIRD, circle, deliver,
+    expect, expect_octets, fate_of, geobroadcast, receiver, relay_of, request, sender, station,
 };
 use its_faults::{Fault, FaultKind, FrameFault};
 use its_geometry::Area;
@@ -16,30 +16,19 @@ use std::test::Fail;
 /// It is delivered and goes on as it came, but for its hops and its link source; again, it is a
 /// duplicate. Where the port isn't open it goes on alone.
 fn one_geobroadcast<S: LocationStore>(rt: &impl Abort, alloc: Global) -> Result<(), Fail> {
-    let request = request(circle()?, b"hi");
-    let frame = sender::<S>(alloc)?.send_geobroadcast(1000, &request)?;
-    assert_eq!(rt;
-        frame.as_slice(),
-        hex::decode(alloc, GEOBROADCAST)?.as_slice()
-    );
+    let frame = geobroadcast::<S>(alloc)?;
+    expect_octets(rt, alloc, &frame, GEOBROADCAST)?;
 
     let mut near = receiver::<S>(alloc, 449)?;
     let (found, sent) = deliver(&mut near, 1010, &frame);
     assert_eq!(rt; found, Fate::DeliveredAndRelayed);
-    let mut want = frame.clone()?;
-    assert_eq!(rt; want.len(), 76);
-    want[11] = 2;
-    want[LINK + 3] = 9;
-    assert_eq!(rt; sent.ok_or("no frame")?.as_slice(), want.as_slice());
-    for now in [1011, 1012] {
-        assert_eq!(rt;
-            fate_of(&mut near, now, &frame),
-            Fate::Ignored(Why::Duplicate)
-        );
-    }
+    let sent = sent.ok_or("no frame")?;
+    assert_eq!(rt; sent.as_slice(), relay_of(&frame)?.as_slice());
+    expect(rt, &mut near, 1011, &frame, DUPLICATE);
+    expect(rt, &mut near, 1012, &frame, DUPLICATE);
 
     let mut closed = station::<S>(alloc, SECOND, 449, 0)?;
-    assert_eq!(rt; fate_of(&mut closed, 1010, &frame), Fate::Relayed);
+    expect(rt, &mut closed, 1010, &frame, Fate::Relayed);
     Ok(())
 }
 
@@ -50,19 +39,16 @@ fn hops<S: LocationStore>(rt: &impl Abort, alloc: Global) -> Result<(), Fail> {
     one_hop.max_hops = 1;
     let mut frame = sender::<S>(alloc)?.send_geobroadcast(1000, &one_hop)?;
     let mut near = receiver::<S>(alloc, 449)?;
-    assert_eq!(rt; fate_of(&mut near, 1010, &frame), Fate::Delivered);
+    expect(rt, &mut near, 1010, &frame, Fate::Delivered);
 
-    assert_eq!(rt; frame.len(), 76);
-    frame[LINK + 3] = 11;
-    frame[LINK + 10] = 10;
+    *frame.get_mut(LINK + 3).ok_or("short")? = 11;
+    *frame.get_mut(LINK + 10).ok_or("short")? = 10;
     let fault = FrameFault::Packet(Fault {
         at: 10,
         kind: FaultKind::HopAboveMax,
     });
-    assert_eq!(rt;
-        fate_of(&mut near, 1010, &frame),
-        Fate::Refused(Refused::Frame(fault))
-    );
+    let refused = Fate::Refused(Refused::Frame(fault));
+    expect(rt, &mut near, 1010, &frame, refused);
     Ok(())
 }
 
@@ -85,11 +71,10 @@ fn again_after_20_s<S: LocationStore>(alloc: Global, beacon: bool) -> Result<[Fa
 
 /// An entry lives for 20 s from the last packet of its source; no duplicate makes it live longer.
 fn lives<S: LocationStore>(rt: &impl Abort, alloc: Global) -> Result<(), Fail> {
-    let duplicate = Fate::Ignored(Why::Duplicate);
     let fates = again_after_20_s::<S>(alloc, false)?;
-    assert_eq!(rt; fates, [duplicate, Fate::DeliveredAndRelayed]);
+    assert_eq!(rt; fates, [DUPLICATE, Fate::DeliveredAndRelayed]);
     let fates = again_after_20_s::<S>(alloc, true)?;
-    assert_eq!(rt; fates, [duplicate, duplicate]);
+    assert_eq!(rt; fates, [DUPLICATE, DUPLICATE]);
     Ok(())
 }
 
@@ -99,17 +84,26 @@ fn the_place_at_reception<S: LocationStore>(rt: &impl Abort, alloc: Global) -> R
     let frame = hex::decode(alloc, GEOBROADCAST)?;
 
     let mut far = receiver::<S>(alloc, 100_000)?;
-    assert_eq!(rt; fate_of(&mut far, 1000, &frame), Fate::Relayed);
+    expect(rt, &mut far, 1000, &frame, Fate::Relayed);
     far.move_to(1500, inside, false, 0, 0)?;
-    assert_eq!(rt;
-        fate_of(&mut far, 1600, &frame),
-        Fate::Ignored(Why::Duplicate)
-    );
+    expect(rt, &mut far, 1600, &frame, DUPLICATE);
 
     let mut far = receiver::<S>(alloc, 100_000)?;
     far.move_to(1500, inside, false, 0, 0)?;
-    assert_eq!(rt; fate_of(&mut far, 1600, &frame), Fate::DeliveredAndRelayed);
+    expect(rt, &mut far, 1600, &frame, Fate::DeliveredAndRelayed);
     Ok(())
+}
+
+/// The beacon of a station at a place, sent at a moment.
+fn beacon_from<S: LocationStore>(
+    alloc: Global,
+    now: u64,
+    address: u64,
+    lat: i32,
+    lon: i32,
+) -> Result<Vec<u8>, Fail> {
+    let beacon = station::<S>(alloc, address, lat, lon)?.tick(now, 0)?;
+    Ok(beacon.ok_or("no beacon")?)
 }
 
 /// Of two neighbours that are equally near the one of least address gets the packet, until it
@@ -117,10 +111,8 @@ fn the_place_at_reception<S: LocationStore>(rt: &impl Abort, alloc: Global) -> R
 fn two_neighbours<S: LocationStore>(rt: &impl Abort, alloc: Global) -> Result<(), Fail> {
     let mut first = sender::<S>(alloc)?;
     for (address, lat) in [(SECOND, 50), (THIRD, -50)] {
-        let beacon = station::<S>(alloc, address, lat, 50_000)?.tick(100, 0)?;
-        let beacon = beacon.ok_or("no beacon")?;
-        let found = fate_of(&mut first, 100, &beacon);
-        assert_eq!(rt; found, Fate::Kept);
+        let beacon = beacon_from::<S>(alloc, 100, address, lat, 50_000)?;
+        expect(rt, &mut first, 100, &beacon, Fate::Kept);
     }
     let area = Area::circle(Place::new(0, 100_000)?, 10)?;
     let east = request(area, b"hi");
@@ -131,25 +123,32 @@ fn two_neighbours<S: LocationStore>(rt: &impl Abort, alloc: Global) -> Result<()
     Ok(())
 }
 
+/// A receiver with its port open, whose table has one place.
+fn small_receiver<S: LocationStore>(alloc: Global) -> Result<Station<S>, Fail> {
+    let (address, place) = (GnAddress::from_u64(SECOND)?, Place::new(449, 0)?);
+    let mut near = Station::new(alloc, address, place, 1, 8)?;
+    near.open(0, PORT)?;
+    Ok(near)
+}
+
 /// A full table takes no other source, until one expired; a duplicate is checked before that.
 fn one_place<S: LocationStore>(rt: &impl Abort, alloc: Global) -> Result<(), Fail> {
-    let place = Place::new(449, 0)?;
-    let mut near: Station<S> = Station::new(alloc, GnAddress::from_u64(SECOND)?, place, 1, 8)?;
-    near.open(0, PORT)?;
-    let mut third = station::<S>(alloc, THIRD, 0, 449)?;
+    let mut near = small_receiver::<S>(alloc)?;
     let frame = hex::decode(alloc, GEOBROADCAST)?;
-    assert_eq!(rt; fate_of(&mut near, 1000, &frame), Fate::DeliveredAndRelayed);
-    let beacon = third.tick(2000, 0)?.ok_or("no beacon")?;
-    assert_eq!(rt;
-        fate_of(&mut near, 2000, &beacon),
-        Fate::Refused(Refused::TableFull)
+    let (early, late) = (
+        beacon_from::<S>(alloc, 2000, THIRD, 0, 449)?,
+        beacon_from::<S>(alloc, 21_000, THIRD, 0, 449)?,
     );
-    assert_eq!(rt;
-        fate_of(&mut near, 2001, &frame),
-        Fate::Ignored(Why::Duplicate)
+    expect(rt, &mut near, 1000, &frame, Fate::DeliveredAndRelayed);
+    expect(
+        rt,
+        &mut near,
+        2000,
+        &early,
+        Fate::Refused(Refused::TableFull),
     );
-    let beacon = third.tick(21_000, 0)?.ok_or("no beacon")?;
-    assert_eq!(rt; fate_of(&mut near, 21_000, &beacon), Fate::Kept);
+    expect(rt, &mut near, 2001, &frame, DUPLICATE);
+    expect(rt, &mut near, 21_000, &late, Fate::Kept);
     Ok(())
 }
 
@@ -161,7 +160,7 @@ fn from_inside<S: LocationStore>(rt: &impl Abort, alloc: Global) -> Result<(), F
         let (mut first, mut far) = (sender::<S>(alloc)?, receiver::<S>(alloc, 100_000)?);
         first.move_to(500, origin, accurate, 0, 0)?;
         let frame = first.send_geobroadcast(1000, &request)?;
-        assert_eq!(rt; fate_of(&mut far, 1000, &frame), want, "{accurate}");
+        expect(rt, &mut far, 1000, &frame, want);
     }
     Ok(())
 }
@@ -172,74 +171,77 @@ fn refused_sends<S: LocationStore>(rt: &impl Abort, alloc: Global) -> Result<(),
     first.open(1000, PORT)?;
     let octets = [0; 1395];
     let area = circle()?;
-    let good = request(area, b"hi");
-    let mut no_hops = request(area, b"hi");
+    let (mut no_hops, mut long) = (request(area, b"hi"), request(area, &octets));
     no_hops.max_hops = 0;
-    let mut long = request(area, &octets);
     long.max_hops = 0;
-    let early = first.send_geobroadcast(999, &long);
-    assert!(rt; matches!(&early, Err(Refused::MomentEarlier)));
-    let late = first.send_geobroadcast((1 << 62) + 1, &long);
-    assert!(rt; matches!(&late, Err(Refused::MomentTooLate)));
-    let too_long = first.send_geobroadcast(5000, &long);
-    assert!(rt; matches!(&too_long, Err(Refused::PayloadTooLong)));
-    let hopless = first.send_geobroadcast(5000, &no_hops);
-    assert!(rt; matches!(&hopless, Err(Refused::HopLimitZero)));
-    let early = first.tick(999, 751);
-    assert!(rt; matches!(&early, Err(Refused::MomentEarlier)));
-    let jitter = first.tick(5000, 751);
-    assert!(rt; matches!(&jitter, Err(Refused::JitterRange)));
-    let frame = first.send_geobroadcast(1000, &good)?;
-    assert_eq!(rt;
-        frame.as_slice(),
-        hex::decode(alloc, GEOBROADCAST)?.as_slice()
+    for (broadcast, now, want) in [
+        (&long, 999, Refused::MomentEarlier),
+        (&long, (1 << 62) + 1, Refused::MomentTooLate),
+        (&long, 5000, Refused::PayloadTooLong),
+        (&no_hops, 5000, Refused::HopLimitZero),
+    ] {
+        let refused = first.send_geobroadcast(now, broadcast).err();
+        assert_eq!(rt; refused, Some(want), "at {now}");
+    }
+    let frame = first.send_geobroadcast(1000, &request(area, b"hi"))?;
+    expect_octets(rt, alloc, &frame, GEOBROADCAST)
+}
+
+/// A jitter of more than 750 ms is refused, after the moment, and sets no clock.
+fn refused_ticks<S: LocationStore>(rt: &impl Abort, alloc: Global) -> Result<(), Fail> {
+    let mut first = sender::<S>(alloc)?;
+    first.open(1000, PORT)?;
+    for (now, want) in [(999, Refused::MomentEarlier), (5000, Refused::JitterRange)] {
+        assert_eq!(rt; first.tick(now, 751).err(), Some(want), "at {now}");
+    }
+    let frame = first.send_geobroadcast(1000, &request(circle()?, b"hi"))?;
+    expect_octets(rt, alloc, &frame, GEOBROADCAST)
+}
+
+/// The first beacon is due at once, the next one 3000 ms and the jitter later. Under another link
+/// address than its source's a beacon is ignored.
+fn beacons<S: LocationStore>(rt: &impl Abort, alloc: Global) -> Result<(), Fail> {
+    let mut first = sender::<S>(alloc)?;
+    let mut beacon = first.tick(0, 0)?.ok_or("no beacon")?;
+    expect_octets(rt, alloc, &beacon, BEACON)?;
+    for (now, jitter, due) in [(2999, 0, false), (3000, 1, false), (3000, 0, true)] {
+        assert_eq!(rt; first.tick(now, jitter)?.is_some(), due, "at {now}");
+    }
+
+    let mut near = receiver::<S>(alloc, 449)?;
+    *beacon.get_mut(11).ok_or("short")? = 3;
+    expect(
+        rt,
+        &mut near,
+        0,
+        &beacon,
+        Fate::Ignored(Why::SenderMismatch),
     );
     Ok(())
 }
 
-/// A single-hop broadcast is delivered each time that it comes, and a beacon under another link
-/// address than its source's is ignored. The next beacon is due 3000 ms later.
-fn single_hops<S: LocationStore>(rt: &impl Abort, alloc: Global) -> Result<(), Fail> {
-    let (mut first, mut near) = (sender::<S>(alloc)?, receiver::<S>(alloc, 449)?);
-    let mut beacon = first.tick(0, 0)?.ok_or("no beacon")?;
-    assert_eq!(rt; beacon.as_slice(), hex::decode(alloc, BEACON)?.as_slice());
-    assert!(rt; first.tick(2999, 0)?.is_none());
-    assert!(rt; first.tick(3000, 1)?.is_none());
-    assert!(rt; first.tick(3000, 0)?.is_some());
-    assert_eq!(rt; beacon.len(), 50);
-    beacon[11] = 3;
-    assert_eq!(rt;
-        fate_of(&mut near, 0, &beacon),
-        Fate::Ignored(Why::SenderMismatch)
-    );
-
+/// The first single-hop broadcast of the first station.
+fn single_hop<S: LocationStore>(alloc: Global) -> Result<Vec<u8>, Fail> {
     let request = ShbRequest {
         port: PORT,
         info: 0,
         class: TrafficClass::from_octet(0),
         payload: b"hi",
     };
-    let frame = sender::<S>(alloc)?.send_shb(1000, &request)?;
-    assert_eq!(rt;
-        frame.as_slice(),
-        hex::decode(alloc, SINGLE_HOP)?.as_slice()
-    );
-    for now in [1010, 1011] {
-        assert_eq!(rt; fate_of(&mut near, now, &frame), Fate::Delivered);
-    }
+    Ok(sender::<S>(alloc)?.send_shb(1000, &request)?)
+}
 
-    // Its own packets, and those to others, are ignored.
-    assert_eq!(rt;
-        fate_of(&mut first, 3000, &frame),
-        Fate::Ignored(Why::OwnSource)
-    );
-    let mut frame = frame;
-    assert_eq!(rt; frame.len(), 60);
-    frame[5] = 0;
-    assert_eq!(rt;
-        fate_of(&mut first, 3000, &frame),
-        Fate::Ignored(Why::NotForMe)
-    );
+/// A single-hop broadcast is delivered each time that it comes. Its source ignores it, and where it
+/// is to another too.
+fn single_hops<S: LocationStore>(rt: &impl Abort, alloc: Global) -> Result<(), Fail> {
+    let mut frame = single_hop::<S>(alloc)?;
+    expect_octets(rt, alloc, &frame, SINGLE_HOP)?;
+    let (mut first, mut near) = (sender::<S>(alloc)?, receiver::<S>(alloc, 449)?);
+    expect(rt, &mut near, 1010, &frame, Fate::Delivered);
+    expect(rt, &mut near, 1011, &frame, Fate::Delivered);
+    expect(rt, &mut first, 3000, &frame, Fate::Ignored(Why::OwnSource));
+    *frame.get_mut(5).ok_or("short")? = 0;
+    expect(rt, &mut first, 3000, &frame, Fate::Ignored(Why::NotForMe));
     Ok(())
 }
 
@@ -252,6 +254,8 @@ fn rows<S: LocationStore>(rt: &impl Abort, alloc: Global) -> Result<(), Fail> {
     one_place::<S>(rt, alloc)?;
     from_inside::<S>(rt, alloc)?;
     refused_sends::<S>(rt, alloc)?;
+    refused_ticks::<S>(rt, alloc)?;
+    beacons::<S>(rt, alloc)?;
     single_hops::<S>(rt, alloc)
 }
 

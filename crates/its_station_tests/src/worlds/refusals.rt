@@ -5,6 +5,7 @@ ghost use Rattle.its_world.specs.Events.{IsInRange};
 use super::{FIRST, Fate, SECOND, config, deliver, fate_of, open, send};
 use its_station::{Refused, Why};
 use its_world::{EntryFault, Event, World, WorldFault};
+use std::process::Abort;
 use std::test::Fail;
 
 /// The address of another station with the MID of the first.
@@ -35,12 +36,13 @@ fn stations_that_share_a_mid(rt: HostRuntime) -> Result<(), Fail> {
     Ok(())
 }
 
-/// What comes of one event.
-fn fate_after(world: &mut World, event: Event) -> Option<Fate>
+/// This comes of an event.
+fn expect(rt: &impl Abort, world: &mut World, event: Event, want: Fate)
     requires { IsInRange event.what }
 {
     let run = world.run(&[event]);
-    run.log.first().map(|entry| fate_of(entry))
+    let found = run.log.first().map(|entry| fate_of(entry));
+    assert_eq!(rt; found, Some(want));
 }
 
 /// A refused event changes nothing. The station is looked for before the frame.
@@ -48,23 +50,24 @@ fn fate_after(world: &mut World, event: Event) -> Option<Fate>
 fn events_that_are_refused(rt: HostRuntime) -> Result<(), Fail> {
     let configs = [config(FIRST, 0, 0)?, config(SECOND, 449, 0)?];
     let mut world = World::new(rt.alloc(), &configs)?;
-    let no_frame = Some(Fate::Refused(EntryFault::NoSuchFrame));
-    let no_station = Some(Fate::Refused(EntryFault::NoSuchStation));
-    assert_eq!(rt; fate_after(&mut world, deliver(1, 0)), no_frame);
-    assert_eq!(rt; fate_after(&mut world, deliver(2, 0)), no_station);
-    assert_eq!(rt; fate_after(&mut world, open(usize::MAX)), no_station);
-    assert_eq!(rt; fate_after(&mut world, open(1)), Some(Fate::Opened));
-    let sent = fate_after(&mut world, send(rt.alloc())?);
-    assert_eq!(rt; sent, Some(Fate::Sent(0)));
-    assert_eq!(rt; fate_after(&mut world, deliver(1, 1)), no_frame);
-    assert_eq!(rt;
-        fate_after(&mut world, deliver(1, 0)),
-        Some(Fate::Relayed(1))
-    );
+    let no_frame = Fate::Refused(EntryFault::NoSuchFrame);
+    let no_station = Fate::Refused(EntryFault::NoSuchStation);
     let early = Fate::Refused(EntryFault::Station(Refused::MomentEarlier));
-    assert_eq!(rt; fate_after(&mut world, open(1)), Some(early));
-    let duplicate = Fate::Ignored(Why::Duplicate);
-    assert_eq!(rt; fate_after(&mut world, deliver(1, 1)), Some(duplicate));
+    let send = send(rt.alloc())?;
+    expect(&rt, &mut world, deliver(1, 0), no_frame);
+    expect(&rt, &mut world, deliver(2, 0), no_station);
+    expect(&rt, &mut world, open(usize::MAX), no_station);
+    expect(&rt, &mut world, open(1), Fate::Opened);
+    expect(&rt, &mut world, send, Fate::Sent(0));
+    expect(&rt, &mut world, deliver(1, 1), no_frame);
+    expect(&rt, &mut world, deliver(1, 0), Fate::Relayed(1));
+    expect(&rt, &mut world, open(1), early);
+    expect(
+        &rt,
+        &mut world,
+        deliver(1, 1),
+        Fate::Ignored(Why::Duplicate),
+    );
     assert_eq!(rt; world.frames(), 2);
     Ok(())
 }
