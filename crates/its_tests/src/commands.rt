@@ -5,11 +5,12 @@ mod devices;
 mod files;
 mod imports;
 mod large;
-mod memory;
+pub(crate) mod memory;
 
 use its_commands::{Status, check, read_lines, show, write_records};
 use std::alloc::{AllocError, Global};
 use std::io::Read;
+use std::process::Abort;
 
 // Each capture is in hexadecimal digits: moment, length, target, source and type, packet.
 
@@ -70,10 +71,29 @@ pub(crate) static NOTHING: &[u8] = b"";
 
 /// What a command left: its status, standard output and standard error.
 #[derive(Drop)]
-struct Left {
-    status: Status,
-    out: Vec<u8>,
-    err: Vec<u8>,
+pub(crate) struct Left {
+    pub status: Status,
+    pub out: Vec<u8>,
+    pub err: Vec<u8>,
+}
+
+impl Left {
+    /// It left just this.
+    pub(crate) fn expect(&self, rt: &impl Abort, status: Status, out: &[u8], err: &[u8]) {
+        assert_eq!(rt; self.err.as_slice(), err);
+        assert_eq!(rt; self.out.as_slice(), out);
+        assert_eq!(rt; self.status, status);
+    }
+
+    /// It left this on standard output, and nothing on standard error.
+    pub(crate) fn expect_out(&self, rt: &impl Abort, status: Status, out: &str) {
+        self.expect(rt, status, out.as_bytes(), b"");
+    }
+
+    /// It left this on standard error, and nothing on standard output.
+    pub(crate) fn expect_err(&self, rt: &impl Abort, status: Status, err: &str) {
+        self.expect(rt, status, b"", err.as_bytes());
+    }
 }
 
 fn show_of<R: Read + Drop>(alloc: Global, reader: R) -> Left {

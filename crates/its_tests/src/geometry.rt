@@ -240,13 +240,23 @@ fn the_first_of_the_nearest(rt: HostRuntime) -> Result<(), Fail> {
     let near = [Place::new(0, 10)?, Place::new(10, 0)?, Place::new(-10, 0)?];
     assert_eq!(rt; nearest(centre, &near), Some(0));
     assert_eq!(rt; nearest(Place::new(-5, 0)?, &near), Some(2));
+    Ok(())
+}
 
+#[test]
+fn the_first_of_equal_places(rt: HostRuntime) -> Result<(), Fail> {
+    let centre = Place::new(0, 0)?;
     let equal = [Place::new(7, 7)?; 33];
     assert_eq!(rt; nearest(centre, &equal[..0]), None);
     for n in [1, 7, 8, 9, 33] {
         assert_eq!(rt; nearest(centre, &equal[..n]), Some(0), "{n}");
     }
+    Ok(())
+}
 
+#[test]
+fn the_first_of_two_far_apart(rt: HostRuntime) -> Result<(), Fail> {
+    let centre = Place::new(0, 0)?;
     let mut two = [Place::new(7, 7)?; 33];
     two[8] = Place::new(3, -3)?;
     two[32] = Place::new(-3, 3)?;

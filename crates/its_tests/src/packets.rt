@@ -14,6 +14,7 @@ mod payload;
 mod position_vector;
 mod relays;
 
+use its_geometry::Area;
 use its_gnvalue::{GnAddress, Hops, Lifetime, LongPv, NoRoom, Place, TrafficClass};
 use its_headers::{FaultKind, Header, Kind, Packet, PacketView, decode, encode_into};
 use std::alloc::Global;
@@ -98,8 +99,18 @@ fn refuses(
     Ok(())
 }
 
-/// The view's fields that each packet has, with the kind and the payload. What follows is not
-/// checked.
+/// The view's fields that each packet has.
+fn header_of(view: &PacketView<'_>) -> Header {
+    Header {
+        hops: view.hops(),
+        lifetime: view.lifetime(),
+        class: view.class(),
+        mobile: view.mobile(),
+        vector: view.vector(),
+    }
+}
+
+/// The view has these fields, kind and payload. What follows is not checked.
 fn reads(
     rt: &impl Abort,
     alloc: Global,
@@ -114,12 +125,23 @@ fn reads(
     assert_eq!(rt; length, octets.len());
     assert_eq!(rt; view.octets(), octets);
     assert_eq!(rt; view.kind(), kind);
-    assert_eq!(rt; view.hops(), header.hops);
-    assert_eq!(rt; view.lifetime(), header.lifetime);
-    assert_eq!(rt; view.class(), header.class);
-    assert_eq!(rt; view.mobile(), header.mobile);
-    assert_eq!(rt; view.vector(), header.vector);
+    assert_eq!(rt; header_of(&view), header);
     assert_eq!(rt; view.payload(), payload);
+    Ok(())
+}
+
+/// The view has these fields, which only some packets have.
+fn has(
+    rt: &impl Abort,
+    octets: &[u8],
+    media: Option<[u8; 4]>,
+    number: Option<u16>,
+    area: Option<Area>,
+) -> Result<(), Fail> {
+    let (view, _) = PacketView::read(octets)?;
+    assert_eq!(rt; view.media(), media);
+    assert_eq!(rt; view.number(), number);
+    assert_eq!(rt; view.area(), area);
     Ok(())
 }
 

@@ -5,7 +5,8 @@ mod failures;
 mod large;
 mod refusals;
 
-use its_commands::{Status, simulate};
+use crate::commands::Left;
+use its_commands::simulate;
 use std::alloc::{AllocError, Global};
 use std::io::Read;
 
@@ -37,14 +38,6 @@ static DELIVER: &str = "station = 1, at = 1010, do = \"deliver\", frame = 0";
 /// Station 1 moves out of the circle, at moment 0.
 static MOVE_OUT: &str = "station = 1, at = 0, do = \"move\", lat = 100000, lon = 0, pai = false, \
     speed = 0, heading = 0";
-
-/// What `sim` left: its status, standard output and standard error.
-#[derive(Drop)]
-struct Left {
-    status: Status,
-    out: Vec<u8>,
-    err: Vec<u8>,
-}
 
 fn simulation_of<R: Read + Drop>(alloc: Global, reader: R) -> Left {
     let (mut out, mut err) = (Vec::new(alloc), Vec::new(alloc));

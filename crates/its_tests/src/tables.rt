@@ -4,7 +4,8 @@
 ghost use Rattle.std.specs.Prelude.{◌^◌, ◌≤◌};
 
 use its_gnvalue::{GnAddress, LongPv, Place};
-use its_loctable::{Heard, Known, LocationStore};
+use its_loctable::{Heard, Known, LocationStore, StoreRefused, Verdict};
+use std::process::Abort;
 use std::test::Fail;
 
 mod memory;
@@ -28,6 +29,25 @@ fn heard_at(address: u64, timestamp: u32, number: Option<u16>) -> Result<Heard, 
 
 fn heard(address: u64, number: Option<u16>) -> Result<Heard, Fail> {
     heard_at(address, 0, number)
+}
+
+const ACCEPTED: Result<Verdict, StoreRefused> = Ok(Verdict::Accepted);
+
+const DUPLICATE: Result<Verdict, StoreRefused> = Ok(Verdict::Duplicate);
+
+const FULL: Result<Verdict, StoreRefused> = Err(StoreRefused::Full);
+
+/// A packet has this answer.
+fn expect<S: LocationStore>(
+    rt: &impl Abort,
+    store: &mut S,
+    now: u64,
+    heard: &Heard,
+    want: Result<Verdict, StoreRefused>,
+)
+    requires { now ≤ 2 ^ 62 }
+{
+    assert!(rt; store.accept(now, heard) == want, "at {now}");
 }
 
 /// What is looked up.

@@ -16,10 +16,7 @@ fn shows_each_kind_of_packet(rt: HostRuntime) -> Result<(), Fail> {
         &[BEACON_LINE, GBC_LINE, SHB_LINE, GAC_LINE, ELLIPSE_LINE],
     )?;
     let capture = hex::decode(alloc, digits.as_str())?;
-    let left = show_of(alloc, capture.as_slice());
-    assert_eq!(rt; left.out.as_slice(), want.as_bytes());
-    assert_eq!(rt; left.status, Status::Done);
-    assert!(rt; left.err.is_empty());
+    show_of(alloc, capture.as_slice()).expect_out(&rt, Status::Done, want.as_str());
     Ok(())
 }
 
@@ -55,10 +52,7 @@ static REFUSED: [(&str, &str); 8] = [
 fn shows_what_is_refused(rt: HostRuntime) -> Result<(), Fail> {
     for (digits, want) in REFUSED {
         let capture = hex::decode(rt.alloc(), digits)?;
-        let left = show_of(rt.alloc(), capture.as_slice());
-        assert_eq!(rt; left.out.as_slice(), want.as_bytes(), "{digits}");
-        assert_eq!(rt; left.status, Status::Refused, "{digits}");
-        assert!(rt; left.err.is_empty(), "{digits}");
+        show_of(rt.alloc(), capture.as_slice()).expect_out(&rt, Status::Refused, want);
     }
     Ok(())
 }
@@ -68,11 +62,7 @@ fn shows_that_a_capture_is_cut(rt: HostRuntime) -> Result<(), Fail> {
     let mut capture = hex::decode(rt.alloc(), BEACON)?;
     assert_eq!(rt; capture.pop(), Some(0));
     let left = show_of(rt.alloc(), capture.as_slice());
-    assert_eq!(rt;
-        left.out.as_slice(),
-        b"capture: C1 at record 0\n".as_slice()
-    );
-    assert_eq!(rt; left.status, Status::Refused);
+    left.expect_out(&rt, Status::Refused, "capture: C1 at record 0\n");
     Ok(())
 }
 
@@ -99,10 +89,7 @@ fn checks(rt: HostRuntime) -> Result<(), Fail> {
     ];
     for (digits, want, status) in cases {
         let capture = hex::decode(rt.alloc(), digits)?;
-        let left = check_of(rt.alloc(), capture.as_slice());
-        assert_eq!(rt; left.out.as_slice(), want.as_bytes(), "{digits}");
-        assert_eq!(rt; left.status, status, "{digits}");
-        assert!(rt; left.err.is_empty(), "{digits}");
+        check_of(rt.alloc(), capture.as_slice()).expect_out(&rt, status, want);
     }
     Ok(())
 }
@@ -119,9 +106,7 @@ fn an_empty_input_is_no_refusal(rt: HostRuntime) -> Result<(), Fail> {
         (import_of(rt.alloc(), b"\n\n".as_slice()), ""),
     ];
     for (left, want) in cases {
-        assert_eq!(rt; left.out.as_slice(), want.as_bytes());
-        assert_eq!(rt; left.status, Status::Done);
-        assert!(rt; left.err.is_empty());
+        left.expect_out(&rt, Status::Done, want);
     }
     Ok(())
 }

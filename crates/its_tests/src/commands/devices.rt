@@ -6,7 +6,10 @@ use its_linkframe::Record;
 use std::alloc::Global;
 use std::io;
 use std::io::{BufReader, Read, Write};
+use std::process::Abort;
 use std::test::Fail;
+
+static CANNOT_WRITE: &[u8] = b"geostation: cannot write a.cap\n";
 
 /// A reader that gives one octet a call, and fails at the call `fails_at`, counted from 1.
 #[derive(Drop)]
@@ -44,13 +47,9 @@ fn a_capture_ends_at_the_read_that_fails(rt: HostRuntime) -> Result<(), Fail> {
         let printed = if fails_at == 61 { BEACON_LINE } else { "" };
         let shown = show_of(alloc, Failing { octets, fails_at });
         let checked = check_of(alloc, Failing { octets, fails_at });
-        assert_eq!(rt; shown.out.as_slice(), printed.as_bytes(), "{fails_at}");
-        assert!(rt; checked.out.is_empty(), "{fails_at}");
-        assert_eq!(rt; shown.status, Status::Failed, "{fails_at}");
-        assert_eq!(rt; checked.status, Status::Failed, "{fails_at}");
-        let said = b"geostation: cannot read a.cap\n".as_slice();
-        assert_eq!(rt; shown.err.as_slice(), said);
-        assert_eq!(rt; checked.err.as_slice(), said);
+        let said = "geostation: cannot read a.cap\n";
+        shown.expect(&rt, Status::Failed, printed.as_bytes(), said.as_bytes());
+        checked.expect_err(&rt, Status::Failed, said);
     }
     Ok(())
 }
@@ -59,27 +58,27 @@ fn a_capture_ends_at_the_read_that_fails(rt: HostRuntime) -> Result<(), Fail> {
 fn an_import_ends_at_the_read_that_fails(rt: HostRuntime) -> Result<(), Fail> {
     let alloc = rt.alloc();
     let octets = b"7 00ff\n8 aabbcc\n".as_slice();
-    for fails_at in 1..18u64 {
+    for fails_at in 1..19u64 {
+        let is_read = fails_at == 18;
+        let said = if is_read {
+            ""
+        } else {
+            "geostation: cannot read a.txt\n"
+        };
         let mut err = Vec::new(alloc);
         let reader = BufReader::new(alloc, Failing { octets, fails_at })?;
-        let read = read_lines(alloc, "a.txt", reader, &mut err);
-        assert_eq!(rt; read.err(), Some(Status::Failed), "{fails_at}");
-        assert_eq!(rt;
-            err.as_slice(),
-            b"geostation: cannot read a.txt\n".as_slice()
-        );
+        let read = read_lines(alloc, "a.txt", reader, &mut err).err();
+        let status = if is_read { None } else { Some(Status::Failed) };
+        assert_eq!(rt; read, status, "{fails_at}");
+        assert_eq!(rt; err.as_slice(), said.as_bytes(), "{fails_at}");
     }
-    let mut err = Vec::new(alloc);
-    let reader = BufReader::new(
-        alloc,
-        Failing {
-            octets,
-            fails_at: 18,
-        },
-    )?;
-    assert!(rt; read_lines(alloc, "a.txt", reader, &mut err).is_ok());
-    assert!(rt; err.is_empty());
     Ok(())
+}
+
+/// The first so many octets of the whole were taken, and the command failed.
+fn expect_cut(rt: &impl Abort, status: Status, taken: &[u8], whole: &[u8], room: usize) {
+    assert_eq!(rt; status, Status::Failed, "{room}");
+    assert_eq!(rt; Some(taken), whole.get(..room));
 }
 
 /// A writer that takes so many octets and then fails, or that fails only at a flush.
@@ -141,17 +140,10 @@ fn show_ends_at_the_write_that_fails(rt: HostRuntime) -> Result<(), Fail> {
     for room in 0..whole.len() {
         let (mut out, mut err) = (Full::with_room(alloc, room), Vec::new(alloc));
         let status = show(alloc, "a.cap", capture.as_slice(), &mut out, &mut err);
-        assert_eq!(rt; status, Status::Failed, "{room}");
-        assert_eq!(rt; out.taken.len(), room);
-        assert!(rt;
-            whole.as_bytes().starts_with(out.taken.as_slice()),
-            "{room}"
-        );
+        expect_cut(&rt, status, &out.taken, whole.as_bytes(), room);
         assert!(rt; err.is_empty(), "{room}");
     }
-    let left = show_of(alloc, capture.as_slice());
-    assert_eq!(rt; left.out.as_slice(), whole.as_bytes());
-    assert_eq!(rt; left.status, Status::Refused);
+    show_of(alloc, capture.as_slice()).expect_out(&rt, Status::Refused, whole.as_str());
     Ok(())
 }
 
@@ -164,17 +156,10 @@ fn check_ends_at_the_write_that_fails(rt: HostRuntime) -> Result<(), Fail> {
     for room in 0..whole.len() {
         let (mut out, mut err) = (Full::with_room(alloc, room), Vec::new(alloc));
         let status = check(alloc, "a.cap", capture.as_slice(), &mut out, &mut err);
-        assert_eq!(rt; status, Status::Failed, "{room}");
-        assert_eq!(rt; out.taken.len(), room);
-        assert!(rt;
-            whole.as_bytes().starts_with(out.taken.as_slice()),
-            "{room}"
-        );
+        expect_cut(&rt, status, &out.taken, whole.as_bytes(), room);
         assert!(rt; err.is_empty(), "{room}");
     }
-    let left = check_of(alloc, capture.as_slice());
-    assert_eq!(rt; left.out.as_slice(), whole.as_bytes());
-    assert_eq!(rt; left.status, Status::Refused);
+    check_of(alloc, capture.as_slice()).expect_out(&rt, Status::Refused, whole);
     Ok(())
 }
 
@@ -196,13 +181,8 @@ fn import_ends_at_the_write_that_fails(rt: HostRuntime) -> Result<(), Fail> {
     for room in 0..whole.len() {
         let (mut out, mut err) = (Full::with_room(alloc, room), Vec::new(alloc));
         let status = write_records("a.cap", records.as_slice(), &mut out, &mut err);
-        assert_eq!(rt; status, Status::Failed, "{room}");
-        assert_eq!(rt; out.taken.len(), room);
-        assert!(rt; whole.starts_with(out.taken.as_slice()), "{room}");
-        assert_eq!(rt;
-            err.as_slice(),
-            b"geostation: cannot write a.cap\n".as_slice()
-        );
+        expect_cut(&rt, status, &out.taken, &whole, room);
+        assert_eq!(rt; err.as_slice(), CANNOT_WRITE);
     }
     Ok(())
 }
@@ -213,11 +193,7 @@ fn import_ends_at_the_flush_that_fails(rt: HostRuntime) -> Result<(), Fail> {
     let (records, whole) = two_records(alloc)?;
     let (mut out, mut err) = (Full::that_never_flushes(alloc), Vec::new(alloc));
     let status = write_records("a.cap", records.as_slice(), &mut out, &mut err);
-    assert_eq!(rt; status, Status::Failed);
-    assert_eq!(rt; out.taken.as_slice(), whole.as_slice());
-    assert_eq!(rt;
-        err.as_slice(),
-        b"geostation: cannot write a.cap\n".as_slice()
-    );
+    expect_cut(&rt, status, &out.taken, &whole, whole.len());
+    assert_eq!(rt; err.as_slice(), CANNOT_WRITE);
     Ok(())
 }

@@ -39,14 +39,8 @@ fn a_capture_file_is_shown_and_checked(rt: HostRuntime) -> Result<(), Fail> {
     let shown = show_named(&rt, made.as_str());
     let checked = check_named(&rt, made.as_str());
     fs::remove_file(&rt, made.as_str())?;
-    assert_eq!(rt; shown.status, Status::Done);
-    assert_eq!(rt; shown.out.as_slice(), want.as_bytes());
-    assert_eq!(rt; checked.status, Status::Done);
-    assert_eq!(rt;
-        checked.out.as_slice(),
-        b"2 records, 0 refused\n".as_slice()
-    );
-    assert!(rt; shown.err.is_empty() && checked.err.is_empty());
+    shown.expect_out(&rt, Status::Done, want.as_str());
+    checked.expect_out(&rt, Status::Done, "2 records, 0 refused\n");
     Ok(())
 }
 
@@ -61,10 +55,8 @@ fn what_is_imported_is_shown(rt: HostRuntime) -> Result<(), Fail> {
     let shown = show_named(&rt, to);
     fs::remove_file(&rt, from)?;
     fs::remove_file(&rt, to)?;
-    assert_eq!(rt; imported.status, Status::Done);
-    assert!(rt; imported.err.is_empty());
-    assert_eq!(rt; shown.status, Status::Done);
-    assert_eq!(rt; shown.out.as_slice(), BEACON_LINE.as_bytes());
+    imported.expect_out(&rt, Status::Done, "");
+    shown.expect_out(&rt, Status::Done, BEACON_LINE);
     Ok(())
 }
 
@@ -78,11 +70,7 @@ fn a_bad_line_makes_no_capture(rt: HostRuntime) -> Result<(), Fail> {
     let _ = fs::remove_file(&rt, to);
     let left = import_named(&rt, from, to);
     fs::remove_file(&rt, from)?;
-    assert_eq!(rt; left.status, Status::Refused);
-    assert_eq!(rt;
-        left.err.as_slice(),
-        b"geostation: line 3: moment\n".as_slice()
-    );
+    left.expect_err(&rt, Status::Refused, "geostation: line 3: moment\n");
     assert!(rt; fs::metadata(&rt, to).is_err());
     Ok(())
 }
@@ -100,10 +88,8 @@ fn a_capture_that_cannot_be_created_is_told(rt: HostRuntime) -> Result<(), Fail>
     fs::write(&rt, from, "7 0\n")?;
     let bad = import_named(&rt, from, to);
     fs::remove_file(&rt, from)?;
-    assert_eq!(rt; good.err.as_slice(), cannot.as_bytes());
-    assert_eq!(rt; good.status, Status::Failed);
-    assert_eq!(rt; bad.err.as_slice(), b"geostation: line 1: hex\n".as_slice());
-    assert_eq!(rt; bad.status, Status::Refused);
+    good.expect_err(&rt, Status::Failed, cannot.as_str());
+    bad.expect_err(&rt, Status::Refused, "geostation: line 1: hex\n");
     Ok(())
 }
 
@@ -115,11 +101,10 @@ fn a_file_that_is_missing_is_told(rt: HostRuntime) {
         import_named(&rt, "no-such-file", "a.cap"),
     ];
     for left in lefts {
-        assert_eq!(rt;
-            left.err.as_slice(),
-            b"geostation: cannot read no-such-file\n".as_slice()
+        left.expect_err(
+            &rt,
+            Status::Failed,
+            "geostation: cannot read no-such-file\n",
         );
-        assert!(rt; left.out.is_empty());
-        assert_eq!(rt; left.status, Status::Failed);
     }
 }

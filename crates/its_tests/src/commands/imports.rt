@@ -13,9 +13,7 @@ fn imports_lines(rt: HostRuntime) -> Result<(), Fail> {
         alloc,
         "0000000000000000000200ffffffffffffffffff0002aabb0000000000000007000107",
     )?;
-    assert_eq!(rt; left.out.as_slice(), want.as_slice());
-    assert_eq!(rt; left.status, Status::Done);
-    assert!(rt; left.err.is_empty());
+    left.expect(&rt, Status::Done, &want, b"");
     Ok(())
 }
 
@@ -38,10 +36,7 @@ fn names_the_first_bad_line(rt: HostRuntime) -> Result<(), Fail> {
         (b"7 0g\nx", "geostation: line 1: hex\n"),
     ];
     for (text, said) in cases {
-        let left = import_of(rt.alloc(), text);
-        assert_eq!(rt; left.err.as_slice(), said.as_bytes());
-        assert_eq!(rt; left.status, Status::Refused);
-        assert!(rt; left.out.is_empty());
+        import_of(rt.alloc(), text).expect_err(&rt, Status::Refused, said);
     }
     Ok(())
 }

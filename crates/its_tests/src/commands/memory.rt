@@ -3,13 +3,52 @@
 use super::{BEACON, BEACON_LINE, GBC, GBC_LINE, NOTHING, joined};
 use its_commands::{Status, check, check_file, create, import_file, read_lines, show, show_file};
 use its_shortage::{MOST, STEP, Shortage, written};
+use std::process::Abort;
 use std::test::Fail;
 use std::{env, fs};
 
 static NO_MEMORY: &[u8] = b"geostation: out of memory\n";
 
+/// What `check` prints of one good record.
+static COUNTED: &str = "1 records, 0 refused\n";
+
 /// The budgets are `STEP` octets apart, from none to the most.
-const BUDGETS: usize = MOST / STEP + 1;
+pub(crate) const BUDGETS: usize = MOST / STEP + 1;
+
+/// Under how many budgets a command was done, and under how many memory ran out.
+#[derive(Drop)]
+pub(crate) struct Budgets {
+    done: u64,
+    refused: u64,
+}
+
+impl Budgets {
+    pub(crate) fn new() -> Budgets {
+        Budgets {
+            done: 0,
+            refused: 0,
+        }
+    }
+
+    /// Counts one, by the status and by what was said on standard error. Whether it was done.
+    pub(crate) fn count(&mut self, rt: &impl Abort, status: Status, said: &[u8]) -> bool {
+        if status == Status::Done {
+            self.done = self.done.saturating_add(1);
+            assert_eq!(rt; written(said), b"".as_slice());
+            return true;
+        }
+        self.refused = self.refused.saturating_add(1);
+        assert_eq!(rt; status, Status::Failed);
+        assert_eq!(rt; written(said), NO_MEMORY);
+        false
+    }
+
+    /// Some were enough, and some weren't.
+    pub(crate) fn expect_both(&self, rt: &impl Abort) {
+        assert!(rt; self.refused > 0, "never refused");
+        assert!(rt; self.done > 0, "never done");
+    }
+}
 
 #[test]
 fn shows_short_of_memory(rt: HostRuntime) -> Result<(), Fail> {
@@ -18,26 +57,18 @@ fn shows_short_of_memory(rt: HostRuntime) -> Result<(), Fail> {
     let capture = hex::decode(alloc, digits.as_str())?;
     let whole = joined(alloc, &[GBC_LINE, BEACON_LINE])?;
     let mut shortage = Shortage::new(alloc)?;
-    let (mut refused, mut done) = (0u64, 0u64);
+    let mut budgets = Budgets::new();
     for step in 0..BUDGETS {
         assert!(rt; shortage.leave(step * STEP));
         let (mut printed, mut said) = ([0u8; 400], [0u8; 64]);
         let (mut out, mut err) = (printed.as_mut_slice(), said.as_mut_slice());
-        match show(alloc, "a.cap", capture.as_slice(), &mut out, &mut err) {
-            Status::Done => {
-                done = done.saturating_add(1);
-                assert_eq!(rt; written(&printed), whole.as_bytes());
-                assert!(rt; written(&said).is_empty());
-            }
-            status => {
-                refused = refused.saturating_add(1);
-                assert_eq!(rt; status, Status::Failed);
-                assert!(rt; whole.as_bytes().starts_with(written(&printed)));
-                assert_eq!(rt; written(&said), NO_MEMORY);
-            }
+        let status = show(alloc, "a.cap", capture.as_slice(), &mut out, &mut err);
+        if budgets.count(&rt, status, &said) {
+            assert_eq!(rt; written(&printed), whole.as_bytes());
         }
+        assert!(rt; whole.as_bytes().starts_with(written(&printed)));
     }
-    assert!(rt; refused > 0 && done > 0);
+    budgets.expect_both(&rt);
     Ok(())
 }
 
@@ -46,26 +77,17 @@ fn checks_short_of_memory(rt: HostRuntime) -> Result<(), Fail> {
     let alloc = rt.alloc();
     let capture = hex::decode(alloc, GBC)?;
     let mut shortage = Shortage::new(alloc)?;
-    let (mut refused, mut done) = (0u64, 0u64);
+    let mut budgets = Budgets::new();
     for step in 0..BUDGETS {
         assert!(rt; shortage.leave(step * STEP));
         let (mut printed, mut said) = ([0u8; 64], [0u8; 64]);
         let (mut out, mut err) = (printed.as_mut_slice(), said.as_mut_slice());
-        match check(alloc, "a.cap", capture.as_slice(), &mut out, &mut err) {
-            Status::Done => {
-                done = done.saturating_add(1);
-                assert_eq!(rt; written(&printed), b"1 records, 0 refused\n".as_slice());
-                assert!(rt; written(&said).is_empty());
-            }
-            status => {
-                refused = refused.saturating_add(1);
-                assert_eq!(rt; status, Status::Failed);
-                assert!(rt; written(&printed).is_empty());
-                assert_eq!(rt; written(&said), NO_MEMORY);
-            }
-        }
+        let status = check(alloc, "a.cap", capture.as_slice(), &mut out, &mut err);
+        let is_done = budgets.count(&rt, status, &said);
+        let want = if is_done { COUNTED } else { "" };
+        assert_eq!(rt; written(&printed), want.as_bytes());
     }
-    assert!(rt; refused > 0 && done > 0);
+    budgets.expect_both(&rt);
     Ok(())
 }
 
@@ -74,25 +96,18 @@ fn imports_short_of_memory(rt: HostRuntime) -> Result<(), Fail> {
     let alloc = rt.alloc();
     let lines = b"7 00ff\n8 aabbcc\n";
     let mut shortage = Shortage::new(alloc)?;
-    let (mut refused, mut done) = (0u64, 0u64);
+    let mut budgets = Budgets::new();
     for step in 0..BUDGETS {
         assert!(rt; shortage.leave(step * STEP));
         let mut said = [0u8; 64];
         let mut err = said.as_mut_slice();
-        match read_lines(alloc, "a.txt", lines.as_slice(), &mut err) {
-            Ok(records) => {
-                done = done.saturating_add(1);
-                assert_eq!(rt; records.len(), 2);
-                assert!(rt; written(&said).is_empty());
-            }
-            Err(status) => {
-                refused = refused.saturating_add(1);
-                assert_eq!(rt; status, Status::Failed);
-                assert_eq!(rt; written(&said), NO_MEMORY);
-            }
-        }
+        let read = read_lines(alloc, "a.txt", lines.as_slice(), &mut err);
+        let count = read.as_ref().map_or(0, |records| records.len());
+        let status = read.err().unwrap_or(Status::Done);
+        let is_done = budgets.count(&rt, status, &said);
+        assert_eq!(rt; count, if is_done { 2 } else { 0 });
     }
-    assert!(rt; refused > 0 && done > 0);
+    budgets.expect_both(&rt);
     Ok(())
 }
 
@@ -105,7 +120,7 @@ fn shows_and_checks_a_file_short_of_memory(rt: HostRuntime) -> Result<(), Fail> 
     let capture = hex::decode(alloc, BEACON)?;
     fs::write(&rt, made.as_str(), capture.as_slice())?;
     let mut shortage = Shortage::new(alloc)?;
-    let (mut refused, mut done) = (0u64, 0u64);
+    let mut budgets = Budgets::new();
     for step in 0..BUDGETS {
         assert!(rt; shortage.leave(step * STEP));
         let (mut printed, mut said) = ([0u8; 400], [0u8; 64]);
@@ -114,23 +129,15 @@ fn shows_and_checks_a_file_short_of_memory(rt: HostRuntime) -> Result<(), Fail> 
             0 => show_file(&rt, made.as_str(), NOTHING, &mut out, &mut err),
             _ => check_file(&rt, made.as_str(), NOTHING, &mut out, &mut err),
         };
-        let whole = match step % 2 {
-            0 => BEACON_LINE.as_bytes(),
-            _ => b"1 records, 0 refused\n".as_slice(),
+        let want = match (budgets.count(&rt, status, &said), step % 2) {
+            (false, _) => "",
+            (true, 0) => BEACON_LINE,
+            (true, _) => COUNTED,
         };
-        if status == Status::Done {
-            done = done.saturating_add(1);
-            assert_eq!(rt; written(&printed), whole);
-            assert!(rt; written(&said).is_empty());
-        } else {
-            refused = refused.saturating_add(1);
-            assert_eq!(rt; status, Status::Failed);
-            assert!(rt; written(&printed).is_empty());
-            assert_eq!(rt; written(&said), NO_MEMORY);
-        }
+        assert_eq!(rt; written(&printed), want.as_bytes());
     }
     fs::remove_file(&rt, made.as_str())?;
-    assert!(rt; refused > 0 && done > 0);
+    budgets.expect_both(&rt);
     Ok(())
 }
 
@@ -144,7 +151,7 @@ fn imports_a_file_short_of_memory(rt: HostRuntime) -> Result<(), Fail> {
     let (from, to) = (lines.as_str(), made.as_str());
     fs::write(&rt, from, "7 00ff\n8 aabbcc\n")?;
     let mut shortage = Shortage::new(alloc)?;
-    let (mut refused, mut done) = (0u64, 0u64);
+    let mut budgets = Budgets::new();
     for step in 0..BUDGETS {
         assert!(rt; shortage.leave(step * STEP));
         let _ = fs::remove_file(&rt, to);
@@ -152,20 +159,15 @@ fn imports_a_file_short_of_memory(rt: HostRuntime) -> Result<(), Fail> {
         let mut err = said.as_mut_slice();
         let status = import_file(&rt, from, NOTHING, to, &mut err);
         let size = fs::metadata(&rt, to).ok().map(|made| made.len());
-        if status == Status::Done {
-            done = done.saturating_add(1);
+        if budgets.count(&rt, status, &said) {
             assert_eq!(rt; size, Some(25));
-            assert!(rt; written(&said).is_empty());
         } else {
-            refused = refused.saturating_add(1);
-            assert_eq!(rt; status, Status::Failed);
-            assert!(rt; size.is_none() || size == Some(0));
-            assert_eq!(rt; written(&said), NO_MEMORY);
+            assert_eq!(rt; size.unwrap_or(0), 0);
         }
     }
     fs::remove_file(&rt, from)?;
     fs::remove_file(&rt, to)?;
-    assert!(rt; refused > 0 && done > 0);
+    budgets.expect_both(&rt);
     Ok(())
 }
 
@@ -177,24 +179,16 @@ fn creates_a_file_short_of_memory(rt: HostRuntime) -> Result<(), Fail> {
     let folder = env::temp_dir(&rt)?;
     let made = folder.join(alloc, "geostation-memory-created.cap")?;
     let mut shortage = Shortage::new(alloc)?;
-    let (mut refused, mut done) = (0u64, 0u64);
+    let mut budgets = Budgets::new();
     for step in 0..BUDGETS {
         assert!(rt; shortage.leave(step * STEP));
         let mut said = [0u8; 64];
         let mut err = said.as_mut_slice();
-        match create(&rt, made.as_str(), &mut err) {
-            Ok(_) => {
-                done = done.saturating_add(1);
-                assert!(rt; written(&said).is_empty());
-            }
-            Err(status) => {
-                refused = refused.saturating_add(1);
-                assert_eq!(rt; status, Status::Failed);
-                assert_eq!(rt; written(&said), NO_MEMORY);
-            }
-        }
+        let created = create(&rt, made.as_str(), &mut err);
+        let status = created.err().unwrap_or(Status::Done);
+        budgets.count(&rt, status, &said);
     }
     fs::remove_file(&rt, made.as_str())?;
-    assert!(rt; refused > 0 && done > 0);
+    budgets.expect_both(&rt);
     Ok(())
 }

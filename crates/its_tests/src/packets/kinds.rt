@@ -1,6 +1,6 @@
 //! Each kind of packet, read and written whole.
 
-use super::{BEACON, ENDS, GAC, GBC, HI, SHB, header, put, reads, returns, writes};
+use super::{BEACON, ENDS, GAC, GBC, HI, SHB, has, header, put, reads, returns, writes};
 use its_geometry::Area;
 use its_gnvalue::{GnAddress, Hops, Lifetime, LongPv, Place, TrafficClass};
 use its_headers::{
@@ -11,10 +11,7 @@ use std::test::Fail;
 #[test]
 fn beacon(rt: HostRuntime) -> Result<(), Fail> {
     reads(&rt, rt.alloc(), &BEACON, Kind::Beacon, header(1)?, &[])?;
-    let (view, _) = PacketView::read(&BEACON)?;
-    assert_eq!(rt; view.media(), None);
-    assert_eq!(rt; view.number(), None);
-    assert_eq!(rt; view.area(), None);
+    has(&rt, &BEACON, None, None, None)?;
     let packet = Packet::Beacon(header(1)?);
     writes(&rt, rt.alloc(), &packet, &BEACON)?;
     returns(&rt, rt.alloc(), &BEACON)
@@ -23,10 +20,7 @@ fn beacon(rt: HostRuntime) -> Result<(), Fail> {
 #[test]
 fn single_hop_broadcast(rt: HostRuntime) -> Result<(), Fail> {
     reads(&rt, rt.alloc(), &SHB, Kind::Shb, header(1)?, &HI)?;
-    let (view, _) = PacketView::read(&SHB)?;
-    assert_eq!(rt; view.media(), Some([0; 4]));
-    assert_eq!(rt; view.number(), None);
-    assert_eq!(rt; view.area(), None);
+    has(&rt, &SHB, Some([0; 4]), None, None)?;
     let packet = Packet::Shb(SingleHopBroadcast {
         header: header(1)?,
         media: [0; 4],
@@ -42,10 +36,7 @@ fn geobroadcast_and_geoanycast(rt: HostRuntime) -> Result<(), Fail> {
     let area = Area::circle(Place::new(0, 0)?, 100)?;
     for (octets, kind) in [(&GBC, Kind::Gbc), (&GAC, Kind::Gac)] {
         reads(&rt, rt.alloc(), octets, kind, header(10)?, &HI)?;
-        let (view, _) = PacketView::read(octets)?;
-        assert_eq!(rt; view.media(), None);
-        assert_eq!(rt; view.number(), Some(0));
-        assert_eq!(rt; view.area(), Some(area));
+        has(&rt, octets, None, Some(0), Some(area))?;
         let packet = AreaPacket {
             header: header(10)?,
             number: 0,
@@ -86,10 +77,9 @@ fn fields_that_differ(rt: HostRuntime) -> Result<(), Fail> {
         header,
         &[7, 0xd2, 0, 1, 0xff, 0, 0x80],
     )?;
-    let (view, _) = PacketView::read(&ENDS)?;
-    assert_eq!(rt; view.number(), Some(0xfffe));
     let centre = Place::new(900_000_000, -1_800_000_000)?;
-    assert_eq!(rt; view.area(), Some(Area::ellipse(centre, 65535, 1, 359)?));
+    let area = Area::ellipse(centre, 65535, 1, 359)?;
+    has(&rt, &ENDS, None, Some(0xfffe), Some(area))?;
     returns(&rt, rt.alloc(), &ENDS)
 }
 

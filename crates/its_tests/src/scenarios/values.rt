@@ -1,9 +1,11 @@
 //! What is read of a scenario.
 
+ghost use Rattle.std.specs.Prelude.{◌<◌, ◌^◌};
+
 use super::{WORKED, read, with_event};
 use its_geometry::Area;
 use its_gnvalue::{GnAddress, Lifetime, Place, TrafficClass};
-use its_scenario::{Action, Geocast, SingleHop};
+use its_scenario::{Action, EventEntry, Geocast, SingleHop, StationEntry};
 use std::alloc::Global;
 use std::test::Fail;
 
@@ -19,28 +21,47 @@ fn geocast(alloc: Global, area: Area) -> Result<Geocast, Fail> {
     })
 }
 
+/// A station whose capacity and numbers aren't said.
+fn station(address: u64, lat: i32) -> Result<StationEntry, Fail> {
+    Ok(StationEntry {
+        address: GnAddress::from_u64(address)?,
+        place: Place::new(lat, 0)?,
+        capacity: 64,
+        remember: 8,
+    })
+}
+
+fn event(station: u16, moment: u64, action: Action) -> EventEntry
+    requires { moment < 2 ^ 63 }
+{
+    EventEntry {
+        station,
+        moment,
+        action,
+    }
+}
+
 #[test]
-fn the_worked_scenario(rt: HostRuntime) -> Result<(), Fail> {
-    let alloc = rt.alloc();
-    let scenario = read(alloc, WORKED)?;
-    let [first, second] = scenario.stations.as_slice() else {
-        return Err("not two stations")?;
-    };
-    assert_eq!(rt; first.address, GnAddress::from_u64(0x1400_0200_0000_0001)?);
-    assert_eq!(rt; first.place, Place::new(0, 0)?);
-    assert_eq!(rt; (first.capacity, first.remember), (64, 8));
-    assert_eq!(rt; second.address, GnAddress::from_u64(0x1400_0200_0000_0002)?);
-    assert_eq!(rt; second.place, Place::new(449, 0)?);
-    let [open, send, deliver] = scenario.events.as_slice() else {
-        return Err("not three events")?;
-    };
-    assert_eq!(rt; (open.station, open.moment), (1, 0));
-    assert_eq!(rt; &open.action, &Action::Open { port: 2002 });
-    let area = Area::circle(Place::new(0, 0)?, 100)?;
-    assert_eq!(rt; (send.station, send.moment), (0, 1000));
-    assert_eq!(rt; &send.action, &Action::Gbc(geocast(alloc, area)?));
-    assert_eq!(rt; (deliver.station, deliver.moment), (1, 1010));
-    assert_eq!(rt; &deliver.action, &Action::Deliver { frame: 0 });
+fn the_stations_of_the_worked_scenario(rt: HostRuntime) -> Result<(), Fail> {
+    let want = [
+        station(0x1400_0200_0000_0001, 0)?,
+        station(0x1400_0200_0000_0002, 449)?,
+    ];
+    let scenario = read(rt.alloc(), WORKED)?;
+    assert_eq!(rt; scenario.stations.as_slice(), want.as_slice());
+    Ok(())
+}
+
+#[test]
+fn the_events_of_the_worked_scenario(rt: HostRuntime) -> Result<(), Fail> {
+    let sent = geocast(rt.alloc(), Area::circle(Place::new(0, 0)?, 100)?)?;
+    let want = [
+        event(1, 0, Action::Open { port: 2002 }),
+        event(0, 1000, Action::Gbc(sent)),
+        event(1, 1010, Action::Deliver { frame: 0 }),
+    ];
+    let scenario = read(rt.alloc(), WORKED)?;
+    assert_eq!(rt; scenario.events.as_slice(), want.as_slice());
     Ok(())
 }
 

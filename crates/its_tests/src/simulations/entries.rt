@@ -12,19 +12,14 @@ use std::test::Fail;
 fn the_worked_scenario_is_run(rt: HostRuntime) -> Result<(), Fail> {
     let left = simulation_of(rt.alloc(), WORKED.as_bytes());
     let want = "0 0 1 opened\n1 1000 0 sent 0\n2 1010 1 accepted port 2002 info 0 6869 sent 1\n";
-    assert_eq!(rt; left.out.as_slice(), want.as_bytes());
-    assert_eq!(rt; left.status, Status::Done);
-    assert!(rt; left.err.is_empty());
+    left.expect_out(&rt, Status::Done, want);
     Ok(())
 }
 
 #[test]
 fn a_scenario_of_nothing_has_no_line(rt: HostRuntime) -> Result<(), Fail> {
     for text in ["", STATIONS, "station = []\nevent = []\n"] {
-        let left = simulation_of(rt.alloc(), text.as_bytes());
-        assert!(rt; left.out.is_empty(), "{text}");
-        assert!(rt; left.err.is_empty(), "{text}");
-        assert_eq!(rt; left.status, Status::Done, "{text}");
+        simulation_of(rt.alloc(), text.as_bytes()).expect_out(&rt, Status::Done, "");
     }
     Ok(())
 }
@@ -75,10 +70,7 @@ fn geobroadcasts(rt: HostRuntime) -> Result<(), Fail> {
         ),
     ];
     for (events, want) in cases {
-        let left = left_by(rt.alloc(), events)?;
-        assert_eq!(rt; left.out.as_slice(), want.as_bytes(), "{want}");
-        assert_eq!(rt; left.status, Status::Done, "{want}");
-        assert!(rt; left.err.is_empty(), "{want}");
+        left_by(rt.alloc(), events)?.expect_out(&rt, Status::Done, want);
     }
     Ok(())
 }
@@ -98,9 +90,7 @@ fn geoanycasts(rt: HostRuntime) -> Result<(), Fail> {
         ),
     ];
     for (events, want) in cases {
-        let left = left_by(rt.alloc(), events)?;
-        assert_eq!(rt; left.out.as_slice(), want.as_bytes(), "{want}");
-        assert_eq!(rt; left.status, Status::Done, "{want}");
+        left_by(rt.alloc(), events)?.expect_out(&rt, Status::Done, want);
     }
     Ok(())
 }
@@ -149,8 +139,7 @@ fn restarts(rt: HostRuntime) -> Result<(), Fail> {
         all.extend_from_slice(events)?;
         let left = left_by(rt.alloc(), all.as_slice())?;
         let whole = format!(in rt.alloc(); "{begun}{want}")?;
-        assert_eq!(rt; left.out.as_slice(), whole.as_bytes(), "{want}");
-        assert_eq!(rt; left.status, Status::Done, "{want}");
+        left.expect_out(&rt, Status::Done, whole.as_str());
     }
     Ok(())
 }
@@ -171,8 +160,7 @@ fn beacons(rt: HostRuntime) -> Result<(), Fail> {
     )?;
     let want = "0 100 0 sent 0\n1 110 1 accepted\n2 3099 0 quiet\n3 3100 0 quiet\n\
         4 3100 0 sent 1\n5 6850 0 sent 2\n";
-    assert_eq!(rt; left.out.as_slice(), want.as_bytes());
-    assert_eq!(rt; left.status, Status::Done);
+    left.expect_out(&rt, Status::Done, want);
     Ok(())
 }
 
@@ -192,8 +180,7 @@ fn single_hop_broadcasts(rt: HostRuntime) -> Result<(), Fail> {
     )?;
     let want = "0 0 1 opened\n1 1000 0 sent 0\n2 1010 1 accepted port 2002 info 7 -\n\
         3 1010 2 sent 1\n4 1020 1 accepted port 2002 info 65535 00abff\n";
-    assert_eq!(rt; left.out.as_slice(), want.as_bytes());
-    assert_eq!(rt; left.status, Status::Done);
+    left.expect_out(&rt, Status::Done, want);
     Ok(())
 }
 
@@ -231,7 +218,7 @@ fn a_frame_for_another_is_ignored(rt: HostRuntime) -> Result<(), Fail> {
         text.push_str("]\n")?;
         let left = simulation_of(rt.alloc(), text.as_bytes());
         let want = format!(in rt.alloc(); "{begun}6 {moment} 0 sent 2\n7 20100 2 {entry}\n")?;
-        assert_eq!(rt; left.out.as_slice(), want.as_bytes(), "{moment}");
+        left.expect_out(&rt, Status::Done, want.as_str());
     }
     Ok(())
 }
@@ -260,8 +247,7 @@ fn many_events(rt: HostRuntime) -> Result<(), Fail> {
         )?;
         want.push_str(line.as_str())?;
         let left = simulation_of(rt.alloc(), text.as_bytes());
-        assert_eq!(rt; left.out.as_slice(), want.as_bytes(), "{sends}");
-        assert_eq!(rt; left.status, Status::Done, "{sends}");
+        left.expect_out(&rt, Status::Done, want.as_str());
     }
     Ok(())
 }

@@ -1,9 +1,10 @@
 //! A reader or an output that fails, files, and every budget of memory from none to enough.
 
 use super::{DELIVER, OPEN, SEND, STATIONS, scenario, simulation_of};
-use crate::commands::NOTHING;
+use crate::commands::memory::{BUDGETS, Budgets};
+use crate::commands::{Left, NOTHING};
 use its_commands::{Status, simulate, simulate_file};
-use its_shortage::{MOST, STEP, Shortage, written};
+use its_shortage::{STEP, Shortage, written};
 use std::io::Read;
 use std::test::Fail;
 use std::{env, fs, io};
@@ -43,12 +44,7 @@ fn a_read_that_fails_ends_it(rt: HostRuntime) -> Result<(), Fail> {
     let text = scenario(rt.alloc(), STATIONS, &[OPEN, SEND, DELIVER])?;
     for octets in [b"".as_slice(), text.as_bytes()] {
         let left = simulation_of(rt.alloc(), Failing { octets });
-        assert_eq!(rt;
-            left.err.as_slice(),
-            b"geostation: cannot read a.toml\n".as_slice()
-        );
-        assert_eq!(rt; left.status, Status::Failed);
-        assert!(rt; left.out.is_empty());
+        left.expect_err(&rt, Status::Failed, "geostation: cannot read a.toml\n");
     }
     Ok(())
 }
@@ -71,23 +67,25 @@ fn a_write_that_fails_ends_it(rt: HostRuntime) -> Result<(), Fail> {
     Ok(())
 }
 
+/// What `sim` leaves of a file.
+fn simulation_of_file(rt: &HostRuntime, file: &str) -> Left {
+    let (mut out, mut err) = (Vec::new(rt.alloc()), Vec::new(rt.alloc()));
+    let status = simulate_file(rt, file, NOTHING, &mut out, &mut err);
+    Left { status, out, err }
+}
+
 #[test]
 fn a_file_is_run(rt: HostRuntime) -> Result<(), Fail> {
     let folder = env::temp_dir(&rt)?;
     let made = folder.join(rt.alloc(), "geostation-sim.toml")?;
     let text = scenario(rt.alloc(), STATIONS, &[OPEN, SEND, DELIVER])?;
     fs::write(&rt, made.as_str(), text.as_str())?;
-    let (mut out, mut err) = (Vec::new(rt.alloc()), Vec::new(rt.alloc()));
-    let status = simulate_file(&rt, made.as_str(), NOTHING, &mut out, &mut err);
+    let left = simulation_of_file(&rt, made.as_str());
     fs::remove_file(&rt, made.as_str())?;
-    assert_eq!(rt; out.as_slice(), LINES.as_bytes());
-    assert_eq!(rt; status, Status::Done);
-    assert!(rt; err.is_empty());
-    let status = simulate_file(&rt, made.as_str(), NOTHING, &mut out, &mut err);
+    left.expect_out(&rt, Status::Done, LINES);
     let said = format!(in rt.alloc(); "geostation: cannot read {}\n", made.as_str())?;
-    assert_eq!(rt; status, Status::Failed);
-    assert_eq!(rt; err.as_slice(), said.as_bytes());
-    assert_eq!(rt; out.as_slice(), LINES.as_bytes());
+    let left = simulation_of_file(&rt, made.as_str());
+    left.expect_err(&rt, Status::Failed, said.as_str());
     Ok(())
 }
 
@@ -98,26 +96,17 @@ fn it_runs_short_of_memory(rt: HostRuntime) -> Result<(), Fail> {
     let alloc = rt.alloc();
     let text = scenario(alloc, SMALL, &[OPEN, SEND, DELIVER])?;
     let mut shortage = Shortage::new(alloc)?;
-    let (mut refused, mut done) = (0u64, 0u64);
-    for step in 0..=MOST / STEP {
+    let mut budgets = Budgets::new();
+    for step in 0..BUDGETS {
         assert!(rt; shortage.leave(step * STEP));
         let (mut printed, mut said) = ([0u8; 200], [0u8; 64]);
         let (mut out, mut err) = (printed.as_mut_slice(), said.as_mut_slice());
-        match simulate(alloc, "a.toml", text.as_bytes(), &mut out, &mut err) {
-            Status::Done => {
-                done = done.saturating_add(1);
-                assert_eq!(rt; written(&printed), LINES.as_bytes());
-                assert!(rt; written(&said).is_empty());
-            }
-            status => {
-                refused = refused.saturating_add(1);
-                assert_eq!(rt; status, Status::Failed);
-                assert!(rt; LINES.as_bytes().starts_with(written(&printed)));
-                assert_eq!(rt; written(&said), b"geostation: out of memory\n".as_slice());
-            }
+        let status = simulate(alloc, "a.toml", text.as_bytes(), &mut out, &mut err);
+        if budgets.count(&rt, status, &said) {
+            assert_eq!(rt; written(&printed), LINES.as_bytes());
         }
+        assert!(rt; LINES.as_bytes().starts_with(written(&printed)));
     }
-    assert!(rt; refused > 0, "never refused");
-    assert!(rt; done > 0, "never done");
+    budgets.expect_both(&rt);
     Ok(())
 }

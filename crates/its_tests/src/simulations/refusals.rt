@@ -8,10 +8,7 @@ use std::test::Fail;
 
 /// These events have these lines, and the status is that of a scenario that was run.
 fn has_lines(rt: &impl Abort, alloc: Global, events: &[&str], want: &str) -> Result<(), Fail> {
-    let left = left_by(alloc, events)?;
-    assert_eq!(rt; left.out.as_slice(), want.as_bytes(), "{want}");
-    assert_eq!(rt; left.status, Status::Done, "{want}");
-    assert!(rt; left.err.is_empty(), "{want}");
+    left_by(alloc, events)?.expect_out(rt, Status::Done, want);
     Ok(())
 }
 
@@ -27,8 +24,7 @@ fn a_port_too_many(rt: &impl Abort, alloc: Global) -> Result<(), Fail> {
     }
     text.push_str("]\n")?;
     let left = simulation_of(alloc, text.as_bytes());
-    assert_eq!(rt; left.out.as_slice(), want.as_bytes());
-    assert_eq!(rt; left.status, Status::Done);
+    left.expect_out(rt, Status::Done, want.as_str());
     Ok(())
 }
 
@@ -80,9 +76,7 @@ fn as_many_stations_as_may_be(rt: HostRuntime) -> Result<(), Fail> {
     ] {
         let text = crowd(rt.alloc(), stations)?;
         let left = simulation_of(rt.alloc(), text.as_bytes());
-        assert_eq!(rt; left.err.as_slice(), err.as_bytes());
-        assert_eq!(rt; left.out.as_slice(), out.as_bytes());
-        assert_eq!(rt; left.status, status);
+        left.expect(&rt, status, out.as_bytes(), err.as_bytes());
     }
     Ok(())
 }
@@ -138,8 +132,7 @@ fn a_payload_that_is_too_long_is_refused(rt: HostRuntime) -> Result<(), Fail> {
         let event = format!(in rt.alloc();
             "station = 0, at = 5, do = \"shb\", port = 1, info = 0, tc = 0, payload = \"{digits}\""
         )?;
-        let left = left_by(rt.alloc(), &[event.as_str()])?;
-        assert_eq!(rt; left.out.as_slice(), want.as_bytes(), "{octets}");
+        has_lines(&rt, rt.alloc(), &[event.as_str()], want)?;
     }
     Ok(())
 }
@@ -169,8 +162,7 @@ fn a_full_location_table_refuses(rt: HostRuntime) -> Result<(), Fail> {
     let want = "0 0 1 opened\n1 1000 0 sent 0\n2 1000 2 sent 1\n\
         3 1000 1 accepted port 2002 info 0 6869 sent 2\n4 2000 1 refused S4\n\
         5 2001 1 ignored duplicate\n6 21000 1 accepted\n";
-    assert_eq!(rt; left.out.as_slice(), want.as_bytes());
-    assert_eq!(rt; left.status, Status::Done);
+    left.expect_out(&rt, Status::Done, want);
     Ok(())
 }
 
@@ -200,16 +192,15 @@ fn a_text_that_is_no_scenario_is_refused(rt: HostRuntime) -> Result<(), Fail> {
         let text = format!(in rt.alloc(); "{stations}{good}")?;
         let left = simulation_of(rt.alloc(), text.as_bytes());
         let said = format!(in rt.alloc(); "geostation: {fault}\n")?;
-        assert_eq!(rt; left.err.as_slice(), said.as_bytes(), "{fault}");
-        assert_eq!(rt; left.status, Status::Refused, "{fault}");
-        assert!(rt; left.out.is_empty(), "{fault}");
+        left.expect_err(&rt, Status::Refused, said.as_str());
     }
+    Ok(())
+}
+
+/// So is one with an event that is none, and the events before it aren't done.
+#[test]
+fn an_event_that_is_none_is_refused(rt: HostRuntime) -> Result<(), Fail> {
     let left = left_by(rt.alloc(), &[SEND, "station = 0, at = 0, do = \"fly\""])?;
-    assert_eq!(rt;
-        left.err.as_slice(),
-        b"geostation: scenario: event 1: do\n".as_slice()
-    );
-    assert_eq!(rt; left.status, Status::Refused);
-    assert!(rt; left.out.is_empty());
+    left.expect_err(&rt, Status::Refused, "geostation: scenario: event 1: do\n");
     Ok(())
 }

@@ -2,7 +2,7 @@
 
 ghost use Rattle.std.specs.Prelude.{◌^◌, ◌≤◌};
 
-use super::{Asked, FIRST, heard, look_up_all};
+use super::{ACCEPTED, Asked, DUPLICATE, FIRST, FULL, expect, heard, look_up_all};
 use its_duplicates::Recent;
 use its_gnvalue::GnAddress;
 use its_loctable::{LocationStore, OrderedTable, SortedTable, StoreRefused, Verdict};
@@ -51,7 +51,7 @@ fn refused_budgets<S: LocationStore>(
     for step in 0..MANY {
         assert!(rt; shortage.leave(STEP * step), "{step}");
         if before.known.is_some() {
-            assert!(rt; store.accept(2000, &heard(FIRST, Some(7))?) == Ok(Verdict::Duplicate));
+            expect(rt, store, 2000, &heard(FIRST, Some(7))?, DUPLICATE);
         }
         match store.accept(2000, &heard(OTHER, Some(9))?) {
             Ok(verdict) => {
@@ -137,13 +137,13 @@ fn take_four<S: LocationStore>(store: &mut S) -> Result<(), Fail> {
 /// What a table of four answers from 21000 on: two expired sources make room for a new one and for
 /// one of their own, and then there is no room.
 fn answers<S: LocationStore>(rt: &impl Abort, store: &mut S) -> Result<(), Fail> {
-    assert!(rt; store.accept(21000, &heard(FIRST + 1, Some(7))?) == Ok(Verdict::Duplicate));
-    assert!(rt; store.accept(21000, &heard(OTHER, Some(9))?) == Ok(Verdict::Accepted));
-    assert!(rt; store.accept(21000, &heard(FIRST, Some(7))?) == Ok(Verdict::Accepted));
-    assert!(rt; store.accept(21001, &heard(FIRST + 2, None)?) == Err(StoreRefused::Full));
-    assert!(rt; store.accept(21001, &heard(OTHER, None)?) == Ok(Verdict::Accepted));
-    assert!(rt; store.accept(34999, &heard(FIRST + 3, Some(1))?) == Ok(Verdict::Accepted));
-    assert!(rt; store.accept(35000, &heard(FIRST + 1, Some(7))?) == Ok(Verdict::Accepted));
+    expect(rt, store, 21000, &heard(FIRST + 1, Some(7))?, DUPLICATE);
+    expect(rt, store, 21000, &heard(OTHER, Some(9))?, ACCEPTED);
+    expect(rt, store, 21000, &heard(FIRST, Some(7))?, ACCEPTED);
+    expect(rt, store, 21001, &heard(FIRST + 2, None)?, FULL);
+    expect(rt, store, 21001, &heard(OTHER, None)?, ACCEPTED);
+    expect(rt, store, 34999, &heard(FIRST + 3, Some(1))?, ACCEPTED);
+    expect(rt, store, 35000, &heard(FIRST + 1, Some(7))?, ACCEPTED);
     Ok(())
 }
 
@@ -164,7 +164,7 @@ fn the_sorted_table_takes_no_memory(rt: HostRuntime) -> Result<(), Fail> {
         assert!(rt; look_up_all(&store, 35000, &asked) == look_up_all(&ample, 35000, &asked));
     }
     store.clear();
-    assert!(rt; store.accept(40000, &heard(FIRST, Some(7))?) == Ok(Verdict::Accepted));
+    expect(&rt, &mut store, 40000, &heard(FIRST, Some(7))?, ACCEPTED);
     Ok(())
 }
 

@@ -1,19 +1,24 @@
 //! Worked rows that are calls on a store.
 
-use super::{FIRST, SECOND, THIRD, heard};
-use its_loctable::{LocationStore, OrderedTable, SortedTable, StoreRefused, Verdict};
+ghost use Rattle.std.specs.Prelude.{◌≤◌};
+
+use super::{
+    ACCEPTED, Asked, DUPLICATE, FIRST, FULL, LookUps, SECOND, THIRD, expect, heard, look_up_all,
+};
+use its_loctable::{LocationStore, OrderedTable, SortedTable, Verdict};
+use std::alloc::Global;
 use std::process::Abort;
 use std::test::Fail;
 
 /// The answers to five packets at one place, and what is known of the first source after them.
 fn one_place<S: LocationStore>(rt: &impl Abort, store: &mut S) -> Result<(), Fail> {
     let (copy, other) = (heard(FIRST, Some(0))?, heard(THIRD, None)?);
-    assert!(rt; store.accept(1000, &copy) == Ok(Verdict::Accepted));
+    expect(rt, store, 1000, &copy, ACCEPTED);
     assert!(rt; !store.has_room(2000, other.address()));
-    assert!(rt; store.accept(2000, &other) == Err(StoreRefused::Full));
-    assert!(rt; store.accept(2001, &copy) == Ok(Verdict::Duplicate));
-    assert!(rt; store.accept(20999, &copy) == Ok(Verdict::Duplicate));
-    assert!(rt; store.accept(21000, &other) == Ok(Verdict::Accepted));
+    expect(rt, store, 2000, &other, FULL);
+    expect(rt, store, 2001, &copy, DUPLICATE);
+    expect(rt, store, 20999, &copy, DUPLICATE);
+    expect(rt, store, 21000, &other, ACCEPTED);
     assert!(rt; store.lookup(21000, copy.address()).is_none());
     Ok(())
 }
@@ -24,60 +29,47 @@ fn a_full_table_keeps_its_source(rt: HostRuntime) -> Result<(), Fail> {
     one_place(&rt, &mut SortedTable::empty(rt.alloc(), 1, 8)?)
 }
 
-/// The answer to the first number, after as many were accepted.
-fn first_again<S: LocationStore>(mut store: S, count: u16) -> Result<Verdict, Fail> {
+/// The answer to the first number, after as many were accepted, in a table that remembers so many.
+fn first_again<S: LocationStore>(alloc: Global, remember: u8, count: u16) -> Result<Verdict, Fail>
+    requires { (1 ≤ remember) × (remember ≤ 64) }
+{
+    let mut store = S::empty(alloc, 64, remember)?;
     for number in 0..count {
         store.accept(1010, &heard(FIRST, Some(number))?)?;
     }
     Ok(store.accept(1011, &heard(FIRST, Some(0))?)?)
 }
 
-/// Both stores remember as many numbers as they were made for: the first is a duplicate while no
-/// more came, and is accepted once one more did.
-#[test]
-fn one_number_too_many_lets_the_first_go(rt: HostRuntime) -> Result<(), Fail> {
-    let alloc = rt.alloc();
-    for (count, want) in [(1, Verdict::Duplicate), (2, Verdict::Accepted)] {
+/// The first number is a duplicate while no more came than are remembered, and is accepted once one
+/// more did.
+fn lets_the_first_go<S: LocationStore>(
+    rt: &impl Abort,
+    alloc: Global,
+    remember: u8,
+) -> Result<(), Fail>
+    requires { (1 ≤ remember) × (remember ≤ 64) }
+{
+    let last = u16::from(remember);
+    for (count, want) in [(last, Verdict::Duplicate), (last + 1, Verdict::Accepted)] {
         assert!(rt;
-            first_again(OrderedTable::empty(alloc, 64, 1)?, count)? == want,
-            "{count}"
-        );
-        assert!(rt;
-            first_again(SortedTable::empty(alloc, 64, 1)?, count)? == want,
-            "{count}"
-        );
-    }
-    for (count, want) in [(2, Verdict::Duplicate), (3, Verdict::Accepted)] {
-        assert!(rt;
-            first_again(OrderedTable::empty(alloc, 64, 2)?, count)? == want,
-            "{count}"
-        );
-        assert!(rt;
-            first_again(SortedTable::empty(alloc, 64, 2)?, count)? == want,
-            "{count}"
-        );
-    }
-    for (count, want) in [(8, Verdict::Duplicate), (9, Verdict::Accepted)] {
-        assert!(rt;
-            first_again(OrderedTable::empty(alloc, 64, 8)?, count)? == want,
-            "{count}"
-        );
-        assert!(rt;
-            first_again(SortedTable::empty(alloc, 64, 8)?, count)? == want,
-            "{count}"
-        );
-    }
-    for (count, want) in [(64, Verdict::Duplicate), (65, Verdict::Accepted)] {
-        assert!(rt;
-            first_again(OrderedTable::empty(alloc, 64, 64)?, count)? == want,
-            "{count}"
-        );
-        assert!(rt;
-            first_again(SortedTable::empty(alloc, 64, 64)?, count)? == want,
+            first_again::<S>(alloc, remember, count)? == want,
             "{count}"
         );
     }
     Ok(())
+}
+
+/// Both stores remember as many numbers as they were made for.
+#[test]
+fn one_number_too_many_lets_the_first_go(rt: HostRuntime) -> Result<(), Fail> {
+    lets_the_first_go::<OrderedTable>(&rt, rt.alloc(), 1)?;
+    lets_the_first_go::<OrderedTable>(&rt, rt.alloc(), 2)?;
+    lets_the_first_go::<OrderedTable>(&rt, rt.alloc(), 8)?;
+    lets_the_first_go::<OrderedTable>(&rt, rt.alloc(), 64)?;
+    lets_the_first_go::<SortedTable>(&rt, rt.alloc(), 1)?;
+    lets_the_first_go::<SortedTable>(&rt, rt.alloc(), 2)?;
+    lets_the_first_go::<SortedTable>(&rt, rt.alloc(), 8)?;
+    lets_the_first_go::<SortedTable>(&rt, rt.alloc(), 64)
 }
 
 /// The answers to one number at 1000, 20999 and 21000, with a beacon at 11000 or without one.
@@ -106,20 +98,29 @@ fn a_duplicate_refreshes_nothing_and_a_beacon_does(rt: HostRuntime) -> Result<()
 /// A cleared table knows nobody, has its capacity as before, and takes in again what it had.
 fn cleared<S: LocationStore>(rt: &impl Abort, mut store: S) -> Result<(), Fail> {
     let (copy, beacon) = (heard(FIRST, Some(0))?, heard(SECOND, None)?);
-    assert!(rt; store.accept(1010, &copy) == Ok(Verdict::Accepted));
-    assert!(rt; store.accept(1010, &beacon) == Ok(Verdict::Accepted));
-    assert!(rt; store.accept(1010, &heard(THIRD, None)?) == Err(StoreRefused::Full));
+    let third = heard(THIRD, None)?;
+    expect(rt, &mut store, 1010, &copy, ACCEPTED);
+    expect(rt, &mut store, 1010, &beacon, ACCEPTED);
+    expect(rt, &mut store, 1010, &third, FULL);
     store.clear();
     assert!(rt; store.capacity() == 2);
-    assert!(rt; store.lookup(1011, copy.address()).is_none());
-    assert!(rt; !store.remembers(1011, copy.address(), 0));
-    assert!(rt; store.next_neighbour(1011, None).is_none());
-    assert!(rt; store.by_mid(1011, copy.address().mid()).is_none());
-    assert!(rt; store.has_room(1011, copy.address()));
-    assert!(rt; store.accept(1013, &copy) == Ok(Verdict::Accepted));
-    assert!(rt; store.accept(1013, &copy) == Ok(Verdict::Duplicate));
-    assert!(rt; store.accept(1013, &heard(THIRD, None)?) == Ok(Verdict::Accepted));
-    assert!(rt; store.accept(1013, &beacon) == Err(StoreRefused::Full));
+    let asked = Asked {
+        address: copy.address(),
+        number: 0,
+        after: None,
+    };
+    let nobody = LookUps {
+        known: None,
+        is_remembered: false,
+        has_room: true,
+        next: None,
+        by_mid: None,
+    };
+    assert!(rt; look_up_all(&store, 1011, &asked) == nobody);
+    expect(rt, &mut store, 1013, &copy, ACCEPTED);
+    expect(rt, &mut store, 1013, &copy, DUPLICATE);
+    expect(rt, &mut store, 1013, &third, ACCEPTED);
+    expect(rt, &mut store, 1013, &beacon, FULL);
     Ok(())
 }
 
@@ -132,9 +133,9 @@ fn a_cleared_table_begins_anew(rt: HostRuntime) -> Result<(), Fail> {
 /// A source whose numbers begin anew: the one that is remembered is a duplicate, another is
 /// accepted.
 fn begins_anew<S: LocationStore>(rt: &impl Abort, mut store: S) -> Result<(), Fail> {
-    assert!(rt; store.accept(1010, &heard(FIRST, Some(0))?) == Ok(Verdict::Accepted));
-    assert!(rt; store.accept(1040, &heard(FIRST, Some(0))?) == Ok(Verdict::Duplicate));
-    assert!(rt; store.accept(1040, &heard(FIRST, Some(7))?) == Ok(Verdict::Accepted));
+    expect(rt, &mut store, 1010, &heard(FIRST, Some(0))?, ACCEPTED);
+    expect(rt, &mut store, 1040, &heard(FIRST, Some(0))?, DUPLICATE);
+    expect(rt, &mut store, 1040, &heard(FIRST, Some(7))?, ACCEPTED);
     Ok(())
 }
 
@@ -154,9 +155,9 @@ fn flood<S: LocationStore>(rt: &impl Abort, mut store: S) -> Result<(u64, u64), 
             Err(_) => full = full.saturating_add(1),
         }
     }
-    assert!(rt; store.accept(1001, &heard(FIRST + 63, None)?) == Ok(Verdict::Accepted));
-    assert!(rt; store.accept(1001, &heard(FIRST + 64, None)?) == Err(StoreRefused::Full));
-    assert!(rt; store.accept(21000, &heard(FIRST + 64, None)?) == Ok(Verdict::Accepted));
+    expect(rt, &mut store, 1001, &heard(FIRST + 63, None)?, ACCEPTED);
+    expect(rt, &mut store, 1001, &heard(FIRST + 64, None)?, FULL);
+    expect(rt, &mut store, 21000, &heard(FIRST + 64, None)?, ACCEPTED);
     Ok((accepted, full))
 }
 
