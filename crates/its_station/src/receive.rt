@@ -48,6 +48,7 @@ impl<S: LocationStore> Station<S> {
         ensures memory { (s : StationModel) (t : Transmission) → RepresentsStation self.old s →
             EncodesFrame t frame.now → result ≡ Err Refused.NoMemory →
             (verdict s now t ≡ station.Verdict.Accept) × TakesMemory s now t }
+        ensures junk { result ≡ Err Refused.NoMemory → IsFrame frame.now }
         ensures unchanged { OnErr result (self.new ≡ self.old) }
         ensures payload { IfOk result (DeliversEndOf frame.now) }
         ensures short { IfOk result (Fits 1394) }

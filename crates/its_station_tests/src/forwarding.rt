@@ -2,6 +2,7 @@
 
 ghost use Rattle.std.specs.Prelude.{◌<◌, ◌≤◌, ◌^◌};
 
+use crate::vectors::{FIRST, SECOND, THIRD};
 use its_forwarding::{Choice, choose};
 use its_geometry::{Area, contains, distance2};
 use its_gnvalue::{GnAddress, LongPv, Mac, Place};
@@ -9,12 +10,6 @@ use its_loctable::{Heard, LocationStore, OrderedTable, SortedTable, Verdict};
 use std::alloc::Global;
 use std::process::Abort;
 use std::test::Fail;
-
-const FIRST: u64 = 0x1400_0200_0000_0001;
-
-const SECOND: u64 = 0x1400_0200_0000_0002;
-
-const THIRD: u64 = 0x1400_0200_0000_0003;
 
 /// An address with the MID of the first.
 const BELOW_FIRST: u64 = 0x0000_0200_0000_0001;

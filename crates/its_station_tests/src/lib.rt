@@ -9,4 +9,6 @@ mod ports;
 #[cfg(test)]
 mod station;
 #[cfg(test)]
+mod vectors;
+#[cfg(test)]
 mod worlds;

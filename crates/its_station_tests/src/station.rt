@@ -13,6 +13,8 @@ mod refusals;
 mod restart;
 mod rows;
 
+use crate::vectors::{FIRST, PORT, SECOND};
+use its_faults::FrameFault;
 use its_geometry::Area;
 use its_gnvalue::{GnAddress, Lifetime, Place, TrafficClass};
 use its_loctable::LocationStore;
@@ -20,23 +22,6 @@ use its_station::{GbcRequest, Handed, Outcome, Refused, Reply, Station, Why};
 use std::alloc::Global;
 use std::process::Abort;
 use std::test::Fail;
-
-const FIRST: u64 = 0x1400_0200_0000_0001;
-
-const SECOND: u64 = 0x1400_0200_0000_0002;
-
-const THIRD: u64 = 0x1400_0200_0000_0003;
-
-/// The port of most requests.
-const PORT: u16 = 2002;
-
-/// How many octets of a frame stand before its packet.
-const LINK: usize = 14;
-
-/// The first geobroadcast of the first station, which never moved.
-static GEOBROADCAST: &str =
-    "ffffffffffff020000000001894711001a0a2040008000060a000000000014000200000000010000000000\
-    00000000000000000000000000000000000000006400000000000007d200006869";
 
 /// Its beacon.
 static BEACON: &str =
@@ -49,6 +34,9 @@ static SINGLE_HOP: &str =
     000000000000000000000007d200006869";
 
 const DUPLICATE: Fate = Fate::Ignored(Why::Duplicate);
+
+/// What becomes of octets that are too few for a frame.
+const SHORT: Fate = Fate::Refused(Refused::Frame(FrameFault::Short));
 
 /// What a call gave. A payload counts as delivered where it is "hi" for `PORT`, with info 0.
 #[derive(Clone, Copy, Debug, PartialEq, Eq)]
@@ -179,12 +167,4 @@ fn request<'a>(area: Area, payload: &'a [u8]) -> GbcRequest<'a> {
 fn geobroadcast<S: LocationStore>(alloc: Global) -> Result<Vec<u8>, Fail> {
     let request = request(circle()?, b"hi");
     Ok(sender::<S>(alloc)?.send_geobroadcast(1000, &request)?)
-}
-
-/// The frame in which the second station passes on one that came with ten hops left.
-fn relay_of(frame: &Vec<u8>) -> Result<Vec<u8>, Fail> {
-    let mut relay = frame.clone()?;
-    *relay.get_mut(11).ok_or("short")? = 2;
-    *relay.get_mut(LINK + 3).ok_or("short")? = 9;
-    Ok(relay)
 }

@@ -7,29 +7,13 @@ mod memory;
 mod refusals;
 mod schedules;
 
+use crate::vectors::PORT;
 use its_geometry::Area;
 use its_gnvalue::{GnAddress, Lifetime, Place, TrafficClass};
 use its_station::{OwnedGbcRequest, Why};
 use its_world::{Config, Entry, EntryFault, Event, What};
 use std::alloc::Global;
 use std::test::Fail;
-
-const FIRST: u64 = 0x1400_0200_0000_0001;
-
-const SECOND: u64 = 0x1400_0200_0000_0002;
-
-const THIRD: u64 = 0x1400_0200_0000_0003;
-
-/// The port of all requests.
-const PORT: u16 = 2002;
-
-/// How many octets of a frame stand before its packet.
-const LINK: usize = 14;
-
-/// The first geobroadcast of the first station, which never moved.
-static GEOBROADCAST: &str =
-    "ffffffffffff020000000001894711001a0a2040008000060a000000000014000200000000010000000000\
-    00000000000000000000000000000000000000006400000000000007d200006869";
 
 /// What came of an event. A packet counts as delivered where it is "hi" for `PORT`, with info 0.
 #[derive(Clone, Copy, Debug, PartialEq, Eq)]

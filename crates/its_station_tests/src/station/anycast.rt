@@ -1,9 +1,7 @@
 //! Geoanycasts, which stop at the first station inside of the area.
 
-use super::{
-    BEACON, DUPLICATE, Fate, GEOBROADCAST, LINK, SECOND, circle, expect, fate_of, receiver,
-    request, sender, station,
-};
+use super::{BEACON, DUPLICATE, Fate, circle, expect, fate_of, receiver, request, sender, station};
+use crate::vectors::{GEOBROADCAST, LINK, SECOND};
 use its_faults::{Fault, FaultKind, FrameFault};
 use its_loctable::{LocationStore, OrderedTable, SortedTable};
 use its_station::Refused;

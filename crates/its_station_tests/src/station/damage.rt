@@ -1,6 +1,7 @@
 //! A damaged frame between two good ones.
 
-use super::{DUPLICATE, Fate, LINK, circle, deliver, fate_of, receiver, relay_of, request, sender};
+use super::{DUPLICATE, Fate, circle, deliver, fate_of, receiver, request, sender};
+use crate::vectors::{LINK, relay_of};
 use its_faults::{Fault, FaultKind, FrameFault};
 use its_loctable::{LocationStore, OrderedTable, SortedTable};
 use its_station::{Refused, Why};

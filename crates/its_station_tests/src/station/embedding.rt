@@ -1,13 +1,13 @@
-//! The example of the station's front page, line by line.
+//! The example of the README and of the station's documentation, line by line.
 
-use super::GEOBROADCAST;
+use crate::vectors::GEOBROADCAST;
 use its_gnvalue::{GnAddress, Place};
 use its_loctable::SortedTable;
 use its_station::{Outcome, Station};
 use std::test::Fail;
 
 #[test]
-fn the_front_page_runs(rt: HostRuntime) -> Result<(), Fail> {
+fn the_example_runs(rt: HostRuntime) -> Result<(), Fail> {
     let alloc = rt.alloc();
     let octets = hex::decode(alloc, GEOBROADCAST)?;
     let mut inbox = Vec::new(alloc);

@@ -3,18 +3,16 @@
 ghost use Rattle.std.specs.Prelude.{All};
 ghost use Rattle.its_station.specs.Runs.{IsInRange};
 
-use super::{DUPLICATE, Fate, GEOBROADCAST, PORT, SECOND, THIRD, expect, fate_of_reply, station};
-use its_faults::FrameFault;
+use super::{DUPLICATE, Fate, SHORT, expect, fate_of_reply, station};
+use crate::vectors::{GEOBROADCAST, PORT, SECOND, THIRD};
 use its_loctable::{LocationStore, OrderedTable, SortedTable};
-use its_station::{Call, Refused, Station};
+use its_station::{Call, Station};
 use std::alloc::Global;
 use std::process::Abort;
 use std::test::Fail;
 
 /// What is no frame.
 static JUNK: [u8; 3] = [0, 1, 2];
-
-const SHORT: Fate = Fate::Refused(Refused::Frame(FrameFault::Short));
 
 /// One source's packet, and another source's beacon.
 #[derive(Drop)]

@@ -1,9 +1,9 @@
 //! Stations with every budget of memory from none to enough.
 
-use super::{DUPLICATE, Fate, circle, expect, receiver, request, sender};
+use super::{DUPLICATE, Fate, SHORT, circle, expect, receiver, request, sender};
 use its_loctable::{OrderedTable, SortedTable};
 use its_shortage::{MOST, STEP, Shortage};
-use its_station::{Refused, Station};
+use its_station::{Refused, Station, Why};
 use std::alloc::Global;
 use std::process::Abort;
 use std::test::Fail;
@@ -16,6 +16,7 @@ struct Frames {
     last_hop: Vec<u8>,
     anycast: Vec<u8>,
     beacon: Vec<u8>,
+    to_another: Vec<u8>,
 }
 
 fn frames_of_one_source(alloc: Global) -> Result<Frames, Fail> {
@@ -28,12 +29,15 @@ fn frames_of_one_source(alloc: Global) -> Result<Frames, Fail> {
     let last_hop = first.send_geobroadcast(1000, &one_hop)?;
     let anycast = first.send_geoanycast(1000, &request)?;
     let beacon = first.tick(9000, 0)?.ok_or("no beacon")?;
+    let mut to_another = new.clone()?;
+    *to_another.get_mut(0).ok_or("short")? = 2;
     Ok(Frames {
         old,
         new,
         last_hop,
         anycast,
         beacon,
+        to_another,
     })
 }
 
@@ -60,7 +64,7 @@ impl Receivers {
 }
 
 /// From a live source a packet that goes on takes one piece of memory, as large as its frame, and
-/// no second; whatever else comes takes none.
+/// no second; whatever else comes takes none, be it refused, ignored or delivered.
 #[test]
 fn a_relay_is_one_allocation(rt: HostRuntime) -> Result<(), Fail> {
     let alloc = rt.alloc();
@@ -74,6 +78,14 @@ fn a_relay_is_one_allocation(rt: HostRuntime) -> Result<(), Fail> {
     near.expect(&rt, 1011, &frames.last_hop, Fate::Delivered);
     near.expect(&rt, 1011, &frames.anycast, Fate::Delivered);
     near.expect(&rt, 1011, &frames.beacon, Fate::Kept);
+    near.expect(
+        &rt,
+        1010,
+        &frames.new,
+        Fate::Refused(Refused::MomentEarlier),
+    );
+    near.expect(&rt, 1011, &[0; 13], SHORT);
+    near.expect(&rt, 1011, &frames.to_another, Fate::Ignored(Why::NotForMe));
 
     let mut refused = 0u64;
     for step in 0..MOST / STEP {

@@ -2,9 +2,8 @@
 
 ghost use Rattle.std.specs.Prelude.{◌≤◌};
 
-use super::{
-    DUPLICATE, Fate, LINK, PORT, SECOND, circle, expect, fate_of, receiver, request, sender,
-};
+use super::{DUPLICATE, Fate, circle, expect, fate_of, receiver, request, sender};
+use crate::vectors::{LINK, PORT, SECOND};
 use its_gnvalue::{GnAddress, Place};
 use its_loctable::{LocationStore, OrderedTable, SortedTable};
 use its_station::Station;

@@ -1,6 +1,7 @@
 //! What refuses a call: which refusal comes first, that it changes nothing, and what it prints.
 
-use super::{Fate, PORT, SECOND, circle, expect, receiver, request, sender, station};
+use super::{Fate, circle, expect, receiver, request, sender, station};
+use crate::vectors::{PORT, SECOND};
 use its_btp::PortFault;
 use its_faults::{Fault, FaultKind, FrameFault};
 use its_gnvalue::{Place, TrafficClass};

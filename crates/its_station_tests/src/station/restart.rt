@@ -1,9 +1,9 @@
 //! Stations that begin anew.
 
 use super::{
-    DUPLICATE, Fate, PORT, circle, deliver, expect, fate_of, geobroadcast, receiver, request,
-    sender,
+    DUPLICATE, Fate, circle, deliver, expect, fate_of, geobroadcast, receiver, request, sender,
 };
+use crate::vectors::PORT;
 use its_gnvalue::Place;
 use its_loctable::{LocationStore, OrderedTable, SortedTable};
 use its_station::Refused;

@@ -1,9 +1,10 @@
 //! Geobroadcasts, beacons and single-hop broadcasts from station to station.
 
 use super::{
-    BEACON, DUPLICATE, Fate, GEOBROADCAST, LINK, PORT, SECOND, SINGLE_HOP, THIRD, circle, deliver,
-    expect, expect_octets, fate_of, geobroadcast, receiver, relay_of, request, sender, station,
+    BEACON, DUPLICATE, Fate, SINGLE_HOP, circle, deliver, expect, expect_octets, fate_of,
+    geobroadcast, receiver, request, sender, station,
 };
+use crate::vectors::{FIRST, GEOBROADCAST, LINK, PORT, SECOND, THIRD, relay_of};
 use its_faults::{Fault, FaultKind, FrameFault};
 use its_geometry::Area;
 use its_gnvalue::{GnAddress, Place, TrafficClass};
@@ -120,6 +121,19 @@ fn two_neighbours<S: LocationStore>(rt: &impl Abort, alloc: Global) -> Result<()
     assert!(rt; frame.starts_with(&[2, 0, 0, 0, 0, 2]));
     let frame = first.send_geobroadcast(20_100, &east)?;
     assert!(rt; frame.starts_with(&[0xff; 6]));
+    Ok(())
+}
+
+/// Of 33 neighbours at one place, heard by ascending address, the first gets the packet.
+fn many_neighbours<S: LocationStore>(rt: &impl Abort, alloc: Global) -> Result<(), Fail> {
+    let mut own = station::<S>(alloc, FIRST, 50, 50_000)?;
+    for n in 0..33 {
+        let beacon = beacon_from::<S>(alloc, 100, SECOND + n, 100, 60_000)?;
+        expect(rt, &mut own, 100, &beacon, Fate::Kept);
+    }
+    let area = Area::circle(Place::new(0, 100_000)?, 10)?;
+    let frame = own.send_geobroadcast(200, &request(area, b"hi"))?;
+    assert!(rt; frame.starts_with(&[2, 0, 0, 0, 0, 2]));
     Ok(())
 }
 
@@ -251,6 +265,7 @@ fn rows<S: LocationStore>(rt: &impl Abort, alloc: Global) -> Result<(), Fail> {
     lives::<S>(rt, alloc)?;
     the_place_at_reception::<S>(rt, alloc)?;
     two_neighbours::<S>(rt, alloc)?;
+    many_neighbours::<S>(rt, alloc)?;
     one_place::<S>(rt, alloc)?;
     from_inside::<S>(rt, alloc)?;
     refused_sends::<S>(rt, alloc)?;

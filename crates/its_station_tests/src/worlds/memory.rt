@@ -1,9 +1,11 @@
-//! A world with budgets of memory from none to enough, which goes on once there is more.
+//! A world that is made, and run, with budgets of memory from none to enough. A run goes on once
+//! there is more.
 
 ghost use Rattle.std.specs.Prelude.{◌≤◌, All, IfOk, length};
 ghost use Rattle.its_world.specs.Events.{IsConfig, IsInRange};
 
-use super::{FIRST, Fate, GEOBROADCAST, LINK, SECOND, config, deliver, fate_of, open, send};
+use super::{Fate, config, deliver, fate_of, open, send};
+use crate::vectors::{FIRST, GEOBROADCAST, SECOND, relay_of};
 use its_shortage::Shortage;
 use its_world::{Config, Event, Run, World, WorldFault};
 use std::alloc::Global;
@@ -35,30 +37,24 @@ struct Begun {
     run: Run,
 }
 
-/// How far a world comes with so many octets, which are free again afterwards.
+/// A world that was made with ample memory, and run with so many octets, which are free again
+/// afterwards.
 fn begin(
     rt: &impl Abort,
     alloc: Global,
     configs: &[Config],
     events: &[Event],
     octets: usize,
-) -> Result<Option<Begun>, Fail>
+) -> Result<Begun, Fail>
     requires configs { All IsConfig configs.now }
     requires few { length configs.now ≤ 65535 }
     requires events { All (λ event. IsInRange event.what) events.now }
 {
+    let mut world = World::new(alloc, configs)?;
     let mut shortage = Shortage::new(alloc)?;
     assert!(rt; shortage.leave(octets), "{octets}");
-    match World::new(alloc, configs) {
-        Ok(mut world) => {
-            let run = world.run(events);
-            Ok(Some(Begun { world, run }))
-        }
-        Err(fault) => {
-            assert_eq!(rt; fault, WorldFault::NoMemory);
-            Ok(None)
-        }
-    }
+    let run = world.run(events);
+    Ok(Begun { world, run })
 }
 
 /// The entries are those from this event on.
@@ -89,34 +85,42 @@ fn goes_on(rt: &impl Abort, begun: Begun, events: &[Event], frames: [&[u8]; 2]) 
 }
 
 #[test]
-fn a_world_runs_short_of_memory(rt: HostRuntime) -> Result<(), Fail> {
+fn a_world_is_made_short_of_memory(rt: HostRuntime) -> Result<(), Fail> {
     let alloc = rt.alloc();
     let configs = [small(FIRST, 0)?, small(SECOND, 449)?];
+    let mut shortage = Shortage::new(alloc)?;
+    let mut refused = 0;
+    for step in 0..BUDGETS {
+        assert!(rt; shortage.leave(step * APART), "at step {step}");
+        let Err(fault) = World::new(alloc, &configs) else {
+            break;
+        };
+        assert_eq!(rt; fault, WorldFault::NoMemory);
+        refused = step + 1;
+    }
+    assert!(rt; 0 < refused && refused < BUDGETS, "{refused}");
+    Ok(())
+}
+
+/// Some budgets end the run before each of the events, and the last one has room for all.
+#[test]
+fn a_world_runs_short_of_memory(rt: HostRuntime) -> Result<(), Fail> {
+    let alloc = rt.alloc();
+    let configs = [config(FIRST, 0, 0)?, config(SECOND, 449, 0)?];
     let events = [open(1), send(alloc)?, deliver(1, 0)];
     let sent = hex::decode(alloc, GEOBROADCAST)?;
-    let mut relayed = sent.clone()?;
-    *relayed.get_mut(11).ok_or("short")? = 2;
-    *relayed.get_mut(LINK + 3).ok_or("short")? = 9;
-    // How often no world was made, and how often one stopped before each event; then the whole run.
-    // What `World::new` gives back is often enough for the first event.
-    let (mut not_made, mut stopped, mut done) = (0u32, [0u32; 3], false);
+    let relayed = relay_of(&sent)?;
+    let mut ends = [0u32; 4];
     for step in 0..BUDGETS {
-        let Some(begun) = begin(&rt, alloc, &configs, &events, step * APART)? else {
-            not_made = not_made.saturating_add(1);
-            continue;
-        };
-        match stopped.get_mut(begun.run.done) {
-            Some(count) => *count = count.saturating_add(1),
-            None => done = true,
-        }
+        let begun = begin(&rt, alloc, &configs, &events, step * APART)?;
+        let done = begun.run.done;
+        let end = ends.get_mut(done).ok_or("too many are done")?;
+        *end = end.saturating_add(1);
         goes_on(&rt, begun, &events, [&sent, &relayed])?;
-        if done {
+        if done == FATES.len() {
             break;
         }
     }
-    assert!(rt;
-        done && not_made > 0 && stopped.iter().any(|count| *count > 0),
-        "{stopped:?}"
-    );
+    assert!(rt; ends.iter().all(|count| *count > 0), "{ends:?}");
     Ok(())
 }

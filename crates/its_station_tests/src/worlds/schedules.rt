@@ -1,6 +1,7 @@
 //! One geobroadcast among three stations, under every schedule of five deliveries.
 
-use super::{FIRST, Fate, GEOBROADCAST, LINK, SECOND, THIRD, config, deliver, fate_of, open, send};
+use super::{Fate, config, deliver, fate_of, open, send};
+use crate::vectors::{FIRST, GEOBROADCAST, LINK, SECOND, THIRD};
 use its_station::Why;
 use its_world::{EntryFault, World};
 use std::alloc::Global;
@@ -128,7 +129,7 @@ fn one_schedule(rt: &impl Abort, alloc: Global, schedule: usize, first: &[u8]) -
 /// At most three frames, at most one delivery to the port of each of the other stations, and none
 /// at the source.
 #[test]
-fn a_flood_under_every_schedule(rt: HostRuntime) -> Result<(), Fail> {
+fn three_stations(rt: HostRuntime) -> Result<(), Fail> {
     let first = hex::decode(rt.alloc(), GEOBROADCAST)?;
     for schedule in 0..SCHEDULES {
         one_schedule(&rt, rt.alloc(), schedule, &first)?;
