@@ -34,7 +34,7 @@ is_repeated remember None source moment history = false
 is_repeated remember (Some number) source moment history =
     is_remembered remember source number moment history
 
--- The answer that is owed, unless an allocation failed: a duplicate is one in a full store too.
+-- What `accept` answers, unless an allocation failed: a duplicate is one in a full store too.
 unfoldable pub verdict_at : ℕ → ℕ → ℕ → SourceReport → List Reception → Result Verdict StoreRefused
 verdict_at remember capacity now heard history =
     if is_repeated remember heard.number heard.vector.address now history then Ok Duplicate

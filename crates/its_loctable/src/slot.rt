@@ -12,10 +12,13 @@ use its_gnvalue::{GnAddress, LongPv};
 /// What is kept of a source.
 #[derive(Drop)]
 pub struct Slot {
+    /// The position vector of the newest packet by its time stamp.
     pub vector: LongPv,
+    /// Whether a BEACON or a single-hop broadcast of it came: it is a neighbour.
     pub neighbour: bool,
     /// The first moment at which the source isn't live.
     pub until: u64,
+    /// The sequence numbers that are remembered.
     pub recent: Recent,
     ghost few: { length recent.numbers ≤ recent.limit },
 }

@@ -89,8 +89,8 @@ pub trait LocationStore: Sized + Drop {
             (stations_at (remember self.now) now history)) };
 
     /// Takes a packet in, unless it is a duplicate or, checked after that, there is no room. A
-    /// duplicate and a refusal change nothing. Memory is asked for only where the packet is owed
-    /// `Accepted` and its source isn't live.
+    /// duplicate and a refusal change nothing. Memory is asked for only where the packet
+    /// would be accepted and its source isn't live.
     fn accept(&mut self, now: u64, h: &Heard) -> Result<Verdict, StoreRefused>
         requires { now ≤ 2 ^ 62 }
         ensures answer { (history : List Reception) →

@@ -256,7 +256,7 @@ performed s moment (SendGac r) =
 performed s moment (Restart number) =
     record { answer = Restarted; station = after_restart s moment number }
 
--- by its judgement: refused, and then nothing changes, or performed
+-- by what the check gave: refused, and then nothing changes, or performed
 abbrev pub own_step_by : StationModel → ℕ → OwnCall → Option Refusal → Step
 own_step_by s moment call (Some refusal) = record { answer = Refused refusal; station = s }
 own_step_by s moment call None = performed s moment call
@@ -354,7 +354,7 @@ relayed s moment t (gbc number area message) = passed_on s moment t area
 relayed s moment t (gac number area message) =
     if area_holds area s.vector.place then None else passed_on s moment t area
 
--- By its judgement: a frame that is ignored sets the clock alone. One that is accepted is put into
+-- By its verdict: a frame that is ignored sets the clock alone. One that is accepted is put into
 -- the history before it is decided to whom it goes on.
 abbrev pub receive_step_by : StationModel → ℕ → Transmission → Verdict → Step
 receive_step_by s moment t (Refuse refusal) = record { answer = Refused refusal; station = s }

@@ -1,5 +1,5 @@
-//! The laws of the model. Each is the contract of a function with an empty body, which a proof calls
-//! to have the law at hand.
+//! The laws of the model. Each is the contract of a function with an empty body, which a proof
+//! calls to have the law at hand.
 
 mod calls;
 mod isolation;

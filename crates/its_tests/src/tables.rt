@@ -1,5 +1,5 @@
-//! The location table and its lists of recent numbers. What holds of a table holds of both: each
-//! test runs over either.
+//! The location table and its lists of recent numbers. What holds of both tables is tested over
+//! both.
 
 ghost use Rattle.std.specs.Prelude.{◌^◌, ◌≤◌};
 

@@ -63,34 +63,36 @@ fn turned_bits(alloc: Global) -> Result<Vec<Vec<u8>>, Fail> {
     Ok(outputs)
 }
 
+/// How the line of a refused frame goes on, and how many of the frames have it.
+static CODES: [(&str, u32); 18] = [
+    ("", 158),
+    ("L1", 0),
+    ("L2\n", 16),
+    ("L3", 0),
+    ("L4\n", 2),
+    ("L5 G1 at ", 9),
+    ("L5 G1 at 62\n", 9),
+    ("L5 G2 at 0\n", 4),
+    ("L5 G3 at 0\n", 4),
+    ("L5 G4 at ", 59),
+    ("L5 G5 at ", 0),
+    ("L5 G6 at 4\n", 3),
+    ("L5 G7 at 5\n", 4),
+    ("L5 G8 at 5\n", 2),
+    ("L5 G9 at 10\n", 8),
+    ("L5 G10 at 8\n", 6),
+    ("L5 G11 at ", 4),
+    ("L5 G12 at ", 37),
+];
+
 /// Of 608 frames with one bit turned, 16 have another type and 142 no good packet: so many have
 /// each code. A frame that is refused changes nothing.
 #[test]
 fn single_bits(rt: HostRuntime) -> Result<(), Fail> {
     let alloc = rt.alloc();
-    let cases = [
-        ("", 158u32),
-        ("L1", 0),
-        ("L2\n", 16),
-        ("L3", 0),
-        ("L4\n", 2),
-        ("L5 G1 at ", 9),
-        ("L5 G1 at 62\n", 9),
-        ("L5 G2 at 0\n", 4),
-        ("L5 G3 at 0\n", 4),
-        ("L5 G4 at ", 59),
-        ("L5 G5 at ", 0),
-        ("L5 G6 at 4\n", 3),
-        ("L5 G7 at 5\n", 4),
-        ("L5 G8 at 5\n", 2),
-        ("L5 G9 at 10\n", 8),
-        ("L5 G10 at 8\n", 6),
-        ("L5 G11 at ", 4),
-        ("L5 G12 at ", 37),
-    ];
     let outputs = turned_bits(alloc)?;
     let refused = format!(in alloc; "{BEFORE}1000 1 refused S3 ")?;
-    for (code, want) in cases {
+    for (code, want) in CODES {
         let start = format!(in alloc; "{refused}{code}")?;
         let mut found = 0u32;
         for output in &outputs {

@@ -1,4 +1,5 @@
-//! What a station owes at each call.
+//! Laws on a single call: what a refusal leaves, what has to be delivered, ports, sends.
+
 ghost use Rattle.std.specs.Prelude.{◌≡◌, ◌≢◌, ℕ, ◌≤◌, List, length, Option, Some, None, IsTrue};
 ghost use Rattle.std.specs.Prelude.{IsFalse};
 ghost use Rattle.its_geometry.specs.Area.{GeoArea, area_holds};
@@ -61,7 +62,7 @@ pub fn open_ports_are_few()
         AreDistinct after.ports × (length after.ports ≤ max_open_ports) }
 {}
 
-/// A geobroadcast of a station's own goes to someone: where there is no sender, the decision isn't
+/// A packet of a station's own for an area goes to someone: where there is no sender, the decision isn't
 /// to drop it.
 pub fn no_send_is_dropped()
     ensures { (stations : List Known) (own : Position) (area : GeoArea)

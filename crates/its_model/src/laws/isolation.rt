@@ -1,4 +1,5 @@
 //! A station's calls, and what one source sees of it.
+
 ghost use Rattle.std.specs.Prelude.{◌≡◌, List, ◌++◌};
 ghost use Rattle.its_model.specs.Station.{StationModel};
 ghost use Rattle.its_model.specs.Isolation.{TimedCall, answers_of, station_run, SourcesAreIsolated};

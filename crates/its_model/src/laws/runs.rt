@@ -1,4 +1,5 @@
 //! How a run, its log and its frames belong together.
+
 ghost use Rattle.std.specs.Prelude.{◌≡◌, ℕ, ◌<◌, List, ◌∷◌, ◌++◌, length, take, Some, slice_get};
 ghost use Rattle.its_model.specs.Packet.{Transmission};
 ghost use Rattle.its_model.specs.Station.{StationModel};

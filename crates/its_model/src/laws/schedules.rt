@@ -1,6 +1,7 @@
 //! What holds after every schedule of calls and deliveries: frames lost, repeated, late, in any
 //! order. Each law is of geobroadcasts, and of geoanycasts in the same words, but for the one on
 //! geoanycasts alone.
+
 ghost use Rattle.std.specs.Prelude.{List};
 ghost use Rattle.its_model.specs.World.{Config, Event, opening, world_run};
 ghost use Rattle.its_model.specs.Schedules.{HandedAsSent, RelaysAreFaithful, AtMostOnce};
@@ -35,8 +36,9 @@ pub fn at_most_once_by_default()
         AcceptedAgainByDefault configs (world_run (opening configs) events) }
 {}
 
-/// A packet for an area makes few frames, each with its number and with the hops that its relays
-/// left.
+/// A send for an area makes at most one frame more than it is accepted; where no station forgot the
+/// packet between two acceptances, at most one frame a station. Each frame has the packet's number,
+/// and its hops left and its relays so far make the greatest hops.
 pub fn flooding_is_bounded()
     ensures { (configs : List Config) (events : List Event) →
         FloodingIsBounded configs (world_run (opening configs) events) }

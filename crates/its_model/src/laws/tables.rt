@@ -1,4 +1,5 @@
 //! What a table of the stations that were heard has to keep, and what its look-ups are to find.
+
 ghost use Rattle.std.specs.Prelude.{◌≡◌, ◌≢◌, ℕ, ◌+◌, ◌≤◌, ◌<◌, List, [], ◌∷◌, length, Option};
 ghost use Rattle.std.specs.Prelude.{Some, None, is_some, find, Bool, IsTrue, true, false, nat_lt};
 ghost use Rattle.std.specs.Prelude.{if◌then◌else◌, not, nat_le, ◌&&◌, ◌++◌, ◌↔◌};

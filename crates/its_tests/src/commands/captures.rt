@@ -94,8 +94,7 @@ fn checks(rt: HostRuntime) -> Result<(), Fail> {
     Ok(())
 }
 
-/// Against the mistake `empty_input_refused`: a command that gives up on an input with nothing in
-/// it.
+/// A command doesn't give up on an input with nothing in it: the mistake `empty_input_refused`.
 #[test]
 fn an_empty_input_is_no_refusal(rt: HostRuntime) -> Result<(), Fail> {
     let nothing = b"".as_slice();

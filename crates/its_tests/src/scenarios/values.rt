@@ -75,14 +75,10 @@ fn action_of(alloc: Global, keys: &str) -> Result<Action, Fail> {
 }
 
 #[test]
-fn each_action(rt: HostRuntime) -> Result<(), Fail> {
-    let alloc = rt.alloc();
-    let moved = action_of(
-        alloc,
-        "do = \"move\", lat = -900000000, lon = 1800000000, pai = true, speed = -16384, \
-        heading = 65535",
-    )?;
-    let Action::Move(motion) = moved else {
+fn a_move(rt: HostRuntime) -> Result<(), Fail> {
+    let keys = "do = \"move\", lat = -900000000, lon = 1800000000, pai = true, speed = -16384, \
+        heading = 65535";
+    let Action::Move(motion) = action_of(rt.alloc(), keys)? else {
         return Err("no move")?;
     };
     assert_eq!(rt; motion.place, Place::new(-900_000_000, 1_800_000_000)?);
@@ -90,6 +86,11 @@ fn each_action(rt: HostRuntime) -> Result<(), Fail> {
         (motion.pai, motion.speed, motion.heading),
         (true, -16384, 65535)
     );
+    Ok(())
+}
+
+#[test]
+fn actions_of_one_number(rt: HostRuntime) -> Result<(), Fail> {
     let cases = [
         ("do = \"open\", port = 65535", Action::Open { port: 65535 }),
         ("do = \"close\", port = 0", Action::Close { port: 0 }),
@@ -109,16 +110,21 @@ fn each_action(rt: HostRuntime) -> Result<(), Fail> {
         ),
     ];
     for (keys, action) in cases {
-        assert!(rt; action_of(alloc, keys)? == action, "{keys}");
+        assert!(rt; action_of(rt.alloc(), keys)? == action, "{keys}");
     }
+    Ok(())
+}
+
+#[test]
+fn a_single_hop_broadcast(rt: HostRuntime) -> Result<(), Fail> {
     let shb = SingleHop {
         port: 1,
         info: 2,
         class: TrafficClass::from_octet(255),
-        payload: Vec::new(alloc),
+        payload: Vec::new(rt.alloc()),
     };
     let keys = "do = \"shb\", port = 1, info = 2, tc = 255, payload = \"\"";
-    assert!(rt; action_of(alloc, keys)? == Action::Shb(shb));
+    assert!(rt; action_of(rt.alloc(), keys)? == Action::Shb(shb));
     Ok(())
 }
 

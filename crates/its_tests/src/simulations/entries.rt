@@ -6,6 +6,8 @@ use super::{
 };
 use crate::scenarios::WORKED;
 use its_commands::Status;
+use std::alloc::Global;
+use std::process::Abort;
 use std::test::Fail;
 
 #[test]
@@ -24,16 +26,16 @@ fn a_scenario_of_nothing_has_no_line(rt: HostRuntime) -> Result<(), Fail> {
     Ok(())
 }
 
+/// Frame 0 is delivered to station 1 once more.
+static AGAIN: &str = "station = 1, at = 1600, do = \"deliver\", frame = 0";
+
 /// Outside the area the frame is passed on and not delivered; the port need not be open.
 #[test]
 fn geobroadcasts(rt: HostRuntime) -> Result<(), Fail> {
     let last_hop = "station = 0, at = 1000, do = \"gbc\", port = 2002, info = 0, tc = 0, \
         lt = 26, hops = 1, shape = \"circle\", alat = 0, alon = 0, a = 100, b = 0, angle = 0, \
         payload = \"6869\"";
-    let move_in = "station = 1, at = 1500, do = \"move\", lat = 449, lon = 0, pai = false, \
-        speed = 0, heading = 0";
-    let again = "station = 1, at = 1600, do = \"deliver\", frame = 0";
-    let cases: [(&[&str], &str); 6] = [
+    let cases: [(&[&str], &str); 4] = [
         (
             &[OPEN, last_hop, DELIVER],
             "0 0 1 opened\n1 1000 0 sent 0\n2 1010 1 accepted port 2002 info 0 6869\n",
@@ -43,19 +45,9 @@ fn geobroadcasts(rt: HostRuntime) -> Result<(), Fail> {
             "0 1000 0 sent 0\n1 1010 1 accepted sent 1\n",
         ),
         (
-            &[OPEN, SEND, DELIVER, again],
+            &[OPEN, SEND, DELIVER, AGAIN],
             "0 0 1 opened\n1 1000 0 sent 0\n2 1010 1 accepted port 2002 info 0 6869 sent 1\n\
             3 1600 1 ignored duplicate\n",
-        ),
-        (
-            &[OPEN, MOVE_OUT, SEND, DELIVER, move_in, again],
-            "0 0 1 opened\n1 0 1 moved\n2 1000 0 sent 0\n3 1010 1 accepted sent 1\n\
-            4 1500 1 moved\n5 1600 1 ignored duplicate\n",
-        ),
-        (
-            &[OPEN, MOVE_OUT, SEND, move_in, again],
-            "0 0 1 opened\n1 0 1 moved\n2 1000 0 sent 0\n3 1500 1 moved\n\
-            4 1600 1 accepted port 2002 info 0 6869 sent 1\n",
         ),
         (
             &[
@@ -67,6 +59,29 @@ fn geobroadcasts(rt: HostRuntime) -> Result<(), Fail> {
             ],
             "0 0 1 opened\n1 1000 0 sent 0\n2 1010 1 accepted port 2002 info 0 6869 sent 1\n\
             3 1020 0 ignored own-source\n4 1030 1 closed\n",
+        ),
+    ];
+    for (events, want) in cases {
+        left_by(rt.alloc(), events)?.expect_out(&rt, Status::Done, want);
+    }
+    Ok(())
+}
+
+/// Where the receiver stands when the frame comes decides what is delivered.
+#[test]
+fn geobroadcasts_to_a_station_that_moves(rt: HostRuntime) -> Result<(), Fail> {
+    let move_in = "station = 1, at = 1500, do = \"move\", lat = 449, lon = 0, pai = false, \
+        speed = 0, heading = 0";
+    let cases: [(&[&str], &str); 2] = [
+        (
+            &[OPEN, MOVE_OUT, SEND, DELIVER, move_in, AGAIN],
+            "0 0 1 opened\n1 0 1 moved\n2 1000 0 sent 0\n3 1010 1 accepted sent 1\n\
+            4 1500 1 moved\n5 1600 1 ignored duplicate\n",
+        ),
+        (
+            &[OPEN, MOVE_OUT, SEND, move_in, AGAIN],
+            "0 0 1 opened\n1 0 1 moved\n2 1000 0 sent 0\n3 1500 1 moved\n\
+            4 1600 1 accepted port 2002 info 0 6869 sent 1\n",
         ),
     ];
     for (events, want) in cases {
@@ -95,53 +110,43 @@ fn geoanycasts(rt: HostRuntime) -> Result<(), Fail> {
     Ok(())
 }
 
-/// A restart forgets what was accepted, closes the ports and sets the next number.
+/// After the worked scenario these events have these lines.
+fn goes_on(rt: &impl Abort, alloc: Global, events: &[&str], want: &str) -> Result<(), Fail> {
+    let mut all = vec![in alloc; OPEN, SEND, DELIVER]?;
+    all.extend_from_slice(events)?;
+    let begun = "0 0 1 opened\n1 1000 0 sent 0\n2 1010 1 accepted port 2002 info 0 6869 sent 1\n";
+    let whole = format!(in alloc; "{begun}{want}")?;
+    left_by(alloc, all.as_slice())?.expect_out(rt, Status::Done, whole.as_str());
+    Ok(())
+}
+
+/// A restart of the receiver forgets what was accepted and closes the ports.
 #[test]
-fn restarts(rt: HostRuntime) -> Result<(), Fail> {
+fn restarts_of_the_receiver(rt: HostRuntime) -> Result<(), Fail> {
     let again = "station = 1, at = 1013, do = \"deliver\", frame = 0";
     let forget = "station = 1, at = 1011, do = \"restart\", number = 0";
     let reopen = "station = 1, at = 1012, do = \"open\", port = 2002";
+    let want = "3 1011 1 restarted\n4 1012 1 opened\n\
+        5 1013 1 accepted port 2002 info 0 6869 sent 2\n";
+    goes_on(&rt, rt.alloc(), &[forget, reopen, again], want)?;
+    let want = "3 1011 1 restarted\n4 1013 1 accepted sent 2\n";
+    goes_on(&rt, rt.alloc(), &[forget, again], want)
+}
+
+/// A restart of the sender sets its next number.
+#[test]
+fn restarts_of_the_sender(rt: HostRuntime) -> Result<(), Fail> {
     let resend = "station = 0, at = 1030, do = \"gbc\", port = 2002, info = 0, tc = 0, lt = 26, \
         hops = 10, shape = \"circle\", alat = 0, alon = 0, a = 100, b = 0, angle = 0, \
         payload = \"6869\"";
     let last = "station = 1, at = 1040, do = \"deliver\", frame = 2";
-    let begun = "0 0 1 opened\n1 1000 0 sent 0\n2 1010 1 accepted port 2002 info 0 6869 sent 1\n";
-    let cases: [(&[&str], &str); 4] = [
-        (
-            &[forget, reopen, again],
-            "3 1011 1 restarted\n4 1012 1 opened\n\
-            5 1013 1 accepted port 2002 info 0 6869 sent 2\n",
-        ),
-        (
-            &[forget, again],
-            "3 1011 1 restarted\n4 1013 1 accepted sent 2\n",
-        ),
-        (
-            &[
-                "station = 0, at = 1020, do = \"restart\", number = 0",
-                resend,
-                last,
-            ],
-            "3 1020 0 restarted\n4 1030 0 sent 2\n5 1040 1 ignored duplicate\n",
-        ),
-        (
-            &[
-                "station = 0, at = 1020, do = \"restart\", number = 7",
-                resend,
-                last,
-            ],
-            "3 1020 0 restarted\n4 1030 0 sent 2\n\
-            5 1040 1 accepted port 2002 info 0 6869 sent 3\n",
-        ),
-    ];
-    for (events, want) in cases {
-        let mut all = vec![in rt.alloc(); OPEN, SEND, DELIVER]?;
-        all.extend_from_slice(events)?;
-        let left = left_by(rt.alloc(), all.as_slice())?;
-        let whole = format!(in rt.alloc(); "{begun}{want}")?;
-        left.expect_out(&rt, Status::Done, whole.as_str());
-    }
-    Ok(())
+    let from_0 = "station = 0, at = 1020, do = \"restart\", number = 0";
+    let want = "3 1020 0 restarted\n4 1030 0 sent 2\n5 1040 1 ignored duplicate\n";
+    goes_on(&rt, rt.alloc(), &[from_0, resend, last], want)?;
+    let from_7 = "station = 0, at = 1020, do = \"restart\", number = 7";
+    let want = "3 1020 0 restarted\n4 1030 0 sent 2\n\
+        5 1040 1 accepted port 2002 info 0 6869 sent 3\n";
+    goes_on(&rt, rt.alloc(), &[from_7, resend, last], want)
 }
 
 /// A beacon is due 3000 ms after the last packet, and the jitter later.
