@@ -62,8 +62,8 @@ pub fn open_ports_are_few()
         AreDistinct after.ports × (length after.ports ≤ max_open_ports) }
 {}
 
-/// A packet of a station's own for an area goes to someone: where there is no sender, the decision isn't
-/// to drop it.
+/// A packet of a station's own for an area goes to someone: where there is no sender, the decision
+/// isn't to drop it.
 pub fn no_send_is_dropped()
     ensures { (stations : List Known) (own : Position) (area : GeoArea)
         → decision stations own area None ≢ Drop }
