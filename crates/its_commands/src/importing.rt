@@ -1,6 +1,7 @@
 //! The command `import`: lines of a moment and hexadecimal digits become a capture.
 
-ghost use Rattle.std.specs.Prelude.{◌≡◌, IfOk, IfErr, All, vec_len};
+ghost use Rattle.std.specs.Prelude.{◌≡◌, ◌+◌, ◌%◌, ◌==◌, ℕ, IfOk, IfErr, All, IsErr, IsTrue};
+ghost use Rattle.std.specs.Prelude.{length, vec_len};
 ghost use Rattle.its_linkframe.specs.Captures.{IsFrameLength};
 ghost use Rattle.its_commands.specs.Lines.{HasFrame};
 ghost use Rattle.its_commands.specs.Statuses.{IsStopped, IsWriterStatus};
@@ -69,7 +70,11 @@ fn read_frame(alloc: Global, digits: &[u8]) -> Result<Vec<u8>, LineError>
 
 /// The fault of the digits of a line that is longer than each record's: `digits`, and what goes on
 /// past them.
-fn fault_of_long(digits: &[u8], passed: Passed) -> LineFault {
+fn fault_of_long(digits: &[u8], passed: Passed) -> LineFault
+    ensures odd { (n : ℕ) → passed.odd ≡ (n % 2 == 1) → (length digits.now + n) % 2 ≡ 1
+        → result ≡ LineFault.Hex }
+    ensures stray { IsTrue passed.stray → result ≡ LineFault.Hex }
+{
     let odd = passed.odd != (digits.len() % 2 == 1);
     if odd || passed.stray || !are_digits(digits) {
         LineFault::Hex
@@ -80,7 +85,8 @@ fn fault_of_long(digits: &[u8], passed: Passed) -> LineFault {
 
 /// Reads a line: a moment, one space, and the digits of 1 to 1468 octets.
 fn read_line(alloc: Global, line: &Line) -> Result<Record, LineError>
-    ensures { IfOk result HasFrame }
+    ensures frame { IfOk result HasFrame }
+    ensures long { IsTrue line.now.passed.any → IsErr result }
 {
     let start = line.start();
     let Some(space) = start.iter().position(|octet| *octet == b' ') else {

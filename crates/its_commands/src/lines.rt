@@ -1,6 +1,7 @@
 //! The lines of a text, one at a time: of each no more is kept than a record can have.
 
-ghost use Rattle.std.specs.Prelude.{◌≡◌, ◌≤◌, length, vec_len, vec_capacity};
+ghost use Rattle.std.specs.Prelude.{◌≡◌, ◌≤◌, ◌<◌, ◌+◌, ◌%◌, ◌==◌, ◌++◌, ◌↔◌, ◌⊎◌, ℕ, length, take};
+ghost use Rattle.std.specs.Prelude.{IsTrue, vec_len, vec_capacity};
 ghost use Rattle.its_commands.specs.declared.lines.TheConstants.{LONGEST_LINE};
 
 use its_linkframe::LONGEST_FRAME;
@@ -36,7 +37,12 @@ impl Passed {
     }
 
     /// Adds octets.
-    fn add(&mut self, octets: &[u8]) {
+    fn add(&mut self, octets: &[u8])
+        ensures any { IsTrue self.new.any ↔ (IsTrue self.old.any ⊎ (0 < length octets.now)) }
+        ensures odd { (n : ℕ) → self.old.odd ≡ (n % 2 == 1)
+            → self.new.odd ≡ ((n + length octets.now) % 2 == 1) }
+        ensures stray { IsTrue self.old.stray → IsTrue self.new.stray }
+    {
         self.any |= !octets.is_empty();
         self.odd ^= octets.len() % 2 == 1;
         self.stray |= !are_digits(octets);
@@ -78,7 +84,9 @@ impl Line {
     }
 
     /// What goes on past that.
-    pub(crate) fn passed(&self) -> Passed {
+    pub(crate) fn passed(&self) -> Passed
+        ensures { result ≡ self.now.passed }
+    {
         self.passed
     }
 
@@ -123,9 +131,13 @@ impl Line {
         })
     }
 
+    #[tactic(auto, using(crate::proofs::Kept::kept_take))]
     /// Adds octets, of which it keeps those up to the longest line. It takes no memory: there is
     /// room for these.
-    fn add(&mut self, octets: &[u8]) {
+    fn add(&mut self, octets: &[u8])
+        ensures kept { self.new.start.items
+            ≡ take LONGEST_LINE (self.old.start.items ++ octets.now) }
+    {
         let room = LONGEST_LINE - self.start.len();
         let (kept, passed) = octets.split_at(room.min(octets.len()));
         if self.start.extend_from_slice(kept).is_err() {
