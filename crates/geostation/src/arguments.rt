@@ -2,7 +2,7 @@
 
 use clap::error::ErrorKind;
 use clap::{Arg, ArgMatches, Command, Error};
-use std::alloc::Global;
+use std::alloc::{AllocError, Global};
 
 /// The version of the program, as the head of the change log has it.
 const VERSION: &str = "0.1.0";
@@ -42,65 +42,105 @@ const MESH_EXAMPLE: &str = "\
 Example:
   geostation mesh warning.toml";
 
+/// An argument that has to be given, with its line of help.
 fn required<'a>(alloc: Global, name: &'a str, help: &'a str) -> Arg<'a> {
     Arg::new(alloc, name).required(true).help(help)
 }
 
-fn command<'a>(alloc: Global) -> Result<Command<'a>, Error> {
-    let show = Command::new(alloc, "show")
-        .about("Prints a line for each record of a capture")
-        .after_help(SHOW_EXAMPLE)
-        .arg(required(alloc, "FILE", "The capture, or - for standard input"))?;
-    let check = Command::new(alloc, "check")
-        .about("Prints a line for each refused record of a capture, and a count")
-        .after_help(CHECK_EXAMPLE)
-        .arg(required(alloc, "FILE", "The capture, or - for standard input"))?;
-    let import = Command::new(alloc, "import")
-        .about("Makes a capture of lines of a moment and hexadecimal digits")
-        .after_help(IMPORT_EXAMPLE)
-        .arg(required(alloc, "FILE", "The lines, or - for standard input"))?
-        .arg(required(alloc, "OUT", "The capture that is made"))?;
-    let sim = Command::new(alloc, "sim")
-        .about("Runs a scenario and prints a line for each event")
-        .after_help(SIM_EXAMPLE)
-        .arg(required(alloc, "SCENARIO", "The scenario, or - for standard input"))?;
-    let mesh = Command::new(alloc, "mesh")
-        .about("Runs a scenario over UDP sockets on the loopback")
-        .after_help(MESH_EXAMPLE)
-        .arg(required(alloc, "SCENARIO", "The scenario, or - for standard input"))?;
-    Ok(
-        Command::new(alloc, "geostation")
-            .about("Shows, checks and makes captures of GeoNetworking frames, and runs scenarios")
-            .version(VERSION)
-            .subcommand_required(true)
-            .subcommand(show)?
-            .subcommand(check)?
-            .subcommand(import)?
-            .subcommand(sim)?
-            .subcommand(mesh)?,
-    )
+/// A command over one file, with its line of help and an example below it.
+fn over_a_file<'a>(
+    alloc: Global,
+    name: &'a str,
+    about: &'a str,
+    example: &'a str,
+    file: Arg<'a>,
+) -> Result<Command<'a>, AllocError> {
+    Command::new(alloc, name)
+        .about(about)
+        .after_help(example)
+        .arg(file)
+}
+
+fn show<'a>(alloc: Global) -> Result<Command<'a>, AllocError> {
+    let file = required(alloc, "FILE", "The capture, or - for standard input");
+    let about = "Prints a line for each record of a capture";
+    over_a_file(alloc, "show", about, SHOW_EXAMPLE, file)
+}
+
+fn check<'a>(alloc: Global) -> Result<Command<'a>, AllocError> {
+    let file = required(alloc, "FILE", "The capture, or - for standard input");
+    let about = "Prints a line for each refused record of a capture, and a count";
+    over_a_file(alloc, "check", about, CHECK_EXAMPLE, file)
+}
+
+fn import<'a>(alloc: Global) -> Result<Command<'a>, AllocError> {
+    let file = required(alloc, "FILE", "The lines, or - for standard input");
+    let about = "Makes a capture of lines of a moment and hexadecimal digits";
+    over_a_file(alloc, "import", about, IMPORT_EXAMPLE, file)?.arg(required(
+        alloc,
+        "OUT",
+        "The capture that is made",
+    ))
+}
+
+fn sim<'a>(alloc: Global) -> Result<Command<'a>, AllocError> {
+    let file = required(alloc, "SCENARIO", "The scenario, or - for standard input");
+    let about = "Runs a scenario and prints a line for each event";
+    over_a_file(alloc, "sim", about, SIM_EXAMPLE, file)
+}
+
+fn mesh<'a>(alloc: Global) -> Result<Command<'a>, AllocError> {
+    let file = required(alloc, "SCENARIO", "The scenario, or - for standard input");
+    let about = "Runs a scenario over UDP sockets on the loopback";
+    over_a_file(alloc, "mesh", about, MESH_EXAMPLE, file)
+}
+
+/// The program, as yet with no command.
+fn program<'a>(alloc: Global) -> Command<'a> {
+    Command::new(alloc, "geostation")
+        .about("Shows, checks and makes captures of GeoNetworking frames, and runs scenarios")
+        .version(VERSION)
+        .subcommand_required(true)
+}
+
+/// The program with one more command, which there was memory for or not.
+fn with<'a>(
+    program: Command<'a>,
+    command: Result<Command<'a>, AllocError>,
+) -> Result<Command<'a>, AllocError> {
+    program.subcommand(command?)
+}
+
+/// The program with its commands, in the order of its help.
+fn whole<'a>(alloc: Global) -> Result<Command<'a>, AllocError> {
+    let whole = with(program(alloc), show(alloc))?;
+    let whole = with(whole, check(alloc))?;
+    let whole = with(whole, import(alloc))?;
+    let whole = with(whole, sim(alloc))?;
+    with(whole, mesh(alloc))
+}
+
+/// The file that a command is over: each has one, by one of two names.
+fn file_of<'a>(matches: &ArgMatches<'a>) -> Option<&'a str> {
+    match matches.get_str("FILE") {
+        Some(file) => Some(file),
+        None => matches.get_str("SCENARIO"),
+    }
 }
 
 /// The subcommand that was matched. One is required, as are its arguments, so there is an answer.
 fn matched<'a>(matches: &ArgMatches<'a>) -> Option<Subcommand<'a>> {
     let (name, inner) = matches.subcommand()?;
+    let file = file_of(inner)?;
     match name {
-        "show" => Some(Subcommand::Show {
-            file: inner.get_str("FILE")?,
-        }),
-        "check" => Some(Subcommand::Check {
-            file: inner.get_str("FILE")?,
-        }),
+        "show" => Some(Subcommand::Show { file }),
+        "check" => Some(Subcommand::Check { file }),
         "import" => Some(Subcommand::Import {
-            file: inner.get_str("FILE")?,
+            file,
             out: inner.get_str("OUT")?,
         }),
-        "sim" => Some(Subcommand::Sim {
-            file: inner.get_str("SCENARIO")?,
-        }),
-        "mesh" => Some(Subcommand::Mesh {
-            file: inner.get_str("SCENARIO")?,
-        }),
+        "sim" => Some(Subcommand::Sim { file }),
+        "mesh" => Some(Subcommand::Mesh { file }),
         _ => None,
     }
 }
@@ -108,10 +148,17 @@ fn matched<'a>(matches: &ArgMatches<'a>) -> Option<Subcommand<'a>> {
 /// Reads the arguments, the program's own name first. An error is help or the version, where these
 /// were asked for, or why the arguments were refused.
 pub fn read<'a>(alloc: Global, arguments: &'a [String]) -> Result<Subcommand<'a>, Error> {
-    let mut command = command(alloc)?;
-    let matches = command.try_get_matches_from_mut(arguments)?;
+    let mut program = whole(alloc)?;
+    read_by(&mut program, arguments)
+}
+
+fn read_by<'a>(
+    program: &mut Command<'a>,
+    arguments: &'a [String],
+) -> Result<Subcommand<'a>, Error> {
+    let matches = program.try_get_matches_from_mut(arguments)?;
     match matched(&matches) {
         Some(subcommand) => Ok(subcommand),
-        None => Err(command.error(ErrorKind::MissingSubcommand, "no command was given")?),
+        None => Err(program.error(ErrorKind::MissingSubcommand, "no command was given")?),
     }
 }

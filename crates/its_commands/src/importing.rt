@@ -1,10 +1,13 @@
 //! The command `import`: lines of a moment and hexadecimal digits become a capture.
 
-ghost use Rattle.std.specs.Prelude.{◌≡◌, IfOk, IfErr, All};
+ghost use Rattle.std.specs.Prelude.{◌≡◌, ◌+◌, ◌%◌, ◌==◌, ℕ, IfOk, IfErr, All, IsErr, IsTrue};
+ghost use Rattle.std.specs.Prelude.{length, vec_len};
+ghost use Rattle.its_linkframe.specs.Captures.{IsFrameLength};
 ghost use Rattle.its_commands.specs.Lines.{HasFrame};
 ghost use Rattle.its_commands.specs.Statuses.{IsStopped, IsWriterStatus};
 
 use crate::fault::{Fault, status_of};
+use crate::lines::{LONGEST_MOMENT, Line, Passed, are_digits};
 use crate::status::Status;
 use its_linkframe::{CaptureWriter, Counted, LONGEST_FRAME, Record};
 use std::alloc::{AllocError, Global};
@@ -45,36 +48,59 @@ impl LineError {
 
 /// Reads 1 to 20 decimal digits that fit 64 bits: a sign is no digit.
 fn read_moment(digits: &[u8]) -> Option<u64> {
-    if digits.len() > 20 || !digits.iter().all(|digit| digit.is_ascii_digit()) {
+    if digits.len() > LONGEST_MOMENT || !digits.iter().all(|digit| digit.is_ascii_digit()) {
         return None;
     }
     str::from_utf8(digits).ok()?.parse::<u64>().ok()
 }
 
-/// Reads an even number of hexadecimal digits.
-fn read_octets(alloc: Global, digits: &[u8]) -> Result<Vec<u8>, LineError> {
+/// Reads the digits of 1 to 1468 octets.
+fn read_frame(alloc: Global, digits: &[u8]) -> Result<Vec<u8>, LineError>
+    ensures { IfOk result (λ frame. IsFrameLength (vec_len frame)) }
+{
     match hex::decode(alloc, digits) {
+        Ok(octets) if octets.is_empty() || octets.len() > LONGEST_FRAME => {
+            Err(LineError::Refused(LineFault::Length))
+        }
         Ok(octets) => Ok(octets),
         Err(hex::FromHexError::OutOfMemory) => Err(LineError::OutOfMemory(AllocError)),
         Err(_) => Err(LineError::Refused(LineFault::Hex)),
     }
 }
 
-/// Reads a line: a moment, one space, and the digits of 1 to 1468 octets.
-fn read_line(alloc: Global, line: &[u8]) -> Result<Record, LineError>
-    ensures { IfOk result HasFrame }
+/// The fault of the digits of a line that is longer than each record's: `digits`, and what goes on
+/// past them.
+fn fault_of_long(digits: &[u8], passed: Passed) -> LineFault
+    ensures odd { (n : ℕ) → passed.odd ≡ (n % 2 == 1) → (length digits.now + n) % 2 ≡ 1
+        → result ≡ LineFault.Hex }
+    ensures stray { IsTrue passed.stray → result ≡ LineFault.Hex }
 {
-    let Some(space) = line.iter().position(|octet| *octet == b' ') else {
+    let odd = passed.odd != (digits.len() % 2 == 1);
+    if odd || passed.stray || !are_digits(digits) {
+        LineFault::Hex
+    } else {
+        LineFault::Length
+    }
+}
+
+/// Reads a line: a moment, one space, and the digits of 1 to 1468 octets.
+fn read_line(alloc: Global, line: &Line) -> Result<Record, LineError>
+    ensures frame { IfOk result HasFrame }
+    ensures long { IsTrue line.now.passed.any → IsErr result }
+{
+    let start = line.start();
+    let Some(space) = start.iter().position(|octet| *octet == b' ') else {
         return Err(LineError::Refused(LineFault::Moment));
     };
-    let (digits, rest) = line.split_at(space);
+    let (digits, rest) = start.split_at(space);
     let Some(moment) = read_moment(digits) else {
         return Err(LineError::Refused(LineFault::Moment));
     };
-    let frame = read_octets(alloc, &rest[1..])?;
-    if frame.is_empty() || frame.len() > LONGEST_FRAME {
-        return Err(LineError::Refused(LineFault::Length));
+    let passed = line.passed();
+    if passed.any {
+        return Err(LineError::Refused(fault_of_long(&rest[1..], passed)));
     }
+    let frame = read_frame(alloc, &rest[1..])?;
     Ok(Record { moment, frame })
 }
 
@@ -100,25 +126,39 @@ pub fn read_lines<R: BufRead + Drop, E: Write>(
 fn records_of<'a, R: BufRead + Drop>(
     alloc: Global,
     file: &'a str,
-    reader: R,
+    mut reader: R,
 ) -> Result<Vec<Record>, Fault<'a>>
     ensures { IfOk result (λ records. All HasFrame records.items) }
 {
+    let mut line = Line::new(alloc)?;
     let mut records = Vec::new(alloc);
-    for (number, line) in (1..u64::MAX).zip(reader.split(alloc, b'\n')) {
-        let line = match line {
-            Ok(line) => line,
+    for number in 1..u64::MAX {
+        match line.read(&mut reader) {
+            Ok(true) => add_record(alloc, number, &line, &mut records)?,
+            Ok(false) => break,
             Err(error) => return Err(Fault::of_read(&error, file)),
-        };
-        if line.is_empty() {
-            continue;
-        }
-        match read_line(alloc, line.as_slice()) {
-            Ok(record) => records.push(record)?,
-            Err(error) => return Err(error.at_line(number)),
         }
     }
     Ok(records)
+}
+
+/// Adds the record of the line of this number, unless that is empty.
+fn add_record<'a>(
+    alloc: Global,
+    number: u64,
+    line: &Line,
+    records: &mut Vec<Record>,
+) -> Result<(), Fault<'a>>
+    requires { All HasFrame records.old.items }
+    ensures { All HasFrame records.new.items }
+{
+    if line.is_empty() {
+        return Ok(());
+    }
+    match read_line(alloc, line) {
+        Ok(record) => Ok(records.push(record)?),
+        Err(error) => Err(error.at_line(number)),
+    }
 }
 
 /// Writes the records as a capture, and flushes it. `file` is the name of what the writer makes.

@@ -7,6 +7,7 @@ mod fault;
 mod files;
 mod importing;
 mod line;
+mod lines;
 mod showing;
 mod simulating;
 mod status;

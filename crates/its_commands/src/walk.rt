@@ -5,7 +5,9 @@ ghost use Rattle.its_commands.specs.Statuses.{walk_status};
 
 use crate::fault::Fault;
 use crate::status::Status;
-use its_linkframe::{CaptureFault, CaptureReader, Counted, FrameFault, FrameView, read_frame};
+use its_linkframe::{
+    CaptureFault, CaptureReader, Counted, FrameFault, FrameView, LONGEST_FRAME, read_frame,
+};
 use std::alloc::{AllocError, Global};
 use std::io::{Read, Write};
 
@@ -48,7 +50,7 @@ impl Walked {
 }
 
 /// Reads the records of the capture that the reader gives, one at a time, and prints the lines of
-/// each. `file` is its name.
+/// each. `file` is its name. All frames are read into one buffer, which has room for the longest.
 pub(crate) fn each_record<'a, R: Read + Drop, L: RecordLines, W: Write>(
     alloc: Global,
     file: &'a str,
@@ -59,6 +61,7 @@ pub(crate) fn each_record<'a, R: Read + Drop, L: RecordLines, W: Write>(
     ensures { IfOk result (λ walked. walked.refused ≤ walked.records) }
 {
     let mut capture = CaptureReader::new(alloc, Counted::new(reader));
+    let mut octets = Vec::with_capacity(alloc, LONGEST_FRAME)?;
     let mut walked = Walked {
         records: 0,
         refused: 0,
@@ -67,14 +70,14 @@ pub(crate) fn each_record<'a, R: Read + Drop, L: RecordLines, W: Write>(
     // The range is there so that the walk ends on any reader. No capture reaches its end: a record
     // has 11 octets at least, so that many are over 2^67 octets.
     for place in 0..u64::MAX {
-        match capture.next() {
-            Ok(Some(record)) => {
-                let frame = read_frame(record.frame.as_slice());
+        match capture.next_into(&mut octets) {
+            Ok(Some(moment)) => {
+                let frame = read_frame(octets.as_slice());
                 if frame.is_err() {
                     walked.refused += 1;
                 }
                 walked.records = place + 1;
-                lines.print(place, record.moment, frame, out)?;
+                lines.print(place, moment, frame, out)?;
             }
             Ok(None) => break,
             Err(fault) => {

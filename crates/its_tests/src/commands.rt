@@ -5,6 +5,7 @@ mod devices;
 mod files;
 mod imports;
 mod large;
+mod lines;
 pub(crate) mod memory;
 
 use its_commands::{Status, check, read_lines, show, write_records};
