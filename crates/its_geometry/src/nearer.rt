@@ -1,7 +1,8 @@
 //! Places that are nearer to a centre than all before them.
 
-ghost use Rattle.std.specs.Prelude.{◌≡◌, min, nat_lt};
+ghost use Rattle.std.specs.Prelude.{◌≡◌, min, nat_lt, length};
 ghost use Rattle.its_geometry.specs.Offsets.{squared_distance};
+ghost use Rattle.its_geometry.specs.Nearest.{distances, IsMet};
 
 use crate::offsets::Centre;
 use crate::reach::Reach;
@@ -52,5 +53,22 @@ impl Nearer {
         } else {
             false
         }
+    }
+
+    /// The index of the first of the nearest of these places, where it is nearer than the limit and
+    /// all places that were taken before. If so, its distance is the least from now on; `None`, and
+    /// nothing changes, where none of them is nearer. So an earlier answer stays on a tie.
+    pub fn take_nearest(&mut self, places: &[Place]) -> Option<usize>
+        ensures nearest { IsMet self.old.least self.new.least
+            (distances self.old.centre places.now) (length places.now) result }
+        ensures centre { self.new.centre ≡ self.old.centre }
+    {
+        let mut found = None;
+        for i in 0..places.len() {
+            if self.take(places[i]) {
+                found = Some(i);
+            }
+        }
+        found
     }
 }

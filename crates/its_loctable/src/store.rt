@@ -7,8 +7,10 @@ ghost use Rattle.its_model.specs.History.{Reception, is_live, is_remembered, kno
 ghost use Rattle.its_model.specs.Stations.{stations_at, is_full, is_above, next_neighbour, by_mid};
 ghost use Rattle.its_loctable.specs.Content.{Entry, Represents};
 ghost use Rattle.its_loctable.specs.Heard.{reception, shown, verdict_at};
+ghost use Rattle.its_loctable.specs.Pieces.{first_piece, neighbours_above, AreAllAbove};
 
 use crate::heard::{Heard, Known};
+use crate::piece::Piece;
 use crate::refused::StoreRefused;
 use its_gnvalue::{GnAddress, LongPv, Mac, NoMemory};
 use std::alloc::Global;
@@ -119,6 +121,28 @@ pub trait LocationStore: Sized + Drop {
             result ≡ option_map (λ k. k.vector)
             (next_neighbour after (stations_at (remember self.now) now history)) }
         ensures above { IfSome result (λ vector. IsTrue (is_above after vector.address)) };
+
+    /// Fills a piece with the neighbours above an address, or with all, in ascending order of
+    /// address: the first 32, or as many as there are. What the piece held before is gone. A store
+    /// that can do better than one `next_neighbour` after the other has a body of its own.
+    fn next_neighbours(&self, now: u64, after: Option<GnAddress>, piece: &mut Piece)
+        requires { now ≤ 2 ^ 62 }
+        ensures next { (history : List Reception) →
+            Represents (remember self.now) (content self.now) history now →
+            piece.new ≡ first_piece
+            (neighbours_above after (stations_at (remember self.now) now history)) }
+        ensures above { AreAllAbove after piece.new.addresses }
+    {
+        piece.clear();
+        let mut after = after;
+        for _ in 0..32usize {
+            let Some(vector) = self.next_neighbour(now, after) else {
+                return;
+            };
+            after = Some(vector.address());
+            piece.push(vector.address(), vector.place());
+        }
+    }
 
     /// What is known of the live source of least address that has a MID.
     fn by_mid(&self, now: u64, mid: Mac) -> Option<Known>

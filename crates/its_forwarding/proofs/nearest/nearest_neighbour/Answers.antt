@@ -1,67 +1,105 @@
-use Rattle.std.proofs.Common.{◌≡◌, ◌<◌, ◌≤◌, Some, None, min, true, false, ap, sym, ◌∙◌, ltb, arith}
-use Rattle.std.proofs.lemmas.Bool.{cond-true, cond-false, ltb-true, ltb-false}
-use Rattle.its_geometry.specs.Offsets.{squared_distance}
-use Rattle.its_model.specs.Stations.{stations_at}
+use Rattle.std.proofs.Common.{◌≡◌, ℕ, ◌<◌, List, Some, None, true, map, take, drop, length, get_or}
+use Rattle.std.proofs.Common.{slice_get, ap, sym, subst, ◌∙◌, arith}
+use Rattle.its_gnvalue.specs.Values.{Position}
+use Rattle.its_geometry.specs.Nearest.{distances, IsMet}
+use Rattle.its_model.specs.Stations.{stations_at, is_above}
 use Rattle.its_model.proofs.StationLemmas.{stations_at-Rises}
-use Rattle.its_forwarding.proofs.Neighbours.{neighbours_above}
+use Rattle.its_loctable.specs.Pieces.{neighbours_above, Listed}
 use Rattle.its_forwarding.proofs.Walk.{walk, walk-next_hop}
-use Rattle.its_forwarding.proofs.Steps.{is_first, is_last, walk-step}
+use Rattle.its_forwarding.proofs.Steps.{spot, piece-none, piece-some, left_behind, none_behind}
+use Rattle.its_forwarding.proofs.Steps.{room-less, get_at}
 use Rattle.its_forwarding.proofs.nearest.nearest_neighbour.Goals as goal
-use Rattle.its_forwarding.proofs.nearest.nearest_neighbour.Goals.{then-take, else-take}
+use Rattle.its_forwarding.proofs.nearest.nearest_neighbour.Goals.{in-Some, in_default}
 
-pub loop-vector-init : goal.loop-vector-init
-loop-vector-init g c =
+pub walk-preserved : goal.walk-preserved
+walk-preserved g c =
     record {
-      centre = ap (λ n. n.centre) c.than-nearer.ensures;
-      walked = λ history rep.
-          ap (λ n. walk c.args.centre.place n None
-          (neighbours_above None
-          (stations_at (g.S.LocationStore.remember c.args.store.now) c.args.now history)))
-          (ap (λ n. n.least) c.than-nearer.ensures);
-    }
-
-pub loop-vector-preserved : goal.loop-vector-preserved
-loop-vector-preserved g c =
-    let here = c.args.centre.place in
-    let v = c.in-Some.vector in
-    let limit = c.loop-vector.nearer.least in
-    let d = squared_distance here v.place in
-    let met : squared_distance c.loop-vector.nearer.centre c.place.result ≡ d =
-    λ i. squared_distance (c.loop-vector.invariant.centre i) (c.place.ensures i) in
-    let a : c.address-address.result ≡ v.address = c.address-address.ensures in
-    let least : c.take.new.self.least ≡ min limit d = c.take.ensures.least ∙ ap (min limit) met in
-    let test : c.take.result ≡ ltb d limit = c.take.ensures.nearer ∙ ap (λ n. ltb n limit) met in
-    record {
-      centre = c.take.ensures.centre ∙ c.loop-vector.invariant.centre;
+      centre = c.take_nearest.ensures.centre ∙ c.walk.invariant.centre;
       walked = λ history rep.
           let all = stations_at (g.S.LocationStore.remember c.args.store.now) c.args.now history in
-          let step = walk-step here limit c.loop-vector.best c.loop-vector.after all v
-          (is_first c.loop-vector.after all v
+          let ns = neighbours_above c.walk.after all in
+          let here = c.args.centre.place in
+          let low = c.walk.nearer.least in
+          let next = c.take_nearest.new.self.least in
+          let piece = c.next_neighbours.ensures.next history rep in
+          let seen : c.places.result.now ≡ map spot (take 32 ns) =
+          c.places.ensures.places ∙ ap (λ (p : Listed). p.places) piece in
+          let step : walk here low c.walk.best ns
+          ≡ walk here next c.match-take_nearest.best (drop 32 ns) =
+          elim c.match-take_nearest.branch [
+            | in-Some w ↦
+                piece-some here low next c.walk.best ns w.in-Some.i w.index-addresses-i.result
+                (subst (λ (l : List Position).
+                IsMet low next (distances here l) (length l) (Some w.in-Some.i)) seen
+                (subst (λ (p : Position).
+                IsMet low next (distances p c.places.result.now) (length c.places.result.now)
+                (Some w.in-Some.i)) c.walk.invariant.centre w.in-Some.ensures.nearest))
+                (w.index-addresses-i.is
+                ∙ ap (λ (l : List ℕ). get_or l w.in-Some.i w.index-addresses-i.result)
+                (w.addresses.ensures ∙ ap (λ (p : Listed). p.addresses) piece))
+                ∙ ap (λ o. walk here next o (drop 32 ns)) (sym w.best-is)
+            | in_default w ↦
+                piece-none here low next c.walk.best ns
+                (subst (λ (l : List Position).
+                IsMet low next (distances here l) (length l) None) seen
+                (subst (λ (p : Position).
+                IsMet low next (distances p c.places.result.now) (length c.places.result.now) None)
+                c.walk.invariant.centre w.in_default.ensures.nearest))
+                ∙ ap (λ o. walk here next o (drop 32 ns)) (sym w.best-is)
+          ] in
+          ap (walk here next c.match-take_nearest.best)
+          (sym (left_behind c.walk.after all 31 c.in-Some-last.last
           (stations_at-Rises (g.S.LocationStore.remember c.args.store.now) c.args.now history)
-          (c.in-Some.ensures.next history rep)) in
-          elim c.if-take.branch [
-            | then-take w ↦
-                let yes : ltb d limit ≡ true = sym test ∙ w.if-take.true in
-                let is : c.take.new.self.least ≡ d =
-                (let lt : d < limit = ltb-true _ _ yes in omega (arith, least)) in
-                (λ i. walk here (is i) ((w.best-is ∙ ap Some a) i)
-                (neighbours_above (Some (a i)) all))
-                ∙ sym (step ∙ cond-true (ltb d limit) _ _ yes)
-                ∙ c.loop-vector.invariant.walked history rep
-            | else-take w ↦
-                let no : ltb d limit ≡ false = sym test ∙ w.if-take.false in
-                let is : c.take.new.self.least ≡ limit =
-                (let le : limit ≤ d = ltb-false _ _ no in omega (arith, least)) in
-                (λ i. walk here (is i) (w.best-is i) (neighbours_above (Some (a i)) all))
-                ∙ sym (step ∙ cond-false (ltb d limit) _ _ no)
-                ∙ c.loop-vector.invariant.walked history rep
-          ];
+          (ap (λ (p : Listed). slice_get p.addresses 31) (sym piece) ∙ c.in-Some-last.ensures.1)))
+          ∙ sym step
+          ∙ c.walk.invariant.walked history rep;
     }
 
-pub returns : goal.returns
-returns g c = λ history rep.
+pub walk-smaller : goal.walk-smaller
+walk-smaller g c =
+    let last = c.in-Some-last.last in
+    room-less c.walk.after last
+    (subst (λ (n : ℕ). is_above c.walk.after n ≡ true)
+    (get_at c.next_neighbours.new.piece.addresses 31 last c.in-Some-last.ensures.1)
+    (c.next_neighbours.ensures.above 31 last (omega (arith, c.in-Some-last.ensures.0))))
+    c.as_u64-bits.ensures.fits
+
+pub returns-in_default-last : goal.returns-in_default-last
+returns-in_default-last g c = λ history rep.
     let all = stations_at (g.S.LocationStore.remember c.args.store.now) c.args.now history in
-    sym (ap (walk c.args.centre.place c.loop-vector.nearer.least c.loop-vector.best)
-    (is_last c.loop-vector.after all (c.in_default.ensures.next history rep)))
-    ∙ c.loop-vector.invariant.walked history rep
-    ∙ walk-next_hop c.args.centre.place c.args.limit all
+    let ns = neighbours_above c.walk.after all in
+    let here = c.args.centre.place in
+    let low = c.walk.nearer.least in
+    let next = c.take_nearest.new.self.least in
+    let piece = c.next_neighbours.ensures.next history rep in
+    let seen : c.places.result.now ≡ map spot (take 32 ns) =
+    c.places.ensures.places ∙ ap (λ (p : Listed). p.places) piece in
+    let step : walk here low c.walk.best ns
+    ≡ walk here next c.match-take_nearest.best (drop 32 ns) =
+    elim c.match-take_nearest.branch [
+      | in-Some w ↦
+          piece-some here low next c.walk.best ns w.in-Some.i w.index-addresses-i.result
+          (subst (λ (l : List Position).
+          IsMet low next (distances here l) (length l) (Some w.in-Some.i)) seen
+          (subst (λ (p : Position).
+          IsMet low next (distances p c.places.result.now) (length c.places.result.now)
+          (Some w.in-Some.i)) c.walk.invariant.centre w.in-Some.ensures.nearest))
+          (w.index-addresses-i.is
+          ∙ ap (λ (l : List ℕ). get_or l w.in-Some.i w.index-addresses-i.result)
+          (w.addresses.ensures ∙ ap (λ (p : Listed). p.addresses) piece))
+          ∙ ap (λ o. walk here next o (drop 32 ns)) (sym w.best-is)
+      | in_default w ↦
+          piece-none here low next c.walk.best ns
+          (subst (λ (l : List Position).
+          IsMet low next (distances here l) (length l) None) seen
+          (subst (λ (p : Position).
+          IsMet low next (distances p c.places.result.now) (length c.places.result.now) None)
+          c.walk.invariant.centre w.in_default.ensures.nearest))
+          ∙ ap (λ o. walk here next o (drop 32 ns)) (sym w.best-is)
+    ] in
+    sym (ap (walk here next c.match-take_nearest.best)
+    (none_behind ns
+    (subst (λ (p : Listed). length p.addresses < 32) piece c.in_default-last.ensures)))
+    ∙ sym step
+    ∙ c.walk.invariant.walked history rep
+    ∙ walk-next_hop here c.args.limit all
