@@ -5,6 +5,8 @@
 #[cfg(test)]
 mod forwarding;
 #[cfg(test)]
+mod pieces;
+#[cfg(test)]
 mod ports;
 #[cfg(test)]
 mod station;
