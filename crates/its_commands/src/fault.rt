@@ -71,7 +71,9 @@ impl Fault<'_> {
     {
         match self {
             Fault::Line(..) | Fault::Scenario(_) => Status::Refused,
-            _ => Status::Failed,
+            Fault::CannotRead(_) | Fault::CannotWrite(_) => Status::Failed,
+            Fault::OutOfMemory(_) | Fault::NoOutput(_) => Status::Failed,
+            Fault::NoSocket(_) | Fault::SendFailed(_) | Fault::ReceiveFailed(_) => Status::Failed,
         }
     }
 

@@ -64,7 +64,11 @@ fn read_frame(alloc: Global, digits: &[u8]) -> Result<Vec<u8>, LineError>
         }
         Ok(octets) => Ok(octets),
         Err(hex::FromHexError::OutOfMemory) => Err(LineError::OutOfMemory(AllocError)),
-        Err(_) => Err(LineError::Refused(LineFault::Hex)),
+        Err(
+            hex::FromHexError::InvalidHexCharacter { .. }
+            | hex::FromHexError::OddLength
+            | hex::FromHexError::InvalidStringLength,
+        ) => Err(LineError::Refused(LineFault::Hex)),
     }
 }
 
