@@ -5,6 +5,7 @@ ghost use Rattle.its_commands.specs.Statuses.{fault_status};
 
 use crate::importing::LineFault;
 use crate::status::Status;
+use its_gnvalue::NoMemory;
 use its_scenario::ScenarioFault;
 use its_simulation::SimulationFault;
 use std::alloc::AllocError;
@@ -98,12 +99,15 @@ impl From<ScenarioFault> for Fault<'_> {
     }
 }
 
+impl From<NoMemory> for Fault<'_> {
+    fn from(_: NoMemory) -> Self {
+        Fault::OutOfMemory(AllocError)
+    }
+}
+
 impl From<SimulationFault> for Fault<'_> {
     fn from(fault: SimulationFault) -> Self {
         match fault {
-            SimulationFault::SharedMid(first, second) => {
-                Fault::Scenario(ScenarioFault::SharedMid(first, second))
-            }
             SimulationFault::OutOfMemory(error) => Fault::OutOfMemory(error),
             SimulationFault::Output(error) => Fault::NoOutput(error),
         }

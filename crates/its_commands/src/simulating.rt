@@ -40,7 +40,7 @@ fn simulate_scenario<'a, R: Read + Drop, W: Write>(
     ensures { IfOk result (λ status. status ≡ Status.Done) }
 {
     let scenario = read_scenario(alloc, file, reader, MOST_STATIONS)?;
-    its_simulation::simulate(alloc, scenario, out)?;
+    its_simulation::simulate(alloc, &scenario, out)?;
     Ok(Status::Done)
 }
 

@@ -1,12 +1,12 @@
-//! A call of a station, and what is told of its reply.
+//! A call of a station, and what comes of its reply.
 
-ghost use Rattle.std.specs.Prelude.{◌≡◌, ◌∷◌, [], Option, None, IfOk, IfSome, IsSomeAnd};
+ghost use Rattle.std.specs.Prelude.{◌≡◌, ◌∷◌, [], ℕ, Option, None, IfOk, IfSome, IsSomeAnd};
 ghost use Rattle.its_model.specs.Packet.{Transmission};
 ghost use Rattle.its_model.specs.Calls.{Answer, OwnCall};
 ghost use Rattle.its_model.specs.Calls.Call.{Own};
 ghost use Rattle.its_model.specs.Station.{StationModel};
 ghost use Rattle.its_model.specs.World.{entry_of, frame_of, numbered};
-ghost use Rattle.its_model.specs.World.What.{Calls};
+ghost use Rattle.its_model.specs.World.What.{Calls, Deliver};
 ghost use Rattle.its_station.specs.Receiving.{IsRelay};
 ghost use Rattle.its_station.specs.Runs.{IsCall, IsInRange, IsIsolatedRunOf, TellsReply};
 ghost use Rattle.its_station.specs.State.{RepresentsStation};
@@ -14,14 +14,14 @@ ghost use Rattle.its_world.specs.Entries.{TellsEntry};
 ghost use Rattle.its_world.specs.Events.{what_of};
 ghost use Rattle.its_world.specs.Events as events;
 
+use its_gnvalue::NoMemory;
 use its_loctable::SortedTable;
 use its_station::{Call, Reply, Station};
 use its_world::{Entry, EntryFault, What};
-use std::alloc::AllocError;
 
-/// What is told of a call, and the frame that is sent, if one is.
+/// What comes of a call: the entry of its line, and the frame that is sent, if one is.
 #[derive(Drop)]
-pub(crate) struct Told {
+pub(crate) struct CallOutcome {
     pub(crate) entry: Entry,
     pub(crate) frame: Option<Vec<u8>>,
 }
@@ -31,6 +31,7 @@ pub(crate) fn call_of(what: What) -> Option<Call>
     requires { events.IsInRange what }
     ensures call { (own : OwnCall) → what_of what ≡ Calls own
         → IsSomeAnd result (λ call. IsCall call (Own own)) }
+    ensures delivery { (frame : ℕ) → what_of what ≡ Deliver frame → result ≡ None }
     ensures range { IfSome result IsInRange }
 {
     match what {
@@ -56,22 +57,22 @@ pub(crate) fn call_of(what: What) -> Option<Call>
     }
 }
 
-/// Makes one call at a moment. `AllocError` where an allocation failed.
+/// Makes one call at a moment. `NoMemory` where an allocation failed.
 pub(crate) fn answer(
     station: &mut Station<SortedTable>,
     moment: u64,
     call: Call,
-) -> Result<Reply, AllocError>
+) -> Result<Reply, NoMemory>
     requires { IsInRange call }
     ensures { (s : StationModel) → RepresentsStation station.old s →
         IfOk result (λ reply. IsIsolatedRunOf s ((moment, call) ∷ []) (reply ∷ []) station.new) }
 {
     let calls = [(moment, call)];
     let mut ran = station.run(&calls);
-    ran.replies.pop().ok_or(AllocError)
+    ran.replies.pop().ok_or(NoMemory)
 }
 
-/// What is told of a call that is done and answers nothing else.
+/// The entry of a call that is done and answers nothing else.
 pub(crate) fn done_entry(call: &Call) -> Entry {
     match call {
         Call::MoveTo { .. } => Entry::Moved,
@@ -82,8 +83,9 @@ pub(crate) fn done_entry(call: &Call) -> Entry {
     }
 }
 
-/// What is told of a reply. `done` is told of a call that was only done, and a frame gets `number`.
-pub(crate) fn tell(done: Entry, reply: Reply, number: usize) -> Told
+/// What comes of a reply. `done` is the entry of a call that was only done, and a frame gets
+/// `number`.
+pub(crate) fn outcome_of(done: Entry, reply: Reply, number: usize) -> CallOutcome
     ensures entry { (answer : Answer Transmission) → TellsReply reply answer →
         (reply ≡ Reply.Done → TellsEntry done (entry_of number answer)) →
         TellsEntry result.entry (entry_of number answer) }
@@ -93,12 +95,12 @@ pub(crate) fn tell(done: Entry, reply: Reply, number: usize) -> Told
     match reply {
         Reply::Done => no_frame(done),
         Reply::Quiet => no_frame(Entry::Quiet),
-        Reply::Sent(frame) => Told {
+        Reply::Sent(frame) => CallOutcome {
             entry: Entry::Sent(number),
             frame: Some(frame),
         },
         Reply::Ignored(why) => no_frame(Entry::Ignored(why)),
-        Reply::Accepted { handed, sent } => Told {
+        Reply::Accepted { handed, sent } => CallOutcome {
             entry: Entry::Accepted {
                 handed,
                 sent: number_of(&sent, number),
@@ -120,15 +122,15 @@ fn number_of(frame: &Option<Vec<u8>>, number: usize) -> Option<usize>
     }
 }
 
-fn no_frame(entry: Entry) -> Told
+fn no_frame(entry: Entry) -> CallOutcome
     ensures entry { result.entry ≡ entry }
     ensures frame { result.frame ≡ None }
 {
-    Told { entry, frame: None }
+    CallOutcome { entry, frame: None }
 }
 
-/// What is told of a call of a station that isn't there.
-pub(crate) fn no_station() -> Told
+/// What comes of a call of a station that isn't there.
+pub(crate) fn no_station() -> CallOutcome
     ensures { result.entry ≡ Entry.Refused EntryFault.NoSuchStation }
 {
     no_frame(Entry::Refused(EntryFault::NoSuchStation))

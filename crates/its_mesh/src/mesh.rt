@@ -1,17 +1,23 @@
 //! Stations that talk by sockets, and what is printed of them.
 
-ghost use Rattle.std.specs.Prelude.{IfOk};
+ghost use Rattle.std.specs.Prelude.{◌≡◌, ℕ, All, IfOk, OnOk, List, map, slice_get};
 ghost use Rattle.its_commands.specs.Statuses.{IsWriterStatus};
+ghost use Rattle.its_model.specs.Station.{StationModel};
+ghost use Rattle.its_model.specs.World.{opening};
 ghost use Rattle.its_station.specs.Runs.{IsInRange};
+ghost use Rattle.its_world.specs.Events as happenings;
+ghost use Rattle.its_world.specs.Events.{IsConfig, config_of};
+ghost use Rattle.its_world.specs.State.{RepresentStations};
+ghost use Rattle.its_mesh.specs.Stations.{AreStations, IsCalled};
 
-use crate::answers::{Told, answer, call_of, done_entry, no_station, tell};
+use crate::answers::{CallOutcome, answer, call_of, done_entry, no_station, outcome_of};
 use crate::sockets::{Sent, Sockets};
 use its_commands::{Fault, Status};
+use its_gnvalue::NoMemory;
 use its_loctable::SortedTable;
-use its_scenario::{EventEntry, StationEntry};
-use its_simulation::{EntryText, configs_of, world_event};
+use its_simulation::EntryText;
 use its_station::{Call, Station};
-use its_world::{Entry, stations_of};
+use its_world::{Config, Entry, Event, stations_of};
 use std::alloc::{AllocError, Global};
 use std::io;
 use std::io::{ErrorKind, Write};
@@ -33,17 +39,20 @@ pub(crate) struct Mesh<'a, S, W, E> {
 }
 
 impl<'a, S: Sockets, W: Write, E: Write> Mesh<'a, S, W, E> {
-    /// The stations of these entries, each with a socket.
+    /// New stations of these configs, each with a socket.
     pub(crate) fn new<'f>(
         alloc: Global,
-        entries: &[StationEntry],
+        configs: &[Config],
         sockets: &'a mut S,
         out: &'a mut W,
         err: &'a mut E,
-    ) -> Result<Mesh<'a, S, W, E>, Fault<'f>> {
-        let configs = configs_of(alloc, entries)?;
-        let stations = stations_of(alloc, configs.as_slice()).map_err(|_| AllocError)?;
-        for number in 0..entries.len() {
+    ) -> Result<Mesh<'a, S, W, E>, Fault<'f>>
+        requires { All IsConfig configs.now }
+        ensures { IfOk result (λ mesh. RepresentStations mesh.stations.items
+            (opening (map config_of configs.now)).stations) }
+    {
+        let stations = stations_of(alloc, configs)?;
+        for number in 0..configs.len() {
             make_socket(sockets, number)?;
         }
         Ok(Mesh {
@@ -60,11 +69,13 @@ impl<'a, S: Sockets, W: Write, E: Write> Mesh<'a, S, W, E> {
 
     /// Runs the events, and rounds after each. An event that delivers a frame is passed over, since
     /// the sockets do that.
-    pub(crate) fn run<'f>(&mut self, events: Vec<EventEntry>) -> Result<Status, Fault<'f>>
-        ensures { IfOk result IsWriterStatus }
+    pub(crate) fn run<'f>(&mut self, events: Vec<Event>) -> Result<Status, Fault<'f>>
+        requires ranges { All (λ event. happenings.IsInRange event.what) events.items }
+        ensures status { IfOk result IsWriterStatus }
+        ensures stations { AreStations self.old.stations.items
+            → OnOk result (AreStations self.new.stations.items) }
     {
-        for entry in events {
-            let event = world_event(entry);
+        for event in events {
             if let Some(call) = call_of(event.what) {
                 self.moment = self.moment.max(event.moment);
                 self.call(event.station, event.moment, call)?;
@@ -87,12 +98,14 @@ impl<'a, S: Sockets, W: Write, E: Write> Mesh<'a, S, W, E> {
         call: Call,
     ) -> Result<(), Fault<'f>>
         requires { IsInRange call }
+        ensures called { (models : List StationModel) →
+            RepresentStations self.old.stations.items models →
+            OnOk result (IsCalled self.old.stations.items (slice_get models station) station moment
+            call self.new.stations.items) }
+        ensures asked { (count : ℕ) → S.Asked self.old.sockets.now count
+            → S.Asked self.new.sockets.now count }
     {
-        let done = done_entry(&call);
-        let Told { entry, frame } = match self.stations.get_mut(station) {
-            Some(asked) => tell(done, answer(asked, moment, call)?, self.frames),
-            None => no_station(),
-        };
+        let CallOutcome { entry, frame } = self.outcome_at(station, moment, call)?;
         self.print(moment, station, &entry)?;
         if let Some(frame) = frame {
             // No run sends as many frames as there are numbers.
@@ -102,13 +115,42 @@ impl<'a, S: Sockets, W: Write, E: Write> Mesh<'a, S, W, E> {
         Ok(())
     }
 
-    fn print(&mut self, moment: u64, station: usize, entry: &Entry) -> io::Result<()> {
+    /// Makes a call of a station, and tells what comes of it.
+    fn outcome_at(
+        &mut self,
+        station: usize,
+        moment: u64,
+        call: Call,
+    ) -> Result<CallOutcome, NoMemory>
+        requires { IsInRange call }
+        ensures called { (models : List StationModel) →
+            RepresentStations self.old.stations.items models →
+            OnOk result (IsCalled self.old.stations.items (slice_get models station) station moment
+            call self.new.stations.items) }
+        ensures sockets { self.new.sockets.now ≡ self.old.sockets.now }
+    {
+        if station >= self.stations.len() {
+            return Ok(no_station());
+        }
+        let done = done_entry(&call);
+        let reply = answer(&mut self.stations[station], moment, call)?;
+        Ok(outcome_of(done, reply, self.frames))
+    }
+
+    fn print(&mut self, moment: u64, station: usize, entry: &Entry) -> io::Result<()>
+        ensures stations { self.new.stations ≡ self.old.stations }
+        ensures sockets { self.new.sockets.now ≡ self.old.sockets.now }
+    {
         writeln!(self.out, "{moment} {station} {}", EntryText(entry))
     }
 
     /// Sends a frame to each other station. A send that fails or would block is told and passed
     /// over.
-    fn send(&mut self, from: usize, frame: &[u8]) {
+    fn send(&mut self, from: usize, frame: &[u8])
+        ensures stations { self.new.stations ≡ self.old.stations }
+        ensures asked { (count : ℕ) → S.Asked self.old.sockets.now count
+            → S.Asked self.new.sockets.now count }
+    {
         for to in 0..self.stations.len() {
             if to != from && self.sockets.send(from, to, frame) != Sent::Done {
                 self.fail(Fault::SendFailed(from));
@@ -117,7 +159,10 @@ impl<'a, S: Sockets, W: Write, E: Write> Mesh<'a, S, W, E> {
     }
 
     /// Tells of a socket that failed, and goes on.
-    pub(crate) fn fail(&mut self, fault: Fault<'_>) {
+    pub(crate) fn fail(&mut self, fault: Fault<'_>)
+        ensures stations { self.new.stations ≡ self.old.stations }
+        ensures sockets { self.new.sockets.now ≡ self.old.sockets.now }
+    {
         let _ = fault.report(self.err);
         self.failed = true;
     }

@@ -1,6 +1,7 @@
 //! Rounds in which each socket is asked for what came.
 
-ghost use Rattle.std.specs.Prelude.{◌≤◌, IfOk};
+ghost use Rattle.std.specs.Prelude.{ℕ, ◌+◌, ◌≤◌, OnOk};
+ghost use Rattle.its_mesh.specs.Stations.{AreStations};
 
 use crate::mesh::Mesh;
 use crate::sockets::{Received, Sockets};
@@ -21,7 +22,10 @@ const LONGEST_READ: usize = LONGEST_FRAME + 1;
 
 impl<'a, S: Sockets, W: Write, E: Write> Mesh<'a, S, W, E> {
     /// Holds rounds until nothing came in four in a row, 64 at most.
-    pub(crate) fn rounds<'f>(&mut self) -> Result<(), Fault<'f>> {
+    pub(crate) fn rounds<'f>(&mut self) -> Result<(), Fault<'f>>
+        ensures { AreStations self.old.stations.items
+            → OnOk result (AreStations self.new.stations.items) }
+    {
         let mut quiet = 0;
         for _ in 0..MOST {
             quiet = if self.round()? { 0 } else { quiet + 1 };
@@ -33,7 +37,10 @@ impl<'a, S: Sockets, W: Write, E: Write> Mesh<'a, S, W, E> {
     }
 
     /// Asks each socket in turn. Tells whether anything came.
-    fn round<'f>(&mut self) -> Result<bool, Fault<'f>> {
+    fn round<'f>(&mut self) -> Result<bool, Fault<'f>>
+        ensures { AreStations self.old.stations.items
+            → OnOk result (AreStations self.new.stations.items) }
+    {
         let mut came = false;
         for station in 0..self.stations.len() {
             if self.ask(station)? > 0 {
@@ -46,7 +53,10 @@ impl<'a, S: Sockets, W: Write, E: Write> Mesh<'a, S, W, E> {
     /// Asks a station's socket until it would block or fails, or 64 datagrams came, and hands each
     /// to the station. Gives how many came.
     fn ask<'f>(&mut self, station: usize) -> Result<u32, Fault<'f>>
-        ensures { IfOk result (λ count. count ≤ 64) }
+        ensures stations { AreStations self.old.stations.items
+            → OnOk result (AreStations self.new.stations.items) }
+        ensures asked { (before : ℕ) → S.Asked self.old.sockets.now before → OnOk result
+            ((count : ℕ) × (count ≤ 64) × S.Asked self.new.sockets.now (before + count)) }
     {
         let mut buffer = [0u8; LONGEST_READ];
         for count in 0..MOST {

@@ -75,6 +75,8 @@ impl<'a> Scripted<'a> {
 }
 
 impl Sockets for Scripted<'_> {
+    ghost Asked = { λ _ _. Unit {0} };
+
     fn make(&mut self) -> io::Result<()> {
         match self.trouble() {
             Some(Trouble::OutOfMemory) => Err(io::Error::from(io::ErrorKind::OutOfMemory)),

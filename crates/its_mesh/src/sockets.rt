@@ -1,5 +1,6 @@
 //! The sockets of stations: datagrams sent to a station and received for one, without waiting.
 
+ghost use Rattle.std.specs.Prelude.{ℕ, ◌+◌};
 ghost use Rattle.its_mesh.specs.Sockets.{FitsBuffer};
 
 use std::io;
@@ -23,13 +24,20 @@ pub(crate) enum Received {
 
 /// A socket for each station, numbered from 0 in the order in which they are made.
 pub(crate) trait Sockets {
+    /// What they say of having been asked for so many datagrams. Sockets that don't count may say
+    /// nothing of it.
+    ghost Asked: { Self → ℕ → Type 0 };
+
     /// Makes the socket of the next station. Out of memory is the error of that kind.
-    fn make(&mut self) -> io::Result<()>;
+    fn make(&mut self) -> io::Result<()>
+        ensures { (count : ℕ) → Asked self.old count → Asked self.new count };
 
     /// Sends a datagram from one station's socket to another's.
-    fn send(&mut self, from: usize, to: usize, datagram: &[u8]) -> Sent;
+    fn send(&mut self, from: usize, to: usize, datagram: &[u8]) -> Sent
+        ensures { (count : ℕ) → Asked self.old count → Asked self.new count };
 
     /// Receives a datagram for a station.
     fn receive(&mut self, station: usize, buffer: &mut [u8]) -> Received
-        ensures { FitsBuffer result buffer.new };
+        ensures fits { FitsBuffer result buffer.new }
+        ensures asked { (count : ℕ) → Asked self.old count → Asked self.new (count + 1) };
 }

@@ -24,6 +24,8 @@ impl<'a, R: Net> UdpSockets<'a, R> {
 }
 
 impl<R: Net> Sockets for UdpSockets<'_, R> {
+    ghost Asked = { λ _ _. Unit {0} };
+
     fn make(&mut self) -> io::Result<()> {
         let any_port = SocketAddr::from((Ipv4Addr::LOCALHOST, 0));
         let socket = UdpSocket::bind(self.rt, any_port)?;

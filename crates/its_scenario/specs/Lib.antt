@@ -1,2 +1,3 @@
-pub mod Stations
+pub mod Events
 pub mod Documents
+pub mod Faults

@@ -2,111 +2,50 @@
 
 ghost use Rattle.std.specs.Prelude.{◌<◌, ◌^◌, IfOk};
 ghost use Rattle.its_gnvalue.specs.Values.{IsSpeed};
+ghost use Rattle.its_scenario.specs.Events.{FitsEvent, FitsWhat};
 
 use crate::fault::KeyFault;
-use crate::geocast::{Geocast, read_geocast};
+use crate::geocast::read_geocast;
 use crate::key::Key;
 use crate::keys::{number, octets, place, text, truth};
-use its_gnvalue::{Place, TrafficClass};
+use its_gnvalue::TrafficClass;
+use its_station::OwnedShbRequest;
+use its_world::{Event, What};
 use std::alloc::Global;
 use toml::Table;
 
-/// An event as the scenario has it.
-#[derive(Debug, Drop, PartialEq, Eq)]
-pub struct EventEntry {
-    /// The station, counted from 0. There may be no such station.
-    pub station: u16,
-    /// The moment in milliseconds: 0 to 2^63 - 1.
-    pub moment: u64,
-    /// What the station is to do.
-    pub action: Action,
-    ghost in_range: { moment < 2 ^ 63 },
-}
-
-/// What a station is to do.
-#[derive(Debug, Drop, PartialEq, Eq)]
-pub enum Action {
-    /// To move (`move`).
-    Move(Motion),
-    /// To open a port (`open`).
-    Open { port: u16 },
-    /// To close a port (`close`).
-    Close { port: u16 },
-    /// To send a beacon where one is due (`tick`), with a jitter in milliseconds.
-    Tick { jitter: u16 },
-    /// To send a single-hop broadcast (`shb`).
-    Shb(SingleHop),
-    /// To send a geobroadcast (`gbc`).
-    Gbc(Geocast),
-    /// To send a geoanycast (`gac`).
-    Gac(Geocast),
-    /// To forget all but its address, place and limits, and to number what it sends from here on
-    /// (`restart`).
-    Restart { number: u16 },
-    /// To receive a frame, counted from 0 (`deliver`). There may be no such frame.
-    Deliver { frame: u32 },
-}
-
-/// Where a station is from now on, and how it moves.
-#[derive(Clone, Copy, Debug, PartialEq, Eq)]
-pub struct Motion {
-    /// The place.
-    pub place: Place,
-    /// Whether the place is accurate (PAI).
-    pub pai: bool,
-    /// The speed in 0.01 m/s: -16384 to 16383, negative backwards.
-    pub speed: i16,
-    /// The heading in 0.1 degree, clockwise from north, any value.
-    pub heading: u16,
-    ghost in_range: { IsSpeed speed },
-}
-
-/// A payload for a port of all neighbours.
-#[derive(Debug, Drop, PartialEq, Eq)]
-pub struct SingleHop {
-    /// The destination port.
-    pub port: u16,
-    /// The destination port info.
-    pub info: u16,
-    /// The traffic class.
-    pub class: TrafficClass,
-    /// The payload, of any length.
-    pub payload: Vec<u8>,
-}
-
 /// Reads an event: `station`, `at`, `do`, and then the keys of the action, checked in this order.
-pub(crate) fn read_event(alloc: Global, table: &Table) -> Result<EventEntry, KeyFault> {
-    let station = number(table, Key::Station)?;
+/// There may be no such station, and for `deliver` no such frame.
+pub(crate) fn read_event(alloc: Global, table: &Table) -> Result<Event, KeyFault>
+    ensures { IfOk result FitsEvent }
+{
+    let station = number::<u16>(table, Key::Station)?;
     let moment = read_moment(table)?;
-    let action = read_action(alloc, table)?;
-    Ok(EventEntry {
-        station,
+    let what = read_what(alloc, table)?;
+    Ok(Event {
+        station: station as usize,
         moment,
-        action,
+        what,
     })
 }
 
-fn read_action(alloc: Global, table: &Table) -> Result<Action, KeyFault> {
+/// Reads what the station does: the word under `do`, and the keys of that word.
+fn read_what(alloc: Global, table: &Table) -> Result<What, KeyFault>
+    ensures { IfOk result FitsWhat }
+{
     match text(table, Key::Do)? {
-        "move" => Ok(Action::Move(read_motion(table)?)),
-        "open" => Ok(Action::Open {
-            port: number(table, Key::Port)?,
-        }),
-        "close" => Ok(Action::Close {
-            port: number(table, Key::Port)?,
-        }),
-        "tick" => Ok(Action::Tick {
-            jitter: number(table, Key::Jitter)?,
-        }),
-        "shb" => Ok(Action::Shb(read_single_hop(alloc, table)?)),
-        "gbc" => Ok(Action::Gbc(read_geocast(alloc, table)?)),
-        "gac" => Ok(Action::Gac(read_geocast(alloc, table)?)),
-        "restart" => Ok(Action::Restart {
-            number: number(table, Key::Number)?,
-        }),
-        "deliver" => Ok(Action::Deliver {
-            frame: number(table, Key::Frame)?,
-        }),
+        "move" => read_move(table),
+        "open" => Ok(What::Open(number(table, Key::Port)?)),
+        "close" => Ok(What::Close(number(table, Key::Port)?)),
+        "tick" => Ok(What::Tick(number(table, Key::Jitter)?)),
+        "shb" => Ok(What::SendShb(read_single_hop(alloc, table)?)),
+        "gbc" => Ok(What::SendGeobroadcast(read_geocast(alloc, table)?)),
+        "gac" => Ok(What::SendGeoanycast(read_geocast(alloc, table)?)),
+        "restart" => Ok(What::Restart(number(table, Key::Number)?)),
+        "deliver" => {
+            let frame = number::<u32>(table, Key::Frame)?;
+            Ok(What::Deliver(frame as usize))
+        }
         _ => Err(KeyFault::Refused(Key::Do)),
     }
 }
@@ -122,13 +61,15 @@ fn read_moment(table: &Table) -> Result<u64, KeyFault>
     Ok(moment as u64)
 }
 
-/// Reads a motion: `lat`, `lon`, `pai`, `speed`, `heading`, checked in this order.
-fn read_motion(table: &Table) -> Result<Motion, KeyFault> {
+/// Reads a move: `lat`, `lon`, `pai`, `speed`, `heading`, checked in this order.
+fn read_move(table: &Table) -> Result<What, KeyFault>
+    ensures { IfOk result FitsWhat }
+{
     let place = place(table, Key::Lat, Key::Lon)?;
     let pai = truth(table, Key::Pai)?;
     let speed = read_speed(table)?;
     let heading = number(table, Key::Heading)?;
-    Ok(Motion {
+    Ok(What::MoveTo {
         place,
         pai,
         speed,
@@ -136,6 +77,7 @@ fn read_motion(table: &Table) -> Result<Motion, KeyFault> {
     })
 }
 
+/// Reads a speed in 0.01 m/s.
 fn read_speed(table: &Table) -> Result<i16, KeyFault>
     ensures { IfOk result IsSpeed }
 {
@@ -147,8 +89,8 @@ fn read_speed(table: &Table) -> Result<i16, KeyFault>
 }
 
 /// Reads a single-hop broadcast: `port`, `info`, `tc`, `payload`, checked in this order.
-fn read_single_hop(alloc: Global, table: &Table) -> Result<SingleHop, KeyFault> {
-    Ok(SingleHop {
+fn read_single_hop(alloc: Global, table: &Table) -> Result<OwnedShbRequest, KeyFault> {
+    Ok(OwnedShbRequest {
         port: number(table, Key::Port)?,
         info: number(table, Key::Info)?,
         class: TrafficClass::from_octet(number(table, Key::Tc)?),

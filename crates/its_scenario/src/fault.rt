@@ -2,9 +2,11 @@
 
 ghost use Rattle.std.specs.Prelude.{◌≡◌};
 ghost use Rattle.its_scenario.specs.Documents.{IsPastToml};
+ghost use Rattle.its_scenario.specs.Faults.{fault_of};
 ghost use Rattle.its_scenario.specs.declared.fault.ScenarioFault.TheVariants.{OutOfMemory};
 
 use crate::key::Key;
+use its_world::WorldFault;
 use std::alloc::{AllocError, AllocFailed};
 use thiserror::Error;
 
@@ -44,6 +46,17 @@ impl From<AllocError> for ScenarioFault {
 
     fn from(_: AllocError) -> ScenarioFault {
         ScenarioFault::OutOfMemory
+    }
+}
+
+impl From<WorldFault> for ScenarioFault {
+    ghost from_gives = { λ fault told. told ≡ fault_of fault };
+
+    fn from(fault: WorldFault) -> ScenarioFault {
+        match fault {
+            WorldFault::SameMid(first, second) => ScenarioFault::SharedMid(first, second),
+            WorldFault::NoMemory => ScenarioFault::OutOfMemory,
+        }
     }
 }
 

@@ -5,31 +5,13 @@ use crate::key::Key;
 use crate::keys::{number, octets, place, text};
 use its_geometry::{Area, Shape};
 use its_gnvalue::{Lifetime, Place, TrafficClass};
+use its_station::OwnedGbcRequest;
 use std::alloc::Global;
 use toml::Table;
 
-/// A payload for a port of the stations in an area.
-#[derive(Debug, Drop, PartialEq, Eq)]
-pub struct Geocast {
-    /// The destination port.
-    pub port: u16,
-    /// The destination port info.
-    pub info: u16,
-    /// The traffic class.
-    pub class: TrafficClass,
-    /// How long the packet lives.
-    pub lifetime: Lifetime,
-    /// How many hops the packet has at most, any octet.
-    pub max_hops: u8,
-    /// The area.
-    pub area: Area,
-    /// The payload, of any length.
-    pub payload: Vec<u8>,
-}
-
 /// Reads a geocast: `port`, `info`, `tc`, `lt`, `hops`, `shape`, `alat`, `alon`, `a`, `b`, `angle`,
 /// `payload`, checked in this order.
-pub(crate) fn read_geocast(alloc: Global, table: &Table) -> Result<Geocast, KeyFault> {
+pub(crate) fn read_geocast(alloc: Global, table: &Table) -> Result<OwnedGbcRequest, KeyFault> {
     let port = number(table, Key::Port)?;
     let info = number(table, Key::Info)?;
     let class = TrafficClass::from_octet(number(table, Key::Tc)?);
@@ -37,7 +19,7 @@ pub(crate) fn read_geocast(alloc: Global, table: &Table) -> Result<Geocast, KeyF
     let max_hops = number(table, Key::Hops)?;
     let area = read_area(table)?;
     let payload = octets(alloc, table, Key::Payload)?;
-    Ok(Geocast {
+    Ok(OwnedGbcRequest {
         port,
         info,
         class,

@@ -1,5 +1,5 @@
-//! Scenarios: the stations and events of a TOML document, as plain values. Each value is in its
-//! range by its type.
+//! Scenarios: the stations and events of a TOML document, as those of a world. Each number is in
+//! its range, by the type of a scenario.
 #![tactic(auto)]
 
 mod event;
@@ -10,9 +10,6 @@ mod keys;
 mod scenario;
 mod station;
 
-pub use event::{Action, EventEntry, Motion, SingleHop};
 pub use fault::ScenarioFault;
-pub use geocast::Geocast;
 pub use key::Key;
 pub use scenario::Scenario;
-pub use station::StationEntry;

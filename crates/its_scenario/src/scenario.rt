@@ -1,24 +1,29 @@
 //! Reading a scenario.
 
-ghost use Rattle.std.specs.Prelude.{◌≡◌, ℕ, ◌≤◌, IfOk, IfErr, OnOk, length, vec_len};
+ghost use Rattle.std.specs.Prelude.{◌≡◌, ◌≤◌, All, IfOk, IfErr, length, vec_len};
 ghost use Rattle.its_scenario.specs.Documents.{IsToml, IsPastToml};
-ghost use Rattle.its_scenario.specs.Stations.{AreApart, ShareMid};
+ghost use Rattle.its_scenario.specs.Events.{FitsEvent};
+ghost use Rattle.its_world.specs.Events.{IsConfig};
+ghost use Rattle.its_world.specs.Mids.{AreApart};
 
-use crate::event::{EventEntry, read_event};
+use crate::event::read_event;
 use crate::fault::ScenarioFault;
-use crate::station::{StationEntry, read_station};
-use its_gnvalue::Mac;
+use crate::station::read_station;
+use its_world::{Config, Event, refuse_shared};
 use std::alloc::Global;
-use std::collections::HashMap;
 use toml::{Table, Value};
 
 /// Stations and events, in the order of the document.
 #[derive(Debug, Drop, PartialEq, Eq)]
 pub struct Scenario {
     /// The stations, no two of which have the same MID.
-    pub stations: Vec<StationEntry>,
-    /// The events.
-    pub events: Vec<EventEntry>,
+    pub stations: Vec<Config>,
+    /// The events, each with a station of 0 to 65535, a moment of 0 to 2^63 - 1, a speed in its
+    /// range and a frame of 0 to 4294967295. There may be no such station or frame.
+    pub events: Vec<Event>,
+    ghost configs: { All IsConfig stations.items },
+    ghost apart: { AreApart stations.items },
+    ghost in_range: { All FitsEvent events.items },
 }
 
 impl Scenario {
@@ -35,7 +40,6 @@ impl Scenario {
         ensures toml { IfOk result (λ _. IsToml text.now) }
         ensures refused { result ≡ Err ScenarioFault.NotToml → ¬ IsToml text.now }
         ensures few { IfOk result (λ scenario. vec_len scenario.stations ≤ most_stations) }
-        ensures apart { IfOk result (λ scenario. AreApart scenario.stations.items) }
     {
         let document = document_of(alloc, text)?;
         let stations = tables(&document, "station").ok_or(ScenarioFault::Stations)?;
@@ -45,7 +49,7 @@ impl Scenario {
         }
         let stations = read_stations(alloc, stations)?;
         let events = read_events(alloc, events)?;
-        refuse_shared_mid(alloc, stations.as_slice())?;
+        refuse_shared(alloc, stations.as_slice())?;
         Ok(Scenario { stations, events })
     }
 }
@@ -73,8 +77,9 @@ fn tables<'a>(document: &'a Table, key: &str) -> Option<&'a [Value]> {
     }
 }
 
-fn read_stations(alloc: Global, items: &[Value]) -> Result<Vec<StationEntry>, ScenarioFault>
+fn read_stations(alloc: Global, items: &[Value]) -> Result<Vec<Config>, ScenarioFault>
     ensures all { IfOk result (λ stations. vec_len stations ≡ length items.now) }
+    ensures configs { IfOk result (λ stations. All IsConfig stations.items) }
     ensures refused { IfErr result IsPastToml }
 {
     let mut stations = Vec::with_capacity(alloc, items.len())?;
@@ -88,8 +93,9 @@ fn read_stations(alloc: Global, items: &[Value]) -> Result<Vec<StationEntry>, Sc
     Ok(stations)
 }
 
-fn read_events(alloc: Global, items: &[Value]) -> Result<Vec<EventEntry>, ScenarioFault>
+fn read_events(alloc: Global, items: &[Value]) -> Result<Vec<Event>, ScenarioFault>
     ensures all { IfOk result (λ events. vec_len events ≡ length items.now) }
+    ensures ranges { IfOk result (λ events. All FitsEvent events.items) }
     ensures refused { IfErr result IsPastToml }
 {
     let mut events = Vec::with_capacity(alloc, items.len())?;
@@ -101,20 +107,4 @@ fn read_events(alloc: Global, items: &[Value]) -> Result<Vec<EventEntry>, Scenar
         events.push(read_event(alloc, table).map_err(|fault| fault.of_event(number))?)?;
     }
     Ok(events)
-}
-
-/// Refuses the first station that has the MID of an earlier one.
-fn refuse_shared_mid(alloc: Global, stations: &[StationEntry]) -> Result<(), ScenarioFault>
-    ensures apart { OnOk result (AreApart stations.now) }
-    ensures refused { IfErr result IsPastToml }
-    ensures shared { (first second : ℕ) → result ≡ Err (ScenarioFault.SharedMid first second)
-        → ShareMid stations.now first second }
-{
-    let mut known: HashMap<Mac, usize> = HashMap::new(alloc);
-    for (number, station) in stations.iter().enumerate() {
-        if let Some(earlier) = known.insert(station.address.mid(), number)? {
-            return Err(ScenarioFault::SharedMid(earlier, number));
-        }
-    }
-    Ok(())
 }

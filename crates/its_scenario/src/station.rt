@@ -1,11 +1,13 @@
 //! The stations of a scenario.
 
-ghost use Rattle.std.specs.Prelude.{◌<◌, ◌≤◌};
+ghost use Rattle.std.specs.Prelude.{IfOk};
+ghost use Rattle.its_world.specs.Events.{IsConfig};
 
 use crate::fault::KeyFault;
 use crate::key::Key;
 use crate::keys::{count_or, place, text};
-use its_gnvalue::{GnAddress, Place};
+use its_gnvalue::GnAddress;
+use its_world::Config;
 use toml::Table;
 
 /// The greatest capacity of a location table.
@@ -20,30 +22,15 @@ const MOST_NUMBERS: u16 = 64;
 /// How many numbers are remembered of a source where nothing is given.
 const USUAL_NUMBERS: u16 = 8;
 
-/// A station as the scenario has it.
-#[derive(Clone, Copy, Debug, PartialEq, Eq)]
-pub struct StationEntry {
-    /// Its address, whose MID is no group.
-    pub address: GnAddress,
-    /// Where it stands at first.
-    pub place: Place,
-    /// How many sources its location table holds: 1 to 4096.
-    pub capacity: u16,
-    /// How many numbers its location table remembers of a source: 1 to 64.
-    pub remember: u8,
-    ghost some_entries: { 0 < capacity },
-    ghost few_entries: { capacity ≤ 4096 },
-    ghost some_numbers: { 0 < remember },
-    ghost few_numbers: { remember ≤ 64 },
-}
-
 /// Reads a station: `address`, `lat`, `lon`, `capacity`, `remember`, checked in this order.
-pub(crate) fn read_station(table: &Table) -> Result<StationEntry, KeyFault> {
+pub(crate) fn read_station(table: &Table) -> Result<Config, KeyFault>
+    ensures { IfOk result IsConfig }
+{
     let address = read_address(table)?;
     let place = place(table, Key::Lat, Key::Lon)?;
     let capacity = count_or(table, Key::Capacity, MOST_ENTRIES, USUAL_ENTRIES)?;
     let remember = count_or(table, Key::Remember, MOST_NUMBERS, USUAL_NUMBERS)? as u8;
-    Ok(StationEntry {
+    Ok(Config {
         address,
         place,
         capacity,

@@ -4,11 +4,13 @@
 mod entry;
 mod fault;
 mod hexadecimal;
+mod printer;
 mod simulation;
-mod world;
+mod sink;
 
 pub use entry::EntryText;
 pub use fault::SimulationFault;
 pub use hexadecimal::Hex;
-pub use simulation::simulate;
-pub use world::{configs_of, world_event};
+pub use printer::Printer;
+pub use simulation::{simulate, simulate_into};
+pub use sink::EntrySink;

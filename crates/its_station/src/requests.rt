@@ -39,7 +39,7 @@ pub struct ShbRequest<'a> {
 }
 
 /// A `GbcRequest` that owns its payload.
-#[derive(Drop)]
+#[derive(Debug, Drop, PartialEq, Eq)]
 pub struct OwnedGbcRequest {
     /// The destination port (BTP-B).
     pub port: u16,
@@ -58,7 +58,7 @@ pub struct OwnedGbcRequest {
 }
 
 /// An `ShbRequest` that owns its payload.
-#[derive(Drop)]
+#[derive(Debug, Drop, PartialEq, Eq)]
 pub struct OwnedShbRequest {
     /// The destination port (BTP-B).
     pub port: u16,

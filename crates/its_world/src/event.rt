@@ -4,7 +4,7 @@ use its_gnvalue::Place;
 use its_station::{OwnedGbcRequest, OwnedShbRequest};
 
 /// A call of a station, with its arguments but for the moment, or the delivery of a frame.
-#[derive(Drop)]
+#[derive(Debug, Drop, PartialEq, Eq)]
 pub enum What {
     /// `move_to`; the speed is in its range.
     MoveTo {
@@ -36,7 +36,7 @@ pub enum What {
 }
 
 /// What happens, to which station, and when.
-#[derive(Drop)]
+#[derive(Debug, Drop, PartialEq, Eq)]
 pub struct Event {
     /// The station, by its place among the configs.
     pub station: usize,

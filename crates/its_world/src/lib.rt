@@ -15,5 +15,6 @@ pub use config::{Config, WorldFault};
 pub use entry::{Entry, EntryCode, EntryFault};
 pub use event::{Event, What};
 pub use run::Run;
+pub use shared::refuse_shared;
 pub use stations::stations_of;
 pub use world::World;

@@ -11,7 +11,7 @@ use std::collections::HashMap;
 
 /// Refuses stations of which two share a MID: by `SameMid` (M1) exactly where they do, and else by
 /// `NoMemory` (M2) where an allocation failed.
-pub(crate) fn refuse_shared(alloc: Global, configs: &[Config]) -> Result<(), WorldFault>
+pub fn refuse_shared(alloc: Global, configs: &[Config]) -> Result<(), WorldFault>
     ensures apart { OnOk result (AreApart configs.now) }
     ensures refused { IfErr result (λ fault. IsMidFault fault configs.now) }
 {

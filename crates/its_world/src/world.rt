@@ -56,12 +56,20 @@ impl World {
         ensures refused { IfErr result (λ fault. IsMidFault fault configs.now) }
     {
         refuse_shared(alloc, configs)?;
-        let Ok(stations) = stations_of(alloc, configs) else {
-            return Err(WorldFault::NoMemory);
-        };
+        World::of_apart(alloc, configs).map_err(|_| WorldFault::NoMemory)
+    }
+
+    /// The same of configs of which no two share a MID, as `refuse_shared` tells: their MIDs aren't
+    /// compared again.
+    pub fn of_apart(alloc: Global, configs: &[Config]) -> Result<World, NoMemory>
+        requires ranges { All IsConfig configs.now }
+        requires count { length configs.now ≤ 65535 }
+        requires apart { AreApart configs.now }
+        ensures { IfOk result (λ w. RepresentsWorld w (opening (map config_of configs.now))) }
+    {
         Ok(World {
             alloc,
-            stations,
+            stations: stations_of(alloc, configs)?,
             air: Vec::new(alloc),
         })
     }

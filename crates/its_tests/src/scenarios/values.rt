@@ -1,16 +1,15 @@
 //! What is read of a scenario.
 
-ghost use Rattle.std.specs.Prelude.{◌<◌, ◌^◌};
-
 use super::{WORKED, read, with_event};
 use its_geometry::Area;
 use its_gnvalue::{GnAddress, Lifetime, Place, TrafficClass};
-use its_scenario::{Action, EventEntry, Geocast, SingleHop, StationEntry};
+use its_station::{OwnedGbcRequest, OwnedShbRequest};
+use its_world::{Config, Event, What};
 use std::alloc::Global;
 use std::test::Fail;
 
-fn geocast(alloc: Global, area: Area) -> Result<Geocast, Fail> {
-    Ok(Geocast {
+fn geocast(alloc: Global, area: Area) -> Result<OwnedGbcRequest, Fail> {
+    Ok(OwnedGbcRequest {
         port: 2002,
         info: 0,
         class: TrafficClass::from_octet(0),
@@ -22,8 +21,8 @@ fn geocast(alloc: Global, area: Area) -> Result<Geocast, Fail> {
 }
 
 /// A station whose capacity and numbers aren't said.
-fn station(address: u64, lat: i32) -> Result<StationEntry, Fail> {
-    Ok(StationEntry {
+fn station(address: u64, lat: i32) -> Result<Config, Fail> {
+    Ok(Config {
         address: GnAddress::from_u64(address)?,
         place: Place::new(lat, 0)?,
         capacity: 64,
@@ -31,13 +30,11 @@ fn station(address: u64, lat: i32) -> Result<StationEntry, Fail> {
     })
 }
 
-fn event(station: u16, moment: u64, action: Action) -> EventEntry
-    requires { moment < 2 ^ 63 }
-{
-    EventEntry {
+fn event(station: usize, moment: u64, what: What) -> Event {
+    Event {
         station,
         moment,
-        action,
+        what,
     }
 }
 
@@ -56,20 +53,20 @@ fn the_stations_of_the_worked_scenario(rt: HostRuntime) -> Result<(), Fail> {
 fn the_events_of_the_worked_scenario(rt: HostRuntime) -> Result<(), Fail> {
     let sent = geocast(rt.alloc(), Area::circle(Place::new(0, 0)?, 100)?)?;
     let want = [
-        event(1, 0, Action::Open { port: 2002 }),
-        event(0, 1000, Action::Gbc(sent)),
-        event(1, 1010, Action::Deliver { frame: 0 }),
+        event(1, 0, What::Open(2002)),
+        event(0, 1000, What::SendGeobroadcast(sent)),
+        event(1, 1010, What::Deliver(0)),
     ];
     let scenario = read(rt.alloc(), WORKED)?;
     assert_eq!(rt; scenario.events.as_slice(), want.as_slice());
     Ok(())
 }
 
-fn action_of(alloc: Global, keys: &str) -> Result<Action, Fail> {
+fn what_of(alloc: Global, keys: &str) -> Result<What, Fail> {
     let text = with_event(alloc, keys)?;
     let mut scenario = read(alloc, text.as_str())?;
     match scenario.events.pop() {
-        Some(event) => Ok(event.action),
+        Some(event) => Ok(event.what),
         None => Err("no event")?,
     }
 }
@@ -78,53 +75,44 @@ fn action_of(alloc: Global, keys: &str) -> Result<Action, Fail> {
 fn a_move(rt: HostRuntime) -> Result<(), Fail> {
     let keys = "do = \"move\", lat = -900000000, lon = 1800000000, pai = true, speed = -16384, \
         heading = 65535";
-    let Action::Move(motion) = action_of(rt.alloc(), keys)? else {
-        return Err("no move")?;
+    let want = What::MoveTo {
+        place: Place::new(-900_000_000, 1_800_000_000)?,
+        pai: true,
+        speed: -16384,
+        heading: 65535,
     };
-    assert_eq!(rt; motion.place, Place::new(-900_000_000, 1_800_000_000)?);
-    assert_eq!(rt;
-        (motion.pai, motion.speed, motion.heading),
-        (true, -16384, 65535)
-    );
+    assert!(rt; what_of(rt.alloc(), keys)? == want);
     Ok(())
 }
 
 #[test]
 fn actions_of_one_number(rt: HostRuntime) -> Result<(), Fail> {
     let cases = [
-        ("do = \"open\", port = 65535", Action::Open { port: 65535 }),
-        ("do = \"close\", port = 0", Action::Close { port: 0 }),
-        (
-            "do = \"tick\", jitter = 65535",
-            Action::Tick { jitter: 65535 },
-        ),
-        (
-            "do = \"restart\", number = 65535",
-            Action::Restart { number: 65535 },
-        ),
+        ("do = \"open\", port = 65535", What::Open(65535)),
+        ("do = \"close\", port = 0", What::Close(0)),
+        ("do = \"tick\", jitter = 65535", What::Tick(65535)),
+        ("do = \"restart\", number = 65535", What::Restart(65535)),
         (
             "do = \"deliver\", frame = 4294967295",
-            Action::Deliver {
-                frame: 4_294_967_295,
-            },
+            What::Deliver(4_294_967_295),
         ),
     ];
-    for (keys, action) in cases {
-        assert!(rt; action_of(rt.alloc(), keys)? == action, "{keys}");
+    for (keys, want) in cases {
+        assert!(rt; what_of(rt.alloc(), keys)? == want, "{keys}");
     }
     Ok(())
 }
 
 #[test]
 fn a_single_hop_broadcast(rt: HostRuntime) -> Result<(), Fail> {
-    let shb = SingleHop {
+    let shb = OwnedShbRequest {
         port: 1,
         info: 2,
         class: TrafficClass::from_octet(255),
         payload: Vec::new(rt.alloc()),
     };
     let keys = "do = \"shb\", port = 1, info = 2, tc = 255, payload = \"\"";
-    assert!(rt; action_of(rt.alloc(), keys)? == Action::Shb(shb));
+    assert!(rt; what_of(rt.alloc(), keys)? == What::SendShb(shb));
     Ok(())
 }
 
@@ -151,10 +139,10 @@ fn each_shape_of_gbc_and_gac(rt: HostRuntime) -> Result<(), Fail> {
         )?;
         let gbc = format!(in alloc; "do = \"gbc\", {SENT}, {}", where_.as_str())?;
         let gac = format!(in alloc; "do = \"gac\", {SENT}, {}", where_.as_str())?;
-        let want = Action::Gbc(geocast(alloc, area)?);
-        assert!(rt; action_of(alloc, gbc.as_str())? == want, "{shape}");
-        let want = Action::Gac(geocast(alloc, area)?);
-        assert!(rt; action_of(alloc, gac.as_str())? == want, "{shape}");
+        let want = What::SendGeobroadcast(geocast(alloc, area)?);
+        assert!(rt; what_of(alloc, gbc.as_str())? == want, "{shape}");
+        let want = What::SendGeoanycast(geocast(alloc, area)?);
+        assert!(rt; what_of(alloc, gac.as_str())? == want, "{shape}");
     }
     Ok(())
 }
@@ -180,7 +168,7 @@ fn hexadecimal_digits_in_either_case(rt: HostRuntime) -> Result<(), Fail> {
         (event.station, event.moment),
         (65535, 9_223_372_036_854_775_807)
     );
-    let Action::Shb(sent) = &event.action else {
+    let What::SendShb(sent) = &event.what else {
         return Err("no shb")?;
     };
     assert_eq!(rt; sent.payload.as_slice(), [0xaa, 0xff].as_slice());
