@@ -3,3 +3,4 @@ pub mod Steps
 pub mod Requests
 pub mod Receiving
 pub mod Runs
+pub mod Walks

@@ -30,7 +30,9 @@
 //! the station afterwards. A call that is refused changes nothing.
 #![tactic(auto)]
 
+mod knowledge;
 pub mod laws;
+mod neighbours;
 mod outcome;
 mod ports;
 mod receive;
@@ -41,6 +43,7 @@ mod run;
 mod sending;
 mod station;
 
+pub use neighbours::Neighbours;
 pub use outcome::{Handed, Outcome, Why};
 pub use refused::{Refused, RefusedCode};
 pub use requests::{GbcRequest, OwnedGbcRequest, OwnedShbRequest, ShbRequest};
