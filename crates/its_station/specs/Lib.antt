@@ -4,3 +4,4 @@ pub mod Requests
 pub mod Receiving
 pub mod Runs
 pub mod Walks
+pub mod Counting

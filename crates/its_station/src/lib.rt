@@ -30,6 +30,7 @@
 //! the station afterwards. A call that is refused changes nothing.
 #![tactic(auto)]
 
+mod counts;
 mod knowledge;
 pub mod laws;
 mod neighbours;
@@ -43,6 +44,7 @@ mod run;
 mod sending;
 mod station;
 
+pub use counts::{Counts, IgnoredCounts, RefusedCounts, SentCounts};
 pub use neighbours::Neighbours;
 pub use outcome::{Handed, Outcome, Why};
 pub use refused::{Refused, RefusedCode};
