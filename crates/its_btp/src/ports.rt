@@ -84,6 +84,13 @@ impl Ports {
         self.ports[..self.count].iter().any(|open| *open == port)
     }
 
+    /// The open ports, each once, in the order in which they were opened.
+    pub fn as_slice(&self) -> &[u16]
+        ensures { result.now ≡ self.now }
+    {
+        &self.ports[..self.count]
+    }
+
     /// Opens a port. `AlreadyOpen` (B2) where it is open, else `Full` (B3) where 64 others are; the
     /// set is unchanged then.
     pub fn open(&mut self, port: u16) -> Result<(), PortFault>

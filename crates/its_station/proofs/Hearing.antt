@@ -2,7 +2,7 @@
 use Rattle.std.proofs.Common.{◌≡◌, ℕ, ◌≤◌, ◌^◌, List, ◌∷◌, Option, Some, None, Bool, true, false}
 use Rattle.std.proofs.Common.{not, cond, eqb, leb, ◌&&◌, refl, sym, ap, subst, ◌∙◌, true≢false}
 use Rattle.std.proofs.Common.{is_some, unwrap_or}
-use Rattle.std.specs.Prelude.{Result, Ok, Err, IfOk, IfErr, IfSome, Vec}
+use Rattle.std.specs.Prelude.{Result, Ok, Err, IfSome, Vec, IsErrAnd}
 use Rattle.std.specs.Option.{option_map}
 use Rattle.std.specs.declared.alloc.Global.{Global}
 use Rattle.std.proofs.lemmas.Bool.{le-ltb}
@@ -21,9 +21,7 @@ use Rattle.its_model.specs.Station.{is_repeated, or_else, handing, relayed, sent
 use Rattle.its_model.specs.Station.{after_hearing, first, own_refusal, own_step, station_step}
 use Rattle.its_model.specs.Station.{junk_step_by}
 use Rattle.its_headers.specs.Fields.{area_in}
-use Rattle.its_linkframe.specs.Frames.{EncodesFrame, IsFrame, transmission_of}
-use Rattle.its_linkframe.specs.FrameFaults.{IsFrameFault}
-use Rattle.its_linkframe.specs.declared.frame.FrameView.{FrameView}
+use Rattle.its_linkframe.specs.Frames.{EncodesFrame, IsFrame}
 use Rattle.its_loctable.specs.Content.{Represents}
 use Rattle.its_loctable.specs.Heard as table
 use Rattle.its_loctable.specs.Heard.{verdict_at}
@@ -40,7 +38,7 @@ use Rattle.its_station.specs.declared.outcome.Why.{Why}
 use Rattle.its_station.specs.declared.outcome.Why.TheVariants as why
 use Rattle.its_station.specs.State.{StationState, IsPast, RepresentsStation, SamePorts, model_of}
 use Rattle.its_station.specs.Steps.{IsStepOf}
-use Rattle.its_station.specs.Receiving.{IsFrameCall, Tells, IsRelay, report_of, copy_of, said_by}
+use Rattle.its_station.specs.Receiving.{Tells, IsRelay, report_of, copy_of, said_by}
 use Rattle.its_station.specs.Receiving.{why_of, why_found, accept_step}
 use Rattle.its_station.specs.declared.refused.Refused.TheVariants as refused
 use Rattle.its_faults.specs.declared.frame.FrameFault.{FrameFault}
@@ -330,12 +328,17 @@ moment_refused says st now call e owed =
               (represents st ports history past),
         )
 
--- the call as which octets come, from what was read of them
-pub call_of : (w : List ℕ) (r : Result FrameView FrameFault)
-    → IfOk r (λ v. EncodesFrame (transmission_of v) w) → IfErr r (IsFrameFault w)
-    → (call : model.Call) × IsFrameCall w call
-call_of w (Ok v) found fault = (model.Call.Receive (transmission_of v), found)
-call_of w (Err f) found fault = (model.Call.Junk f, fault)
+-- the same at the exit of a `?`
+pub moment_exit : {T : Type 0} (says : T → Answer Transmission
+    → Type 0) (st : StationState) (now : ℕ) (call : model.Call) (e : Refused) (r : Result T Refused)
+    → IsErrAnd r (λ y. y ≡ e)
+    → ((ports : List ℕ) (history : List Reception)
+    → refusal_of e ≡ moment_refusal (model_of st ports history) now)
+    → (s : StationModel) → RepresentsStation st s
+    → IsStepOf says r st (station_step s now call)
+moment_exit says st now call e (Ok x) is owed = absurd is
+moment_exit says st now call e (Err y) is owed =
+    moment_refused says st now call y (λ ports history. ap refusal_of is ∙ owed ports history)
 
 -- octets that are no frame
 pub junk : (st : StationState) (now : ℕ) (fault : FrameFault)

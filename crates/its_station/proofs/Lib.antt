@@ -4,3 +4,4 @@ pub mod Hearing
 pub mod PortSets
 pub mod AreaCalls
 pub mod Runs
+pub mod Beacons

@@ -3,3 +3,5 @@ pub mod Steps
 pub mod Requests
 pub mod Receiving
 pub mod Runs
+pub mod Walks
+pub mod Counting

@@ -30,7 +30,10 @@
 //! the station afterwards. A call that is refused changes nothing.
 #![tactic(auto)]
 
+mod counts;
+mod knowledge;
 pub mod laws;
+mod neighbours;
 mod outcome;
 mod ports;
 mod receive;
@@ -41,6 +44,8 @@ mod run;
 mod sending;
 mod station;
 
+pub use counts::{Counts, IgnoredCounts, RefusedCounts, SentCounts};
+pub use neighbours::Neighbours;
 pub use outcome::{Handed, Outcome, Why};
 pub use refused::{Refused, RefusedCode};
 pub use requests::{GbcRequest, OwnedGbcRequest, OwnedShbRequest, ShbRequest};

@@ -24,12 +24,8 @@ impl<S: LocationStore> Station<S> {
         ensures unchanged { OnErr result (self.new ≡ self.old) }
         ensures memory { result ≢ Err Refused.NoMemory }
     {
-        if let Err(refused) = self.check_moment(now) {
-            return Err(refused);
-        }
-        if let Err(fault) = self.open_port(port) {
-            return Err(Refused::Port(fault));
-        }
+        self.check_moment(now)?;
+        self.open_port(port)?;
         self.set_clock(now);
         Ok(())
     }
@@ -42,12 +38,8 @@ impl<S: LocationStore> Station<S> {
         ensures unchanged { OnErr result (self.new ≡ self.old) }
         ensures memory { result ≢ Err Refused.NoMemory }
     {
-        if let Err(refused) = self.check_moment(now) {
-            return Err(refused);
-        }
-        if let Err(fault) = self.close_port(port) {
-            return Err(Refused::Port(fault));
-        }
+        self.check_moment(now)?;
+        self.close_port(port)?;
         self.set_clock(now);
         Ok(())
     }

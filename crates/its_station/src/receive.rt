@@ -6,6 +6,7 @@ ghost use Rattle.its_gnvalue.specs.Values.{Position};
 ghost use Rattle.std.specs.Option.{option_map};
 ghost use Rattle.its_model.specs.Packet.{Transmission, number_in};
 ghost use Rattle.its_model.specs.Calls.{Call};
+ghost use Rattle.its_model.specs.Calls.Call.{Receive};
 ghost use Rattle.its_model.specs.History.{Reception, is_live};
 ghost use Rattle.its_model.specs.Stations.{stations_at, is_full};
 ghost use Rattle.its_model.specs.Station as station;
@@ -53,15 +54,37 @@ impl<S: LocationStore> Station<S> {
         ensures payload { IfOk result (DeliversEndOf frame.now) }
         ensures short { IfOk result (Fits 1394) }
     {
-        // The moment is checked first; the octets are read, as the contract names what they are.
-        let read = read_frame(frame);
-        if let Err(refused) = self.check_moment(now) {
-            return Err(refused);
+        match read_frame(frame) {
+            Ok(view) => self.receive_frame(now, &view),
+            Err(fault) => {
+                // Octets that are no frame are refused for their moment before that.
+                self.check_moment(now)?;
+                Err(Refused::Frame(fault))
+            }
         }
-        match read {
-            Ok(view) => self.hear(now, &view),
-            Err(fault) => Err(Refused::Frame(fault)),
-        }
+    }
+
+    /// Takes a frame that was read, as `receive` takes its octets: for a program that reads more of
+    /// it than what is delivered, as its source, its traffic class or its hops. Refused as there,
+    /// but for `Frame` (S3).
+    pub fn receive_frame<'a>(
+        &mut self,
+        now: u64,
+        frame: &FrameView<'a>,
+    ) -> Result<Outcome<'a>, Refused>
+        ensures step { (s : StationModel) → RepresentsStation self.old s →
+            IsStepOf Tells result self.new
+            (station_step s now (Receive (transmission_of frame.now))) }
+        ensures memory { (s : StationModel) → RepresentsStation self.old s →
+            result ≡ Err Refused.NoMemory →
+            (verdict s now (transmission_of frame.now) ≡ station.Verdict.Accept)
+            × TakesMemory s now (transmission_of frame.now) }
+        ensures unchanged { OnErr result (self.new ≡ self.old) }
+        ensures payload { IfOk result (DeliversEndOf (payload_of frame.now.packet.pdu.body)) }
+        ensures short { IfOk result (Fits 1394) }
+    {
+        self.check_moment(now)?;
+        self.hear(now, frame)
     }
 
     /// Takes a frame at a moment that isn't refused.
@@ -122,7 +145,7 @@ impl<S: LocationStore> Station<S> {
             Some(number) if self.store.remembers(now, vector.address(), number) => {
                 Some(Why::Duplicate)
             }
-            _ => None,
+            Some(_) | None => None,
         }
     }
 
@@ -150,14 +173,10 @@ impl<S: LocationStore> Station<S> {
         ensures short { IfOk result (Fits 1394) }
     {
         let inside = self.is_inside(&frame.packet);
-        let Ok(copy) = self.copy_for_relay(frame, inside) else {
-            return Err(Refused::NoMemory);
-        };
+        let copy = self.copy_for_relay(frame, inside)?;
         let handed = self.handing(&frame.packet, inside);
         let heard = heard_of(&frame.packet);
-        let Ok(()) = self.take_in(now, &heard) else {
-            return Err(Refused::NoMemory);
-        };
+        self.take_in(now, &heard)?;
         let sent = self.direct(now, frame, copy);
         Ok(Outcome::Accepted { handed, sent })
     }
@@ -190,6 +209,8 @@ impl<S: LocationStore> Station<S> {
                 self.clock = now;
                 Ok(())
             }
+            // A duplicate and a full table are excluded by each history that the table represents;
+            // no history is at hand here by which they would be unreachable.
             Ok(Verdict::Duplicate) | Err(_) => Err(NoMemory),
         }
     }

@@ -4,6 +4,7 @@ ghost use Rattle.std.specs.Prelude.{◌≡◌};
 
 use its_btp::PortFault;
 use its_faults::FrameFault;
+use its_gnvalue::NoMemory;
 use std::error::Error;
 use std::fmt;
 
@@ -56,6 +57,39 @@ impl fmt::Display for Refused {
 }
 
 impl Error for Refused {}
+
+impl From<FrameFault> for Refused {
+    ghost use Rattle.std.specs.Prelude.{◌≡◌};
+    ghost use Rattle.its_station.specs.declared.refused.Refused.TheVariants as refusals;
+
+    ghost from_gives = { λ fault e. e ≡ refusals.Frame fault };
+
+    fn from(fault: FrameFault) -> Refused {
+        Refused::Frame(fault)
+    }
+}
+
+impl From<PortFault> for Refused {
+    ghost use Rattle.std.specs.Prelude.{◌≡◌};
+    ghost use Rattle.its_station.specs.declared.refused.Refused.TheVariants as refusals;
+
+    ghost from_gives = { λ fault e. e ≡ refusals.Port fault };
+
+    fn from(fault: PortFault) -> Refused {
+        Refused::Port(fault)
+    }
+}
+
+impl From<NoMemory> for Refused {
+    ghost use Rattle.std.specs.Prelude.{◌≡◌};
+    ghost use Rattle.its_station.specs.declared.refused.Refused.TheVariants as refusals;
+
+    ghost from_gives = { λ _ e. e ≡ refusals.NoMemory };
+
+    fn from(_fault: NoMemory) -> Refused {
+        Refused::NoMemory
+    }
+}
 
 /// A refusal that prints as its code, as `S4`, `S8 B2` or `S3 L5 G9 at 10`.
 #[derive(Clone, Copy, Debug, PartialEq, Eq)]

@@ -23,9 +23,7 @@ impl<S: LocationStore> Station<S> {
         ensures unchanged { OnErr result (self.new ≡ self.old) }
         ensures memory { result ≢ Err Refused.NoMemory }
     {
-        if let Err(refused) = self.check_moment(now) {
-            return Err(refused);
-        }
+        self.check_moment(now)?;
         self.begin_anew(now, number);
         Ok(())
     }

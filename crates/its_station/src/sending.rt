@@ -64,9 +64,7 @@ impl<S: LocationStore> Station<S> {
             (first (moment_refusal s now) (own_refusal s (Tick jitter)) ≡ None)
             × IsTrue (nat_le (s.beacon_from + jitter) now) }
     {
-        if let Err(refused) = self.check_moment(now) {
-            return Err(refused);
-        }
+        self.check_moment(now)?;
         if jitter > MAX_JITTER {
             return Err(Refused::JitterRange);
         }
@@ -74,9 +72,7 @@ impl<S: LocationStore> Station<S> {
             self.set_clock(now);
             return Ok(None);
         }
-        let Ok(frame) = self.beacon_frame() else {
-            return Err(Refused::NoMemory);
-        };
+        let frame = self.beacon_frame()?;
         self.set_sent(now);
         Ok(Some(frame))
     }
@@ -92,15 +88,11 @@ impl<S: LocationStore> Station<S> {
             result ≡ Err Refused.NoMemory →
             first (moment_refusal s now) (own_refusal s (SendShb (shb_request r.now))) ≡ None }
     {
-        if let Err(refused) = self.check_moment(now) {
-            return Err(refused);
-        }
+        self.check_moment(now)?;
         if r.payload.len() > MAX_PAYLOAD {
             return Err(Refused::PayloadTooLong);
         }
-        let Ok(frame) = self.shb_frame(r) else {
-            return Err(Refused::NoMemory);
-        };
+        let frame = self.shb_frame(r)?;
         self.set_sent(now);
         Ok(frame)
     }
@@ -148,18 +140,14 @@ impl<S: LocationStore> Station<S> {
             result ≡ Err Refused.NoMemory → first (moment_refusal s now)
             (own_refusal s (area_call (kind_of_cast cast) (gbc_request r.now))) ≡ None }
     {
-        if let Err(refused) = self.check_moment(now) {
-            return Err(refused);
-        }
+        self.check_moment(now)?;
         if r.payload.len() > MAX_PAYLOAD {
             return Err(Refused::PayloadTooLong);
         }
         if r.max_hops == 0 {
             return Err(Refused::HopLimitZero);
         }
-        let Ok(frame) = self.area_frame(now, cast, r) else {
-            return Err(Refused::NoMemory);
-        };
+        let frame = self.area_frame(now, cast, r)?;
         self.set_numbered(now);
         Ok(frame)
     }

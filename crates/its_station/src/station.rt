@@ -72,9 +72,7 @@ impl<S: LocationStore> Station<S> {
             RepresentsStation st (new_station address place capacity remember)) }
         ensures memory { IfErr result (λ e. e ≡ Refused.NoMemory) }
     {
-        let Ok(store) = S::empty(alloc, capacity, remember) else {
-            return Err(Refused::NoMemory);
-        };
+        let store = S::empty(alloc, capacity, remember)?;
         let Ok(vector) = LongPv::new(address, 0, place, false, 0, 0) else {
             unreachable!()
         };
@@ -107,9 +105,7 @@ impl<S: LocationStore> Station<S> {
         ensures unchanged { OnErr result (self.new ≡ self.old) }
         ensures memory { result ≢ Err Refused.NoMemory }
     {
-        if let Err(refused) = self.check_moment(now) {
-            return Err(refused);
-        }
+        self.check_moment(now)?;
         self.set_vector(now, place, pai, speed, heading);
         Ok(())
     }

@@ -74,6 +74,13 @@ impl World {
         })
     }
 
+    /// The station of a number, as it stands after the events done; `None` where there is none.
+    pub fn station(&self, number: usize) -> Option<&Station<SortedTable>>
+        ensures { option_map (λ station. station.now) result ≡ slice_get self.now.stations number }
+    {
+        self.stations.get(number)
+    }
+
     /// How many frames there are.
     pub fn frames(&self) -> usize
         ensures { result ≡ length self.now.frames }

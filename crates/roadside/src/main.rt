@@ -1,23 +1,32 @@
 //! A road-side unit: a station in a few lines, for whoever embeds one.
 //!
 //! Standard input stands for its link: each line is a moment in milliseconds, a space, and the
-//! frame that came then, in hexadecimal. Standard output has a line for each payload that is
-//! delivered (`deliver PAYLOAD`), each frame that goes out (`send FRAME`) and each frame that is
-//! refused (`refused CODE`).
+//! frame that came then, in hexadecimal. Until that moment the unit sleeps, and wakes for its
+//! beacons. Standard output has a line for each payload that is delivered (`deliver PAYLOAD from
+//! ADDRESS`), each frame that goes out (`send FRAME`) and each frame that is refused (`refused
+//! CODE`), and at the end what was counted.
+//!
+//! A moment is milliseconds of any clock that doesn't fall; for the standard's time stamps, those
+//! of TAI since 2004-01-01. A clock that steps back is refused (S1) until it has caught up. A real
+//! unit draws a jitter of 0 to 750 ms once for each beacon, not for each `tick`; this one has none,
+//! so that its output is the same each time.
 #![tactic(auto)]
 
 use its_gnvalue::{GnAddress, Place};
+use its_headers::Kind;
+use its_linkframe::read_frame;
 use its_loctable::SortedTable;
-use its_station::{Outcome, Station};
+use its_station::{Counts, Outcome, Refused, Station};
 use std::alloc::Global;
 
 /// The unit stands at a crossing, knows up to 64 stations, and remembers 8 packets of each. Port
-/// 2002 is that of hazard warnings.
+/// 2002 is that of hazard warnings. Handing in its place gives its packets a time stamp.
 fn unit(alloc: Global) -> anyhow::Result<Station<SortedTable>> {
     let address = GnAddress::from_u64(0x3c00_0200_0000_0010)?;
     let here = Place::new(449, 0)?;
     let mut station = Station::new(alloc, address, here, 64, 8)?;
-    station.open(0, 2002)?;
+    station.move_to(1000, here, true, 0, 0)?;
+    station.open(1000, 2002)?;
     Ok(station)
 }
 
@@ -25,13 +34,26 @@ fn unit(alloc: Global) -> anyhow::Result<Station<SortedTable>> {
 fn hear(
     rt: &(impl Print + AllocGlobal),
     station: &mut Station<SortedTable>,
+    counts: &mut Counts,
     now: u64,
-    frame: &[u8],
+    octets: &[u8],
 ) -> anyhow::Result<()> {
-    match station.receive(now, frame) {
+    let frame = match read_frame(octets) {
+        Ok(frame) => frame,
+        Err(fault) => {
+            counts.note_received(&Err(Refused::Frame(fault)));
+            println!(rt; "refused {}", Refused::Frame(fault).code())?;
+            return Ok(());
+        }
+    };
+    let answer = station.receive_frame(now, &frame);
+    counts.note_received(&answer);
+    match answer {
         Ok(Outcome::Accepted { handed, sent }) => {
             if let Some(message) = handed {
-                println!(rt; "deliver {}", hex::encode(rt.alloc(), message.payload)?)?;
+                let payload = hex::encode(rt.alloc(), message.payload)?;
+                let source = frame.packet.vector().address().as_u64();
+                println!(rt; "deliver {payload} from {source:016x}")?;
             }
             if let Some(frame) = sent {
                 println!(rt; "send {}", hex::encode(rt.alloc(), frame)?)?;
@@ -43,13 +65,23 @@ fn hear(
     Ok(())
 }
 
-/// Sends a beacon, where one is due. A refused call changes nothing, so the beacon stays due.
-fn announce(
+/// Sleeps until a moment, and sends each beacon that is due until then. A refused call changes
+/// nothing, so its beacon stays due: it is sent when the unit wakes next.
+fn sleep_until(
     rt: &(impl Print + AllocGlobal),
     station: &mut Station<SortedTable>,
-    now: u64,
+    counts: &mut Counts,
+    moment: u64,
 ) -> anyhow::Result<()> {
-    if let Ok(Some(beacon)) = station.tick(now, 0) {
+    for _ in 0..u64::MAX {
+        let wakes = station.next_beacon();
+        if wakes > moment {
+            return Ok(());
+        }
+        let Some(beacon) = station.tick(wakes, 0)? else {
+            return Ok(());
+        };
+        counts.note_sent(Kind::Beacon);
         println!(rt; "send {}", hex::encode(rt.alloc(), beacon)?)?;
     }
     Ok(())
@@ -57,15 +89,20 @@ fn announce(
 
 fn main(rt: HostRuntime) -> anyhow::Result<()> {
     let mut station = unit(rt.alloc())?;
+    let mut counts = Counts::new();
     for line in rt.lines(rt.alloc()) {
         let line = line?;
         let Some((moment, digits)) = line.split_once(' ') else {
             continue;
         };
         let now = moment.parse::<u64>()?;
+        sleep_until(&rt, &mut station, &mut counts, now)?;
         let frame = hex::decode(rt.alloc(), digits)?;
-        hear(&rt, &mut station, now, frame.as_slice())?;
-        announce(&rt, &mut station, now)?;
+        hear(&rt, &mut station, &mut counts, now, frame.as_slice())?;
     }
+    let Counts { received, accepted, delivered, relayed, .. } = counts;
+    println!(rt; "received {received} accepted {accepted} delivered {delivered} relayed {relayed}")?;
+    println!(rt; "ignored {} refused {}", counts.ignored.duplicate, counts.refused.frame)?;
+    println!(rt; "beacons {}", counts.sent.beacons)?;
     Ok(())
 }

@@ -4,14 +4,15 @@ use Rattle.its_model.specs.Calls.OwnCall.{Restart}
 use Rattle.its_station.specs.Steps.{Says}
 use Rattle.its_loctable.specs.Content.{Represents}
 use Rattle.its_station.specs.State.{StationState}
-use Rattle.its_station.proofs.Hearing.{moment_refused}
+use Rattle.its_station.proofs.Hearing.{moment_exit}
 use Rattle.its_station.proofs.Stations.{Represents-later, own_done_step}
 use Rattle.its_station.proofs.station.Station.restart.Goals as goal
 
-pub returns-in-Err-clause-step : goal.returns-in-Err-clause-step
-returns-in-Err-clause-step g c =
-    moment_refused {T = Unit {0}} (Says Restarted) c.args.self.now c.args.now
-    (Own (Restart c.args.number)) c.in-Err.refused c.in-Err.ensures.refusal
+pub returns-in_err-check_moment-clause-step : goal.returns-in_err-check_moment-clause-step
+returns-in_err-check_moment-clause-step g c =
+    moment_exit {T = Unit {0}} (Says Restarted) c.args.self.now c.args.now
+    (Own (Restart c.args.number)) _ c.from_residual.result c.from_residual.ensures.1
+    c.in_err-check_moment.ensures.refusal
 
 pub returns-clause-step : goal.returns-clause-step
 returns-clause-step g c =
@@ -20,7 +21,7 @@ returns-clause-step g c =
     own_done_step {T = Unit {0}} (Says Restarted) tt c.args.self.now new _ c.args.now
     (Restart c.args.number)
     (λ ports history. Restarted) (λ ports. [])
-    (λ history. []) c.begin_anew.ensures.fields c.in_default.ensures.refusal
+    (λ history. []) c.begin_anew.ensures.fields c.in_ok-check_moment.ensures.refusal
     (λ ports history past. refl) (λ ports history. refl)
     (λ ports history past. record {
       ports = record { each = λ p. refl; mine_once = tt; theirs_once = tt };

@@ -1,0 +1,176 @@
+//! Counts of what a station heard and sent, beside it: an embedding program keeps them.
+
+ghost use Rattle.std.specs.Prelude.{◌≡◌};
+ghost use Rattle.its_station.specs.Counting.{nothing, counted, counted_sent, counted_accepted};
+ghost use Rattle.its_station.specs.Counting.{counted_ignored, counted_refused};
+
+use crate::outcome::{Outcome, Why};
+use crate::refused::Refused;
+use its_headers::Kind;
+
+/// How often each thing happened. A count stays at 2^64 - 1 once it is there.
+#[derive(Clone, Copy, Debug, PartialEq, Eq)]
+pub struct Counts {
+    /// Frames that came, whatever became of them.
+    pub received: u64,
+    /// Frames whose packet was accepted.
+    pub accepted: u64,
+    /// Payloads that were delivered.
+    pub delivered: u64,
+    /// Frames that were passed on.
+    pub relayed: u64,
+    /// Frames that were ignored, by reason.
+    pub ignored: IgnoredCounts,
+    /// Frames that were refused, by code.
+    pub refused: RefusedCounts,
+    /// Frames of the station's own that were sent, by kind.
+    pub sent: SentCounts,
+}
+
+/// How many frames were ignored for each reason.
+#[derive(Clone, Copy, Debug, PartialEq, Eq)]
+pub struct IgnoredCounts {
+    /// To another station's link address.
+    pub not_for_me: u64,
+    /// The station's own packet.
+    pub own_source: u64,
+    /// A BEACON or an SHB from another link address than its source's.
+    pub sender_mismatch: u64,
+    /// A GBC or a GAC whose sequence number is remembered.
+    pub duplicate: u64,
+}
+
+/// How many frames were refused by each code that `receive` has.
+#[derive(Clone, Copy, Debug, PartialEq, Eq)]
+pub struct RefusedCounts {
+    /// S1: the moment was below the clock.
+    pub moment_earlier: u64,
+    /// S2: the moment was over 2^62 ms.
+    pub moment_too_late: u64,
+    /// S3: the octets were no frame.
+    pub frame: u64,
+    /// S4: the location table had no room.
+    pub table_full: u64,
+    /// S5: an allocation failed.
+    pub no_memory: u64,
+    /// Any other refusal: `receive` gives none.
+    pub other: u64,
+}
+
+/// How many frames of the station's own were sent of each kind.
+#[derive(Clone, Copy, Debug, PartialEq, Eq)]
+pub struct SentCounts {
+    /// BEACON.
+    pub beacons: u64,
+    /// SHB.
+    pub single_hop: u64,
+    /// GBC.
+    pub geobroadcasts: u64,
+    /// GAC.
+    pub geoanycasts: u64,
+}
+
+impl Counts {
+    /// All counts are 0.
+    pub fn new() -> Counts
+        ensures { result ≡ nothing }
+    {
+        Counts {
+            received: 0,
+            accepted: 0,
+            delivered: 0,
+            relayed: 0,
+            ignored: IgnoredCounts {
+                not_for_me: 0,
+                own_source: 0,
+                sender_mismatch: 0,
+                duplicate: 0,
+            },
+            refused: RefusedCounts {
+                moment_earlier: 0,
+                moment_too_late: 0,
+                frame: 0,
+                table_full: 0,
+                no_memory: 0,
+                other: 0,
+            },
+            sent: SentCounts {
+                beacons: 0,
+                single_hop: 0,
+                geobroadcasts: 0,
+                geoanycasts: 0,
+            },
+        }
+    }
+
+    /// What became of a frame, as `receive` answered: one frame more came, and one more was
+    /// ignored for its reason, refused by its code, or accepted; of an accepted one it is also
+    /// counted whether its payload was delivered and whether it was passed on.
+    pub fn note_received(&mut self, answer: &Result<Outcome<'_>, Refused>)
+        ensures { self.new ≡ counted answer.now self.old }
+    {
+        self.received = self.received.saturating_add(1);
+        match answer {
+            Ok(Outcome::Accepted { handed, sent }) => {
+                self.note_accepted(handed.is_some(), sent.is_some());
+            }
+            Ok(Outcome::Ignored(why)) => self.ignored.note(*why),
+            Err(refused) => self.refused.note(*refused),
+        }
+    }
+
+    /// A frame of the station's own was sent, of this kind.
+    pub fn note_sent(&mut self, kind: Kind)
+        ensures { self.new ≡ counted_sent kind self.old }
+    {
+        match kind {
+            Kind::Beacon => self.sent.beacons = self.sent.beacons.saturating_add(1),
+            Kind::Shb => self.sent.single_hop = self.sent.single_hop.saturating_add(1),
+            Kind::Gbc => self.sent.geobroadcasts = self.sent.geobroadcasts.saturating_add(1),
+            Kind::Gac => self.sent.geoanycasts = self.sent.geoanycasts.saturating_add(1),
+        }
+    }
+
+    fn note_accepted(&mut self, delivered: bool, relayed: bool)
+        ensures { self.new ≡ counted_accepted delivered relayed self.old }
+    {
+        self.accepted = self.accepted.saturating_add(1);
+        if delivered {
+            self.delivered = self.delivered.saturating_add(1);
+        }
+        if relayed {
+            self.relayed = self.relayed.saturating_add(1);
+        }
+    }
+}
+
+impl IgnoredCounts {
+    fn note(&mut self, why: Why)
+        ensures { self.new ≡ counted_ignored why self.old }
+    {
+        match why {
+            Why::NotForMe => self.not_for_me = self.not_for_me.saturating_add(1),
+            Why::OwnSource => self.own_source = self.own_source.saturating_add(1),
+            Why::SenderMismatch => self.sender_mismatch = self.sender_mismatch.saturating_add(1),
+            Why::Duplicate => self.duplicate = self.duplicate.saturating_add(1),
+        }
+    }
+}
+
+impl RefusedCounts {
+    fn note(&mut self, refused: Refused)
+        ensures { self.new ≡ counted_refused refused self.old }
+    {
+        match refused {
+            Refused::MomentEarlier => self.moment_earlier = self.moment_earlier.saturating_add(1),
+            Refused::MomentTooLate => self.moment_too_late = self.moment_too_late.saturating_add(1),
+            Refused::Frame(_) => self.frame = self.frame.saturating_add(1),
+            Refused::TableFull => self.table_full = self.table_full.saturating_add(1),
+            Refused::NoMemory => self.no_memory = self.no_memory.saturating_add(1),
+            Refused::JitterRange
+            | Refused::Port(_)
+            | Refused::PayloadTooLong
+            | Refused::HopLimitZero => self.other = self.other.saturating_add(1),
+        }
+    }
+}
