@@ -1,0 +1,73 @@
+use Rattle.std.proofs.Common.{◌≡◌, ◌++◌, length, refl, arith, length-append}
+use Rattle.std.proofs.KnownBytes.{Consumes-trans}
+use Rattle.std.proofs.lemmas.Result.{err_from_is_err_and}
+use Rattle.its_pcap.specs.Pcap.{HasRecord}
+use Rattle.its_pcap.proofs.Parts.{IfSome-of}
+use Rattle.its_pcap.proofs.PcapRecords.{Consumes-filled, AnnouncesRecord-parts, EndsInRecord-parts}
+use Rattle.its_pcap.proofs.PcapRecords.{EndsInRecord-head, IsRecordFault-cut, IsRecordFault-frame}
+use Rattle.its_pcap.proofs.PcapRecords.{HasRecord-parts}
+use Rattle.its_pcap.proofs.pcap.read_record.Goals as goal
+
+pub returns-in_err-fill_whole-clause-fault : goal.returns-in_err-fill_whole-clause-fault
+returns-in_err-fill_whole-clause-fault g c =
+    let p = err_from_is_err_and c.from_residual.result c.from_residual.ensures.1 in
+    let head = c.fill.new.buf in
+    let twelve : length head ≡ 12 = omega arith in
+    let gone = Consumes-filled _ _ c.in-Some.n head (omega arith) c.in-Some.ensures.bytes in
+    rw (p.1, p.2)
+    (IsRecordFault-cut c.args.mark _ _ _ head 4 _ gone
+    (λ v few. EndsInRecord-head c.args.mark head v c.word_at-captured.result twelve
+    c.word_at-captured.ensures (omega arith) few)
+    c.in_err-fill_whole.ensures.fault)
+
+pub returns-in_err-read_frame-clause-fault : goal.returns-in_err-read_frame-clause-fault
+returns-in_err-read_frame-clause-fault g c =
+    let p = err_from_is_err_and c.from_residual-in_err-read_frame.result
+    c.from_residual-in_err-read_frame.ensures.1 in
+    let head = c.fill.new.buf in
+    let wire = c.fill_whole.new.buf in
+    let twelve : length head ≡ 12 = omega arith in
+    let four : length wire ≡ 4 = omega arith in
+    let gone = Consumes-trans _ _ _ _ _
+    (Consumes-filled _ _ c.in-Some.n head (omega arith) c.in-Some.ensures.bytes)
+    c.in_ok-fill_whole.ensures.octets in
+    rw (p.1, p.2)
+    (IsRecordFault-frame c.args.mark _ _ _ (head ++ wire) c.word_at-captured.result _ gone
+    (omega (arith, twelve, four, length-append head wire))
+    (λ v. AnnouncesRecord-parts c.args.mark head wire v c.word_at-captured.result twelve
+    c.word_at-captured.ensures (omega arith))
+    (λ v few. EndsInRecord-parts c.args.mark head wire v c.word_at-captured.result twelve four
+    c.word_at-captured.ensures (omega arith) few)
+    c.in_err-read_frame.ensures.fault)
+
+pub returns-clause-step : goal.returns-clause-step
+returns-clause-step g c =
+    let m = c.args.mark in
+    let head = c.fill.new.buf in
+    let wire = c.fill_whole.new.buf in
+    let frame = c.in_ok-read_frame.ensures.frame in
+    let twelve : length head ≡ 12 = omega arith in
+    let four : length wire ≡ 4 = omega arith in
+    let gone = Consumes-trans _ _ _ _ _ (Consumes-trans _ _ _ _ _
+    (Consumes-filled _ _ c.in-Some.n head (omega arith) c.in-Some.ensures.bytes)
+    c.in_ok-fill_whole.ensures.octets) frame.passes.consumes in
+    record {
+      is = IfSome-of (HasRecord m c.args.keep _ c.read_frame.new.frame.items) _ _ _ gone
+          (λ v. HasRecord-parts m c.args.keep _ c.read_frame.new.frame.items head wire
+          frame.passes.gone v twelve four frame.passes.size c.word_at-captured.ensures
+          (omega arith)
+          (rw (c.moment_at.ensures, c.word_at-seconds.ensures, c.word_at-fraction.ensures) refl)
+          c.word_at.ensures refl frame.kept);
+      passes = record {
+        gone = (head ++ wire) ++ frame.passes.gone;
+        size = omega (
+          arith,
+          twelve,
+          four,
+          frame.passes.size,
+          length-append head wire,
+          length-append (head ++ wire) frame.passes.gone,
+        );
+        consumes = gone;
+      };
+    }

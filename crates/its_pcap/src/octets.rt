@@ -1,0 +1,37 @@
+//! Numbers in either order of octets.
+
+ghost use Rattle.std.specs.Prelude.{◌≡◌, ◌+◌, ◌≤◌, length, drop};
+ghost use Rattle.its_pcap.specs.Octets.{number_in};
+
+use byteorder::{BigEndian, ByteOrder, LittleEndian};
+
+/// Which octet of a number comes first in a file.
+#[derive(Clone, Copy, Debug, PartialEq, Eq)]
+pub enum Order {
+    /// The highest.
+    High,
+    /// The lowest.
+    Low,
+}
+
+/// The number of 16 bits that begins at this octet.
+pub(crate) fn half_at(order: Order, octets: &[u8], at: usize) -> u16
+    requires { at + 2 ≤ length octets.now }
+    ensures { result ≡ number_in order 2 (drop at octets.now) }
+{
+    match order {
+        Order::High => BigEndian::read_u16(&octets[at..]),
+        Order::Low => LittleEndian::read_u16(&octets[at..]),
+    }
+}
+
+/// The number of 32 bits that begins at this octet.
+pub(crate) fn word_at(order: Order, octets: &[u8], at: usize) -> u32
+    requires { at + 4 ≤ length octets.now }
+    ensures { result ≡ number_in order 4 (drop at octets.now) }
+{
+    match order {
+        Order::High => BigEndian::read_u32(&octets[at..]),
+        Order::Low => LittleEndian::read_u32(&octets[at..]),
+    }
+}

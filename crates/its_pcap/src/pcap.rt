@@ -1,0 +1,265 @@
+//! Reading a classic pcap file.
+
+ghost use Rattle.std.specs.Prelude.{◌≡◌, ◌≢◌, ◌-◌, ◌+◌, ◌^◌, ◌<◌, ◌≤◌};
+ghost use Rattle.std.specs.Prelude.{IfOk, IfErr, MatchOption, Err, if◌then◌else◌, vec_capacity};
+ghost use Rattle.its_linkframe.specs.declared.record.CaptureFault.TheVariants as captures;
+ghost use Rattle.its_pcap.specs.Reading.{is_io};
+ghost use Rattle.its_pcap.specs.Pcap.{mark_number, ReadsHeader, IsHeaderFault, IsRecordStep};
+ghost use Rattle.its_pcap.specs.Pcap.{IsRecordFault, moment_of, IsAnswer};
+ghost use Rattle.its_pcap.specs.declared.fault.SourceFault.TheVariants as faults;
+ghost use Rattle.its_pcap.specs.declared.pcap.Stage.TheVariants as stages;
+
+use crate::fault::SourceFault;
+use crate::octets::{Order, half_at, word_at};
+use crate::record::{Head, Step};
+use crate::transfer::{fill, fill_whole, read_frame};
+use byteorder::{BigEndian, ByteOrder};
+use its_linkframe::{CaptureFault, Source};
+use std::marker::Model;
+
+/// The octets of a file's mark.
+const MARK: usize = 4;
+
+/// The octets of its major version, behind the mark.
+const VERSION: usize = 2;
+
+/// The octets of its header behind those.
+const OTHERS: usize = 18;
+
+/// The type of the link layer: its first octet among those.
+const LINK_TYPE: usize = 14;
+
+/// Types of link layers have 16 bits of their field.
+const LINK_TYPES: u32 = 65536;
+
+/// The type of Ethernet.
+pub(crate) const ETHERNET: u32 = 1;
+
+/// The one major version.
+const MAJOR_VERSION: u16 = 2;
+
+/// The octets of a record before its wire length.
+const HEAD: usize = 12;
+
+/// Its seconds, in octets from its first; each number has four.
+const SECONDS: usize = 0;
+
+/// Its fraction.
+const FRACTION: usize = 4;
+
+/// Its captured length.
+const CAPTURED: usize = 8;
+
+/// The octets of its wire length.
+const WIRE: usize = 4;
+
+/// The most octets of a frame that a file may have.
+pub const LONGEST_CAPTURED: u32 = 262_144;
+
+/// What the fractions of a second count.
+#[derive(Clone, Copy, Debug, PartialEq, Eq)]
+pub enum Unit {
+    /// Millionths.
+    Micro,
+    /// Thousand millionths.
+    Nano,
+}
+
+/// What the mark at the head of a file says of the rest.
+#[derive(Clone, Copy, Debug, PartialEq, Eq)]
+pub struct Mark {
+    /// The order of octets in its numbers.
+    pub order: Order,
+    /// The unit of its fractions.
+    pub unit: Unit,
+}
+
+/// How far a reader is.
+#[derive(Clone, Copy, Debug, PartialEq, Eq)]
+enum Stage {
+    /// At the header of the file.
+    Start,
+    /// At a record, or at the end.
+    Records(Mark),
+    /// It met the end, and answers it again.
+    Ended,
+    /// It met a fault, and answers C5.
+    Failed,
+}
+
+/// Reads the records of a classic pcap file, in order, from a source that gives its octets in
+/// pieces of any size.
+#[derive(Drop)]
+pub struct PcapReader<R: Source> {
+    source: R,
+    keep: usize,
+    stage: Stage,
+}
+
+impl<R: Source> Model for PcapReader<R> {
+    ghost use Rattle.std.specs.Prelude.{◌≡◌, ◌-◌, ◌^◌, ◌<◌, false};
+    ghost use Rattle.its_pcap.specs.Pcap.{Reading, is_failed};
+
+    ghost Value = { Reading };
+
+    ghost view = { λ r. record {
+      stage = r.stage;
+      keep = r.keep;
+      rest = R.remaining r.source;
+      failures = R.failed r.source;
+    } };
+
+    ghost invariant = { λ r. is_failed r.stage ≡ false → R.failed r.source < 2 ^ 64 - 1 };
+}
+
+impl<R: Source> PcapReader<R> {
+    /// A reader at the start of a file, which keeps the first `keep` octets of a frame at most.
+    pub fn new(source: R, keep: usize) -> PcapReader<R>
+        requires { R.failed source < 2 ^ 64 - 1 }
+        ensures start { result.stage ≡ stages.Start }
+        ensures keep { result.keep ≡ keep }
+        ensures rest { result.rest ≡ R.remaining source }
+        ensures failures { result.failures ≡ R.failed source }
+    {
+        PcapReader {
+            source,
+            keep,
+            stage: Stage::Start,
+        }
+    }
+
+    /// The next step: first the header of the file is passed over; then each call gives a record,
+    /// whose octets are put into the buffer in place of what is there, or the end.
+    ///
+    /// A field is checked before any octet behind it is read. After a fault each call answers C5.
+    pub fn next_into(&mut self, frame: &mut Vec<u8>) -> Result<Step, SourceFault>
+        ensures answer { IsAnswer self.old.stage self.new.stage self.old.keep frame.new.items
+            self.old.rest self.new.rest result }
+        ensures counts { self.new.failures ≡ self.old.failures + (if is_io result then 1 else 0) }
+        ensures keep { self.new.keep ≡ self.old.keep }
+        ensures memory { self.old.keep ≤ vec_capacity frame.old
+            → result ≢ Err (faults.Capture captures.NoMemory) }
+    {
+        let answer = match self.stage {
+            Stage::Start => match read_header(&mut self.source) {
+                Ok(mark) => {
+                    self.stage = Stage::Records(mark);
+                    return Ok(Step::Passed);
+                }
+                Err(fault) => Err(fault),
+            },
+            Stage::Records(mark) => read_record(&mut self.source, mark, self.keep, frame),
+            Stage::Ended => return Ok(Step::End),
+            Stage::Failed => return Err(SourceFault::Capture(CaptureFault::Failed)),
+        };
+        match answer {
+            Ok(Step::End) => self.stage = Stage::Ended,
+            Ok(_) => {}
+            Err(_) => self.stage = Stage::Failed,
+        }
+        answer
+    }
+
+    /// The source, with what it has left.
+    pub fn into_inner(self) -> R
+        ensures rest { R.remaining result ≡ self.rest }
+        ensures failures { R.failed result ≡ self.failures }
+    {
+        self.source
+    }
+}
+
+/// The mark whose octets, the highest first, are this number.
+fn mark_in(number: u32) -> Option<Mark>
+    ensures { MatchOption result ((m : Mark) → number ≢ mark_number m)
+        (λ m. number ≡ mark_number m) }
+{
+    let (order, unit) = match number {
+        0xa1b2_c3d4 => (Order::High, Unit::Micro),
+        0xd4c3_b2a1 => (Order::Low, Unit::Micro),
+        0xa1b2_3c4d => (Order::High, Unit::Nano),
+        0x4d3c_b2a1 => (Order::Low, Unit::Nano),
+        _ => return None,
+    };
+    Some(Mark { order, unit })
+}
+
+/// The header of a file: what its mark says of the rest.
+fn read_header<S: Source>(source: &mut S) -> Result<Mark, SourceFault>
+    requires { S.failed source.old < 2 ^ 64 - 1 }
+    ensures header { IfOk result
+        (λ m. ReadsHeader m (S.remaining source.old) (S.remaining source.new)) }
+    ensures fault { IfErr result (IsHeaderFault (S.remaining source.old) (S.remaining source.new)) }
+    ensures counts { S.failed source.new ≡ S.failed source.old + (if is_io result then 1 else 0) }
+{
+    let mut first = [0; MARK];
+    fill_whole(source, &mut first)?;
+    let Some(mark) = mark_in(BigEndian::read_u32(&first)) else {
+        return Err(SourceFault::Malformed);
+    };
+    let mut version = [0; VERSION];
+    fill_whole(source, &mut version)?;
+    if half_at(mark.order, &version, 0) != MAJOR_VERSION {
+        return Err(SourceFault::Malformed);
+    }
+    let mut others = [0; OTHERS];
+    fill_whole(source, &mut others)?;
+    if word_at(mark.order, &others, LINK_TYPE) % LINK_TYPES != ETHERNET {
+        return Err(SourceFault::LinkType);
+    }
+    Ok(mark)
+}
+
+/// A record, of which the first octets of the frame go into the buffer, or the end.
+fn read_record<S: Source>(
+    source: &mut S,
+    mark: Mark,
+    keep: usize,
+    frame: &mut Vec<u8>,
+) -> Result<Step, SourceFault>
+    requires { S.failed source.old < 2 ^ 64 - 1 }
+    ensures step { IfOk result (IsRecordStep mark keep frame.new.items (S.remaining source.old)
+        (S.remaining source.new)) }
+    ensures fault { IfErr result
+        (IsRecordFault mark (S.remaining source.old) (S.remaining source.new)) }
+    ensures counts { S.failed source.new ≡ S.failed source.old + (if is_io result then 1 else 0) }
+    ensures memory { keep ≤ vec_capacity frame.old
+        → result ≢ Err (faults.Capture captures.NoMemory) }
+{
+    let mut head = [0; HEAD];
+    let Some(n) = fill(source, &mut head) else {
+        return Err(SourceFault::Capture(CaptureFault::Io));
+    };
+    if n == 0 {
+        return Ok(Step::End);
+    }
+    if n < HEAD {
+        return Err(SourceFault::CutFile);
+    }
+    let captured = word_at(mark.order, &head, CAPTURED);
+    if captured > LONGEST_CAPTURED {
+        return Err(SourceFault::Malformed);
+    }
+    let mut wire = [0; WIRE];
+    fill_whole(source, &mut wire)?;
+    read_frame(source, captured as usize, keep, frame)?;
+    let seconds = word_at(mark.order, &head, SECONDS);
+    let fraction = word_at(mark.order, &head, FRACTION);
+    Ok(Step::Record(Head {
+        moment: moment_at(mark.unit, seconds, fraction),
+        captured,
+        wire: word_at(mark.order, &wire, 0),
+        is_ethernet: true,
+    }))
+}
+
+/// The moment, in milliseconds.
+fn moment_at(unit: Unit, seconds: u32, fraction: u32) -> u64
+    ensures { result ≡ moment_of unit seconds fraction }
+{
+    let parts = match unit {
+        Unit::Micro => 1000,
+        Unit::Nano => 1_000_000,
+    };
+    1000 * u64::from(seconds) + u64::from(fraction / parts)
+}

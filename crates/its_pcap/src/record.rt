@@ -1,0 +1,79 @@
+//! What is told of a record, and what one call for records gives.
+
+ghost use Rattle.std.specs.Prelude.{◌≡◌};
+ghost use Rattle.its_pcap.specs.Records.{fault_of, record_code_of};
+
+use std::error::Error;
+use std::fmt;
+
+/// What is told of a record beside its octets.
+#[derive(Clone, Copy, Debug, PartialEq, Eq)]
+pub struct Head {
+    /// In milliseconds since the epoch of its file; a fraction is cut down.
+    pub moment: u64,
+    /// How many octets of the frame the file has: at most 262144.
+    pub captured: u32,
+    /// How many octets the frame had on the wire.
+    pub wire: u32,
+    /// Whether it was taken from an Ethernet.
+    pub is_ethernet: bool,
+}
+
+/// What one call for the next record gives.
+#[derive(Clone, Copy, Debug, PartialEq, Eq)]
+pub enum Step {
+    /// A record; its octets are in the buffer.
+    Record(Head),
+    /// A header or a block without a record was passed over: call again.
+    Passed,
+    /// The end of the file, answered from then on.
+    End,
+}
+
+/// Why a record is no frame to be checked.
+#[derive(Clone, Copy, Debug, PartialEq, Eq)]
+pub enum RecordFault {
+    /// P3: it was not taken from an Ethernet.
+    LinkType,
+    /// P4: fewer octets were captured than were on the wire.
+    CutFrame,
+}
+
+impl Head {
+    /// The first fault of the record: P3 before P4.
+    pub fn fault(&self) -> Option<RecordFault>
+        ensures { result ≡ fault_of self.now }
+    {
+        if !self.is_ethernet {
+            return Some(RecordFault::LinkType);
+        }
+        if self.captured < self.wire {
+            return Some(RecordFault::CutFrame);
+        }
+        None
+    }
+}
+
+impl RecordFault {
+    /// What logs and the program's lines show: `P3` or `P4`.
+    pub fn code(&self) -> &'static str
+        ensures { result.now ≡ record_code_of self.now }
+    {
+        match self {
+            RecordFault::LinkType => "P3",
+            RecordFault::CutFrame => "P4",
+        }
+    }
+}
+
+impl fmt::Display for RecordFault {
+    fn fmt<W: fmt::Write>(&self, f: &mut fmt::Formatter<W>) -> fmt::Result {
+        let sentence = match self {
+            RecordFault::LinkType => "another link layer than Ethernet",
+            RecordFault::CutFrame => "fewer octets were captured than were on the wire",
+        };
+        write!(f, "{sentence}")
+    }
+}
+
+impl Error for RecordFault {}
