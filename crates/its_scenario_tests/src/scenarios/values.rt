@@ -2,10 +2,11 @@
 
 ghost use Rattle.std.specs.Prelude.{◌<◌, ◌^◌};
 
-use super::{WORKED, read, with_event};
+use super::{read, with_event};
 use its_geometry::Area;
 use its_gnvalue::{GnAddress, Lifetime, Place, TrafficClass};
 use its_scenario::{Action, EventEntry, Geocast, SingleHop, StationEntry};
+use its_vectors::WORKED;
 use std::alloc::Global;
 use std::test::Fail;
 
