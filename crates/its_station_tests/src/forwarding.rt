@@ -2,11 +2,11 @@
 
 ghost use Rattle.std.specs.Prelude.{◌<◌, ◌≤◌, ◌^◌};
 
-use crate::vectors::{FIRST, SECOND, THIRD};
 use its_forwarding::{Choice, choose};
 use its_geometry::{Area, contains, distance2};
 use its_gnvalue::{GnAddress, LongPv, Mac, Place};
 use its_loctable::{Heard, LocationStore, OrderedTable, SortedTable, Verdict};
+use its_vectors::{FIRST, SECOND, THIRD};
 use std::alloc::Global;
 use std::process::Abort;
 use std::test::Fail;

@@ -1,5 +1,5 @@
-//! Tests of forwarding, of ports, of a station and of a world through their public calls, a module
-//! for each subject.
+//! Tests of forwarding, of ports and of a station through their public calls, a module for each
+//! subject.
 #![tactic(auto)]
 
 #[cfg(test)]
@@ -10,7 +10,3 @@ mod pieces;
 mod ports;
 #[cfg(test)]
 mod station;
-#[cfg(test)]
-mod vectors;
-#[cfg(test)]
-mod worlds;

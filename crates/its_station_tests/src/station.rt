@@ -13,12 +13,12 @@ mod refusals;
 mod restart;
 mod rows;
 
-use crate::vectors::{FIRST, PORT, SECOND};
 use its_faults::FrameFault;
 use its_geometry::Area;
 use its_gnvalue::{GnAddress, Lifetime, Place, TrafficClass};
 use its_loctable::LocationStore;
 use its_station::{GbcRequest, Handed, Outcome, Refused, Reply, Station, Why};
+use its_vectors::{FIRST, LINK, PORT, SECOND};
 use std::alloc::Global;
 use std::process::Abort;
 use std::test::Fail;
@@ -167,4 +167,12 @@ fn request<'a>(area: Area, payload: &'a [u8]) -> GbcRequest<'a> {
 fn geobroadcast<S: LocationStore>(alloc: Global) -> Result<Vec<u8>, Fail> {
     let request = request(circle()?, b"hi");
     Ok(sender::<S>(alloc)?.send_geobroadcast(1000, &request)?)
+}
+
+/// The frame in which the second station passes on one that came with ten hops left.
+fn relay_of(frame: &Vec<u8>) -> Result<Vec<u8>, Fail> {
+    let mut relay = frame.clone()?;
+    *relay.get_mut(11).ok_or("short")? = 2;
+    *relay.get_mut(LINK + 3).ok_or("short")? = 9;
+    Ok(relay)
 }

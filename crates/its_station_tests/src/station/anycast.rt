@@ -1,10 +1,10 @@
 //! Geoanycasts, which stop at the first station inside of the area.
 
 use super::{BEACON, DUPLICATE, Fate, circle, expect, fate_of, receiver, request, sender, station};
-use crate::vectors::{GEOBROADCAST, LINK, SECOND};
 use its_faults::{Fault, FaultKind, FrameFault};
 use its_loctable::{LocationStore, OrderedTable, SortedTable};
 use its_station::Refused;
+use its_vectors::{GEOBROADCAST, LINK, SECOND};
 use std::alloc::Global;
 use std::process::Abort;
 use std::test::Fail;

@@ -1,9 +1,9 @@
 //! The example of the README and of the station's documentation, line by line.
 
-use crate::vectors::GEOBROADCAST;
 use its_gnvalue::{GnAddress, Place};
 use its_loctable::SortedTable;
 use its_station::{Outcome, Station};
+use its_vectors::GEOBROADCAST;
 use std::test::Fail;
 
 #[test]

@@ -4,9 +4,9 @@ ghost use Rattle.std.specs.Prelude.{All};
 ghost use Rattle.its_station.specs.Runs.{IsInRange};
 
 use super::{DUPLICATE, Fate, SHORT, expect, fate_of_reply, station};
-use crate::vectors::{GEOBROADCAST, PORT, SECOND, THIRD};
 use its_loctable::{LocationStore, OrderedTable, SortedTable};
 use its_station::{Call, Station};
+use its_vectors::{GEOBROADCAST, PORT, SECOND, THIRD};
 use std::alloc::Global;
 use std::process::Abort;
 use std::test::Fail;

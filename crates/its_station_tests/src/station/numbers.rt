@@ -3,10 +3,10 @@
 ghost use Rattle.std.specs.Prelude.{◌≤◌};
 
 use super::{DUPLICATE, Fate, circle, expect, fate_of, receiver, request, sender};
-use crate::vectors::{LINK, PORT, SECOND};
 use its_gnvalue::{GnAddress, Place};
 use its_loctable::{LocationStore, OrderedTable, SortedTable};
 use its_station::Station;
+use its_vectors::{LINK, PORT, SECOND};
 use std::alloc::Global;
 use std::process::Abort;
 use std::test::Fail;

@@ -3,10 +3,10 @@
 use super::{
     DUPLICATE, Fate, circle, deliver, expect, fate_of, geobroadcast, receiver, request, sender,
 };
-use crate::vectors::PORT;
 use its_gnvalue::Place;
 use its_loctable::{LocationStore, OrderedTable, SortedTable};
 use its_station::Refused;
+use its_vectors::PORT;
 use std::alloc::Global;
 use std::process::Abort;
 use std::test::Fail;

@@ -2,14 +2,14 @@
 
 use super::{
     BEACON, DUPLICATE, Fate, SINGLE_HOP, circle, deliver, expect, expect_octets, fate_of,
-    geobroadcast, receiver, request, sender, station,
+    geobroadcast, receiver, relay_of, request, sender, station,
 };
-use crate::vectors::{FIRST, GEOBROADCAST, LINK, PORT, SECOND, THIRD, relay_of};
 use its_faults::{Fault, FaultKind, FrameFault};
 use its_geometry::Area;
 use its_gnvalue::{GnAddress, Place, TrafficClass};
 use its_loctable::{LocationStore, OrderedTable, SortedTable};
 use its_station::{Refused, ShbRequest, Station, Why};
+use its_vectors::{FIRST, GEOBROADCAST, LINK, PORT, SECOND, THIRD};
 use std::alloc::Global;
 use std::process::Abort;
 use std::test::Fail;

@@ -7,10 +7,10 @@ mod memory;
 mod refusals;
 mod schedules;
 
-use crate::vectors::PORT;
 use its_geometry::Area;
 use its_gnvalue::{GnAddress, Lifetime, Place, TrafficClass};
 use its_station::{OwnedGbcRequest, Why};
+use its_vectors::PORT;
 use its_world::{Config, Entry, EntryFault, Event, What};
 use std::alloc::Global;
 use std::test::Fail;

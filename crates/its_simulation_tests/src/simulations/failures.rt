@@ -1,16 +1,16 @@
 //! A reader or an output that fails, files, and every budget of memory from none to enough.
 
-use super::{DELIVER, OPEN, SEND, STATIONS, scenario, simulation_of};
-use crate::commands::memory::{BUDGETS, Budgets};
-use crate::commands::{Left, NOTHING};
+use super::{DELIVER, Left, OPEN, SEND, STATIONS, scenario, simulation_of};
 use its_commands::{Status, simulate, simulate_file};
-use its_shortage::{STEP, Shortage, written};
+use its_shortage::{MOST, STEP, Shortage, written};
 use std::io::Read;
 use std::test::Fail;
 use std::{env, fs, io};
 
 static LINES: &str =
     "0 0 1 opened\n1 1000 0 sent 0\n2 1010 1 accepted port 2002 info 0 6869 sent 1\n";
+
+static NO_MEMORY: &[u8] = b"geostation: out of memory\n";
 
 /// Two stations with the smallest location tables.
 static SMALL: &str = "\
@@ -19,6 +19,9 @@ station = [
   {address = \"1400020000000002\", lat = 449, lon = 0, capacity = 1, remember = 1},
 ]
 ";
+
+/// Standard input with nothing in it.
+static NOTHING: &[u8] = b"";
 
 /// A reader that gives these octets, and then fails.
 #[derive(Drop)]
@@ -96,17 +99,23 @@ fn it_runs_short_of_memory(rt: HostRuntime) -> Result<(), Fail> {
     let alloc = rt.alloc();
     let text = scenario(alloc, SMALL, &[OPEN, SEND, DELIVER])?;
     let mut shortage = Shortage::new(alloc)?;
-    let mut budgets = Budgets::new();
-    for step in 0..BUDGETS {
+    let (mut done, mut refused) = (0u32, 0u32);
+    for step in 0..=MOST / STEP {
         assert!(rt; shortage.leave(step * STEP));
         let (mut printed, mut said) = ([0u8; 200], [0u8; 64]);
         let (mut out, mut err) = (printed.as_mut_slice(), said.as_mut_slice());
         let status = simulate(alloc, "a.toml", text.as_bytes(), &mut out, &mut err);
-        if budgets.count(&rt, status, &said) {
+        let is_done = status == Status::Done;
+        if is_done {
+            done = done.saturating_add(1);
             assert_eq!(rt; written(&printed), LINES.as_bytes());
+        } else {
+            refused = refused.saturating_add(1);
+            assert_eq!(rt; status, Status::Failed);
         }
+        assert_eq!(rt; written(&said), if is_done { NOTHING } else { NO_MEMORY });
         assert!(rt; LINES.as_bytes().starts_with(written(&printed)));
     }
-    budgets.expect_both(&rt);
+    assert!(rt; refused > 0 && done > 0);
     Ok(())
 }

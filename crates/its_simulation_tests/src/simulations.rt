@@ -5,10 +5,10 @@ mod failures;
 mod large;
 mod refusals;
 
-use crate::commands::Left;
-use its_commands::simulate;
+use its_commands::{Status, simulate};
 use std::alloc::{AllocError, Global};
 use std::io::Read;
+use std::process::Abort;
 
 /// Three stations: station 1 is 50 m north of station 0, and station 2 is 50 m east of it.
 static STATIONS: &str = "\
@@ -38,6 +38,33 @@ static DELIVER: &str = "station = 1, at = 1010, do = \"deliver\", frame = 0";
 /// Station 1 moves out of the circle, at moment 0.
 static MOVE_OUT: &str = "station = 1, at = 0, do = \"move\", lat = 100000, lon = 0, pai = false, \
     speed = 0, heading = 0";
+
+/// What the command left: its status, standard output and standard error.
+#[derive(Drop)]
+struct Left {
+    status: Status,
+    out: Vec<u8>,
+    err: Vec<u8>,
+}
+
+impl Left {
+    /// It left just this.
+    fn expect(&self, rt: &impl Abort, status: Status, out: &[u8], err: &[u8]) {
+        assert_eq!(rt; self.err.as_slice(), err);
+        assert_eq!(rt; self.out.as_slice(), out);
+        assert_eq!(rt; self.status, status);
+    }
+
+    /// It left this on standard output, and nothing on standard error.
+    fn expect_out(&self, rt: &impl Abort, status: Status, out: &str) {
+        self.expect(rt, status, out.as_bytes(), b"");
+    }
+
+    /// It left this on standard error, and nothing on standard output.
+    fn expect_err(&self, rt: &impl Abort, status: Status, err: &str) {
+        self.expect(rt, status, b"", err.as_bytes());
+    }
+}
 
 fn simulation_of<R: Read + Drop>(alloc: Global, reader: R) -> Left {
     let (mut out, mut err) = (Vec::new(alloc), Vec::new(alloc));

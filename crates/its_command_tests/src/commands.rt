@@ -68,31 +68,31 @@ static SHORT: &str = "0000000000000005000100";
 static EMPTY: &str = "00000000000000050000";
 
 /// Standard input with nothing in it.
-pub(crate) static NOTHING: &[u8] = b"";
+static NOTHING: &[u8] = b"";
 
 /// What a command left: its status, standard output and standard error.
 #[derive(Drop)]
-pub(crate) struct Left {
-    pub status: Status,
-    pub out: Vec<u8>,
-    pub err: Vec<u8>,
+struct Left {
+    status: Status,
+    out: Vec<u8>,
+    err: Vec<u8>,
 }
 
 impl Left {
     /// It left just this.
-    pub(crate) fn expect(&self, rt: &impl Abort, status: Status, out: &[u8], err: &[u8]) {
+    fn expect(&self, rt: &impl Abort, status: Status, out: &[u8], err: &[u8]) {
         assert_eq!(rt; self.err.as_slice(), err);
         assert_eq!(rt; self.out.as_slice(), out);
         assert_eq!(rt; self.status, status);
     }
 
     /// It left this on standard output, and nothing on standard error.
-    pub(crate) fn expect_out(&self, rt: &impl Abort, status: Status, out: &str) {
+    fn expect_out(&self, rt: &impl Abort, status: Status, out: &str) {
         self.expect(rt, status, out.as_bytes(), b"");
     }
 
     /// It left this on standard error, and nothing on standard output.
-    pub(crate) fn expect_err(&self, rt: &impl Abort, status: Status, err: &str) {
+    fn expect_err(&self, rt: &impl Abort, status: Status, err: &str) {
         self.expect(rt, status, b"", err.as_bytes());
     }
 }

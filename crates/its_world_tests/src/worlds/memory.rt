@@ -5,8 +5,8 @@ ghost use Rattle.std.specs.Prelude.{◌≤◌, All, IfOk, length};
 ghost use Rattle.its_world.specs.Events.{IsConfig, IsInRange};
 
 use super::{Fate, config, deliver, fate_of, open, send};
-use crate::vectors::{FIRST, GEOBROADCAST, SECOND, relay_of};
 use its_shortage::Shortage;
+use its_vectors::{FIRST, GEOBROADCAST, RELAYED, SECOND};
 use its_world::{Config, Event, Run, World, WorldFault};
 use std::alloc::Global;
 use std::process::Abort;
@@ -109,7 +109,7 @@ fn a_world_runs_short_of_memory(rt: HostRuntime) -> Result<(), Fail> {
     let configs = [config(FIRST, 0, 0)?, config(SECOND, 449, 0)?];
     let events = [open(1), send(alloc)?, deliver(1, 0)];
     let sent = hex::decode(alloc, GEOBROADCAST)?;
-    let relayed = relay_of(&sent)?;
+    let relayed = hex::decode(alloc, RELAYED)?;
     let mut ends = [0u32; 4];
     for step in 0..BUDGETS {
         let begun = begin(&rt, alloc, &configs, &events, step * APART)?;

@@ -1,8 +1,8 @@
 //! One geobroadcast among three stations, under every schedule of five deliveries.
 
 use super::{Fate, config, deliver, fate_of, open, send};
-use crate::vectors::{FIRST, GEOBROADCAST, LINK, SECOND, THIRD};
 use its_station::Why;
+use its_vectors::{FIRST, GEOBROADCAST, LINK, SECOND, THIRD};
 use its_world::{EntryFault, World};
 use std::alloc::Global;
 use std::process::Abort;

@@ -1,9 +1,10 @@
 //! What is read of a scenario.
 
-use super::{WORKED, read, with_event};
+use super::{read, with_event};
 use its_geometry::Area;
 use its_gnvalue::{GnAddress, Lifetime, Place, TrafficClass};
 use its_station::{OwnedGbcRequest, OwnedShbRequest};
+use its_vectors::WORKED;
 use its_world::{Config, Event, What};
 use std::alloc::Global;
 use std::test::Fail;

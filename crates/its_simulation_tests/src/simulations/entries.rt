@@ -4,8 +4,8 @@ use super::{
     ANYCAST, DELIVER, MOVE_OUT, OPEN, SEND, STATIONS, append_event, left_by, scenario_begun,
     simulation_of,
 };
-use crate::scenarios::WORKED;
 use its_commands::Status;
+use its_vectors::WORKED;
 use std::alloc::Global;
 use std::process::Abort;
 use std::test::Fail;

@@ -1,8 +1,9 @@
 //! Scenarios with every budget of memory from none to enough.
 
-use super::{MOST_STATIONS, WORKED};
+use super::MOST_STATIONS;
 use its_scenario::{Scenario, ScenarioFault};
 use its_shortage::{MOST, STEP, Shortage};
+use its_vectors::WORKED;
 use std::test::Fail;
 
 /// Out of memory is told apart: it is never a bad document, and never bad hexadecimal digits.

@@ -3,8 +3,8 @@
 ghost use Rattle.its_world.specs.Events.{IsInRange};
 
 use super::{Fate, config, deliver, fate_of, open, send};
-use crate::vectors::{FIRST, SECOND};
 use its_station::{Refused, Why};
+use its_vectors::{FIRST, SECOND};
 use its_world::{EntryFault, Event, World, WorldFault};
 use std::process::Abort;
 use std::test::Fail;

@@ -1,0 +1,5 @@
+//! Tests of packets, frames and captures through their public calls.
+#![tactic(auto)]
+
+#[cfg(test)]
+mod packets;
