@@ -1,5 +1,6 @@
 -- When a station's next beacon is due.
-use Rattle.std.proofs.Common.{◌≡◌, ℕ, ◌≤◌, ◌<◌, ◌+◌, ◌^◌, ◌⊎◌, Bool, true, false, Some, None, cond, inl, inr}
+use Rattle.std.proofs.Common.{◌≡◌, ℕ, ◌≤◌, ◌<◌, ◌+◌, ◌^◌, ◌⊎◌, Bool, true, false, Some, None}
+use Rattle.std.proofs.Common.{cond, inl, inr}
 use Rattle.std.proofs.Common.{leb, ltb, refl, ap, ◌∙◌, arith, tests}
 use Rattle.std.proofs.lemmas.Bool.{le-ltb}
 use Rattle.its_model.specs.Calls.Answer.{Sent, Quiet, Refused}

@@ -2,7 +2,7 @@
 //! does with the frames that come. It does no input or output and reads no clock: octets, positions
 //! and moments come in, payloads at ports and frames to send go out.
 //!
-//! A device embeds it so, with `octets` that came from its link at `now`, in milliseconds:
+//! A device embeds it so, over the frames that its link gives it, each with its moment:
 //!
 //! ```
 //! let address = GnAddress::from_u64(0x1400_0200_0000_0002)?;
@@ -10,24 +10,54 @@
 //! let mut station: Station<SortedTable> = Station::new(alloc, address, here, 64, 8)?;
 //! station.open(0, 2002)?;
 //!
-//! match station.receive(now, &octets)? {
-//!     Outcome::Accepted { handed, sent } => {
-//!         if let Some(message) = handed {
-//!             inbox.extend_from_slice(message.payload)?;
+//! for (now, octets) in &link {
+//!     match station.receive(*now, octets) {
+//!         Ok(Outcome::Accepted { handed, sent }) => {
+//!             if let Some(message) = handed {
+//!                 inbox.extend_from_slice(message.payload)?;
+//!             }
+//!             if let Some(frame) = sent {
+//!                 outbox.push(frame)?;
+//!             }
 //!         }
-//!         if let Some(frame) = sent {
-//!             outbox.push(frame)?;
-//!         }
+//!         Ok(Outcome::Ignored(_)) => {}
+//!         Err(refused) => log.push(refused.code())?,
 //!     }
-//!     Outcome::Ignored(_) => {}
-//! }
-//! if let Some(beacon) = station.tick(now, 0)? {
-//!     outbox.push(beacon)?;
+//!     match station.tick(*now, 0) {
+//!         Ok(Some(beacon)) => outbox.push(beacon)?,
+//!         Ok(None) => {}
+//!         Err(refused) => log.push(refused.code())?,
+//!     }
 //! }
 //! ```
 //!
+//! A frame from the air that is refused ends nothing: the station stands as before.
+//!
 //! Each call is a step of the station that `its_model` defines: its contract says the answer and
 //! the station afterwards. A call that is refused changes nothing.
+//!
+//! # What a maker has to know
+//!
+//! - **Clock.** A moment is milliseconds of any clock that doesn't fall, at most 2^62; for the
+//!   standard's time stamps, those of TAI since 2004-01-01. After a step back each call is refused
+//!   (S1) until the clock has caught up.
+//! - **Beacons.** `next_beacon` is when to wake. A jitter of 0 to 750 ms is drawn once for a beacon
+//!   and handed to each `tick` until that gave it: drawn anew for each `tick`, beacons come early.
+//!   `move_to` sets the time stamp that packets carry; before it is called, that is 0.
+//! - **Memory.** The table has room for `capacity` live sources, 1 to 4096, and up to 64 sequence
+//!   numbers of each. `SortedTable` takes it all in `new`; `OrderedTable` takes it as sources come.
+//!   Of the calls, `tick` with a beacon that is due, `send_*`, a frame that goes on and, over
+//!   `OrderedTable`, a new source allocate: the frame, and for `send_*` its payload before. What is
+//!   delivered is a slice of the frame that came.
+//! - **Frames** have at most 1468 octets, payloads of requests at most 1394.
+//! - **Refusals.** S1, S2: the caller's clock is wrong. S3: junk came. S4: the table is full of
+//!   live sources; frames of those it has go on. S5: an allocation failed, and the call may be made
+//!   again. S6, S7: the request can't be sent as it is. S8: the port is open or closed already, or
+//!   64 are open. S9: the jitter is too long. Each leaves the station as it was.
+//! - **Sources are isolated**: what one source and the applications see doesn't depend on frames of
+//!   other sources, as long as moments don't fall and the table was never full (no S4); proved of
+//!   `run`, for the calls done before memory ran out.
+//! - **Threads.** A station is for one thread at a time. It does no locking.
 #![tactic(auto)]
 
 mod counts;

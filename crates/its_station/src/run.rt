@@ -100,9 +100,11 @@ pub struct Ran {
 impl<S: LocationStore> Station<S> {
     /// Makes the calls in order, each at its moment, until memory runs out: then neither the call
     /// that met it nor any after it is made, and the station stands as after those before it. The
-    /// speed of each `MoveTo` has to be in its range. Sources are isolated: what the station's own
-    /// applications and one source see of the answers doesn't depend on the frames of other
-    /// sources.
+    /// speed of each `MoveTo` has to be in its range. Sources are isolated: where moments don't
+    /// fall and no answer is that the table is full (S4), in these calls and all before, what the
+    /// station's own applications and one source see of the answers to the calls done doesn't
+    /// depend on the frames of other sources. The link target of an own packet for an area may, and
+    /// which frames go on.
     pub fn run(&mut self, calls: &[(u64, Call)]) -> Ran
         requires { All (λ call. IsInRange call.1) calls.now }
         ensures done { length result.replies.items ≤ length calls.now }

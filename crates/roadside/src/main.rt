@@ -20,12 +20,11 @@ use its_station::{Counts, Outcome, Refused, Station};
 use std::alloc::Global;
 
 /// The unit stands at a crossing, knows up to 64 stations, and remembers 8 packets of each. Port
-/// 2002 is that of hazard warnings. Handing in its place gives its packets a time stamp.
+/// 2002 is that of hazard warnings.
 fn unit(alloc: Global) -> anyhow::Result<Station<SortedTable>> {
     let address = GnAddress::from_u64(0x3c00_0200_0000_0010)?;
     let here = Place::new(449, 0)?;
     let mut station = Station::new(alloc, address, here, 64, 8)?;
-    station.move_to(1000, here, true, 0, 0)?;
     station.open(1000, 2002)?;
     Ok(station)
 }
@@ -38,19 +37,15 @@ fn hear(
     now: u64,
     octets: &[u8],
 ) -> anyhow::Result<()> {
-    let frame = match read_frame(octets) {
-        Ok(frame) => frame,
-        Err(fault) => {
-            counts.note_received(&Err(Refused::Frame(fault)));
-            println!(rt; "refused {}", Refused::Frame(fault).code())?;
-            return Ok(());
-        }
+    let read = read_frame(octets);
+    let answer = match &read {
+        Ok(frame) => station.receive_frame(now, frame),
+        Err(fault) => Err(Refused::Frame(*fault)),
     };
-    let answer = station.receive_frame(now, &frame);
     counts.note_received(&answer);
     match answer {
         Ok(Outcome::Accepted { handed, sent }) => {
-            if let Some(message) = handed {
+            if let (Some(message), Ok(frame)) = (handed, read) {
                 let payload = hex::encode(rt.alloc(), message.payload)?;
                 let source = frame.packet.vector().address().as_u64();
                 println!(rt; "deliver {payload} from {source:016x}")?;
@@ -65,8 +60,8 @@ fn hear(
     Ok(())
 }
 
-/// Sleeps until a moment, and sends each beacon that is due until then. A refused call changes
-/// nothing, so its beacon stays due: it is sent when the unit wakes next.
+/// Sleeps until a moment, and sends each beacon that is due until then. It hands in its place
+/// before, which gives the beacon its time stamp.
 fn sleep_until(
     rt: &(impl Print + AllocGlobal),
     station: &mut Station<SortedTable>,
@@ -78,11 +73,11 @@ fn sleep_until(
         if wakes > moment {
             return Ok(());
         }
-        let Some(beacon) = station.tick(wakes, 0)? else {
-            return Ok(());
-        };
-        counts.note_sent(Kind::Beacon);
-        println!(rt; "send {}", hex::encode(rt.alloc(), beacon)?)?;
+        station.move_to(wakes, station.vector().place(), true, 0, 0)?;
+        if let Some(beacon) = station.tick(wakes, 0)? {
+            counts.note_sent(Kind::Beacon);
+            println!(rt; "send {}", hex::encode(rt.alloc(), beacon)?)?;
+        }
     }
     Ok(())
 }
@@ -100,9 +95,14 @@ fn main(rt: HostRuntime) -> anyhow::Result<()> {
         let frame = hex::decode(rt.alloc(), digits)?;
         hear(&rt, &mut station, &mut counts, now, frame.as_slice())?;
     }
-    let Counts { received, accepted, delivered, relayed, .. } = counts;
-    println!(rt; "received {received} accepted {accepted} delivered {delivered} relayed {relayed}")?;
-    println!(rt; "ignored {} refused {}", counts.ignored.duplicate, counts.refused.frame)?;
-    println!(rt; "beacons {}", counts.sent.beacons)?;
+    println!(rt;
+        "received {} delivered {}",
+        counts.received, counts.delivered
+    )?;
+    println!(rt;
+        "duplicates {} junk {}",
+        counts.ignored.duplicate, counts.refused.frame
+    )?;
+    println!(rt; "beacons {} relays {}", counts.sent.beacons, counts.relayed)?;
     Ok(())
 }

@@ -28,7 +28,8 @@ returns-in-Ok-clause-payload g c =
     (transmission_of c.in-Ok.view) c.args.frame.now c.in-Ok.ensures.found c.receive_frame.result
     c.receive_frame.ensures.payload
 
-pub returns-in_err-check_moment-in-Err-clause-step : goal.returns-in_err-check_moment-in-Err-clause-step
+pub returns-in_err-check_moment-in-Err-clause-step :
+    goal.returns-in_err-check_moment-in-Err-clause-step
 returns-in_err-check_moment-in-Err-clause-step g c = (
   Junk c.in-Err.fault,
   c.in-Err.ensures.fault,
@@ -36,7 +37,8 @@ returns-in_err-check_moment-in-Err-clause-step g c = (
       c.from_residual.ensures.1 c.in_err-check_moment-in-Err.ensures.refusal,
 )
 
-pub returns-in_ok-check_moment-in-Err-clause-step : goal.returns-in_ok-check_moment-in-Err-clause-step
+pub returns-in_ok-check_moment-in-Err-clause-step :
+    goal.returns-in_ok-check_moment-in-Err-clause-step
 returns-in_ok-check_moment-in-Err-clause-step g c = (
   Junk c.in-Err.fault,
   c.in-Err.ensures.fault,

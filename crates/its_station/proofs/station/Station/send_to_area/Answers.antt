@@ -38,7 +38,8 @@ pub returns-then-r-gt-MAX_PAYLOAD-clause-step : goal.returns-then-r-gt-MAX_PAYLO
 returns-then-r-gt-MAX_PAYLOAD-clause-step g c =
     let r = gbc_request c.args.r.now in
     own_refused_later TellsSent c.args.self.now c.args.now
-    (area_call (kind_of_cast c.args.cast) r) refused.PayloadTooLong c.in_ok-check_moment.ensures.refusal
+    (area_call (kind_of_cast c.args.cast) r) refused.PayloadTooLong
+    c.in_ok-check_moment.ensures.refusal
     (λ ports history.
     (λ i. first
     (cond (sym (lt-ltb 1394 (length c.args.r.now.payload.now) c.if-r-gt-MAX_PAYLOAD.true) i)
@@ -50,7 +51,8 @@ pub returns-then-r-eq0-clause-step : goal.returns-then-r-eq0-clause-step
 returns-then-r-eq0-clause-step g c =
     let r = gbc_request c.args.r.now in
     own_refused_later TellsSent c.args.self.now c.args.now
-    (area_call (kind_of_cast c.args.cast) r) refused.HopLimitZero c.in_ok-check_moment.ensures.refusal
+    (area_call (kind_of_cast c.args.cast) r) refused.HopLimitZero
+    c.in_ok-check_moment.ensures.refusal
     (λ ports history.
     sym (λ i. first
     (cond (le-ltb 1394 (length c.args.r.now.payload.now) c.if-r-gt-MAX_PAYLOAD.false i)
@@ -64,9 +66,11 @@ returns-clause-step g c =
     let kind = kind_of_cast c.args.cast in
     let st = c.args.self.now in
     let body = area_body kind st.next_number r.area r.message in
-    own_done_step TellsSent c.in_ok-frame.frame st c.set_numbered.new.self _ c.args.now (area_call kind r)
+    own_done_step TellsSent c.in_ok-frame.frame st c.set_numbered.new.self _ c.args.now
+    (area_call kind r)
     (λ ports history. model.Answer.Sent (area_packet (model_of st ports history) c.args.now r body))
-    (λ ports. ports) (λ history. history) c.set_numbered.ensures c.in_ok-check_moment.ensures.refusal
+    (λ ports. ports) (λ history. history) c.set_numbered.ensures
+    c.in_ok-check_moment.ensures.refusal
     (λ ports history past. refusal_area kind (model_of st ports history) r
     ∙ allowed r c.if-r-gt-MAX_PAYLOAD.false c.if-r-eq0.false)
     (λ ports history. performed_area kind (model_of st ports history) c.args.now r)
