@@ -103,20 +103,21 @@ fn program<'a>(alloc: Global) -> Command<'a> {
         .subcommand_required(true)
 }
 
-/// The program with one more command, which there was memory for or not.
+/// The program with one more command, where there was memory for both.
 fn with<'a>(
-    program: Command<'a>,
+    program: Result<Command<'a>, AllocError>,
     command: Result<Command<'a>, AllocError>,
 ) -> Result<Command<'a>, AllocError> {
-    program.subcommand(command?)
+    program?.subcommand(command?)
 }
 
-/// The program with its commands, in the order of its help.
+/// The program with its commands, in the order of its help. No `?` stands here: each would have all
+/// that was made before it dropped, and the function takes a minute to prove.
 fn whole<'a>(alloc: Global) -> Result<Command<'a>, AllocError> {
-    let whole = with(program(alloc), show(alloc))?;
-    let whole = with(whole, check(alloc))?;
-    let whole = with(whole, import(alloc))?;
-    let whole = with(whole, sim(alloc))?;
+    let whole = with(Ok(program(alloc)), show(alloc));
+    let whole = with(whole, check(alloc));
+    let whole = with(whole, import(alloc));
+    let whole = with(whole, sim(alloc));
     with(whole, mesh(alloc))
 }
 

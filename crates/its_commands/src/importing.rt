@@ -1,7 +1,8 @@
 //! The command `import`: lines of a moment and hexadecimal digits become a capture.
 
-ghost use Rattle.std.specs.Prelude.{◌≡◌, ◌+◌, ◌%◌, ◌==◌, ℕ, IfOk, IfErr, All, IsErr, IsTrue};
+ghost use Rattle.std.specs.Prelude.{◌≡◌, ◌+◌, ◌%◌, ◌==◌, ℕ, IfOk, IfErr, All, IsErr, IsTrue, ◌⊎◌};
 ghost use Rattle.std.specs.Prelude.{length, vec_len};
+ghost use Rattle.std.specs.Char.{IsAsciiHexdigit};
 ghost use Rattle.its_linkframe.specs.Captures.{IsFrameLength};
 ghost use Rattle.its_commands.specs.Lines.{HasFrame};
 ghost use Rattle.its_commands.specs.Statuses.{IsStopped, IsWriterStatus};
@@ -75,9 +76,13 @@ fn read_frame(alloc: Global, digits: &[u8]) -> Result<Vec<u8>, LineError>
 /// The fault of the digits of a line that is longer than each record's: `digits`, and what goes on
 /// past them.
 fn fault_of_long(digits: &[u8], passed: Passed) -> LineFault
+    ensures hex { (result ≡ LineFault.Hex) ⊎ (result ≡ LineFault.Length) }
     ensures odd { (n : ℕ) → passed.odd ≡ (n % 2 == 1) → (length digits.now + n) % 2 ≡ 1
         → result ≡ LineFault.Hex }
     ensures stray { IsTrue passed.stray → result ≡ LineFault.Hex }
+    ensures digits { result ≡ LineFault.Length → All IsAsciiHexdigit digits.now }
+    ensures length { (n : ℕ) → passed.odd ≡ (n % 2 == 1) → (length digits.now + n) % 2 ≡ 0
+        → ¬ IsTrue passed.stray → All IsAsciiHexdigit digits.now → result ≡ LineFault.Length }
 {
     let odd = passed.odd != (digits.len() % 2 == 1);
     if odd || passed.stray || !are_digits(digits) {
@@ -109,7 +114,8 @@ fn read_line(alloc: Global, line: &Line) -> Result<Record, LineError>
 }
 
 /// Reads all lines that the reader gives, or reports the first that is bad. `file` is their name.
-/// Empty lines are passed over.
+/// Empty lines are passed over. A line is checked as a whole, and no more of it is kept than the
+/// 2957 octets of the longest record.
 ///
 /// `Refused` for a bad line, `Failed` where a read failed or memory ran out.
 pub fn read_lines<R: BufRead + Drop, E: Write>(

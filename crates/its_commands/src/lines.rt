@@ -1,7 +1,8 @@
 //! The lines of a text, one at a time: of each no more is kept than a record can have.
 
 ghost use Rattle.std.specs.Prelude.{◌≡◌, ◌≤◌, ◌<◌, ◌+◌, ◌%◌, ◌==◌, ◌++◌, ◌↔◌, ◌⊎◌, ℕ, length, take};
-ghost use Rattle.std.specs.Prelude.{IsTrue, vec_len, vec_capacity};
+ghost use Rattle.std.specs.Prelude.{All, IsTrue, vec_len, vec_capacity};
+ghost use Rattle.std.specs.Char.{IsAsciiHexdigit};
 ghost use Rattle.its_commands.specs.declared.lines.TheConstants.{LONGEST_LINE};
 
 use its_linkframe::LONGEST_FRAME;
@@ -41,7 +42,8 @@ impl Passed {
         ensures any { IsTrue self.new.any ↔ (IsTrue self.old.any ⊎ (0 < length octets.now)) }
         ensures odd { (n : ℕ) → self.old.odd ≡ (n % 2 == 1)
             → self.new.odd ≡ ((n + length octets.now) % 2 == 1) }
-        ensures stray { IsTrue self.old.stray → IsTrue self.new.stray }
+        ensures stray { IsTrue self.new.stray
+            ↔ (IsTrue self.old.stray ⊎ ¬ All IsAsciiHexdigit octets.now) }
     {
         self.any |= !octets.is_empty();
         self.odd ^= octets.len() % 2 == 1;
@@ -50,7 +52,9 @@ impl Passed {
 }
 
 /// Whether each octet is a hexadecimal digit.
-pub(crate) fn are_digits(octets: &[u8]) -> bool {
+pub(crate) fn are_digits(octets: &[u8]) -> bool
+    ensures { IsTrue result ↔ All IsAsciiHexdigit octets.now }
+{
     octets.iter().all(|octet| octet.is_ascii_hexdigit())
 }
 

@@ -64,54 +64,81 @@ fn the_program_fails_where_its_output_does(rt: HostRuntime) -> Result<(), Fail> 
     Ok(())
 }
 
-/// Runs the program under each budget: it does all that it does with ample memory, or it prints
-/// nothing and ends with the status and the line of out of memory. Both come about.
-fn runs_short_of_memory(rt: &HostRuntime, line: &[u8], whole: &[u8]) -> Result<bool, AllocError> {
+/// A run of the program: its arguments, and what it prints with ample memory.
+type Run<'a> = (&'a [u8], &'a [u8]);
+
+/// Runs the program under a budget: it prints all that it prints with ample memory, or nothing, and
+/// ends with the status and the line of out of memory. Whether it was done, where it did one of
+/// these.
+fn done_under_budget(rt: &HostRuntime, (line, whole): Run<'_>) -> Option<bool> {
+    let (mut printed, mut said) = ([0u8; 700], [0u8; 64]);
+    let (mut out, mut err) = (printed.as_mut_slice(), said.as_mut_slice());
+    let arguments = env::args(&Given { rt, line });
+    let status = program::run(rt, arguments, b"".as_slice(), &mut out, &mut err);
+    let (printed, said) = (written(&printed), written(&said));
+    let is_done = status == Status::Done && printed == whole && said.is_empty();
+    let is_refused = status == Status::Failed && printed.is_empty() && said == NO_MEMORY;
+    if is_done || is_refused {
+        Some(is_done)
+    } else {
+        None
+    }
+}
+
+/// Runs the program under each budget: all runs are refused under the first, done under the last,
+/// and each is one of these under all others.
+fn runs_short_of_memory(rt: &HostRuntime, runs: &[Run<'_>]) -> Result<bool, AllocError> {
     let mut shortage = Shortage::new(rt.alloc())?;
-    let (mut refused, mut done, mut wrong) = (false, false, false);
     for step in 0..BUDGETS {
-        wrong |= !shortage.leave(step * STEP);
-        let (mut printed, mut said) = ([0u8; 700], [0u8; 64]);
-        let mut err = said.as_mut_slice();
-        let arguments = env::args(&Given { rt, line });
-        match program::run(
-            rt,
-            arguments,
-            b"".as_slice(),
-            printed.as_mut_slice(),
-            &mut err,
-        ) {
-            Status::Done => {
-                done = true;
-                wrong |= written(&printed) != whole || !written(&said).is_empty();
+        for run in runs {
+            if !shortage.leave(step * STEP) {
+                return Ok(false);
             }
-            status => {
-                refused = true;
-                wrong |= status != Status::Failed || !written(&printed).is_empty();
-                wrong |= written(&said) != NO_MEMORY;
+            match done_under_budget(rt, *run) {
+                Some(is_done) if step == 0 && is_done => return Ok(false),
+                Some(is_done) if step + 1 == BUDGETS && !is_done => return Ok(false),
+                Some(_) => {}
+                None => return Ok(false),
             }
         }
     }
-    Ok(refused && done && !wrong)
+    Ok(true)
 }
 
 #[test]
 fn helps_short_of_memory(rt: HostRuntime) -> Result<(), Fail> {
-    let sound = runs_short_of_memory(&rt, b"geostation --help", HELP.as_bytes())?;
+    let sound = runs_short_of_memory(&rt, &[(b"geostation --help", HELP.as_bytes())])?;
     assert!(rt; sound);
     Ok(())
 }
 
 /// Arguments, their reading, the buffers of the file and of standard output: each is refused in
-/// turn.
+/// turn, for each command, over a file with nothing in it.
 #[test]
-fn checks_short_of_memory(rt: HostRuntime) -> Result<(), Fail> {
+fn commands_short_of_memory(rt: HostRuntime) -> Result<(), Fail> {
+    let alloc = rt.alloc();
     let folder = env::temp_dir(&rt)?;
-    let empty = folder.join(rt.alloc(), "geostation-empty.cap")?;
-    fs::write(&rt, empty.as_str(), "")?;
-    let line = format!(in rt.alloc(); "geostation check {}", empty.as_str())?;
-    let sound = runs_short_of_memory(&rt, line.as_bytes(), b"0 records, 0 refused\n")?;
-    fs::remove_file(&rt, empty.as_str())?;
+    let empty = folder.join(alloc, "geostation-empty")?;
+    let made = folder.join(alloc, "geostation-empty.cap")?;
+    let (from, to) = (empty.as_str(), made.as_str());
+    fs::write(&rt, from, "")?;
+    let show = format!(in alloc; "geostation show {from}")?;
+    let check = format!(in alloc; "geostation check {from}")?;
+    let import = format!(in alloc; "geostation import {from} {to}")?;
+    let sim = format!(in alloc; "geostation sim {from}")?;
+    let mesh = format!(in alloc; "geostation mesh {from}")?;
+    let sound = runs_short_of_memory(
+        &rt,
+        &[
+            (show.as_bytes(), b""),
+            (check.as_bytes(), b"0 records, 0 refused\n"),
+            (import.as_bytes(), b""),
+            (sim.as_bytes(), b""),
+            (mesh.as_bytes(), b""),
+        ],
+    )?;
+    fs::remove_file(&rt, from)?;
+    fs::remove_file(&rt, to)?;
     assert!(rt; sound);
     Ok(())
 }
