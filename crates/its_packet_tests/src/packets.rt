@@ -9,6 +9,7 @@ mod devices;
 mod faults;
 mod frames;
 mod kinds;
+mod largest;
 mod memory;
 mod payload;
 mod position_vector;

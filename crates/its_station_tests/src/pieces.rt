@@ -3,7 +3,7 @@
 
 ghost use Rattle.std.specs.Prelude.{◌≤◌, ◌^◌};
 
-use crate::vectors::FIRST;
+use its_vectors::FIRST;
 use its_forwarding::{Choice, choose};
 use its_geometry::{Area, Centre, Nearer};
 use its_gnvalue::{GnAddress, LongPv, Place};

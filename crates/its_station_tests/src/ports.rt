@@ -2,6 +2,7 @@
 
 use its_btp::{PortFault, Ports, Short, join_into, split};
 use its_gnvalue::NoRoom;
+use std::test::Fail;
 
 #[test]
 fn a_header_is_split_and_joined(rt: HostRuntime) {
@@ -40,4 +41,13 @@ fn at_most_64_ports_are_open(rt: HostRuntime) {
     ports.clear();
     assert!(rt; !ports.is_open(64) && !ports.is_open(1));
     assert!(rt; ports.open(2002) == Ok(()));
+}
+
+#[test]
+fn a_header_that_is_short_has_a_code_and_a_sentence(rt: HostRuntime) -> Result<(), Fail> {
+    assert_eq!(rt;
+        format!(in rt.alloc(); "{}: {Short}", Short.code())?.as_str(),
+        "B1: too short for a BTP-B header"
+    );
+    Ok(())
 }

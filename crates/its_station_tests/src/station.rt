@@ -7,6 +7,7 @@ mod damage;
 mod embedding;
 mod flood;
 mod isolation;
+mod largest;
 mod memory;
 mod numbers;
 mod refusals;

@@ -8,6 +8,7 @@ use its_loctable::{Heard, Known, LocationStore, StoreRefused, Verdict};
 use std::process::Abort;
 use std::test::Fail;
 
+mod largest;
 mod memory;
 mod plain;
 mod recent;

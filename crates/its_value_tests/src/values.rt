@@ -47,6 +47,11 @@ fn the_parts_of_an_address(rt: HostRuntime) -> Result<(), Fail> {
         format!(in rt.alloc(); "{address} {}", address.mid())?.as_str(),
         "9402020000000001 020000000001"
     );
+    let least = GnAddress::from_u64(0x0a)?;
+    assert_eq!(rt;
+        format!(in rt.alloc(); "{least} {}", least.mid())?.as_str(),
+        "000000000000000a 00000000000a"
+    );
     assert_eq!(rt;
         GnAddress::from_u64(0x1400_0300_0000_0001),
         Err(ValueFault::GroupMid)

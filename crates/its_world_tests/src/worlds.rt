@@ -4,6 +4,7 @@ ghost use Rattle.std.specs.Prelude.{IfOk};
 ghost use Rattle.its_world.specs.Events.{IsConfig, IsInRange};
 
 mod memory;
+mod numbers;
 mod refusals;
 mod schedules;
 

@@ -81,7 +81,8 @@ fn expect_cut(rt: &impl Abort, status: Status, taken: &[u8], whole: &[u8], room:
     assert_eq!(rt; Some(taken), whole.get(..room));
 }
 
-/// A writer that takes so many octets and then fails, or that fails only at a flush.
+/// A writer that takes so many octets and then fails, as a pipe that nobody reads any more, or that
+/// fails only at a flush.
 #[derive(Drop)]
 struct Full {
     taken: Vec<u8>,
@@ -111,7 +112,7 @@ impl Full {
 impl Write for Full {
     fn write(&mut self, buf: &[u8]) -> io::Result<usize> {
         if self.room == 0 && !buf.is_empty() {
-            return Err(io::Error::from(io::ErrorKind::Other));
+            return Err(io::Error::from(io::ErrorKind::BrokenPipe));
         }
         let count = self.room.min(buf.len());
         self.taken.extend_from_slice(&buf[..count])?;

@@ -42,22 +42,24 @@ fn cut_frames(rt: HostRuntime) {
     }
 }
 
-/// Of the frames that differ in one bit so many are read, and so many are too long for their
-/// packet.
+/// Of the frames that differ in one bit so many are read. Too long for its packet is the one whose
+/// payload length is 4 (bit 78), and that of the geobroadcast whose header type is 5, which is a
+/// single-hop broadcast of 46 octets (bit 43).
 #[test]
 fn single_bits(rt: HostRuntime) {
     let mut geoanycast = geobroadcast();
     geoanycast[19] = 0x30;
-    for (frame, want) in [(geobroadcast(), (354, 2)), (geoanycast, (354, 1))] {
-        let (mut read, mut trailing) = (0u16, 0u16);
+    for (frame, longer) in [(geobroadcast(), [43, 78]), (geoanycast, [78, 78])] {
+        let mut read = 0u16;
         for bit in 0..496 {
-            match read_frame(&with_bit_turned(frame, bit)) {
-                Ok(_) => read = read.saturating_add(1),
-                Err(FrameFault::Trailing) => trailing = trailing.saturating_add(1),
-                Err(_) => {}
+            let fault = read_frame(&with_bit_turned(frame, bit)).err();
+            let is_trailing = fault == Some(FrameFault::Trailing);
+            assert_eq!(rt; is_trailing, longer.contains(&bit), "bit {bit}");
+            if fault.is_none() {
+                read = read.saturating_add(1);
             }
         }
-        assert_eq!(rt; (read, trailing), want);
+        assert_eq!(rt; read, 354);
     }
 }
 

@@ -178,6 +178,10 @@ fn a_text_that_is_no_scenario_is_refused(rt: HostRuntime) -> Result<(), Fail> {
             "scenario: station 0: address",
         ),
         (
+            "station = [{address = \"1400020000000001\", lat = 0, lon = 0, remember = 0}]\n",
+            "scenario: station 0: remember",
+        ),
+        (
             "station = [{address = \"1400020000000001\", lat = 0, lon = 0, remember = 65}]\n",
             "scenario: station 0: remember",
         ),

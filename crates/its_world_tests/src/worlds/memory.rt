@@ -57,6 +57,32 @@ fn begin(
     Ok(Begun { world, run })
 }
 
+/// A world that was made and run with so many octets, or none where they were too few to make it.
+fn make_and_begin(
+    rt: &impl Abort,
+    alloc: Global,
+    configs: &[Config],
+    events: &[Event],
+    octets: usize,
+) -> Result<Option<Begun>, Fail>
+    requires configs { All IsConfig configs.now }
+    requires few { length configs.now ≤ 65535 }
+    requires events { All (λ event. IsInRange event.what) events.now }
+{
+    let mut shortage = Shortage::new(alloc)?;
+    assert!(rt; shortage.leave(octets), "{octets}");
+    match World::new(alloc, configs) {
+        Ok(mut world) => {
+            let run = world.run(events);
+            Ok(Some(Begun { world, run }))
+        }
+        Err(fault) => {
+            assert_eq!(rt; fault, WorldFault::NoMemory);
+            Ok(None)
+        }
+    }
+}
+
 /// The entries are those from this event on.
 fn has_fates(rt: &impl Abort, run: &Run, from: usize) {
     assert_eq!(rt; run.done, run.log.len());
@@ -122,5 +148,31 @@ fn a_world_runs_short_of_memory(rt: HostRuntime) -> Result<(), Fail> {
         }
     }
     assert!(rt; ends.iter().all(|count| *count > 0), "{ends:?}");
+    Ok(())
+}
+
+/// Some budgets are too small to make it, and the last one has room for all. What is left of the
+/// events is run with ample memory.
+#[test]
+fn a_world_is_made_and_runs_short_of_memory(rt: HostRuntime) -> Result<(), Fail> {
+    let alloc = rt.alloc();
+    let configs = [small(FIRST, 0)?, small(SECOND, 449)?];
+    let events = [open(1), send(alloc)?, deliver(1, 0)];
+    let sent = hex::decode(alloc, GEOBROADCAST)?;
+    let relayed = hex::decode(alloc, RELAYED)?;
+    let (mut refused, mut is_whole) = (0u32, false);
+    for step in 0..BUDGETS {
+        let octets = step * APART;
+        let Some(begun) = make_and_begin(&rt, alloc, &configs, &events, octets)? else {
+            refused = refused.saturating_add(1);
+            continue;
+        };
+        is_whole = begun.run.done == FATES.len();
+        goes_on(&rt, begun, &events, [&sent, &relayed])?;
+        if is_whole {
+            break;
+        }
+    }
+    assert!(rt; refused > 0 && is_whole, "{refused}");
     Ok(())
 }

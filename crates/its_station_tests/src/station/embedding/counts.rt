@@ -2,7 +2,7 @@
 
 use super::beacon;
 use crate::station::receiver;
-use crate::vectors::GEOBROADCAST;
+use its_vectors::GEOBROADCAST;
 use its_headers::Kind;
 use its_loctable::SortedTable;
 use its_station::Counts;

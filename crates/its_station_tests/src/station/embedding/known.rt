@@ -2,7 +2,7 @@
 
 use super::beacon;
 use crate::station::{circle, receiver, request};
-use crate::vectors::{FIRST, GEOBROADCAST, PORT, SECOND};
+use its_vectors::{FIRST, GEOBROADCAST, PORT, SECOND};
 use its_gnvalue::{GnAddress, Place};
 use its_linkframe::read_frame;
 use its_loctable::{LocationStore, OrderedTable, SortedTable};
