@@ -1,4 +1,6 @@
+pub mod Blocks
 pub mod Codes
+pub mod Formats
 pub mod Moments
 pub mod Octets
 pub mod Pcap

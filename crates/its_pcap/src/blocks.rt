@@ -8,7 +8,7 @@ use crate::fault::SourceFault;
 use crate::interface::{Interface, MICROS, moment_of, seconds_of, ticks_in};
 use crate::octets::{Order, half_at, long_at, word_at};
 use crate::pcap::{ETHERNET, LONGEST_CAPTURED};
-use crate::record::{Head, Step};
+use crate::record::Head;
 use crate::transfer::{fill_whole, pass_over, read_frame};
 use byteorder::{BigEndian, ByteOrder};
 use its_linkframe::{CaptureFault, Source};
@@ -18,6 +18,15 @@ const LONGEST_BLOCK: u32 = 327_680;
 
 /// The type of a section header.
 pub(crate) const SECTION: u32 = 0x0a0d_0d0a;
+
+/// The type of an interface block.
+pub(crate) const INTERFACE: u32 = 1;
+
+/// The type of a simple packet block.
+pub(crate) const SIMPLE: u32 = 3;
+
+/// The type of an enhanced packet block.
+pub(crate) const PACKET: u32 = 6;
 
 /// The magic of a section, read with the highest octet first, where that is its order.
 const MAGIC_HIGH: u32 = 0x1a2b_3c4d;
@@ -228,7 +237,7 @@ pub(crate) fn packet_block<S: Source>(
     interfaces: &[Interface],
     keep: usize,
     frame: &mut Vec<u8>,
-) -> Result<Step, SourceFault>
+) -> Result<Head, SourceFault>
     requires { S.failed source.old < 2 ^ 64 - 1 }
     ensures counts { S.failed source.new ≡ S.failed source.old + (if is_io result then 1 else 0) }
 {
@@ -253,12 +262,12 @@ pub(crate) fn packet_block<S: Source>(
         (length - LEAST_PACKET - captured) as usize,
         length,
     )?;
-    Ok(Step::Record(Head {
+    Ok(Head {
         moment,
         captured,
         wire,
         is_ethernet: interface.is_ethernet,
-    }))
+    })
 }
 
 /// A simple packet block, behind its type: a record of the first interface, at moment 0.
@@ -268,7 +277,7 @@ pub(crate) fn simple_block<S: Source>(
     interfaces: &[Interface],
     keep: usize,
     frame: &mut Vec<u8>,
-) -> Result<Step, SourceFault>
+) -> Result<Head, SourceFault>
     requires { S.failed source.old < 2 ^ 64 - 1 }
     ensures counts { S.failed source.new ≡ S.failed source.old + (if is_io result then 1 else 0) }
 {
@@ -288,12 +297,12 @@ pub(crate) fn simple_block<S: Source>(
         (length - LEAST_SIMPLE - captured) as usize,
         length,
     )?;
-    Ok(Step::Record(Head {
+    Ok(Head {
         moment: 0,
         captured,
         wire,
         is_ethernet: interface.is_ethernet,
-    }))
+    })
 }
 
 /// How many octets of a frame a simple packet has: at most the snap length, where that is not 0.
