@@ -2,3 +2,4 @@ pub mod Cuts
 pub mod Parts
 pub mod PcapHeaders
 pub mod PcapRecords
+pub mod Puts

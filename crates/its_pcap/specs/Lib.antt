@@ -1,5 +1,10 @@
+pub mod Blocks
 pub mod Codes
+pub mod Formats
+pub mod Moments
 pub mod Octets
 pub mod Pcap
+pub mod PcapWritten
 pub mod Reading
 pub mod Records
+pub mod Writing

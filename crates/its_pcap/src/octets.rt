@@ -35,3 +35,13 @@ pub(crate) fn word_at(order: Order, octets: &[u8], at: usize) -> u32
         Order::Low => LittleEndian::read_u32(&octets[at..]),
     }
 }
+
+/// The number of 64 bits in these octets.
+pub(crate) fn long_at(order: Order, octets: &[u8; 8]) -> u64
+    ensures { result ≡ number_in order 8 octets.now }
+{
+    match order {
+        Order::High => BigEndian::read_u64(octets),
+        Order::Low => LittleEndian::read_u64(octets),
+    }
+}

@@ -170,7 +170,7 @@ impl<R: Source> PcapReader<R> {
 }
 
 /// The mark whose octets, the highest first, are this number.
-fn mark_in(number: u32) -> Option<Mark>
+pub(crate) fn mark_in(number: u32) -> Option<Mark>
     ensures { MatchOption result ((m : Mark) → number ≢ mark_number m)
         (λ m. number ≡ mark_number m) }
 {

@@ -1,15 +1,15 @@
 //! Whole buffers and counts of octets, in as many calls as the device needs.
 
-ghost use Rattle.std.specs.Prelude.{◌≡◌, ◌-◌, ◌+◌, ◌^◌, ◌<◌, ◌≤◌, length, take, OnOk, IfErr};
+ghost use Rattle.std.specs.Prelude.{◌≡◌, ◌-◌, ◌+◌, ◌^◌, ◌<◌, ◌≤◌, length, take, ◌++◌, MatchOption, OnOk, IfErr};
 ghost use Rattle.std.specs.Prelude.{IfSome, IfNone, Err, min, vec_capacity, ◌≢◌, if◌then◌else◌};
-ghost use Rattle.std.specs.Io.KnownBytes.{Consumes, IsAtEnd};
-ghost use Rattle.its_linkframe.specs.Devices.{counted, ConsumesPrefix};
+ghost use Rattle.std.specs.Io.KnownBytes.{Consumes, Appends, IsAtEnd};
+ghost use Rattle.its_linkframe.specs.Devices.{counted, ConsumesPrefix, AppendsPrefix};
 ghost use Rattle.its_linkframe.specs.declared.record.CaptureFault.TheVariants as captures;
 ghost use Rattle.its_pcap.specs.declared.fault.SourceFault.TheVariants as faults;
 ghost use Rattle.its_pcap.specs.Reading.{is_io, IsCutShort, Passes, IsFrameFault, GivesFrame};
 
 use crate::fault::SourceFault;
-use its_linkframe::{CaptureFault, Source};
+use its_linkframe::{CaptureFault, Sink, Source};
 
 /// How many octets are passed over at a time.
 const PIECE: usize = 512;
@@ -95,4 +95,32 @@ pub(crate) fn read_frame<S: Source>(
     }
     fill_whole(source, frame.as_mut_slice())?;
     pass_over(source, captured - kept)
+}
+
+/// Writes all octets. `None` is a failed call, after which no other is made: the sink then has a
+/// prefix of the octets.
+pub(crate) fn store<S: Sink>(sink: &mut S, octets: &[u8]) -> Option<()>
+    requires { S.failed sink.old < 2 ^ 64 - 1 }
+    ensures counts { S.failed sink.new ≡ counted (S.failed sink.old) result }
+    ensures bytes { MatchOption result
+        (AppendsPrefix (S.contents sink.old) (S.contents sink.new) octets.now)
+        (λ _. Appends (S.contents sink.old) (S.contents sink.new) octets.now) }
+{
+    let mut at = 0;
+    while at < octets.len() {
+        at += sink.push(&octets[at..])?;
+    }
+    Some(())
+}
+
+/// Writes a head and what follows it, or a prefix of both where a call fails.
+pub(crate) fn store_both<S: Sink>(sink: &mut S, head: &[u8], octets: &[u8]) -> Option<()>
+    requires { S.failed sink.old < 2 ^ 64 - 1 }
+    ensures counts { S.failed sink.new ≡ counted (S.failed sink.old) result }
+    ensures bytes { MatchOption result
+        (AppendsPrefix (S.contents sink.old) (S.contents sink.new) (head.now ++ octets.now))
+        (λ _. Appends (S.contents sink.old) (S.contents sink.new) (head.now ++ octets.now)) }
+{
+    store(sink, head)?;
+    store(sink, octets)
 }

@@ -1,0 +1,34 @@
+-- The moments of a pcapng file: ticks of an interface, and seconds that are added to each.
+use Rattle.std.specs.Prelude.{◌≡◌, ℕ, ◌+◌, ◌-◌, ◌*◌, ◌/◌, ◌^◌, ◌<◌, ◌≤◌, ◌⊎◌, nat_lt, if◌then◌else◌}
+
+-- the ticks of a second, by the octet of `if_tsresol`: a power of 10, or of 2 where it is 128 and
+-- more
+abbrev pub ticks_of : ℕ → ℕ
+ticks_of resolution =
+    if nat_lt resolution 128 then 10 ^ resolution else 2 ^ (resolution - 128)
+
+-- finer than 10^-19 or 2^-63
+abbrev pub IsTooFine : ℕ → Type 0
+IsTooFine resolution = ((19 < resolution) × (resolution < 128)) ⊎ (191 < resolution)
+
+-- signed seconds of 64 bits: those that are added, and those that are taken
+abbrev pub ahead_of : ℕ → ℕ
+ahead_of offset = if nat_lt offset (2 ^ 63) then offset else 0
+
+abbrev pub behind_of : ℕ → ℕ
+behind_of offset = if nat_lt offset (2 ^ 63) then 0 else 2 ^ 64 - offset
+
+-- milliseconds before seconds are taken: a fraction of a millisecond is cut down
+abbrev pub milliseconds : ℕ → ℕ → ℕ → ℕ
+milliseconds ticks ahead timestamp = timestamp * 1000 / ticks + 1000 * ahead
+
+-- the moment, with the seconds that were taken, is those milliseconds
+abbrev pub IsMoment : ℕ → ℕ → ℕ → ℕ → ℕ → Type 0
+IsMoment ticks ahead behind timestamp moment =
+    moment + 1000 * behind ≡ milliseconds ticks ahead timestamp
+
+-- it would be below 0, or has no place in 64 bits
+abbrev pub IsNoMoment : ℕ → ℕ → ℕ → ℕ → Type 0
+IsNoMoment ticks ahead behind timestamp =
+    (milliseconds ticks ahead timestamp < 1000 * behind)
+    ⊎ (2 ^ 64 + 1000 * behind ≤ milliseconds ticks ahead timestamp)

@@ -1,0 +1,100 @@
+//! Interfaces of a pcapng file, and the moments that they count.
+
+ghost use Rattle.std.specs.Prelude.{◌≡◌, ◌^◌, ◌<◌, MatchOption, IfSome};
+ghost use Rattle.its_pcap.specs.Moments.{ticks_of, IsTooFine, IsMoment, IsNoMoment, ahead_of};
+ghost use Rattle.its_pcap.specs.Moments.{behind_of};
+
+/// What is known of an interface that packets were taken from.
+#[derive(Clone, Copy)]
+pub(crate) struct Interface {
+    pub(crate) is_ethernet: bool,
+    /// The most octets that are captured of a frame; 0 is no limit.
+    pub(crate) snap: u32,
+    /// How many ticks a second has: `if_tsresol`.
+    pub(crate) ticks: u64,
+    /// Seconds to be added to each moment: `if_tsoffset` where it is not negative, else 0.
+    pub(crate) ahead: u64,
+    /// Seconds to be taken from each moment: `if_tsoffset` where it is negative, else 0.
+    pub(crate) behind: u64,
+    ghost positive: { 0 < ticks },
+}
+
+/// Without the option a tick is a millionth of a second.
+pub(crate) const MICROS: u64 = 1_000_000;
+
+/// The ticks of a second by the octet of `if_tsresol`: a power of 10, or of 2 where its highest bit
+/// is set. Nothing where they are finer than 10^-19 or 2^-63.
+pub(crate) fn ticks_in(resolution: u8) -> Option<u64>
+    ensures ticks { MatchOption result (IsTooFine resolution) (λ n. n ≡ ticks_of resolution) }
+    ensures some { IfSome result (λ n. 0 < n) }
+{
+    if resolution < 128 {
+        return power_of_ten(resolution);
+    }
+    let bits = resolution - 128;
+    if bits > 63 {
+        return None;
+    }
+    Some(1 << bits)
+}
+
+fn power_of_ten(exponent: u8) -> Option<u64>
+    ensures power { MatchOption result (19 < exponent) (λ n. n ≡ 10 ^ exponent) }
+    ensures some { IfSome result (λ n. 0 < n) }
+{
+    let power = match exponent {
+        0 => 1,
+        1 => 10,
+        2 => 100,
+        3 => 1_000,
+        4 => 10_000,
+        5 => 100_000,
+        6 => 1_000_000,
+        7 => 10_000_000,
+        8 => 100_000_000,
+        9 => 1_000_000_000,
+        10 => 10_000_000_000,
+        11 => 100_000_000_000,
+        12 => 1_000_000_000_000,
+        13 => 10_000_000_000_000,
+        14 => 100_000_000_000_000,
+        15 => 1_000_000_000_000_000,
+        16 => 10_000_000_000_000_000,
+        17 => 100_000_000_000_000_000,
+        18 => 1_000_000_000_000_000_000,
+        19 => 10_000_000_000_000_000_000,
+        _ => return None,
+    };
+    Some(power)
+}
+
+/// The seconds of `if_tsoffset`, which are signed: those to be added, and those to be taken.
+pub(crate) fn seconds_of(offset: u64) -> (u64, u64)
+    ensures ahead { result.0 ≡ ahead_of offset }
+    ensures behind { result.1 ≡ behind_of offset }
+{
+    if offset < 1 << 63 {
+        (offset, 0)
+    } else {
+        (0, u64::MAX - offset + 1)
+    }
+}
+
+/// The moment of a timestamp, in milliseconds. Nothing where it is below 0 or of 2^64 and more.
+pub(crate) fn moment_of(interface: &Interface, timestamp: u64) -> Option<u64>
+    ensures { MatchOption result
+        (IsNoMoment interface.now.ticks interface.now.ahead interface.now.behind timestamp)
+        (IsMoment interface.now.ticks interface.now.ahead interface.now.behind timestamp) }
+{
+    let whole = u128::from(timestamp) * 1000 / u128::from(interface.ticks);
+    let sum = whole + 1000 * u128::from(interface.ahead);
+    let less = 1000 * u128::from(interface.behind);
+    if sum < less {
+        return None;
+    }
+    let moment = sum - less;
+    if moment > u128::from(u64::MAX) {
+        return None;
+    }
+    Some(moment as u64)
+}

@@ -1,0 +1,140 @@
+//! Writing a classic pcap file.
+
+ghost use Rattle.std.specs.Prelude.{◌≡◌, ◌-◌, ◌+◌, ◌/◌, ◌^◌, ◌<◌, ◌≤◌, ◌↔◌, ◌||◌, ◌++◌, length};
+ghost use Rattle.std.specs.Prelude.{OnOk, IfErr, Err, IsTrue, if◌then◌else◌, false};
+ghost use Rattle.std.specs.Io.KnownBytes.{Appends};
+ghost use Rattle.byteorder.specs.Endian.{little_bytes};
+ghost use Rattle.its_pcap.specs.PcapWritten.{file_header, record_of, IsLate};
+ghost use Rattle.its_pcap.specs.Writing.{is_io_failure, IsPutFault, IsStartFault};
+ghost use Rattle.its_pcap.specs.declared.put_fault.PutFault.TheVariants as put_faults;
+
+use crate::pcap::LONGEST_CAPTURED;
+use crate::put_fault::PutFault;
+use crate::transfer::{store, store_both};
+use byteorder::{ByteOrder, LittleEndian};
+use its_linkframe::Sink;
+use std::marker::Model;
+
+/// The mark d4c3b2a1, version 2.4, zone 0, accuracy 0, snap length 262144, Ethernet (1).
+const FILE_HEADER: [u8; 24] = [
+    0xd4, 0xc3, 0xb2, 0xa1, 2, 0, 4, 0, 0, 0, 0, 0, 0, 0, 0, 0, 0, 0, 4, 0, 1, 0, 0, 0,
+];
+
+/// The octets before a frame.
+const HEAD: usize = 16;
+
+/// Writes the header of a classic pcap file, then its records, one after the other. It takes no
+/// memory.
+#[derive(Drop)]
+pub struct PcapWriter<W: Sink> {
+    sink: W,
+    failed: bool,
+}
+
+impl<W: Sink> Model for PcapWriter<W> {
+    ghost use Rattle.std.specs.Prelude.{◌≡◌, ◌-◌, ◌^◌, ◌<◌, false};
+    ghost use Rattle.its_pcap.specs.Writing.{Writing};
+
+    ghost Value = { Writing };
+
+    ghost view = { λ w. record {
+      failed = w.failed;
+      contents = W.contents w.sink;
+      failures = W.failed w.sink;
+    } };
+
+    ghost invariant = { λ w. w.failed ≡ false → W.failed w.sink < 2 ^ 64 - 1 };
+}
+
+impl<W: Sink> PcapWriter<W> {
+    /// A writer behind what the sink has. Nothing is written yet.
+    pub fn new(sink: W) -> PcapWriter<W>
+        requires { W.failed sink < 2 ^ 64 - 1 }
+        ensures { result ≡ record {
+          failed = false;
+          contents = W.contents sink;
+          failures = W.failed sink;
+        } }
+    {
+        PcapWriter {
+            sink,
+            failed: false,
+        }
+    }
+
+    /// Writes the header of the file: the first call.
+    pub fn start(&mut self) -> Result<(), PutFault>
+        ensures stored { OnOk result (Appends self.old.contents self.new.contents file_header) }
+        ensures fault { IfErr result (IsStartFault file_header self.old self.new) }
+        ensures counts { self.new.failures
+            ≡ self.old.failures + (if is_io_failure result then 1 else 0) }
+        ensures failed { (result ≡ Err put_faults.Failed) ↔ IsTrue self.old.failed }
+        ensures breaks { self.new.failed ≡ (self.old.failed || is_io_failure result) }
+    {
+        if self.failed {
+            return Err(PutFault::Failed);
+        }
+        match store(&mut self.sink, &FILE_HEADER) {
+            Some(()) => Ok(()),
+            None => {
+                self.failed = true;
+                Err(PutFault::Io)
+            }
+        }
+    }
+
+    /// Writes a record of a frame of Ethernet, whole: the moment is in milliseconds. A frame of
+    /// more than 262144 octets is refused before a moment whose second is 2^32 or more.
+    pub fn put(&mut self, moment: u64, frame: &[u8]) -> Result<(), PutFault>
+        ensures stored { OnOk result
+            (Appends self.old.contents self.new.contents (record_of moment frame.now)) }
+        ensures fits { OnOk result ((length frame.now ≤ LONGEST_CAPTURED)
+            × (moment / 1000 < 2 ^ 32)) }
+        ensures fault { IfErr result
+            (IsPutFault IsLate moment frame.now (record_of moment frame.now) self.old self.new) }
+        ensures counts { self.new.failures
+            ≡ self.old.failures + (if is_io_failure result then 1 else 0) }
+        ensures failed { (result ≡ Err put_faults.Failed) ↔ IsTrue self.old.failed }
+        ensures breaks { self.new.failed ≡ (self.old.failed || is_io_failure result) }
+    {
+        if self.failed {
+            return Err(PutFault::Failed);
+        }
+        if frame.len() > LONGEST_CAPTURED as usize {
+            return Err(PutFault::Length);
+        }
+        let Ok(seconds) = u32::try_from(moment / 1000) else {
+            return Err(PutFault::Moment);
+        };
+        let micros = (moment % 1000) as u32 * 1000;
+        let head = head_for(seconds, micros, frame.len() as u32);
+        match store_both(&mut self.sink, &head, frame) {
+            Some(()) => Ok(()),
+            None => {
+                self.failed = true;
+                Err(PutFault::Io)
+            }
+        }
+    }
+
+    /// The sink, with what it has.
+    pub fn into_inner(self) -> W
+        ensures contents { W.contents result ≡ self.contents }
+        ensures failures { W.failed result ≡ self.failures }
+    {
+        self.sink
+    }
+}
+
+/// What goes before a frame.
+fn head_for(seconds: u32, micros: u32, size: u32) -> [u8; HEAD]
+    ensures { result ≡ little_bytes 4 seconds ++ little_bytes 4 micros ++ little_bytes 4 size
+        ++ little_bytes 4 size }
+{
+    let mut head = [0; HEAD];
+    LittleEndian::write_u32(&mut head, seconds);
+    LittleEndian::write_u32(&mut head[4..], micros);
+    LittleEndian::write_u32(&mut head[8..], size);
+    LittleEndian::write_u32(&mut head[12..], size);
+    head
+}

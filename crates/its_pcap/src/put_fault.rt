@@ -1,0 +1,31 @@
+//! Why a record cannot be written.
+
+use std::error::Error;
+use std::fmt;
+
+/// Why a header or a record is not written.
+#[derive(Clone, Copy, Debug, PartialEq, Eq)]
+pub enum PutFault {
+    /// The frame has more octets than 262144. Nothing is written.
+    Length,
+    /// The second of the moment is 2^32 or more (classic pcap). Nothing is written.
+    Moment,
+    /// A call of the device failed; a prefix is written.
+    Io,
+    /// An earlier call of the device failed. Nothing is written.
+    Failed,
+}
+
+impl fmt::Display for PutFault {
+    fn fmt<W: fmt::Write>(&self, f: &mut fmt::Formatter<W>) -> fmt::Result {
+        let sentence = match self {
+            PutFault::Length => "a frame of more than 262144 octets",
+            PutFault::Moment => "a moment whose second is 2^32 or more",
+            PutFault::Io => "a call of the device failed",
+            PutFault::Failed => "an earlier call failed",
+        };
+        write!(f, "{sentence}")
+    }
+}
+
+impl Error for PutFault {}
