@@ -54,8 +54,13 @@ enum geostation_why {
 
 enum geostation_shape { GEOSTATION_CIRCLE = 0, GEOSTATION_RECTANGLE = 1, GEOSTATION_ELLIPSE = 2 };
 
-/* A station: what is in it is the library's own. */
-struct geostation;
+/* A station: what is in it is the library's own. C++ has the short name for a namespace, that of
+ * geostation.hpp, and calls the struct geostation_handle; so may C. */
+#ifdef __cplusplus
+struct geostation_handle;
+#else
+typedef struct geostation geostation_handle;
+#endif
 
 /* What became of a frame. Where the status isn't 0 all is 0, but for the fault of a bad frame. */
 struct geostation_reception {
@@ -92,47 +97,47 @@ struct geostation_area_request {
 /* Makes a station to which nothing happened yet. Its location table has room for `capacity`
  * sources, 1 to 4096, and remembers the last `remember` sequence numbers of each, 1 to 64. *out is
  * its handle, or NULL where the status isn't 0 (BAD_ARGUMENT, NO_MEMORY). */
-int geostation_new(struct geostation **out, uint64_t address, int32_t latitude, int32_t longitude,
+int geostation_new(geostation_handle **out, uint64_t address, int32_t latitude, int32_t longitude,
                    uint16_t capacity, uint8_t remember);
 
 /* Gives a station's memory back. NULL is passed over. */
-void geostation_free(struct geostation *s);
+void geostation_free(geostation_handle *s);
 
 /* The station stands there from now on: whether that is accurate (0 or not), its speed in 0.01 m/s,
  * -16384 to 16383, and its heading in 0.1 degree. S1, S2, BAD_ARGUMENT. */
-int geostation_move(struct geostation *s, uint64_t now, int32_t latitude, int32_t longitude,
+int geostation_move(geostation_handle *s, uint64_t now, int32_t latitude, int32_t longitude,
                     uint8_t accurate, int16_t speed, uint16_t heading);
 
 /* Opens and closes a port, at which payloads are delivered. S1, S2, S8. */
-int geostation_open_port(struct geostation *s, uint64_t now, uint16_t port);
-int geostation_close_port(struct geostation *s, uint64_t now, uint16_t port);
+int geostation_open_port(geostation_handle *s, uint64_t now, uint16_t port);
+int geostation_close_port(geostation_handle *s, uint64_t now, uint16_t port);
 
 /* The station forgets what it heard and closes its ports; its next packet for an area has this
  * sequence number. S1, S2. */
-int geostation_restart(struct geostation *s, uint64_t now, uint16_t number);
+int geostation_restart(geostation_handle *s, uint64_t now, uint16_t number);
 
 /* Writes the frame of a beacon where one is due; else *length is 0. S1, S2, S5, S9, NO_ROOM. */
-int geostation_tick(struct geostation *s, uint64_t now, uint16_t jitter,
+int geostation_tick(geostation_handle *s, uint64_t now, uint16_t jitter,
                     uint8_t *frame, size_t room, size_t *length);
 
 /* Write the frame of a payload for all in reach (SHB); for all stations in an area (GBC); and for
  * any one of them (GAC). Where the status isn't 0, *length is 0. S1, S2, S5, S6, of an area S7 and
  * BAD_ARGUMENT, NO_ROOM. */
-int geostation_send_shb(struct geostation *s, uint64_t now,
+int geostation_send_shb(geostation_handle *s, uint64_t now,
                         const struct geostation_shb_request *request,
                         const uint8_t *payload, size_t payload_length,
                         uint8_t *frame, size_t room, size_t *length);
-int geostation_send_gbc(struct geostation *s, uint64_t now,
+int geostation_send_gbc(geostation_handle *s, uint64_t now,
                         const struct geostation_area_request *request,
                         const uint8_t *payload, size_t payload_length,
                         uint8_t *frame, size_t room, size_t *length);
-int geostation_send_gac(struct geostation *s, uint64_t now,
+int geostation_send_gac(geostation_handle *s, uint64_t now,
                         const struct geostation_area_request *request,
                         const uint8_t *payload, size_t payload_length,
                         uint8_t *frame, size_t room, size_t *length);
 
 /* Takes a frame that came. What is to be sent on is written to `relay`. S1 to S5, NO_ROOM. */
-int geostation_receive(struct geostation *s, uint64_t now, const uint8_t *frame, size_t length,
+int geostation_receive(geostation_handle *s, uint64_t now, const uint8_t *frame, size_t length,
                        struct geostation_reception *out, uint8_t *relay, size_t room);
 
 /* A sentence for a status, and for the fault of a bad frame. */

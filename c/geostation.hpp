@@ -63,7 +63,7 @@ class Station {
     static std::optional<Station> make(std::uint64_t address, std::int32_t latitude,
                                        std::int32_t longitude, std::uint16_t capacity,
                                        std::uint8_t remember, Status *status = nullptr) noexcept {
-        struct geostation *handle = nullptr;
+        geostation_handle *handle = nullptr;
         const int got = geostation_new(&handle, address, latitude, longitude, capacity, remember);
         if (status != nullptr) {
             *status = static_cast<Status>(got);
@@ -84,7 +84,7 @@ class Station {
     ~Station() { geostation_free(handle_); }
 
     /// The handle, for calls of geostation.h.
-    struct geostation *get() const noexcept { return handle_; }
+    geostation_handle *get() const noexcept { return handle_; }
 
     Status move_to(std::uint64_t now, std::int32_t latitude, std::int32_t longitude, bool accurate,
                    std::int16_t speed, std::uint16_t heading) noexcept {
@@ -135,8 +135,8 @@ class Station {
     }
 
   private:
-    explicit Station(struct geostation *handle) noexcept : handle_(handle) {}
-    struct geostation *handle_;
+    explicit Station(geostation_handle *handle) noexcept : handle_(handle) {}
+    geostation_handle *handle_;
 };
 
 } // namespace geostation
