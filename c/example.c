@@ -1,0 +1,126 @@
+/* A road-side unit over UDP on the loopback: one datagram is one frame. It beacons, warns of a
+ * place once, relays, and prints what is delivered; after the given seconds it ends.
+ *
+ *     example PORT PEER_PORT NUMBER [SECONDS]
+ *
+ * Two of them: `example 7001 7002 1 5 & example 7002 7001 2 5`. */
+#define _POSIX_C_SOURCE 200809L
+#include "geostation.h"
+#include <arpa/inet.h>
+#include <netinet/in.h>
+#include <poll.h>
+#include <stdio.h>
+#include <stdlib.h>
+#include <string.h>
+#include <sys/socket.h>
+#include <time.h>
+#include <unistd.h>
+
+static uint8_t frame[GEOSTATION_FRAME_MAX];
+
+static uint64_t now_ms(void) {
+    struct timespec t;
+    clock_gettime(CLOCK_MONOTONIC, &t);
+    return (uint64_t)t.tv_sec * 1000 + (uint64_t)t.tv_nsec / 1000000;
+}
+
+static struct sockaddr_in loopback(const char *port) {
+    struct sockaddr_in at;
+    memset(&at, 0, sizeof at);
+    at.sin_family = AF_INET;
+    at.sin_addr.s_addr = htonl(INADDR_LOOPBACK);
+    at.sin_port = htons((uint16_t)atoi(port));
+    return at;
+}
+
+static void put_on_air(int link, const struct sockaddr_in *peer, const uint8_t *octets, size_t n) {
+    if (n != 0) {
+        (void)sendto(link, octets, n, 0, (const struct sockaddr *)peer, sizeof *peer);
+    }
+}
+
+static int fail(const char *what, int status) {
+    fprintf(stderr, "%s: %s\n", what, geostation_status_text(status));
+    return 1;
+}
+
+/* Reads one datagram and does what the station says. */
+static void hear(struct geostation *s, int link, const struct sockaddr_in *peer) {
+    uint8_t got[GEOSTATION_FRAME_MAX + 1];
+    struct geostation_reception r;
+    ssize_t n = recv(link, got, sizeof got, 0);
+    if (n < 0) {
+        return;
+    }
+    int status = geostation_receive(s, now_ms(), got, (size_t)n, &r, frame, sizeof frame);
+    if (status == GEOSTATION_BAD_FRAME) {
+        printf("no frame: %s\n", geostation_fault_text(r.fault, r.fault_kind));
+    } else if (status != GEOSTATION_OK) {
+        printf("refused: %s\n", geostation_status_text(status));
+    } else if (r.delivered) {
+        printf("port %u: %.*s\n", r.port, (int)r.payload_length, (char *)got + r.payload_start);
+    }
+    put_on_air(link, peer, frame, r.relay_length);
+}
+
+int main(int argc, char **argv) {
+    if (argc < 4) {
+        fprintf(stderr, "usage: example PORT PEER_PORT NUMBER [SECONDS]\n");
+        return 2;
+    }
+    struct sockaddr_in here = loopback(argv[1]), peer = loopback(argv[2]);
+    int link = socket(AF_INET, SOCK_DGRAM, 0);
+    if (link < 0 || bind(link, (struct sockaddr *)&here, sizeof here) != 0) {
+        perror("link");
+        return 1;
+    }
+
+    /* a road-side unit (station type 15) at its place, with room for 64 neighbours */
+    struct geostation *s = NULL;
+    uint64_t address = UINT64_C(0x3c00020000000000) | (uint64_t)(atoi(argv[3]) & 0xff);
+    int status = geostation_new(&s, address, 514776500, -10000, 64, 8);
+    if (status != GEOSTATION_OK) {
+        return fail("new", status);
+    }
+    uint64_t now = now_ms(), end = now + 1000 * (uint64_t)(argc > 4 ? atoi(argv[4]) : 10);
+    status = geostation_open_port(s, now, 2002);
+    if (status != GEOSTATION_OK) {
+        return fail("open_port", status);
+    }
+
+    const struct geostation_area_request area = {
+        .port = 2002, .lifetime = 0x29, .max_hops = 3, .shape = GEOSTATION_CIRCLE,
+        .latitude = 514776500, .longitude = -10000, .a = 500,
+    };
+    const char *warning = "road works";
+    uint64_t warn_at = now + 500, tick_at = now;
+    size_t n;
+    while ((now = now_ms()) < end) {
+        if (now >= warn_at) {
+            status = geostation_send_gbc(s, now, &area, (const uint8_t *)warning, strlen(warning),
+                                         frame, sizeof frame, &n);
+            if (status != GEOSTATION_OK) {
+                return fail("send_gbc", status);
+            }
+            put_on_air(link, &peer, frame, n);
+            warn_at = end;
+        }
+        if (now >= tick_at) {
+            status = geostation_tick(s, now, 0, frame, sizeof frame, &n);
+            if (status != GEOSTATION_OK) {
+                return fail("tick", status);
+            }
+            put_on_air(link, &peer, frame, n);
+            tick_at = now + 250;
+        }
+        uint64_t next = tick_at < warn_at ? tick_at : warn_at;
+        next = next < end ? next : end;
+        struct pollfd ready = { .fd = link, .events = POLLIN, .revents = 0 };
+        if (poll(&ready, 1, next > now ? (int)(next - now) : 0) > 0) {
+            hear(s, link, &peer);
+        }
+    }
+    geostation_free(s);
+    close(link);
+    return 0;
+}

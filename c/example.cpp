@@ -1,0 +1,42 @@
+// Two stations of C++: the first sends to an area, the second delivers it and relays.
+#include "geostation.hpp"
+
+#include <cstdio>
+
+int main() {
+    using geostation::Frame;
+    using geostation::Octets;
+    using geostation::Station;
+    using geostation::Status;
+
+    auto a = Station::make(0x1400020000000001, 449, 0, 64, 8);
+    auto made = Station::make(0x1400020000000002, 449, 900, 64, 8);
+    if (!a || !made) {
+        return 1;
+    }
+    Station b = std::move(*made);
+    if (b.open_port(0, 2002) != Status::Ok) {
+        return 1;
+    }
+
+    geostation_area_request area{};
+    area.port = 2002;
+    area.lifetime = 0x1a;
+    area.max_hops = 5;
+    area.shape = GEOSTATION_CIRCLE;
+    area.latitude = 449;
+    area.a = 200;
+
+    const std::uint8_t hi[] = {'h', 'i'};
+    Frame frame, relay;
+    const Status sent = a->send_gbc(10, area, Octets{hi, sizeof hi}, frame);
+    if (sent != Status::Ok) {
+        std::fprintf(stderr, "%s\n", geostation::text(sent));
+        return 1;
+    }
+    const auto got = b.receive(11, Octets{frame.octets.data(), frame.size}, relay);
+    std::printf("%.*s at port %u, %zu octets go on\n", static_cast<int>(got.payload.size),
+                reinterpret_cast<const char *>(got.payload.data), unsigned{got.reception.port},
+                relay.size);
+    return got.status == Status::Ok && got.payload.size == 2 && relay.size == 76 ? 0 : 1;
+}

@@ -1,0 +1,150 @@
+/* geostation.h: an ITS station's GeoNetworking and BTP-B (EN 302 636-4-1, EN 302 636-5-1) for C.
+ *
+ * Link with libgeostation.a. The library has no global state, does no input or output and reads no
+ * clock: octets, positions and moments come in; payloads and frames to send go out. Moments `now`
+ * are in milliseconds and never go back; coordinates are in 0.1 microdegree. A call that doesn't
+ * return GEOSTATION_OK changed nothing of the station.
+ *
+ * The caller's duties, which the library can't check: no pointer is NULL but where that is said;
+ * objects that one call is given don't overlap; a buffer has as many octets as its length says; a
+ * handle comes from geostation_new, isn't used after geostation_free, and is in one call at a time.
+ */
+#ifndef GEOSTATION_H
+#define GEOSTATION_H
+
+#include <stddef.h>
+#include <stdint.h>
+
+#ifdef __cplusplus
+extern "C" {
+#endif
+
+/* The longest frame, in octets: a call that may write one wants a buffer with room for it. */
+#define GEOSTATION_FRAME_MAX 1468
+/* The longest payload of a request, in octets. */
+#define GEOSTATION_PAYLOAD_MAX 1394
+/* The last moment of a call, in ms. */
+#define GEOSTATION_LAST_MOMENT (UINT64_C(1) << 62)
+
+/* What a call returns; the code is what logs show. */
+enum geostation_status {
+    GEOSTATION_OK = 0,
+    GEOSTATION_MOMENT_EARLIER = 1,    /* S1: the moment is before the last one */
+    GEOSTATION_MOMENT_TOO_LATE = 2,   /* S2: the moment is over 2^62 ms */
+    GEOSTATION_BAD_FRAME = 3,         /* S3: the octets are no frame */
+    GEOSTATION_TABLE_FULL = 4,        /* S4: no room for the packet's source */
+    GEOSTATION_NO_MEMORY = 5,         /* S5: an allocation failed */
+    GEOSTATION_PAYLOAD_TOO_LONG = 6,  /* S6: over GEOSTATION_PAYLOAD_MAX octets */
+    GEOSTATION_HOP_LIMIT_ZERO = 7,    /* S7: the packet would have no hop */
+    GEOSTATION_PORT_ALREADY_OPEN = 8, /* S8 B2 */
+    GEOSTATION_JITTER_RANGE = 9,      /* S9: over 750 ms */
+    GEOSTATION_PORTS_FULL = 10,       /* S8 B3: 64 ports are open */
+    GEOSTATION_PORT_NOT_OPEN = 11,    /* S8 B4 */
+    GEOSTATION_BAD_ARGUMENT = 20,     /* an argument is out of its range */
+    GEOSTATION_NO_ROOM = 21           /* the buffer is under GEOSTATION_FRAME_MAX octets */
+};
+
+/* Why a frame is ignored. */
+enum geostation_why {
+    GEOSTATION_NOT_FOR_ME = 1,      /* it is to another link address */
+    GEOSTATION_OWN_SOURCE = 2,      /* its packet is the station's own */
+    GEOSTATION_SENDER_MISMATCH = 3, /* a BEACON or SHB not from its source's link address */
+    GEOSTATION_DUPLICATE = 4        /* a GBC or GAC whose sequence number is remembered */
+};
+
+enum geostation_shape { GEOSTATION_CIRCLE = 0, GEOSTATION_RECTANGLE = 1, GEOSTATION_ELLIPSE = 2 };
+
+/* A station: what is in it is the library's own. C++ has the short name for a namespace, that of
+ * geostation.hpp, and calls the struct geostation_handle; so may C. */
+#ifdef __cplusplus
+struct geostation_handle;
+#else
+typedef struct geostation geostation_handle;
+#endif
+
+/* What became of a frame. Where the status isn't 0 all is 0, but for the fault of a bad frame. */
+struct geostation_reception {
+    uint32_t ignored;      /* an enum geostation_why, or 0 where the packet is accepted */
+    uint32_t delivered;    /* 1 where a payload is delivered, else 0 */
+    uint16_t port;         /* its destination port (BTP-B) */
+    uint16_t info;         /* the destination port info */
+    size_t payload_start;  /* where in the frame that came the payload begins */
+    size_t payload_length; /* how many octets it has */
+    size_t relay_length;   /* how many octets of the relay buffer are to be sent, or 0 */
+    uint32_t fault;        /* of GEOSTATION_BAD_FRAME: 1 to 5, for L1 to L5 */
+    uint32_t fault_kind;   /* at 5 (L5): 1 to 12, for G1 to G12 */
+    size_t fault_at;       /* at 5 (L5): the octet of the packet at which the field begins */
+};
+
+/* A payload for all stations in reach. */
+struct geostation_shb_request {
+    uint16_t port, info;   /* the destination port (BTP-B) and its info */
+    uint8_t traffic_class; /* the octet of the packet */
+};
+
+/* A payload for the stations in an area. */
+struct geostation_area_request {
+    uint16_t port, info;         /* the destination port (BTP-B) and its info */
+    uint8_t traffic_class;       /* the octet of the packet */
+    uint8_t lifetime;            /* the octet of the packet: a multiplier, then a base */
+    uint8_t max_hops;            /* from 1 */
+    uint8_t shape;               /* an enum geostation_shape */
+    int32_t latitude, longitude; /* of the centre, in 0.1 microdegree */
+    uint16_t a, b;               /* metres, from 1; a circle's radius is a, and b isn't read */
+    uint16_t angle;              /* degrees from north, 0 to 359; of a circle it isn't read */
+};
+
+/* Makes a station to which nothing happened yet. Its location table has room for `capacity`
+ * sources, 1 to 4096, and remembers the last `remember` sequence numbers of each, 1 to 64. *out is
+ * its handle, or NULL where the status isn't 0 (BAD_ARGUMENT, NO_MEMORY). */
+int geostation_new(geostation_handle **out, uint64_t address, int32_t latitude, int32_t longitude,
+                   uint16_t capacity, uint8_t remember);
+
+/* Gives a station's memory back. NULL is passed over. */
+void geostation_free(geostation_handle *s);
+
+/* The station stands there from now on: whether that is accurate (0 or not), its speed in 0.01 m/s,
+ * -16384 to 16383, and its heading in 0.1 degree. S1, S2, BAD_ARGUMENT. */
+int geostation_move(geostation_handle *s, uint64_t now, int32_t latitude, int32_t longitude,
+                    uint8_t accurate, int16_t speed, uint16_t heading);
+
+/* Opens and closes a port, at which payloads are delivered. S1, S2, S8. */
+int geostation_open_port(geostation_handle *s, uint64_t now, uint16_t port);
+int geostation_close_port(geostation_handle *s, uint64_t now, uint16_t port);
+
+/* The station forgets what it heard and closes its ports; its next packet for an area has this
+ * sequence number. S1, S2. */
+int geostation_restart(geostation_handle *s, uint64_t now, uint16_t number);
+
+/* Writes the frame of a beacon where one is due; else *length is 0. S1, S2, S5, S9, NO_ROOM. */
+int geostation_tick(geostation_handle *s, uint64_t now, uint16_t jitter,
+                    uint8_t *frame, size_t room, size_t *length);
+
+/* Write the frame of a payload for all in reach (SHB); for all stations in an area (GBC); and for
+ * any one of them (GAC). Where the status isn't 0, *length is 0. S1, S2, S5, S6, of an area S7 and
+ * BAD_ARGUMENT, NO_ROOM. */
+int geostation_send_shb(geostation_handle *s, uint64_t now,
+                        const struct geostation_shb_request *request,
+                        const uint8_t *payload, size_t payload_length,
+                        uint8_t *frame, size_t room, size_t *length);
+int geostation_send_gbc(geostation_handle *s, uint64_t now,
+                        const struct geostation_area_request *request,
+                        const uint8_t *payload, size_t payload_length,
+                        uint8_t *frame, size_t room, size_t *length);
+int geostation_send_gac(geostation_handle *s, uint64_t now,
+                        const struct geostation_area_request *request,
+                        const uint8_t *payload, size_t payload_length,
+                        uint8_t *frame, size_t room, size_t *length);
+
+/* Takes a frame that came. What is to be sent on is written to `relay`. S1 to S5, NO_ROOM. */
+int geostation_receive(geostation_handle *s, uint64_t now, const uint8_t *frame, size_t length,
+                       struct geostation_reception *out, uint8_t *relay, size_t room);
+
+/* A sentence for a status, and for the fault of a bad frame. */
+const char *geostation_status_text(int status);
+const char *geostation_fault_text(uint32_t fault, uint32_t fault_kind);
+
+#ifdef __cplusplus
+}
+#endif
+#endif

@@ -1,0 +1,144 @@
+// geostation.hpp: the station of geostation.h for C++17. A Station frees itself and moves; results
+// are an enum and a struct, and nothing throws.
+#ifndef GEOSTATION_HPP
+#define GEOSTATION_HPP
+
+#include "geostation.h"
+
+#include <array>
+#include <cstddef>
+#include <cstdint>
+#include <optional>
+#include <utility>
+
+namespace geostation {
+
+/// What a call returns: the statuses of geostation.h.
+enum class Status : int {
+    Ok = GEOSTATION_OK,
+    MomentEarlier = GEOSTATION_MOMENT_EARLIER,
+    MomentTooLate = GEOSTATION_MOMENT_TOO_LATE,
+    BadFrame = GEOSTATION_BAD_FRAME,
+    TableFull = GEOSTATION_TABLE_FULL,
+    NoMemory = GEOSTATION_NO_MEMORY,
+    PayloadTooLong = GEOSTATION_PAYLOAD_TOO_LONG,
+    HopLimitZero = GEOSTATION_HOP_LIMIT_ZERO,
+    PortAlreadyOpen = GEOSTATION_PORT_ALREADY_OPEN,
+    JitterRange = GEOSTATION_JITTER_RANGE,
+    PortsFull = GEOSTATION_PORTS_FULL,
+    PortNotOpen = GEOSTATION_PORT_NOT_OPEN,
+    BadArgument = GEOSTATION_BAD_ARGUMENT,
+    NoRoom = GEOSTATION_NO_ROOM
+};
+
+/// A sentence for a status.
+inline const char *text(Status status) noexcept {
+    return geostation_status_text(static_cast<int>(status));
+}
+
+/// Octets that someone else owns: a pointer and a length.
+struct Octets {
+    const std::uint8_t *data = nullptr;
+    std::size_t size = 0;
+};
+
+/// A frame to send, which may have no octets.
+struct Frame {
+    std::array<std::uint8_t, GEOSTATION_FRAME_MAX> octets;
+    std::size_t size = 0;
+};
+
+/// What becomes of a frame: `payload` lies in the octets that were given to `receive`.
+struct Received {
+    Status status;
+    geostation_reception reception;
+    Octets payload;
+};
+
+/// A station. One thread at a time uses it; after a move from it only its end and a move to it are
+/// left.
+class Station {
+  public:
+    /// Makes a station; where the status isn't Ok there is none.
+    static std::optional<Station> make(std::uint64_t address, std::int32_t latitude,
+                                       std::int32_t longitude, std::uint16_t capacity,
+                                       std::uint8_t remember, Status *status = nullptr) noexcept {
+        geostation_handle *handle = nullptr;
+        const int got = geostation_new(&handle, address, latitude, longitude, capacity, remember);
+        if (status != nullptr) {
+            *status = static_cast<Status>(got);
+        }
+        if (got != GEOSTATION_OK) {
+            return std::nullopt;
+        }
+        return Station(handle);
+    }
+
+    Station(const Station &) = delete;
+    Station &operator=(const Station &) = delete;
+    Station(Station &&other) noexcept : handle_(std::exchange(other.handle_, nullptr)) {}
+    Station &operator=(Station &&other) noexcept {
+        std::swap(handle_, other.handle_);
+        return *this;
+    }
+    ~Station() { geostation_free(handle_); }
+
+    /// The handle, for calls of geostation.h.
+    geostation_handle *get() const noexcept { return handle_; }
+
+    Status move_to(std::uint64_t now, std::int32_t latitude, std::int32_t longitude, bool accurate,
+                   std::int16_t speed, std::uint16_t heading) noexcept {
+        return Status(geostation_move(handle_, now, latitude, longitude, accurate ? 1 : 0, speed,
+                                      heading));
+    }
+    Status open_port(std::uint64_t now, std::uint16_t port) noexcept {
+        return Status(geostation_open_port(handle_, now, port));
+    }
+    Status close_port(std::uint64_t now, std::uint16_t port) noexcept {
+        return Status(geostation_close_port(handle_, now, port));
+    }
+    Status restart(std::uint64_t now, std::uint16_t number) noexcept {
+        return Status(geostation_restart(handle_, now, number));
+    }
+    Status tick(std::uint64_t now, std::uint16_t jitter, Frame &frame) noexcept {
+        return Status(geostation_tick(handle_, now, jitter, frame.octets.data(),
+                                      frame.octets.size(), &frame.size));
+    }
+    Status send_shb(std::uint64_t now, const geostation_shb_request &request, Octets payload,
+                    Frame &frame) noexcept {
+        return Status(geostation_send_shb(handle_, now, &request, payload.data, payload.size,
+                                          frame.octets.data(), frame.octets.size(), &frame.size));
+    }
+    Status send_gbc(std::uint64_t now, const geostation_area_request &request, Octets payload,
+                    Frame &frame) noexcept {
+        return Status(geostation_send_gbc(handle_, now, &request, payload.data, payload.size,
+                                          frame.octets.data(), frame.octets.size(), &frame.size));
+    }
+    Status send_gac(std::uint64_t now, const geostation_area_request &request, Octets payload,
+                    Frame &frame) noexcept {
+        return Status(geostation_send_gac(handle_, now, &request, payload.data, payload.size,
+                                          frame.octets.data(), frame.octets.size(), &frame.size));
+    }
+
+    /// Takes a frame; what is to be sent on is written to `relay`.
+    Received receive(std::uint64_t now, Octets frame, Frame &relay) noexcept {
+        Received got{};
+        got.status = Status(geostation_receive(handle_, now, frame.data, frame.size,
+                                               &got.reception, relay.octets.data(),
+                                               relay.octets.size()));
+        relay.size = got.reception.relay_length;
+        if (got.reception.delivered != 0) {
+            got.payload = {frame.data + got.reception.payload_start,
+                           got.reception.payload_length};
+        }
+        return got;
+    }
+
+  private:
+    explicit Station(geostation_handle *handle) noexcept : handle_(handle) {}
+    geostation_handle *handle_;
+};
+
+} // namespace geostation
+
+#endif

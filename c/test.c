@@ -1,0 +1,238 @@
+/* Tests of the station from C: test [DAMAGED FRAMES]. Built with -Wl,--wrap=malloc. */
+#include "geostation.h"
+#include <stdio.h>
+#include <stdlib.h>
+#include <string.h>
+
+#define A_ADDRESS UINT64_C(0x1400020000000001)
+#define B_ADDRESS UINT64_C(0x1400020000000002)
+#define C_ADDRESS UINT64_C(0x1400020000000003)
+#define ROOM GEOSTATION_FRAME_MAX
+
+static long checks;
+#define CHECK(e) do { checks++; if (!(e)) { \
+    fprintf(stderr, "%s:%d: %s\n", __FILE__, __LINE__, #e); exit(1); } } while (0)
+
+/* a malloc that fails after so many calls */
+static long until_fail = -1;
+void *__real_malloc(size_t n);
+void *__wrap_malloc(size_t n);
+void *__wrap_malloc(size_t n) {
+    if (until_fail == 0) return NULL;
+    if (until_fail > 0) until_fail--;
+    return __real_malloc(n);
+}
+
+static const struct geostation_area_request AREA = {
+    .port = 2002, .info = 7, .traffic_class = 2, .lifetime = 0x1a, .max_hops = 5,
+    .shape = GEOSTATION_CIRCLE, .latitude = 449, .longitude = 0, .a = 200,
+};
+static const uint8_t HI[] = { 'h', 'i' };
+static uint8_t frame[ROOM], relay[ROOM], other[ROOM], payload[1395];
+static struct geostation_reception r;
+
+static struct geostation *station(uint64_t address, int32_t longitude, uint16_t capacity) {
+    struct geostation *s = NULL;
+    CHECK(geostation_new(&s, address, 449, longitude, capacity, 8) == GEOSTATION_OK && s != NULL);
+    return s;
+}
+
+static int is_nothing(void) {
+    return r.ignored == 0 && r.delivered == 0 && r.port == 0 && r.info == 0
+        && r.payload_start == 0 && r.payload_length == 0 && r.relay_length == 0
+        && r.fault == 0 && r.fault_kind == 0 && r.fault_at == 0;
+}
+
+static void test_new(void) {
+    static const struct { uint64_t address; int32_t latitude, longitude; uint16_t capacity;
+        uint8_t remember; } bad[] = {
+        { A_ADDRESS | UINT64_C(1) << 40, 0, 0, 64, 8 },
+        { A_ADDRESS, 900000001, 0, 64, 8 }, { A_ADDRESS, -900000001, 0, 64, 8 },
+        { A_ADDRESS, 0, 1800000001, 64, 8 }, { A_ADDRESS, 0, -1800000001, 64, 8 },
+        { A_ADDRESS, 0, 0, 0, 8 }, { A_ADDRESS, 0, 0, 4097, 8 },
+        { A_ADDRESS, 0, 0, 64, 0 }, { A_ADDRESS, 0, 0, 64, 65 },
+    };
+    struct geostation *s;
+    for (size_t i = 0; i < sizeof bad / sizeof bad[0]; i++) {
+        s = (struct geostation *)frame;
+        CHECK(geostation_new(&s, bad[i].address, bad[i].latitude, bad[i].longitude,
+                             bad[i].capacity, bad[i].remember) == GEOSTATION_BAD_ARGUMENT);
+        CHECK(s == NULL);
+    }
+    CHECK(geostation_new(&s, A_ADDRESS, 900000000, -1800000000, 4096, 64) == GEOSTATION_OK);
+    geostation_free(s);
+    long fails = 0;
+    for (;; fails++) {
+        s = (struct geostation *)frame;
+        until_fail = fails;
+        int status = geostation_new(&s, A_ADDRESS, 449, 0, 64, 8);
+        until_fail = -1;
+        if (status == GEOSTATION_OK) break;
+        CHECK(status == GEOSTATION_NO_MEMORY && s == NULL);
+    }
+    CHECK(fails > 2);
+    geostation_free(s);
+    geostation_free(NULL);
+}
+
+static void test_calls(void) {
+    struct geostation *s = station(A_ADDRESS, 0, 64);
+    CHECK(geostation_open_port(s, 0, 2002) == GEOSTATION_OK);
+    CHECK(geostation_open_port(s, 0, 2002) == GEOSTATION_PORT_ALREADY_OPEN);
+    CHECK(geostation_close_port(s, 0, 2003) == GEOSTATION_PORT_NOT_OPEN);
+    for (uint16_t port = 1; port < 64; port++)
+        CHECK(geostation_open_port(s, 0, port) == GEOSTATION_OK);
+    CHECK(geostation_open_port(s, 0, 64) == GEOSTATION_PORTS_FULL);
+    CHECK(geostation_close_port(s, 0, 1) == GEOSTATION_OK);
+    CHECK(geostation_move(s, 1, 449, 0, 1, -16384, 900) == GEOSTATION_OK);
+    CHECK(geostation_move(s, 1, 449, 0, 1, 16383, 900) == GEOSTATION_OK);
+    CHECK(geostation_move(s, 1, 449, 0, 1, 16384 - 32768 - 1, 900) == GEOSTATION_BAD_ARGUMENT);
+    CHECK(geostation_move(s, 1, 449, 0, 1, 16384, 900) == GEOSTATION_BAD_ARGUMENT);
+    CHECK(geostation_move(s, 1, 900000001, 0, 1, 0, 900) == GEOSTATION_BAD_ARGUMENT);
+    CHECK(geostation_move(s, 0, 449, 0, 1, 0, 900) == GEOSTATION_MOMENT_EARLIER);
+    CHECK(geostation_restart(s, GEOSTATION_LAST_MOMENT + 1, 0) == GEOSTATION_MOMENT_TOO_LATE);
+    CHECK(geostation_restart(s, GEOSTATION_LAST_MOMENT, 0) == GEOSTATION_OK);
+    geostation_free(s);
+}
+
+static void test_beacons(void) {
+    struct geostation *a = station(A_ADDRESS, 0, 64), *b = station(B_ADDRESS, 900, 64);
+    size_t n = 99, m = 99;
+    CHECK(geostation_tick(a, 10, 0, frame, ROOM - 1, &n) == GEOSTATION_NO_ROOM && n == 0);
+    n = 99;
+    CHECK(geostation_tick(a, 10, 751, frame, ROOM, &n) == GEOSTATION_JITTER_RANGE && n == 0);
+    n = 99;
+    until_fail = 0;
+    CHECK(geostation_tick(a, 10, 0, frame, ROOM, &n) == GEOSTATION_NO_MEMORY && n == 0);
+    until_fail = -1;
+    CHECK(geostation_tick(a, 10, 0, frame, ROOM, &n) == GEOSTATION_OK && n == 50);
+    CHECK(frame[12] == 0x89 && frame[13] == 0x47);
+    CHECK(geostation_tick(a, 3009, 0, frame, ROOM, &m) == GEOSTATION_OK && m == 0);
+    CHECK(geostation_receive(b, 12, frame, n, &r, relay, ROOM) == GEOSTATION_OK && is_nothing());
+    CHECK(geostation_tick(a, 3010, 1, frame, ROOM, &m) == GEOSTATION_OK && m == 0);
+    CHECK(geostation_tick(a, 3011, 1, frame, ROOM, &m) == GEOSTATION_OK && m == 50);
+    geostation_free(a);
+    geostation_free(b);
+}
+
+/* The frame of a geobroadcast of A, which is at longitude 0. */
+static size_t test_sending(struct geostation *a) {
+    size_t n = 99;
+    struct geostation_area_request bad = AREA;
+    bad.max_hops = 0;
+    CHECK(geostation_send_gbc(a, 20, &bad, HI, 2, frame, ROOM, &n) == GEOSTATION_HOP_LIMIT_ZERO);
+    CHECK(n == 0);
+    bad = AREA, bad.shape = 3;
+    CHECK(geostation_send_gbc(a, 20, &bad, HI, 2, frame, ROOM, &n) == GEOSTATION_BAD_ARGUMENT);
+    CHECK(geostation_send_gac(a, 20, &bad, HI, 2, frame, ROOM, &n) == GEOSTATION_BAD_ARGUMENT);
+    bad = AREA, bad.a = 0;
+    CHECK(geostation_send_gbc(a, 20, &bad, HI, 2, frame, ROOM, &n) == GEOSTATION_BAD_ARGUMENT);
+    bad = AREA, bad.shape = GEOSTATION_ELLIPSE, bad.b = 1, bad.angle = 360;
+    CHECK(geostation_send_gac(a, 20, &bad, HI, 2, frame, ROOM, &n) == GEOSTATION_BAD_ARGUMENT);
+    bad.angle = 359;
+    CHECK(geostation_send_gac(a, 20, &bad, HI, 2, frame, ROOM, &n) == GEOSTATION_OK && n == 76);
+    CHECK(geostation_send_gac(a, 20, &AREA, HI, 2, frame, ROOM - 1, &n) == GEOSTATION_NO_ROOM);
+    CHECK(geostation_send_gbc(a, 20, &AREA, payload, 1395, frame, ROOM, &n)
+          == GEOSTATION_PAYLOAD_TOO_LONG && n == 0);
+    CHECK(geostation_send_gbc(a, 20, &AREA, payload, 1394, frame, ROOM, &n) == GEOSTATION_OK);
+    CHECK(n == ROOM);
+    until_fail = 0;
+    CHECK(geostation_send_gbc(a, 20, &AREA, HI, 2, frame, ROOM, &n) == GEOSTATION_NO_MEMORY);
+    CHECK(n == 0);
+    until_fail = -1;
+    CHECK(geostation_send_gbc(a, 20, &AREA, HI, 2, frame, ROOM, &n) == GEOSTATION_OK && n == 76);
+    return n;
+}
+
+static void test_receiving(long damaged) {
+    struct geostation *a = station(A_ADDRESS, 0, 64), *b = station(B_ADDRESS, 900, 64);
+    struct geostation *c = station(C_ADDRESS, 1800, 1);
+    struct geostation_shb_request shb = { .port = 2001, .info = 0, .traffic_class = 0 };
+    size_t n, m;
+    CHECK(geostation_open_port(b, 0, 2002) == GEOSTATION_OK);
+    n = test_sending(a);
+    CHECK(geostation_receive(b, 21, frame, n, &r, relay, ROOM - 1) == GEOSTATION_NO_ROOM);
+    CHECK(is_nothing());
+    until_fail = 0;
+    CHECK(geostation_receive(b, 21, frame, n, &r, relay, ROOM) == GEOSTATION_NO_MEMORY);
+    until_fail = -1;
+    CHECK(is_nothing());
+    CHECK(geostation_receive(b, 21, frame, n, &r, relay, ROOM) == GEOSTATION_OK);
+    CHECK(r.ignored == 0 && r.delivered == 1 && r.port == 2002 && r.info == 7 && r.fault == 0);
+    CHECK(r.payload_length == 2 && memcmp(frame + r.payload_start, HI, 2) == 0);
+    CHECK(r.relay_length == n);
+    CHECK(memcmp(relay, "\xff\xff\xff\xff\xff\xff\x02\x00\x00\x00\x00\x02", 12) == 0);
+    m = r.relay_length;
+    CHECK(geostation_receive(b, 22, frame, n, &r, other, ROOM) == GEOSTATION_OK);
+    CHECK(r.ignored == GEOSTATION_DUPLICATE && r.delivered == 0 && r.relay_length == 0);
+    CHECK(geostation_receive(a, 22, relay, m, &r, other, ROOM) == GEOSTATION_OK);
+    CHECK(r.ignored == GEOSTATION_OWN_SOURCE);
+    CHECK(geostation_receive(c, 22, relay, m, &r, other, ROOM) == GEOSTATION_OK && !r.delivered);
+    CHECK(geostation_send_shb(b, 23, &shb, HI, 0, other, ROOM, &m) == GEOSTATION_OK && m > 0);
+    CHECK(geostation_receive(c, 23, other, m, &r, relay, ROOM) == GEOSTATION_TABLE_FULL);
+    CHECK(is_nothing());
+    other[11] = 9;
+    CHECK(geostation_receive(a, 24, other, m, &r, relay, ROOM) == GEOSTATION_OK);
+    CHECK(r.ignored == GEOSTATION_SENDER_MISMATCH);
+    other[5] = 9, other[0] = 2;
+    CHECK(geostation_receive(a, 24, other, m, &r, relay, ROOM) == GEOSTATION_OK);
+    CHECK(r.ignored == GEOSTATION_NOT_FOR_ME);
+
+    /* octets that are no frame */
+    CHECK(geostation_receive(b, 25, NULL, 0, &r, relay, ROOM) == GEOSTATION_BAD_FRAME);
+    CHECK(r.fault == 1 && r.fault_kind == 0 && r.fault_at == 0);
+    for (size_t k = 14; k < n; k++) {
+        CHECK(geostation_receive(b, 25, frame, k, &r, relay, ROOM) == GEOSTATION_BAD_FRAME);
+        CHECK(r.fault == 5 && r.fault_kind == 1 && r.fault_at == k - 14);
+    }
+    memcpy(other, frame, n);
+    other[13] = 0;
+    CHECK(geostation_receive(b, 25, other, n, &r, relay, ROOM) == GEOSTATION_BAD_FRAME);
+    CHECK(r.fault == 2);
+    other[13] = 0x47, other[n] = 0;
+    CHECK(geostation_receive(b, 25, other, n + 1, &r, relay, ROOM) == GEOSTATION_BAD_FRAME);
+    CHECK(r.fault == 4);
+    other[14] = 0x21; /* the version */
+    CHECK(geostation_receive(b, 25, other, n, &r, relay, ROOM) == GEOSTATION_BAD_FRAME);
+    CHECK(r.fault == 5 && r.fault_kind == 2 && r.fault_at == 0);
+    uint8_t *long_one = calloc(ROOM + 1, 1);
+    memcpy(long_one, frame, n);
+    CHECK(geostation_receive(b, 25, long_one, ROOM + 1, &r, relay, ROOM) == GEOSTATION_BAD_FRAME);
+    CHECK(r.fault == 3);
+    free(long_one);
+
+    /* damaged frames, each in a block of just its size */
+    for (long i = 0; i < damaged; i++) {
+        size_t l = i % 7 ? n : (size_t)rand() % (n + 1);
+        uint8_t *block = malloc(l != 0 ? l : 1);
+        memcpy(block, frame, l);
+        for (int k = 0; k < 3 && l != 0; k++) block[(size_t)rand() % l] = (uint8_t)rand();
+        int status = geostation_receive(b, 26, block, l, &r, relay, ROOM);
+        CHECK(status == GEOSTATION_OK || status == GEOSTATION_BAD_FRAME
+              || status == GEOSTATION_TABLE_FULL);
+        CHECK((r.fault != 0) == (status == GEOSTATION_BAD_FRAME));
+        if (r.delivered) CHECK(r.payload_start + r.payload_length == l);
+        free(block);
+    }
+
+    /* a restart closes the ports, and what was heard is new again */
+    CHECK(geostation_restart(b, 30, 500) == GEOSTATION_OK);
+    CHECK(geostation_receive(b, 31, frame, n, &r, relay, ROOM) == GEOSTATION_OK);
+    CHECK(r.ignored == 0 && r.delivered == 0 && r.relay_length == n);
+    geostation_free(a);
+    geostation_free(b);
+    geostation_free(c);
+}
+
+int main(int argc, char **argv) {
+    test_new();
+    test_calls();
+    test_beacons();
+    test_receiving(argc > 1 ? atol(argv[1]) : 1000);
+    for (int status = 0; status <= 21; status++)
+        if (status <= 11 || status >= 20)
+            CHECK(strcmp(geostation_status_text(status), "no status") != 0);
+    CHECK(strcmp(geostation_fault_text(5, 9), "more hops left than the maximum") == 0);
+    printf("%ld checks\n", checks);
+    return 0;
+}

@@ -1,0 +1,86 @@
+/* Sentences for statuses and faults, and the free that passes over NULL: the part of the library
+ * that is C, and no part of any proof. */
+#include "geostation.h"
+
+/* The library's structs have the same layout: fields in this order, each at its own alignment. */
+_Static_assert(sizeof(struct geostation_shb_request) == 6, "shb_request");
+_Static_assert(offsetof(struct geostation_shb_request, info) == 2, "shb_request.info");
+_Static_assert(offsetof(struct geostation_shb_request, traffic_class) == 4, "traffic_class");
+_Static_assert(sizeof(struct geostation_area_request) == 24, "area_request");
+_Static_assert(offsetof(struct geostation_area_request, traffic_class) == 4, "traffic_class");
+_Static_assert(offsetof(struct geostation_area_request, lifetime) == 5, "lifetime");
+_Static_assert(offsetof(struct geostation_area_request, max_hops) == 6, "max_hops");
+_Static_assert(offsetof(struct geostation_area_request, shape) == 7, "shape");
+_Static_assert(offsetof(struct geostation_area_request, latitude) == 8, "latitude");
+_Static_assert(offsetof(struct geostation_area_request, longitude) == 12, "longitude");
+_Static_assert(offsetof(struct geostation_area_request, a) == 16, "a");
+_Static_assert(offsetof(struct geostation_area_request, b) == 18, "b");
+_Static_assert(offsetof(struct geostation_area_request, angle) == 20, "angle");
+_Static_assert(sizeof(size_t) == 8 && sizeof(struct geostation_reception) == 56, "reception");
+_Static_assert(offsetof(struct geostation_reception, port) == 8, "port");
+_Static_assert(offsetof(struct geostation_reception, info) == 10, "info");
+_Static_assert(offsetof(struct geostation_reception, payload_start) == 16, "payload_start");
+_Static_assert(offsetof(struct geostation_reception, payload_length) == 24, "payload_length");
+_Static_assert(offsetof(struct geostation_reception, relay_length) == 32, "relay_length");
+_Static_assert(offsetof(struct geostation_reception, fault) == 40, "fault");
+_Static_assert(offsetof(struct geostation_reception, fault_kind) == 44, "fault_kind");
+_Static_assert(offsetof(struct geostation_reception, fault_at) == 48, "fault_at");
+
+/* What the library frees a handle by; it takes no NULL. */
+void geostation_release(struct geostation *s);
+
+void geostation_free(struct geostation *s) {
+    if (s != NULL) {
+        geostation_release(s);
+    }
+}
+
+const char *geostation_status_text(int status) {
+    switch (status) {
+    case GEOSTATION_OK: return "done";
+    case GEOSTATION_MOMENT_EARLIER: return "the moment is before the last one";
+    case GEOSTATION_MOMENT_TOO_LATE: return "the moment is over 2^62 ms";
+    case GEOSTATION_BAD_FRAME: return "the octets are no frame";
+    case GEOSTATION_TABLE_FULL: return "the location table is full";
+    case GEOSTATION_NO_MEMORY: return "out of memory";
+    case GEOSTATION_PAYLOAD_TOO_LONG: return "the payload is over 1394 octets";
+    case GEOSTATION_HOP_LIMIT_ZERO: return "a packet of no hop";
+    case GEOSTATION_PORT_ALREADY_OPEN: return "the port is open already";
+    case GEOSTATION_JITTER_RANGE: return "the jitter is over 750 ms";
+    case GEOSTATION_PORTS_FULL: return "64 ports are open";
+    case GEOSTATION_PORT_NOT_OPEN: return "the port isn't open";
+    case GEOSTATION_BAD_ARGUMENT: return "an argument is out of its range";
+    case GEOSTATION_NO_ROOM: return "the buffer is under 1468 octets";
+    default: return "no status";
+    }
+}
+
+static const char *kind_text(uint32_t kind) {
+    static const char *const texts[] = {
+        "the octets end in a field or before it",
+        "a version other than 1",
+        "no Common Header after the Basic Header",
+        "a reserved bit that is set",
+        "no hop left",
+        "neither nothing nor BTP-B after the headers",
+        "a header type that is not read",
+        "a sub-type that the header type does not have",
+        "more hops left than the maximum",
+        "a payload length out of range",
+        "a group address or a place out of range",
+        "an area out of range",
+    };
+    return kind >= 1 && kind <= 12 ? texts[kind - 1] : "no packet in the frame";
+}
+
+const char *geostation_fault_text(uint32_t fault, uint32_t fault_kind) {
+    switch (fault) {
+    case 0: return "no fault";
+    case 1: return "a frame of fewer than 14 octets";
+    case 2: return "a frame of another type than 0x8947";
+    case 3: return "a frame of more than 1468 octets";
+    case 4: return "octets after the packet";
+    case 5: return kind_text(fault_kind);
+    default: return "no fault";
+    }
+}

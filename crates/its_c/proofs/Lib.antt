@@ -1,0 +1,4 @@
+pub mod Values
+pub mod Helds
+pub mod Opens
+pub mod Telling

@@ -1,0 +1,109 @@
+//! The calls that tell C nothing but their status.
+
+ghost use Rattle.std.specs.Prelude.{◌≡◌, ◌≢◌, pos, not, nat_eq};
+ghost use Rattle.its_model.specs.Calls.{Own, Moved, Opened, Closed, Restarted};
+ghost use Rattle.its_model.specs.Calls.OwnCall.{Move, Open, Close, Restart};
+ghost use Rattle.its_model.specs.Station.{StationModel, station_step};
+ghost use Rattle.its_c.specs.Arguments.{AreForMove, place_of};
+ghost use Rattle.its_c.specs.Open.{HoldsModel};
+ghost use Rattle.its_c.specs.Told.{IsToldDone};
+
+use crate::handle::Geostation;
+use crate::status::BAD_ARGUMENT;
+use crate::told::told;
+use its_gnvalue::Place;
+use std::alloc::Global;
+
+/// The station stands at these coordinates from now on, in 0.1 microdegree: whether that is
+/// accurate, its speed in 0.01 m/s, from -16384 to 16383, and its heading in 0.1 degree. Refused
+/// for its moment (S1, S2), and by `BAD_ARGUMENT` for coordinates or a speed out of range.
+#[unsafe(no_mangle)]
+pub extern "C" fn geostation_move(
+    alloc: Global,
+    s: &mut Geostation,
+    now: u64,
+    latitude: i32,
+    longitude: i32,
+    accurate: u8,
+    speed: i16,
+    heading: u16,
+) -> i32
+    ensures step { (m : StationModel) → HoldsModel s.old.held.station m → result ≢ pos 20 →
+        IsToldDone Moved result s.new.held.station (station_step m now
+        (Own (Move (place_of latitude longitude) (not (nat_eq accurate 0)) speed heading))) }
+    ensures refused { result ≡ pos 20 → AreForMove latitude longitude speed → ⊥ }
+    ensures taken { result ≢ pos 20 → AreForMove latitude longitude speed }
+    ensures unchanged { result ≢ pos 0 → s.new.held.station ≡ s.old.held.station }
+    ensures memory { result ≢ pos 5 }
+{
+    if speed < -16384 || speed > 16383 {
+        return BAD_ARGUMENT;
+    }
+    let Ok(place) = Place::new(latitude, longitude) else {
+        return BAD_ARGUMENT;
+    };
+    let mut station = s.held.take(alloc);
+    let said = station.move_to(now, place, accurate != 0, speed, heading);
+    s.held.put(station);
+    told(said)
+}
+
+/// Opens a port. Refused for its moment (S1, S2), and by S8 where the port is open already or 64
+/// are.
+#[unsafe(no_mangle)]
+pub extern "C" fn geostation_open_port(
+    alloc: Global,
+    s: &mut Geostation,
+    now: u64,
+    port: u16,
+) -> i32
+    ensures step { (m : StationModel) → HoldsModel s.old.held.station m →
+        IsToldDone Opened result s.new.held.station (station_step m now (Own (Open port))) }
+    ensures unchanged { result ≢ pos 0 → s.new.held.station ≡ s.old.held.station }
+    ensures memory { result ≢ pos 5 }
+{
+    let mut station = s.held.take(alloc);
+    let said = station.open(now, port);
+    s.held.put(station);
+    told(said)
+}
+
+/// Closes a port. Refused for its moment (S1, S2), and by S8 where the port isn't open.
+#[unsafe(no_mangle)]
+pub extern "C" fn geostation_close_port(
+    alloc: Global,
+    s: &mut Geostation,
+    now: u64,
+    port: u16,
+) -> i32
+    ensures step { (m : StationModel) → HoldsModel s.old.held.station m →
+        IsToldDone Closed result s.new.held.station (station_step m now (Own (Close port))) }
+    ensures unchanged { result ≢ pos 0 → s.new.held.station ≡ s.old.held.station }
+    ensures memory { result ≢ pos 5 }
+{
+    let mut station = s.held.take(alloc);
+    let said = station.close(now, port);
+    s.held.put(station);
+    told(said)
+}
+
+/// The station forgets all that it heard and closes its ports, and gives its next packet for an
+/// area this sequence number. Refused for its moment alone (S1, S2).
+#[unsafe(no_mangle)]
+pub extern "C" fn geostation_restart(
+    alloc: Global,
+    s: &mut Geostation,
+    now: u64,
+    number: u16,
+) -> i32
+    ensures step { (m : StationModel) → HoldsModel s.old.held.station m →
+        IsToldDone Restarted result s.new.held.station
+        (station_step m now (Own (Restart number))) }
+    ensures unchanged { result ≢ pos 0 → s.new.held.station ≡ s.old.held.station }
+    ensures memory { result ≢ pos 5 }
+{
+    let mut station = s.held.take(alloc);
+    let said = station.restart(now, number);
+    s.held.put(station);
+    told(said)
+}

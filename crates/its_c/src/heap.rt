@@ -1,0 +1,101 @@
+//! Handles on the heap: how one is made, and how its memory is given back.
+
+ghost use Rattle.std.specs.Borrow.{sem};
+ghost use Rattle.std.specs.Prelude.{◌≡◌, ◌≢◌, ◌≤◌, ◌⊎◌, pos, IfSome, IsSomeAnd, None};
+ghost use Rattle.its_model.specs.Station.{new_station};
+ghost use Rattle.its_c.specs.Arguments.{AreForNew, place_of};
+ghost use Rattle.its_c.specs.Handles.{handle_owns};
+ghost use Rattle.its_c.specs.Open.{HoldsModel};
+ghost use Rattle.its_c.specs.declared.handle.Geostation.{Geostation as Handle};
+
+use crate::handle::Geostation;
+use crate::held::Held;
+use crate::loose::Loose;
+use crate::slot::Slot;
+use crate::status::{BAD_ARGUMENT, NO_MEMORY, OK};
+use its_gnvalue::{GnAddress, Place};
+use its_station::Station;
+use std::alloc::Global;
+use std::ptr::null_mut;
+
+/// Makes a station to which nothing happened yet, and writes the pointer to its handle: of this
+/// address, at these coordinates in 0.1 microdegree, with a location table for `capacity` sources,
+/// 1 to 4096, that remembers the last `remember` sequence numbers of each, 1 to 64. Where the
+/// status isn't 0 there is no handle, and the pointer is null: `BAD_ARGUMENT` for an argument out
+/// of its range, and `NO_MEMORY`.
+#[unsafe(no_mangle)]
+pub extern "C" fn geostation_new(
+    alloc: Global,
+    out: &mut Slot,
+    address: u64,
+    latitude: i32,
+    longitude: i32,
+    capacity: u16,
+    remember: u8,
+) -> i32
+    ensures new { result ≡ pos 0 → IsSomeAnd out.new.handle (λ h. HoldsModel h.held.station
+        (new_station address (place_of latitude longitude) capacity remember)) }
+    ensures none { result ≢ pos 0 → out.new.handle ≡ None }
+    ensures only { (result ≡ pos 0) ⊎ (result ≡ pos 5) ⊎ (result ≡ pos 20) }
+    ensures refused { result ≡ pos 20 →
+        AreForNew address latitude longitude capacity remember → ⊥ }
+    ensures taken { result ≢ pos 20 → AreForNew address latitude longitude capacity remember }
+{
+    let at: *mut Geostation = null_mut();
+    *out = Slot::none(at, alloc);
+    if capacity == 0 || capacity > 4096 || remember == 0 || remember > 64 {
+        return BAD_ARGUMENT;
+    }
+    let Ok(address) = GnAddress::from_u64(address) else {
+        return BAD_ARGUMENT;
+    };
+    let Ok(place) = Place::new(latitude, longitude) else {
+        return BAD_ARGUMENT;
+    };
+    let Some(handle) = make(alloc, address, place, capacity, remember) else {
+        return NO_MEMORY;
+    };
+    *out = Slot::of(Loose::of(handle));
+    OK
+}
+
+/// The handle of a new station on the heap, or none where an allocation failed.
+fn make(
+    alloc: Global,
+    address: GnAddress,
+    place: Place,
+    capacity: u16,
+    remember: u8,
+) -> Option<Box<Geostation>>
+    requires capacity { (1 ≤ capacity) × (capacity ≤ 4096) }
+    requires remember { (1 ≤ remember) × (remember ≤ 64) }
+    ensures { IfSome result (λ h. HoldsModel h.value.held.station
+        (new_station address place capacity remember)) }
+{
+    let station = Station::new(alloc, address, place, capacity, remember).ok()?;
+    let station = Box::new(alloc, station).ok()?;
+    match Box::new(alloc, Geostation::new(Held::new(station))) {
+        Ok(handle) => Some(handle),
+        Err(failed) => {
+            let Geostation { mut held } = failed.value;
+            drop(held.take(alloc));
+            None
+        }
+    }
+}
+
+/// Gives the memory of a handle back, and that of its station.
+#[unsafe(no_mangle)]
+pub unsafe extern "C" fn geostation_release(alloc: Global, s: *mut Geostation)
+    ghost handle: { Handle }
+    requires* { sem 𝓛 (handle_owns alloc s handle) }
+{
+    release(Loose { at: s, alloc })
+}
+
+fn release(loose: Loose<Geostation, Global>) {
+    let handle = loose.into_box();
+    let alloc = *Box::allocator(&handle);
+    let Geostation { mut held } = Box::into_inner(handle);
+    drop(held.take(alloc));
+}

@@ -1,0 +1,23 @@
+//! The station for C: what `c/geostation.h` declares (EN 302 636-4-1, in this profile).
+//!
+//! C holds an opaque handle, which `geostation_new` makes on the heap. Each call answers an integer
+//! (`status`), and writes what it gives into the caller's buffers; it has no state but the
+//! handle's, does no input or output and reads no clock. Its contract is the station's own over
+//! the handle's station, with what C finds in its memory in place of the answer.
+#![tactic(auto)]
+
+mod calls;
+mod handle;
+mod heap;
+mod held;
+mod layout;
+mod loose;
+mod receiving;
+mod sending;
+mod slot;
+mod status;
+mod told;
+
+pub use handle::Geostation;
+pub use layout::{AreaRequest, Reception, ShbRequest};
+pub use slot::Slot;

@@ -1,0 +1,39 @@
+//! The statuses that calls from C return.
+
+ghost use Rattle.std.specs.Prelude.{◌≡◌, pos};
+ghost use Rattle.its_c.specs.Status.{status_of};
+
+use its_btp::PortFault;
+use its_station::Refused;
+
+/// The call was done.
+pub(crate) const OK: i32 = 0;
+
+/// An allocation failed (S5).
+pub(crate) const NO_MEMORY: i32 = 5;
+
+/// An argument is out of its range.
+pub(crate) const BAD_ARGUMENT: i32 = 20;
+
+/// The buffer has no room for the longest frame.
+pub(crate) const NO_ROOM: i32 = 21;
+
+/// The status of a refusal: that of S1 is 1, and so on to S9; S8 is 8, 10 or 11.
+pub(crate) fn status_of(refused: Refused) -> i32
+    ensures status { result ≡ status_of refused }
+    ensures memory { result ≡ pos 5 → refused ≡ Refused.NoMemory }
+{
+    match refused {
+        Refused::MomentEarlier => 1,
+        Refused::MomentTooLate => 2,
+        Refused::Frame(_) => 3,
+        Refused::TableFull => 4,
+        Refused::NoMemory => 5,
+        Refused::PayloadTooLong => 6,
+        Refused::HopLimitZero => 7,
+        Refused::Port(PortFault::AlreadyOpen) => 8,
+        Refused::JitterRange => 9,
+        Refused::Port(PortFault::Full) => 10,
+        Refused::Port(PortFault::NotOpen) => 11,
+    }
+}
