@@ -85,12 +85,14 @@
   }
 
   function showTotals() {
-    const count = (value, word) => `${value.toLocaleString('en')} ${word}`;
+    const count = (value, one, more = `${one}s`) =>
+      `${value.toLocaleString('en')} ${value === 1 ? one : more}`;
     const {total, run} = state;
-    tell([count(run.stations.length, 'stations'), count(total.events, 'events'),
-      count(total.frames, 'frames'), count(total.deliveries, 'deliveries'),
-      count(total.duplicates, 'duplicates'), count(total.ignored, 'ignored otherwise'),
-      count(total.refused, 'refused')].join(' · '));
+    tell([count(run.stations.length, 'station'), count(total.events, 'event'),
+      count(total.frames, 'frame'), count(total.deliveries, 'delivery', 'deliveries'),
+      count(total.duplicates, 'duplicate'),
+      count(total.ignored, 'ignored otherwise', 'ignored otherwise'),
+      count(total.refused, 'refused', 'refused')].join(' · '));
   }
 
   /** The events that are listed: a station's, or all. */
@@ -143,17 +145,13 @@
       `${runs.doing(event)}, ${runs.entry(event)}${reason}`;
   }
 
-  /** @param {HTMLElement} row @param {number} index */
-  function fillEvent(row, index) {
-    const event = state.run.events[eventOfRow(index)];
-    row.className = `row event ${kindOf(event)}`;
-    row.title = event.reason ?? '';
-    row.replaceChildren(
-      element('span', 'moment', state.run.moment(event.index)),
-      element('span', 'who', String(event.station)),
-      element('span', 'what', runs.doing(event)),
-      element('span', 'entry', runs.entry(event)),
-    );
+  /** @param {number} row @returns {import('./list.js').Row} */
+  function fillEvent(row) {
+    const event = state.run.events[eventOfRow(row)];
+    return {kind: `event ${kindOf(event)}`, title: event.reason, cells: [
+      ['moment', state.run.moment(event.index)], ['who', String(event.station)],
+      ['what', runs.doing(event)], ['entry', runs.entry(event)],
+    ]};
   }
 
   /** How an event is coloured and a delivery is drawn. @param {import('./run.js').Event} event */
@@ -164,20 +162,14 @@
     return event.result === 'accepted' ? 'accepted' : event.result;
   }
 
-  /** @param {HTMLElement} row @param {number} index */
-  function fillSend(row, index) {
-    row.className = 'row send';
-    if (index === 0) {
-      row.replaceChildren(element('span', 'wide', 'All frames, as they come'));
-      return;
-    }
-    const {moment, station, do: what, port, delivered} = ways.figures(state.run, state.sends[index - 1]);
-    row.replaceChildren(
-      element('span', 'moment', moment),
-      element('span', 'who', String(station)),
-      element('span', 'what', what),
-      element('span', 'entry', `port ${port ?? '?'}, delivered at ${delivered}`),
-    );
+  /** @param {number} row 0 for all @returns {import('./list.js').Row} */
+  function fillSend(row) {
+    if (row === 0) return {kind: 'send', cells: [['entry', 'All frames, as they come']]};
+    const send = ways.figures(state.run, state.sends[row - 1]);
+    return {kind: 'send', cells: [
+      ['moment', send.moment], ['who', String(send.station)], ['what', send.do],
+      ['entry', `port ${send.port ?? '?'}, delivered at ${send.delivered}`],
+    ]};
   }
 
   /** Shows the way of a send, or all frames. @param {number} send -1 for all */
@@ -202,28 +194,25 @@
     if (!send) return;
     const {delivered, frames, hops, last} = ways.figures(state.run, send);
     const rows = [
-      ['delivered', `${delivered} stations`], ['in the area', `${ways.standing(state.run, send)} others`],
-      ['frames', String(frames)], ['hops', String(hops)], ['last', `${last} ms`],
+      ['delivered at', delivered], ['in the area', ways.standing(state.run, send)],
+      ['frames', frames], ['hops', hops], ['last', `${last} ms`],
     ];
     box.replaceChildren(...rows.map(([name, value]) =>
-      element('div', '', element('dt', '', name), element('dd', '', value))));
-    box.title = 'In the area: other stations that stood in it at the send, whatever ports they had open';
+      element('div', '', element('dt', '', name), element('dd', '', String(value)))));
+    box.title = 'In the area: other stations that stood in it at the send, with any ports open';
   }
 
-  /** @param {HTMLElement} row @param {number} index */
-  function fillStep(row, index) {
-    const {event, station, hop, delivered, sent, duplicates} = state.steps[index];
+  /** @param {number} row @returns {import('./list.js').Row} */
+  function fillStep(row) {
+    const {event, station, hop, delivered, sent, duplicates} = state.steps[row];
     const start = state.run.elapsed(state.sends[state.send].event, event);
-    const words = [];
-    if (hop === 0) words.push('sent it');
-    else words.push(delivered ? 'delivered' : 'accepted');
+    const words = [hop === 0 ? 'sent it' : delivered ? 'delivered' : 'accepted'];
     if (hop > 0 && sent !== undefined) words.push('relayed');
     if (duplicates > 0) words.push(`${duplicates} knew it`);
     const kind = hop === 0 ? 'sent' : delivered ? 'accepted delivered' : 'accepted';
-    row.className = `row step ${kind}${event > state.at ? ' later' : ''}`;
-    const name = element('span', 'entry', `station ${station}`, element('small', '', words.join(', ')));
-    name.style.setProperty('--hop', String(Math.min(hop, 12)));
-    row.replaceChildren(name, element('span', 'moment', `+${start} ms`));
+    return {kind: `step ${kind}${event > state.at ? ' later' : ''}`, hop: Math.min(hop, 12), cells: [
+      ['entry', `station ${station}`], ['note', words.join(', ')], ['moment', `+${start} ms`],
+    ]};
   }
 
   /** @param {number} index of a delivery @returns {import('./map.js').Link | undefined} */

@@ -8,10 +8,18 @@
   /** Browsers draw no element much higher; a longer list is scrolled in proportion. */
   const HIGHEST = 8000000;
 
+  /**
+   * @typedef {object} Row what stands in a row
+   * @property {string} kind its classes
+   * @property {string} [title]
+   * @property {number} [hop] how far it is indented
+   * @property {[string, string][]} cells the class and the text of each
+   */
+
   class List {
     /**
      * @param {HTMLElement} box
-     * @param {(row: HTMLElement, index: number) => void} fill writes a row
+     * @param {(index: number) => Row} fill tells what stands in a row
      * @param {(index: number) => void} pick a row was chosen
      */
     constructor(box, fill, pick) {
@@ -27,7 +35,11 @@
       box.tabIndex = 0;
       box.setAttribute('role', 'listbox');
       box.addEventListener('scroll', () => this.draw(), {passive: true});
-      box.addEventListener('click', (event) => this.click(event));
+      // A list may move between a press and its click: the row that was pressed counts.
+      box.addEventListener('pointerdown', (event) => {
+        this.pressed = indexAt(event);
+      });
+      box.addEventListener('click', (event) => this.click(indexAt(event)));
       box.addEventListener('keydown', (event) => this.key(event));
       new ResizeObserver(() => this.draw()).observe(box);
     }
@@ -88,13 +100,24 @@
       row.setAttribute('aria-setsize', String(this.count));
       row.setAttribute('aria-selected', String(isPresent));
       if (isPresent) this.box.setAttribute('aria-activedescendant', row.id);
-      this.fill(row, index);
+      const {kind, title = '', hop = 0, cells} = this.fill(index);
+      row.className = `row ${kind}`;
+      row.title = title;
+      row.style.setProperty('--hop', String(hop));
+      // Cells are kept and not made anew, as a press on one that goes gives no click.
+      while (row.children.length > cells.length) row.lastChild.remove();
+      while (row.children.length < cells.length) row.append(element('span', ''));
+      cells.forEach(([className, text], i) => {
+        row.children[i].className = className;
+        row.children[i].textContent = text;
+      });
     }
 
-    /** @param {MouseEvent} event */
-    click(event) {
-      const row = /** @type {HTMLElement} */ (event.target).closest('.row');
-      if (row) this.pick(Number(row.dataset.index));
+    /** @param {number | undefined} index */
+    click(index) {
+      const picked = this.pressed ?? index;
+      this.pressed = undefined;
+      if (picked !== undefined && picked < this.count) this.pick(picked);
     }
 
     /** Up, down, home and end choose a row. @param {KeyboardEvent} event */
@@ -107,6 +130,12 @@
       event.stopPropagation();
       this.pick(Math.max(0, Math.min(this.count - 1, this.present + step)));
     }
+  }
+
+  /** The row that an event is in. @param {Event} event @returns {number | undefined} */
+  function indexAt(event) {
+    const row = /** @type {HTMLElement} */ (event.target).closest('.row');
+    return row ? Number(row.dataset.index) : undefined;
   }
 
   geostation.list = {List};

@@ -8,7 +8,7 @@
   const MOST_LINKS = 400;
   const MOST_LABELS = 60;
   const LONGEST_TRAIL = 200;
-  const MARGIN = 56;
+  const MARGIN = 0.075;
 
   /** @typedef {{east: number, north: number}} Point in metres from the run's origin */
 
@@ -123,8 +123,8 @@
       if (!this.bounds) return;
       const {width, height} = this.size();
       const {west, east, south, north} = this.bounds;
-      const across = (width - 2 * MARGIN) / Math.max(east - west, 20);
-      const along = (height - 2 * MARGIN) / Math.max(north - south, 20);
+      const across = ((1 - 2 * MARGIN) * width) / Math.max(east - west, 20);
+      const along = ((1 - 2 * MARGIN) * height - 40) / Math.max(north - south, 20);
       const scale = Math.max(1e-6, Math.min(across, along));
       this.isFitted = true;
       this.look({east: (west + east) / 2, north: (south + north) / 2, scale});

@@ -36,27 +36,24 @@
     return isText ? `${payload} “${String.fromCharCode(...octets)}”` : payload;
   }
 
-  /** The fields in the order of the wire. @param {import('./frame.js').Packet} p */
+  /** The fields, what it says first. @param {import('./frame.js').Packet} p */
   function fields(p) {
-    const rows = [
-      ['kind', KINDS[p.kind]],
-      ['from, to', `${p.from}, ${p.to === 'ffffffffffff' ? 'all' : p.to}`],
-      ['hops left', `${p.left} of ${p.max}`],
+    const rows = [['kind', KINDS[p.kind]]];
+    if (p.port !== undefined) {
+      rows.push(['payload', payloadWords(p.payload)], ['port, info', `${p.port}, ${p.info}`]);
+    }
+    if (p.area) rows.push(['area', areaWords(p.area)]);
+    rows.push(['hops left', `${p.left} of ${p.max}`], ['source', p.address]);
+    if (p.number !== undefined) rows.push(['number', String(p.number)]);
+    rows.push(
+      ['time stamp', `${p.tst} ms`],
+      ['its place', `${place(p)}${p.pai ? '' : ', not accurate'}`],
+      ['speed, heading', `${(p.speed / 100).toFixed(2)} m/s, ${(p.heading / 10).toFixed(1)}°`],
       ['lifetime', `${geostation.frame.lifetimeMillis(p.lifetime) / 1000} s`],
       ['traffic class', p.trafficClass.toString(16).padStart(2, '0')],
       ['mobile', p.mobile ? 'yes' : 'no'],
-    ];
-    if (p.number !== undefined) rows.push(['number', String(p.number)]);
-    rows.push(
-      ['source', p.address],
-      ['time stamp', `${p.tst} ms`],
-      ['source’s place', `${place(p)}${p.pai ? '' : ', not accurate'}`],
-      ['speed, heading', `${(p.speed / 100).toFixed(2)} m/s, ${(p.heading / 10).toFixed(1)}°`],
+      ['from, to', `${p.from}, ${p.to === 'ffffffffffff' ? 'all' : p.to}`],
     );
-    if (p.area) rows.push(['area', areaWords(p.area)]);
-    if (p.port !== undefined) {
-      rows.push(['port, info', `${p.port}, ${p.info}`], ['payload', payloadWords(p.payload)]);
-    }
     return rows;
   }
 

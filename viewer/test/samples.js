@@ -20,11 +20,23 @@ function four() {
   return world.run();
 }
 
-/** Where the road of `road` is, `along` metres from its beginning and `aside` to its right. */
+/** The legs of a road: their lengths in metres, and headings in degrees. */
+const LEGS = [[880, 74], [760, 338], [9000, 74]];
+
+/** The place `along` metres from the road's beginning and `aside` to its right. */
 function onRoad(along, aside) {
-  const turn = (62 * Math.PI) / 180;
-  const north = along * Math.cos(turn) - aside * Math.sin(turn);
-  const east = along * Math.sin(turn) + aside * Math.cos(turn);
+  let [north, east, rest] = [0, 0, along];
+  for (const [length, heading] of LEGS) {
+    const turn = (heading * Math.PI) / 180;
+    const here = Math.min(rest, length);
+    north += here * Math.cos(turn);
+    east += here * Math.sin(turn);
+    rest -= here;
+    if (rest > 0) continue;
+    north -= aside * Math.sin(turn);
+    east += aside * Math.cos(turn);
+    break;
+  }
   const shrink = Math.cos((48.137 * Math.PI) / 180);
   return {
     lat: 481370000 + Math.round(north / 0.011132),
@@ -32,27 +44,26 @@ function onRoad(along, aside) {
   };
 }
 
-/** Twelve vehicles on a road, both ways. Ice on it: a warning goes back along the road. */
+/** Twelve vehicles on a road with two bends, both ways, and what three of them have to tell. */
 function road() {
-  const along = [2150, 1980, 1790, 1560, 1400, 1170, 960, 800, 560, 350, 180, 20];
+  const along = [2480, 2270, 2040, 1850, 1590, 1370, 1150, 960, 730, 540, 300, 120];
   const aside = (i) => (i % 3 === 1 ? -9 : 9);
-  const world = new World({range: 420, until: 9000}, along.map((s, i) => onRoad(s, aside(i))));
+  const world = new World({range: 430, until: 22000}, along.map((s, i) => onRoad(s, aside(i))));
   for (let i = 1; i < 12; i += 1) world.put(0, i, 'open', {port: 2002});
-  const pace = along.map((_, i) => (aside(i) < 0 ? 17 : -15 + (i % 4)));
-  for (let second = 1; second <= 8; second += 1) {
-    for (let i = 0; i < 12; i += 1) {
-      if ((i + second) % 2 !== 0) continue;
-      const place = onRoad(along[i] - pace[i] * second, aside(i));
-      const motion = {speed: 100 * Math.abs(pace[i]), heading: pace[i] > 0 ? 2420 : 620};
-      world.put(1000 * second + 11 * i, i, 'move', {...place, ...motion});
+  for (let i = 0; i < 12; i += 1) {
+    const pace = aside(i) < 0 ? 6 : (i % 3) - 9;
+    for (let second = 1; second <= 20; second += 2) {
+      const place = onRoad(Math.max(5, along[i] + pace * second), aside(i));
+      const motion = {speed: 100 * Math.abs(pace), heading: pace > 0 ? 740 : 2540};
+      world.put(1000 * second + 60 * i, i, 'move', {...place, ...motion});
     }
   }
-  const ice = {shape: 'rectangle', ...onRoad(1180, 0), a: 700, b: 40, angle: 62};
-  world.put(2500, 0, 'gbc', {area: ice, port: 2002, payload: '696365'});
-  const works = {shape: 'ellipse', ...onRoad(420, 0), a: 420, b: 120, angle: 62};
-  world.put(5400, 7, 'gbc', {area: works, port: 2002, payload: '776f726b73', hops: 5});
-  const help = {shape: 'circle', ...onRoad(1780, 0), a: 150, b: 0, angle: 0};
-  world.put(7300, 11, 'gac', {area: help, port: 2002, payload: '68656c70'});
+  const ice = {shape: 'rectangle', ...onRoad(430, 0), a: 480, b: 45, angle: 74};
+  world.put(10000, 0, 'gbc', {area: ice, port: 2002, payload: '696365'});
+  const works = {shape: 'ellipse', ...onRoad(1260, 0), a: 470, b: 130, angle: 338};
+  world.put(14300, 11, 'gbc', {area: works, port: 2002, payload: '776f726b73', hops: 6});
+  const help = {shape: 'circle', ...onRoad(1900, 0), a: 160, b: 0, angle: 0};
+  world.put(18300, 9, 'gac', {area: help, port: 2002, payload: '68656c70'});
   return world.run();
 }
 
