@@ -148,7 +148,7 @@
   /** @param {number} row @returns {import('./list.js').Row} */
   function fillEvent(row) {
     const event = state.run.events[eventOfRow(row)];
-    return {kind: `event ${kindOf(event)}`, title: event.reason, cells: [
+    return {kind: `event ${kindOf(event)}`, title: event.reason ?? runs.entry(event), cells: [
       ['moment', state.run.moment(event.index)], ['who', String(event.station)],
       ['what', runs.doing(event)], ['entry', runs.entry(event)],
     ]};
@@ -210,7 +210,8 @@
     if (hop > 0 && sent !== undefined) words.push('relayed');
     if (duplicates > 0) words.push(`${duplicates} knew it`);
     const kind = hop === 0 ? 'sent' : delivered ? 'accepted delivered' : 'accepted';
-    return {kind: `step ${kind}${event > state.at ? ' later' : ''}`, hop: Math.min(hop, 12), cells: [
+    const later = event > state.at ? ' later' : '';
+    return {kind: `step ${kind}${later}`, hop: Math.min(hop, 12), cells: [
       ['entry', `station ${station}`], ['note', words.join(', ')], ['moment', `+${start} ms`],
     ]};
   }
@@ -256,7 +257,10 @@
     return roles;
   }
 
-  /** The areas of the sends whose frames are on the map. @param {import('./map.js').Link[]} links */
+  /**
+   * The areas of the sends whose frames are on the map.
+   * @param {import('./map.js').Link[]} links
+   */
   function seenAreas(links) {
     if (state.send >= 0) return state.area ? [state.area] : [];
     const numbers = new Set(links.map(({frame}) => state.sendOf[frame]));
@@ -333,7 +337,7 @@
     try {
       const address = new URL(name, location.href);
       if (address.origin !== location.origin || location.protocol === 'file:') {
-        throw new Error('“?run=” opens only a file that is served beside this page: drop it here');
+        throw new Error('“?run=” opens only what is served beside this page: drop it here');
       }
       const answer = await fetch(address);
       if (!answer.ok) throw new Error(`the server answered ${answer.status}`);

@@ -30,7 +30,9 @@
 
   /** Sets attributes of an element. @param {Element} target @param {object} attributes */
   function set(target, attributes) {
-    for (const [name, value] of Object.entries(attributes)) target.setAttribute(name, String(value));
+    for (const [name, value] of Object.entries(attributes)) {
+      target.setAttribute(name, String(value));
+    }
   }
 
   /** Makes a list of an array's elements as long as asked, and shows no more of them. */

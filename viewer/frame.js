@@ -104,7 +104,8 @@
   /** The octets of hexadecimal text, undefined where it is none. @param {string} text */
   function fromHex(text) {
     if (text.length % 2 !== 0 || !/^[0-9a-fA-F]*$/.test(text)) return undefined;
-    return Uint8Array.from({length: text.length / 2}, (_, i) => parseInt(text.substr(2 * i, 2), 16));
+    const octet = (_, i) => parseInt(text.slice(2 * i, 2 * i + 2), 16);
+    return Uint8Array.from({length: text.length / 2}, octet);
   }
 
   /** Basic and Common Header. @param {Octets} octets */

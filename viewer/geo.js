@@ -20,7 +20,8 @@
   const METRES_PER_UNIT = 0.011132;
 
   /** The sine of whole degrees, times 10000: the profile's table. */
-  const TABLE = Array.from({length: 91}, (_, t) => Math.round(10000 * Math.sin((t * Math.PI) / 180)));
+  const TABLE = Array.from({length: 91}, (_, degrees) =>
+    Math.round(10000 * Math.sin((degrees * Math.PI) / 180)));
 
   /** @param {number} degrees 0..=719 @returns {number} the sine, times 10000 */
   function sine(degrees) {
@@ -64,7 +65,10 @@
     };
   }
 
-  /** Whether an area holds a place; its border is inside. @param {Area} area @param {Place} place */
+  /**
+   * Whether an area holds a place; its border is inside.
+   * @param {Area} area @param {Place} place
+   */
   function contains(area, place) {
     const {north, east} = offset(area, place);
     const a = BigInt(area.a) * 100n;

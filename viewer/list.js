@@ -75,7 +75,8 @@
     draw() {
       const {scrollTop, clientHeight} = this.box;
       const inSight = Math.ceil(clientHeight / ROW) + 2;
-      const first = Math.min(Math.floor(scrollTop / this.step), Math.max(0, this.count - inSight + 2));
+      const lowestFirst = Math.max(0, this.count - inSight + 2);
+      const first = Math.min(Math.floor(scrollTop / this.step), lowestFirst);
       const length = Math.max(0, Math.min(inSight, this.count - first));
       while (this.rows.children.length > length) this.rows.lastChild.remove();
       while (this.rows.children.length < length) this.rows.append(this.makeRow());

@@ -80,7 +80,7 @@
       dot.append(title);
       const label = isLabelled ? svg('text', {class: 'label'}) : undefined;
       if (label) label.textContent = String(index);
-      return {dot, label, radius, trail: undefined, moves: 0, place: undefined, role: '', x: 0, y: 0};
+      return {dot, label, radius, trail: undefined, place: undefined, role: '', x: 0, y: 0};
     }
 
     /** @param {import('./geo.js').Place} place @returns {Point} */
@@ -192,8 +192,9 @@
       if (isAnew || place !== station.place) {
         station.place = place;
         Object.assign(station, this.screen(this.point(place)));
-        set(station.dot, {cx: station.x.toFixed(1), cy: station.y.toFixed(1)});
-        if (station.label) set(station.label, {x: station.x.toFixed(1), y: (station.y + 3.8).toFixed(1)});
+        const [x, y] = [station.x.toFixed(1), station.y.toFixed(1)];
+        set(station.dot, {cx: x, cy: y});
+        if (station.label) set(station.label, {x, y, dy: 3.8});
         this.drawTrail(station, index);
       }
       const role = [roles.get(index) ?? '', index === active ? 'active' : '',
@@ -277,8 +278,9 @@
       const step = metres * this.view.scale;
       const {x, y} = this.screen({east: 0, north: 0});
       let path = '';
-      for (let at = ((x % step) + step) % step; at < width; at += step) path += `M${at.toFixed(1)} 0V${height}`;
-      for (let at = ((y % step) + step) % step; at < height; at += step) path += `M0 ${at.toFixed(1)}H${width}`;
+      const first = (at) => ((at % step) + step) % step;
+      for (let at = first(x); at < width; at += step) path += `M${at.toFixed(1)} 0V${height}`;
+      for (let at = first(y); at < height; at += step) path += `M0 ${at.toFixed(1)}H${width}`;
       this.grid.setAttribute('d', path);
     }
 
@@ -326,9 +328,11 @@
         this.zoom(reach(now) / reach(before), other.x, other.y);
         return;
       }
-      const {east, north, scale} = this.view;
+      const {scale} = this.view;
+      const east = this.view.east - (now.x - before.x) / scale;
+      const north = this.view.north + (now.y - before.y) / scale;
       this.isFitted = false;
-      this.look({east: east - (now.x - before.x) / scale, north: north + (now.y - before.y) / scale, scale});
+      this.look({east, north, scale});
     }
   }
 
@@ -368,8 +372,8 @@
 
   /** The point that is some pixels from one to another. */
   function toward(from, to, by) {
-    const length = Math.hypot(to.x - from.x, to.y - from.y) || 1;
-    return {x: from.x + ((to.x - from.x) / length) * by, y: from.y + ((to.y - from.y) / length) * by};
+    const part = by / (Math.hypot(to.x - from.x, to.y - from.y) || 1);
+    return {x: from.x + (to.x - from.x) * part, y: from.y + (to.y - from.y) * part};
   }
 
   /**

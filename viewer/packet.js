@@ -59,8 +59,8 @@
 
   /** @param {string[][]} rows */
   function table(rows) {
-    const parts = rows.flatMap(([name, value]) => [element('dt', '', name), element('dd', '', value)]);
-    return element('dl', 'fields', ...parts);
+    const parts = ([name, value]) => [element('dt', '', name), element('dd', '', value)];
+    return element('dl', 'fields', ...rows.flatMap(parts));
   }
 
   /**
@@ -73,8 +73,9 @@
     const accepted = count(({result}) => result === 'accepted');
     const ignored = count(({result}) => result === 'ignored');
     const refused = count(({result}) => result === 'refused');
-    return `Frame ${number}, given by station ${run.events[giver].station} at ` +
-      `${run.moment(giver)} ms: ${accepted} accepted it, ${ignored} ignored it, ${refused} refused it.`;
+    const {station} = run.events[giver];
+    return `Frame ${number}, given by station ${station} at ${run.moment(giver)} ms: ` +
+      `${accepted} accepted it, ${ignored} ignored it, ${refused} refused it.`;
   }
 
   /**

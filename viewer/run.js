@@ -44,6 +44,8 @@
   const RESULTS = ['moved', 'opened', 'closed', 'restarted', 'quiet', 'sent', 'ignored',
     'accepted', 'refused'];
 
+  const NOT_A_RUN = 'This isn’t the output of “sim --json”';
+
   /** A file isn't the output of `sim --json`; the message says why. */
   class RunFault extends Error {}
 
@@ -101,16 +103,16 @@
       }
       if (typeof value === 'object' && value !== null && !Array.isArray(value)) return value;
       if (this.lines > 1) this.refuse('it is no JSON object');
-      throw new RunFault('This isn’t the output of “sim --json”: its first line is no JSON object.');
+      throw new RunFault(`${NOT_A_RUN}: its first line is no JSON object.`);
     }
 
     /** @param {any} value */
     addStations(value) {
       if ('total' in value || 'send' in value) {
-        throw new RunFault('This is a summary, without events: run “sim --json” without “--summary”.');
+        throw new RunFault(`${NOT_A_RUN} alone, but a summary: leave out “--summary”.`);
       }
       if (!Array.isArray(value.stations)) {
-        throw new RunFault('This isn’t the output of “sim --json”: its first line has no “stations”.');
+        throw new RunFault(`${NOT_A_RUN}: its first line has no “stations”.`);
       }
       for (const [i, station] of value.stations.entries()) {
         if (!/^[0-9a-f]{16}$/.test(station?.address)) this.refuse(`station ${i} has no address`);
@@ -194,7 +196,7 @@
 
     /** @throws {RunFault} where no line came */
     end() {
-      if (this.lines === 0) throw new RunFault('This file is empty: “sim --json” prints a line at least.');
+      if (this.lines === 0) throw new RunFault(`${NOT_A_RUN}: it is empty.`);
       return this;
     }
 
@@ -204,7 +206,10 @@
       return exact ?? String(moment);
     }
 
-    /** The milliseconds from one event to another, exact. @param {number} from @param {number} to */
+    /**
+     * The milliseconds from one event to another, exact.
+     * @param {number} from @param {number} to
+     */
     elapsed(from, to) {
       return BigInt(this.moment(to)) - BigInt(this.moment(from));
     }

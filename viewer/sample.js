@@ -1,4 +1,4 @@
-//! A sample run, made by test/samples.js: twelve vehicles on a road, and a warning of ice.
+//! A sample run, made by test/samples.js: vehicles on a road, and a warning of ice.
 
 (function (geostation) {
   'use strict';

@@ -42,7 +42,8 @@
           depth[event.sent] = depth[event.frame] + 1;
         } else if (event.do === 'gbc' || event.do === 'gac') {
           sendOf[event.sent] = sends.length;
-          sends.push({event: event.index, first: event.sent, frames: 0, reached: new Map(), hops: 0});
+          const {index, sent: first} = event;
+          sends.push({event: index, first, frames: 0, reached: new Map(), hops: 0});
         }
         const send = sends[sendOf[event.sent]];
         if (send) send.frames += 1;

@@ -41,7 +41,8 @@ beforeEach(async () => {
 /** Chooses a file and waits until it is shown. */
 async function show(file) {
   await page.choose(file);
-  await page.until(`document.getElementById('name').textContent === ${JSON.stringify(path.basename(file))}`);
+  const name = JSON.stringify(path.basename(file));
+  await page.until(`document.getElementById('name').textContent === ${name}`);
 }
 
 /** The text of an element. */
@@ -78,8 +79,11 @@ test('four stations: counts, figures, the tree of hops', async () => {
   assert.equal(await count('.station'), 4);
   assert.deepEqual(await figures(),
     {'delivered at': '1', 'in the area': '1', frames: '4', hops: '3', last: '3 ms'});
-  assert.deepEqual(await rows('tree'), ['station 0 sent it +0 ms', 'station 1 accepted, relayed +1 ms',
-    'station 2 accepted, relayed, 1 knew it +2 ms', 'station 3 delivered, relayed, 1 knew it +3 ms']);
+  assert.deepEqual(await rows('tree'), [
+    'station 0 sent it +0 ms', 'station 1 accepted, relayed +1 ms',
+    'station 2 accepted, relayed, 1 knew it +2 ms',
+    'station 3 delivered, relayed, 1 knew it +3 ms',
+  ]);
   assert.deepEqual(await rows('sends'),
     ['All frames, as they come', '1000 0 gbc port 2002, delivered at 1']);
   noFault();
@@ -97,7 +101,7 @@ test('steps by keys draw the frames so far', async () => {
   assert.equal(await count('.station.delivered'), 1);
   assert.equal(await count('.station.sender'), 1);
   await page.press('ArrowLeft');
-  assert.match(await text('#present'), /^Event 5, 1003 ms, station 1: deliver 2, ignored duplicate/);
+  assert.match(await text('#present'), /^Event 5, 1003 ms, station 1: .* ignored duplicate$/);
   assert.equal(await count('.station.delivered'), 0);
   await page.press('End');
   assert.match(await text('#present'), /^Event 7,/);
@@ -154,8 +158,8 @@ test('a click on an event and on a hop goes there', async () => {
 test('a road: areas of each shape, trails, another send', async () => {
   await show(ROAD);
   assert.equal(await count('.station'), 12);
-  const corners = async () => (await page.value('document.querySelector(".area").getAttribute("d")'))
-    .split('L').length;
+  const corners = () =>
+    page.value('document.querySelector(".area").getAttribute("d").split("L").length');
   assert.equal(await corners(), 4);
   await page.click('#sends .row:nth-child(3)');
   assert.equal(await corners(), 72);
@@ -172,7 +176,7 @@ test('a road: areas of each shape, trails, another send', async () => {
 test('lines are as long as the scale bar says', async () => {
   await show(FOUR);
   const {bar, words, far} = await page.value(`(() => {
-    const at = (i) => Number(document.querySelector('[data-station="' + i + '"]').getAttribute('cy'));
+    const at = (i) => document.querySelector('[data-station="' + i + '"]').cy.baseVal.value;
     const bar = document.querySelector('.bar').getBBox().width;
     return {bar, words: document.querySelector('.bar-text').textContent, far: at(0) - at(3)};
   })()`);
@@ -185,22 +189,20 @@ test('space plays to the end and stops', async () => {
   await show(FOUR);
   await page.value('document.getElementById("speed").value = "40"');
   await page.press(' ');
-  assert.equal(await page.value('document.getElementById("play").getAttribute("aria-label")'), 'Pause');
+  const name = 'document.getElementById("play").getAttribute("aria-label")';
+  assert.equal(await page.value(name), 'Pause');
   await page.until('geostation.app.state.at === 7');
-  await page.until('document.getElementById("play").getAttribute("aria-label") === "Play"');
+  await page.until(`${name} === "Play"`);
   noFault();
 });
 
 test('the sample opens by the keyboard alone', async () => {
   for (let i = 0; i < 8; i += 1) {
-    await page.call('Input.dispatchKeyEvent', {type: 'keyDown', key: 'Tab', code: 'Tab', windowsVirtualKeyCode: 9});
-    await page.call('Input.dispatchKeyEvent', {type: 'keyUp', key: 'Tab', code: 'Tab', windowsVirtualKeyCode: 9});
+    await page.press('Tab', 0, {code: 'Tab', windowsVirtualKeyCode: 9});
     if (await page.value('document.activeElement.id') === 'sample') break;
   }
   assert.equal(await page.value('document.activeElement.id'), 'sample');
-  const enter = {key: 'Enter', code: 'Enter', windowsVirtualKeyCode: 13};
-  await page.call('Input.dispatchKeyEvent', {type: 'keyDown', text: '\r', ...enter});
-  await page.call('Input.dispatchKeyEvent', {type: 'keyUp', ...enter});
+  await page.press('Enter', 0, {code: 'Enter', windowsVirtualKeyCode: 13, text: '\r'});
   await page.until('document.body.dataset.state === "run"');
   assert.match(await text('#totals'), /^12 stations/);
   noFault();
@@ -213,13 +215,14 @@ test('a file that is no run gets a sentence, and leaves the last run', async () 
   };
   const fault = async (file) => {
     await page.choose(file);
-    await page.until(`document.getElementById('fault').textContent.startsWith(${JSON.stringify(path.basename(file))})`);
+    const name = JSON.stringify(path.basename(file));
+    await page.until(`document.getElementById('fault').textContent.startsWith(${name})`);
     assert.equal(await page.value('document.getElementById("fault").hidden'), false);
     return text('#fault');
   };
   assert.match(await fault(write('photo.png', Buffer.from('89504e470d0a1a0a', 'hex'))),
     /its first line is no JSON object/);
-  assert.match(await fault(write('empty.jsonl', '')), /This file is empty/);
+  assert.match(await fault(write('empty.jsonl', '')), /it is empty/);
   assert.equal(await page.value('document.body.dataset.state'), 'empty');
   await show(FOUR);
   assert.equal(await page.value('document.getElementById("fault").hidden'), true);
@@ -303,7 +306,8 @@ test('1000 stations and 200,000 events open and step without stalling', async (c
   assert.ok(await page.value('document.querySelectorAll("*").length') < 8000);
   await page.press('End');
   const last = (await rows('events')).at(-1);
-  assert.equal(await page.value('document.querySelector("#events .row:last-child").dataset.index'), '199999');
+  const lowest = 'document.querySelector("#events .row:last-child").dataset.index';
+  assert.equal(await page.value(lowest), '199999');
   assert.match(last, /^\d+ \d+ /);
   await page.press('ArrowLeft', SHIFT);
   assert.match(await text('#present'), /^Event 199989,/);
@@ -311,7 +315,8 @@ test('1000 stations and 200,000 events open and step without stalling', async (c
   noFault();
 });
 
-for (const [name, width, height] of [['a phone', 390, 844], ['a tablet', 820, 1180], ['a desk', 1280, 800]]) {
+const SIZES = [['a phone', 390, 844], ['a tablet', 820, 1180], ['a desk', 1280, 800]];
+for (const [name, width, height] of SIZES) {
   test(`nothing is wider than ${name}`, async () => {
     await page.look(width, height, true);
     await show(ROAD);
@@ -324,6 +329,6 @@ for (const [name, width, height] of [['a phone', 390, 844], ['a tablet', 820, 11
 }
 
 test('the page asks for nothing but its own files', () => {
-  const elsewhere = page.requests.filter((url) => !/^(file:|data:|http:\/\/127\.0\.0\.1:)/.test(url));
-  assert.deepEqual(elsewhere, []);
+  const own = /^(file:|data:|http:\/\/127\.0\.0\.1:)/;
+  assert.deepEqual(page.requests.filter((url) => !own.test(url)), []);
 });

@@ -34,7 +34,8 @@ class Page {
     const {targetId} = targetInfos.find(({type}) => type === 'page');
     const {sessionId} = await page.call('Target.attachToTarget', {targetId, flatten: true});
     page.sessionId = sessionId;
-    await Promise.all(['Page', 'Runtime', 'DOM', 'Network'].map((name) => page.call(`${name}.enable`)));
+    const parts = ['Page', 'Runtime', 'DOM', 'Network'];
+    await Promise.all(parts.map((name) => page.call(`${name}.enable`)));
     return page;
   }
 
@@ -106,10 +107,10 @@ class Page {
   }
 
   /** Presses a key. @param {string} key */
-  async press(key, modifiers = 0) {
-    const text = key === ' ' ? {text: ' '} : {};
-    await this.call('Input.dispatchKeyEvent', {type: 'keyDown', key, modifiers, ...text});
-    await this.call('Input.dispatchKeyEvent', {type: 'keyUp', key, modifiers});
+  async press(key, modifiers = 0, more = {}) {
+    const {text, ...both} = {key, modifiers, ...(key === ' ' ? {text: ' '} : {}), ...more};
+    await this.call('Input.dispatchKeyEvent', {type: 'keyDown', text, ...both});
+    await this.call('Input.dispatchKeyEvent', {type: 'keyUp', ...both});
   }
 
   /** Clicks at the middle of an element. @param {string} selector */

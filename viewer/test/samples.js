@@ -99,7 +99,7 @@ if (require.main === module) {
 
 /** The script that holds the road for the page's own button. */
 function pageSample() {
-  return `//! A sample run, made by test/samples.js: twelve vehicles on a road, and a warning of ice.
+  return `//! A sample run, made by test/samples.js: vehicles on a road, and a warning of ice.
 
 (function (geostation) {
   'use strict';
