@@ -1,0 +1,334 @@
+//! The page in a real browser: what it shows of the samples, its keys and clicks, and what it says
+//! of a file that is no run.
+
+'use strict';
+
+const assert = require('node:assert/strict');
+const fs = require('node:fs');
+const http = require('node:http');
+const os = require('node:os');
+const path = require('node:path');
+const {after, before, beforeEach, test} = require('node:test');
+const {pathToFileURL} = require('node:url');
+const {Page, findBrowser} = require('./devtools.js');
+const {TOP} = require('./load.js');
+const samples = require('./samples.js');
+
+const URL_OF_PAGE = pathToFileURL(path.join(TOP, 'index.html')).href;
+const FOUR = path.join(samples.DATA, 'four.jsonl');
+const ROAD = path.join(samples.DATA, 'road.jsonl');
+const SHIFT = 8;
+
+let page;
+let room;
+
+before(async () => {
+  room = fs.mkdtempSync(path.join(os.tmpdir(), 'runs-'));
+  page = await Page.start(findBrowser());
+});
+
+after(async () => {
+  await page.end();
+  fs.rmSync(room, {recursive: true});
+});
+
+beforeEach(async () => {
+  await page.look(1280, 800, false);
+  await page.go(URL_OF_PAGE);
+  page.faults.length = 0;
+});
+
+/** Chooses a file and waits until it is shown. */
+async function show(file) {
+  await page.choose(file);
+  const name = JSON.stringify(path.basename(file));
+  await page.until(`document.getElementById('name').textContent === ${name}`);
+}
+
+/** The text of an element. */
+function text(selector) {
+  return page.value(`document.querySelector(${JSON.stringify(selector)}).textContent`);
+}
+
+/** How many elements are in sight. */
+function count(selector) {
+  return page.value(`[...document.querySelectorAll(${JSON.stringify(selector)})]
+    .filter((element) => element.style.display !== 'none').length`);
+}
+
+/** The text of each row of a list that is in the page, its parts parted by a space. */
+function rows(list) {
+  return page.value(`[...document.querySelectorAll('#${list} .row')].map((row) =>
+    [...row.childNodes].map((part) => part.textContent).join(' '))`);
+}
+
+/** The figures of the chosen send. */
+function figures() {
+  return page.value(`Object.fromEntries([...document.querySelectorAll('#figures div')]
+    .map((pair) => [...pair.children].map((part) => part.textContent)))`);
+}
+
+function noFault() {
+  assert.deepEqual(page.faults, []);
+}
+
+test('four stations: counts, figures, the tree of hops', async () => {
+  await show(FOUR);
+  assert.equal(await text('#totals'), '4 stations · 8 events · 4 frames · 1 delivery · ' +
+    '2 duplicates · 1 ignored otherwise · 0 refused');
+  assert.equal(await count('.station'), 4);
+  assert.deepEqual(await figures(),
+    {'delivered at': '1', 'in the area': '1', frames: '4', hops: '3', last: '3 ms'});
+  assert.deepEqual(await rows('tree'), [
+    'station 0 sent it +0 ms', 'station 1 accepted, relayed +1 ms',
+    'station 2 accepted, relayed, 1 knew it +2 ms',
+    'station 3 delivered, relayed, 1 knew it +3 ms',
+  ]);
+  assert.deepEqual(await rows('sends'),
+    ['All frames, as they come', '1000 0 gbc port 2002, delivered at 1']);
+  noFault();
+});
+
+test('steps by keys draw the frames so far', async () => {
+  await show(FOUR);
+  assert.equal(await count('g.link'), 0);
+  for (let i = 0; i < 6; i += 1) await page.press('ArrowRight');
+  assert.equal(await text('#present'), 'Event 6, 1003 ms, station 3: deliver 2, ' +
+    'accepted port 2002 info 0 6869 sent 3');
+  assert.equal(await count('g.link.accepted'), 3);
+  assert.equal(await count('g.link.duplicate'), 1);
+  assert.equal(await count('g.link.other'), 1);
+  assert.equal(await count('.station.delivered'), 1);
+  assert.equal(await count('.station.sender'), 1);
+  await page.press('ArrowLeft');
+  assert.match(await text('#present'), /^Event 5, 1003 ms, station 1: .* ignored duplicate$/);
+  assert.equal(await count('.station.delivered'), 0);
+  await page.press('End');
+  assert.match(await text('#present'), /^Event 7,/);
+  await page.press('Home');
+  assert.match(await text('#present'), /^Event 0,/);
+  noFault();
+});
+
+test('a click on a station lists its events, a click again all', async () => {
+  await show(FOUR);
+  await page.click('.station[data-station="2"]');
+  assert.deepEqual(await rows('events'),
+    ['1002 2 deliver 1 accepted sent 2', '1004 2 deliver 3 ignored duplicate']);
+  assert.equal(await page.value('document.getElementById("station").value'), '2');
+  await page.press('ArrowRight');
+  assert.match(await text('#present'), /^Event 4,/);
+  await page.press('ArrowRight');
+  assert.match(await text('#present'), /^Event 7,/);
+  await page.click('.station[data-station="2"]');
+  assert.equal((await rows('events')).at(-1), '1004 2 deliver 3 ignored duplicate');
+  assert.equal(await page.value('geostation.app.state.station'), undefined);
+  noFault();
+});
+
+test('a click on a frame shows its packet', async () => {
+  await show(FOUR);
+  await page.press('End');
+  const [x, y] = await page.value(`(() => {
+    const line = document.querySelector('g.link[data-frame="2"].accepted .seen');
+    const {x, y} = line.getPointAtLength(line.getTotalLength() / 2);
+    const box = document.getElementById('map').getBoundingClientRect();
+    return [box.x + x, box.y + y];
+  })()`);
+  await page.clickAt(x, y);
+  assert.equal(await text('#packet .fate'), 'Frame 2, given by station 2 at 1002 ms: ' +
+    '1 accepted it, 1 ignored it, 0 refused it.');
+  const shown = await text('#packet .fields');
+  for (const words of ['6869 “hi”', 'circle, 100 m, at 0.0108000°, 0.0000000°', '8 of 10',
+    '1400020000000001', '2002, 0', '60 s', '020000000003, all']) {
+    assert.ok(shown.includes(words), words);
+  }
+  noFault();
+});
+
+test('a click on an event and on a hop goes there', async () => {
+  await show(FOUR);
+  await page.click('#events .row:nth-child(5)');
+  assert.match(await text('#present'), /^Event 4,/);
+  await page.click('#tree .row:nth-child(2)');
+  assert.match(await text('#present'), /^Event 2,/);
+  noFault();
+});
+
+test('a road: areas of each shape, trails, another send', async () => {
+  await show(ROAD);
+  assert.equal(await count('.station'), 12);
+  const corners = () =>
+    page.value('document.querySelector(".area").getAttribute("d").split("L").length');
+  assert.equal(await corners(), 4);
+  await page.click('#sends .row:nth-child(3)');
+  assert.equal(await corners(), 72);
+  assert.equal((await figures()).hops, '5');
+  await page.press('End');
+  assert.equal(await count('.trail'), 12);
+  await page.value('document.getElementById("sends").scrollTop = 0');
+  await page.until('!!document.querySelector("#sends [data-index=\\"0\\"]")');
+  await page.click('#sends [data-index="0"]');
+  assert.equal(await page.value('document.getElementById("figures").hidden'), true);
+  noFault();
+});
+
+test('lines are as long as the scale bar says', async () => {
+  await show(FOUR);
+  const {bar, words, far} = await page.value(`(() => {
+    const at = (i) => document.querySelector('[data-station="' + i + '"]').cy.baseVal.value;
+    const bar = document.querySelector('.bar').getBBox().width;
+    return {bar, words: document.querySelector('.bar-text').textContent, far: at(0) - at(3)};
+  })()`);
+  const metres = Number(words.replace(' m', ''));
+  assert.ok(Math.abs((far / bar) * metres - 1202.256) < 6, `${far} ${bar} ${words}`);
+  noFault();
+});
+
+test('space plays to the end and stops', async () => {
+  await show(FOUR);
+  await page.value('document.getElementById("speed").value = "40"');
+  await page.press(' ');
+  const name = 'document.getElementById("play").getAttribute("aria-label")';
+  assert.equal(await page.value(name), 'Pause');
+  await page.until('geostation.app.state.at === 7');
+  await page.until(`${name} === "Play"`);
+  noFault();
+});
+
+test('the sample opens by the keyboard alone', async () => {
+  for (let i = 0; i < 8; i += 1) {
+    await page.press('Tab', 0, {code: 'Tab', windowsVirtualKeyCode: 9});
+    if (await page.value('document.activeElement.id') === 'sample') break;
+  }
+  assert.equal(await page.value('document.activeElement.id'), 'sample');
+  await page.press('Enter', 0, {code: 'Enter', windowsVirtualKeyCode: 13, text: '\r'});
+  await page.until('document.body.dataset.state === "run"');
+  assert.match(await text('#totals'), /^12 stations/);
+  noFault();
+});
+
+test('a file that is no run gets a sentence, and leaves the last run', async () => {
+  const write = (name, content) => {
+    fs.writeFileSync(path.join(room, name), content);
+    return path.join(room, name);
+  };
+  const fault = async (file) => {
+    await page.choose(file);
+    const name = JSON.stringify(path.basename(file));
+    await page.until(`document.getElementById('fault').textContent.startsWith(${name})`);
+    assert.equal(await page.value('document.getElementById("fault").hidden'), false);
+    return text('#fault');
+  };
+  assert.match(await fault(write('photo.png', Buffer.from('89504e470d0a1a0a', 'hex'))),
+    /its first line is no JSON object/);
+  assert.match(await fault(write('empty.jsonl', '')), /it is empty/);
+  assert.equal(await page.value('document.body.dataset.state'), 'empty');
+  await show(FOUR);
+  assert.equal(await page.value('document.getElementById("fault").hidden'), true);
+  assert.match(await fault(write('cut.jsonl', samples.four().slice(0, 900))), /Line \d+ .* cut/);
+  assert.match(await text('#totals'), /^4 stations/);
+  noFault();
+});
+
+test('runs without stations and without events', async () => {
+  const file = path.join(room, 'none.jsonl');
+  fs.writeFileSync(file, '{"stations":[]}\n');
+  await show(file);
+  assert.equal(await text('#present'), 'This run has no events.');
+  await page.press('ArrowRight');
+  await page.press(' ');
+  noFault();
+});
+
+test('a dropped file opens', async () => {
+  await page.value(`(() => {
+    const data = new DataTransfer();
+    data.items.add(new File([geostation.sample], 'dropped.jsonl'));
+    document.dispatchEvent(new DragEvent('drop', {dataTransfer: data, cancelable: true}));
+  })()`);
+  await page.until('document.getElementById("name").textContent === "dropped.jsonl"');
+  noFault();
+});
+
+/** Serves the page and the samples. */
+function serve() {
+  const server = http.createServer((request, answer) => {
+    const file = path.join(TOP, new URL(request.url, 'http://x').pathname);
+    const type = {'.html': 'text/html', '.css': 'text/css', '.js': 'text/javascript'};
+    if (!fs.existsSync(file)) return answer.writeHead(404).end();
+    answer.writeHead(200, {'content-type': type[path.extname(file)] ?? 'text/plain'});
+    return answer.end(fs.readFileSync(file));
+  });
+  return new Promise((resolve) => {
+    server.listen(0, '127.0.0.1', () => resolve(server));
+  });
+}
+
+test('?run= opens a file beside the page where it is served, and no other', async () => {
+  const server = await serve();
+  const top = `http://127.0.0.1:${server.address().port}/index.html`;
+  await page.go(`${top}?run=test/data/four.jsonl`);
+  await page.until('document.body.dataset.state === "run"');
+  assert.match(await text('#totals'), /^4 stations · 8 events/);
+  await page.go(`${top}?run=none.jsonl`);
+  await page.until('!document.getElementById("fault").hidden');
+  assert.match(await text('#fault'), /the server answered 404/);
+  await page.go(`${top}?run=http://127.0.0.2/x`);
+  await page.until('!document.getElementById("fault").hidden');
+  assert.match(await text('#fault'), /served beside this page/);
+  server.closeAllConnections();
+  server.close();
+  await page.go(`${URL_OF_PAGE}?run=test/data/four.jsonl`);
+  await page.until('!document.getElementById("fault").hidden');
+  assert.match(await text('#fault'), /served beside this page/);
+});
+
+test('1000 stations and 200,000 events open and step without stalling', async (context) => {
+  const file = path.join(room, 'town.jsonl');
+  fs.writeFileSync(file, samples.town());
+  const started = Date.now();
+  await show(file);
+  const opened = Date.now() - started;
+  assert.match(await text('#totals'), /^1,000 stations · 200,000 events/);
+  assert.ok(opened < 20000, `opened in ${opened} ms`);
+  const slowest = await page.value(`(() => {
+    let slowest = 0;
+    for (let i = 0; i < 60; i += 1) {
+      const started = performance.now();
+      geostation.app.go((i * 3331) % 200000);
+      document.body.getBoundingClientRect();
+      slowest = Math.max(slowest, performance.now() - started);
+    }
+    return slowest;
+  })()`);
+  assert.ok(slowest < 400, `the slowest step took ${slowest} ms`);
+  assert.ok(await page.value('document.querySelectorAll("*").length') < 8000);
+  await page.press('End');
+  const last = (await rows('events')).at(-1);
+  const lowest = 'document.querySelector("#events .row:last-child").dataset.index';
+  assert.equal(await page.value(lowest), '199999');
+  assert.match(last, /^\d+ \d+ /);
+  await page.press('ArrowLeft', SHIFT);
+  assert.match(await text('#present'), /^Event 199989,/);
+  context.diagnostic(`200,000 events opened in ${opened} ms, slowest step ${slowest.toFixed()} ms`);
+  noFault();
+});
+
+const SIZES = [['a phone', 390, 844], ['a tablet', 820, 1180], ['a desk', 1280, 800]];
+for (const [name, width, height] of SIZES) {
+  test(`nothing is wider than ${name}`, async () => {
+    await page.look(width, height, true);
+    await show(ROAD);
+    await page.press('End');
+    const widest = await page.value('document.documentElement.scrollWidth');
+    assert.ok(widest <= width, `${widest}`);
+    assert.ok(await page.value('document.getElementById("map").clientHeight') > 200);
+    noFault();
+  });
+}
+
+test('the page asks for nothing but its own files', () => {
+  const own = /^(file:|data:|http:\/\/127\.0\.0\.1:)/;
+  assert.deepEqual(page.requests.filter((url) => !own.test(url)), []);
+});

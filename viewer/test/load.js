@@ -1,0 +1,23 @@
+//! Loads the page's scripts into node, as the page does: one after the other into one namespace.
+
+'use strict';
+
+const fs = require('node:fs');
+const path = require('node:path');
+const vm = require('node:vm');
+
+const TOP = path.join(__dirname, '..');
+const NAMES = ['geo', 'frame', 'run', 'way'];
+
+/** @returns {any} the namespace `geostation`, with the parts that need no page */
+function load() {
+  if (globalThis.geostation === undefined) {
+    for (const name of NAMES) {
+      const file = path.join(TOP, `${name}.js`);
+      vm.runInThisContext(fs.readFileSync(file, 'utf8'), {filename: file});
+    }
+  }
+  return globalThis.geostation;
+}
+
+module.exports = {load, TOP};

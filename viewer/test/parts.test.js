@@ -1,0 +1,267 @@
+//! The parts that need no page, run by node: frames against the samples of the program, geometry
+//! and ways against values worked out by hand.
+
+'use strict';
+
+const assert = require('node:assert/strict');
+const fs = require('node:fs');
+const path = require('node:path');
+const test = require('node:test');
+const {load, TOP} = require('./load.js');
+const samples = require('./samples.js');
+
+const {frame, geo, run: runs, way} = load();
+const EXAMPLES = path.join(TOP, '..', 'crates', 'examples', 'data');
+const WARNING = 'ffffffffffff020000000001894711001a0a2040008000060a00000000001400020000000001' +
+  '000000000000000000000000000000000000000000000000006400000000000007d200006869';
+const HEAD = '{"stations":[{"address":"1400020000000001","lat":0,"lon":0}]}';
+
+/** @param {string} text */
+function read(text) {
+  return runs.read((async function* () {
+    yield text;
+  })());
+}
+
+/** The lines of a sample, without the last line's end. */
+function lines(name) {
+  return fs.readFileSync(path.join(EXAMPLES, name), 'utf8').trimEnd().split('\n');
+}
+
+for (const name of ['beacon', 'shb', 'gbc', 'gac', 'refused']) {
+  test(`frames of ${name}.txt show as ${name}.show`, () => {
+    const shown = lines(`${name}.txt`).map((line) => {
+      const [moment, octets] = line.split(' ');
+      const {packet, fault} = frame.decode(octets);
+      return `${moment} ${packet ? frame.line(packet) : `refused ${fault}`}`;
+    });
+    assert.deepEqual(shown, lines(`${name}.show`));
+  });
+}
+
+test('a frame is refused at the first wrong field, in the order of the wire', () => {
+  const change = (at, octet) => {
+    const place = 2 * (14 + at);
+    return frame.decode(WARNING.slice(0, place) + octet + WARNING.slice(place + 2)).fault;
+  };
+  const faults = [
+    [0, '01', 'L5 G2 at 0'], [0, '12', 'L5 G3 at 0'], [1, '80', 'L5 G4 at 1'],
+    [3, '00', 'L5 G5 at 3'], [4, '10', 'L5 G6 at 4'], [4, '21', 'L5 G4 at 4'],
+    [5, '20', 'L5 G7 at 5'], [5, '43', 'L5 G8 at 5'], [5, '33', 'L5 G8 at 5'],
+    [5, '51', 'L5 G8 at 5'], [7, '81', 'L5 G4 at 7'], [9, '03', 'L5 G10 at 8'],
+    [10, '09', 'L5 G9 at 10'], [11, '01', 'L5 G4 at 11'], [15, '01', 'L5 G4 at 14'],
+    [18, '01', 'L5 G11 at 16'], [28, '7f', 'L5 G11 at 28'], [32, '7f', 'L5 G11 at 32'],
+    [40, '80', 'L5 G12 at 40'], [44, '80', 'L5 G12 at 44'], [49, '00', 'L5 G12 at 48'],
+    [51, '01', 'L5 G12 at 50'], [53, '01', 'L5 G12 at 52'], [55, '01', 'L5 G4 at 54'],
+  ];
+  for (const [at, octet, fault] of faults) assert.equal(change(at, octet), fault);
+  assert.equal(frame.decode(WARNING.slice(0, -2)).fault, 'L5 G1 at 61');
+  assert.equal(frame.decode(`${WARNING}00`).fault, 'L4');
+  assert.equal(frame.decode('00'.repeat(13)).fault, 'L1');
+  assert.equal(frame.decode(WARNING + '00'.repeat(1468)).fault, 'L3');
+  assert.equal(frame.decode('0g').fault, 'not hexadecimal');
+});
+
+test('speeds, coordinates and times are signed or not, as the layout says', () => {
+  const start = WARNING.slice(0, 28 + 32 + 16);
+  const end = WARNING.slice(28 + 32 + 48);
+  const {packet} = frame.decode(`${start}ffffffffca5b170094b62e00c000ffff${end}`);
+  const {tst, lat, lon, pai, speed, heading} = packet;
+  assert.deepEqual({tst, lat, lon, pai, speed, heading},
+    {tst: 4294967295, lat: -900000000, lon: -1800000000, pai: 1, speed: -16384, heading: 65535});
+});
+
+test('a lifetime is a multiplier of 50 ms, 1 s, 10 s or 100 s', () => {
+  assert.deepEqual([0x04, 0x05, 0x1a, 0xff].map(frame.lifetimeMillis), [50, 1000, 60000, 6300000]);
+});
+
+test('the sine table is that of the profile', () => {
+  const table = `0,175,349,523,698,872,1045,1219,1392,1564,1736,1908,2079,2250,2419,2588,2756,2924,
+    3090,3256,3420,3584,3746,3907,4067,4226,4384,4540,4695,4848,5000,5150,5299,5446,5592,5736,5878,
+    6018,6157,6293,6428,6561,6691,6820,6947,7071,7193,7314,7431,7547,7660,7771,7880,7986,8090,8192,
+    8290,8387,8480,8572,8660,8746,8829,8910,8988,9063,9135,9205,9272,9336,9397,9455,9511,9563,9613,
+    9659,9703,9744,9781,9816,9848,9877,9903,9925,9945,9962,9976,9986,9994,9998,10000`;
+  assert.deepEqual(Array.from({length: 91}, (_, t) => geo.sine(t)), table.split(',').map(Number));
+  assert.deepEqual([91, 180, 270, 359].map(geo.sine), [9998, 0, -10000, -175]);
+  assert.equal(geo.longitudeScale(450000000), 7071);
+  assert.equal(geo.longitudeScale(455000000), 7009);
+  const from = {lat: 450000000, lon: 0};
+  assert.equal(geo.offset(from, {lat: 450000000, lon: 10000000}).east, 7871437n);
+});
+
+test('an area holds a place up to its border', () => {
+  const holds = (shape, lat, lon, a, b, angle, place) =>
+    geo.contains({shape, lat, lon, a, b, angle}, {lat: place[0], lon: place[1]});
+  assert.equal(holds('circle', 0, 0, 10, 0, 0, [899, 0]), true);
+  assert.equal(holds('circle', 0, 0, 10, 0, 0, [900, 0]), false);
+  assert.equal(holds('rectangle', 0, 0, 100, 10, 90, [0, 4492]), true);
+  assert.equal(holds('rectangle', 0, 0, 100, 10, 90, [4492, 0]), false);
+  assert.equal(holds('circle', 0, 1800000000, 1, 0, 0, [0, -1800000000]), true);
+  assert.equal(holds('ellipse', 900000000, 0, 2, 1, 0, [900000000, 1234567]), true);
+  assert.equal(holds('ellipse', 0, 0, 100, 50, 0, [5390, 3594]), true);
+  assert.equal(holds('ellipse', 0, 0, 100, 50, 0, [5390, 3595]), false);
+});
+
+test('the four stations run as their scenario says', async () => {
+  const run = await read(samples.four());
+  const shown = run.events.map((event) =>
+    [event.index, event.moment, event.station, runs.doing(event), runs.entry(event)].join(' '));
+  assert.deepEqual(shown, [
+    '0 0 3 open opened', '1 1000 0 gbc sent 0', '2 1001 1 deliver 0 accepted sent 1',
+    '3 1002 0 deliver 1 ignored own-source', '4 1002 2 deliver 1 accepted sent 2',
+    '5 1003 1 deliver 2 ignored duplicate',
+    '6 1003 3 deliver 2 accepted port 2002 info 0 6869 sent 3',
+    '7 1004 2 deliver 3 ignored duplicate',
+  ]);
+});
+
+test('the figures of the four stations are those of their summary', async () => {
+  const run = await read(samples.four());
+  const [send, ...others] = way.follow(run).sends;
+  assert.deepEqual(others, []);
+  assert.deepEqual(way.figures(run, send), {moment: '1000', station: 0, do: 'gbc', port: 2002,
+    delivered: 1, frames: 4, hops: 3, last: '3'});
+  assert.equal(way.standing(run, send), 1);
+  assert.deepEqual(way.total(run),
+    {events: 8, frames: 4, deliveries: 1, duplicates: 2, ignored: 1, refused: 0});
+  const steps = way.tree(run, send);
+  assert.deepEqual(steps.map(({station, hop, delivered, duplicates}) =>
+    [station, hop, delivered, duplicates]),
+  [[0, 0, false, 0], [1, 1, false, 0], [2, 2, false, 1], [3, 3, true, 1]]);
+  assert.deepEqual(way.deliveries(run, steps), [2, 3, 4, 5, 6, 7]);
+});
+
+test('a station delivers a send twice, and is counted once', async () => {
+  const sent = '{"event":0,"moment":5,"station":0,"do":"gbc","result":"sent","sent":0,' +
+    `"octets":"${WARNING}"}`;
+  const taken = (event, moment) => `{"event":${event},"moment":${moment},"station":1,` +
+    '"do":"deliver","frame":0,"result":"accepted","port":2002,"info":0,"payload":""}';
+  const run = await read([HEAD, sent, taken(1, 9), taken(2, 30009), ''].join('\n'));
+  const {delivered, hops, last, frames} = way.figures(run, way.follow(run).sends[0]);
+  assert.deepEqual({delivered, hops, last, frames}, {delivered: 1, hops: 1, last: '4', frames: 1});
+  assert.equal(way.total(run).deliveries, 2);
+  assert.equal(runs.entry(run.events[1]), 'accepted port 2002 info 0 -');
+});
+
+test('moments past what a number holds are exact', async () => {
+  const line = (event, moment) =>
+    `{"event":${event},"moment":${moment},"station":0,"do":"tick","result":"quiet"}`;
+  const text = [HEAD, line(0, '4611686018427387903'), line(1, '4611686018427387904')].join('\n');
+  const run = await read(text);
+  assert.equal(run.moment(0), '4611686018427387903');
+  assert.equal(run.elapsed(0, 1), 1n);
+});
+
+test('stations stand where they last moved, a refused move aside', async () => {
+  const move = (event, lat, result) => `{"event":${event},"moment":${event},"station":0,` +
+    `"do":"move","lat":${lat},"lon":7,${result}}`;
+  const text = [HEAD, move(0, 10, '"result":"moved"'),
+    move(1, 20, '"result":"refused","code":"S1","reason":"earlier than the clock"'),
+    move(2, 30, '"result":"moved"')].join('\n');
+  const run = await read(text);
+  assert.deepEqual([-1, 0, 1, 2].map((at) => run.placeAt(0, at).lat), [0, 10, 10, 30]);
+  assert.deepEqual(run.trail(0, 2).map(({lat}) => lat), [0, 10, 30]);
+  assert.equal(runs.entry(run.events[1]), 'refused S1');
+  assert.equal(run.events[1].reason, 'earlier than the clock');
+});
+
+test('lines are whole wherever the text was cut into pieces', async () => {
+  const text = samples.four();
+  for (const size of [1, 7, 100]) {
+    const run = await runs.read((async function* () {
+      for (let at = 0; at < text.length; at += size) yield text.slice(at, at + size);
+    })());
+    assert.equal(run.events.length, 8);
+  }
+});
+
+test('what is no run is refused with a sentence', async () => {
+  const open = '{"event":0,"moment":0,"station":0,"do":"open","result":"opened"}';
+  const cases = [
+    ['', /it is empty/], ['\x89PNG\r\n', /its first line is no JSON object/],
+    ['[]\n', /its first line is no JSON object/], ['{"a":1}\n', /has no “stations”/],
+    ['{"send":1,"moment":2}\n', /summary/], ['{"stations":[{}]}\n', /station 0 has no address/],
+    ['{"stations":[{"address":"1400020000000001","lat":900000001,"lon":0}]}', /no place/],
+    [`${HEAD}\n${open.slice(0, 20)}`, /^Line 2 .* cut/], [`${HEAD}\n\n`, /^Line 2 /],
+    [`${HEAD}\n${open}\n${open}\n`, /^Line 3 .*“event” isn't 1/],
+    [`${HEAD}\n${open.replace('"moment":0', '"moment":-1')}`, /“moment”/],
+    [`${HEAD}\n${open.replace('"station":0', '"station":"0"')}`, /“station”/],
+    [`${HEAD}\n${open.replace('open"', 'fly"')}`, /“do”/],
+    [`${HEAD}\n${open.replace('opened', 'gone')}`, /“result”/],
+    [`${HEAD}\n${open.replace('opened"', 'sent","sent":1')}`, /“sent” isn't 0/],
+    [`${HEAD}\n${open.replace('opened"', 'sent","sent":0,"octets":"0"')}`, /“octets”/],
+    [`${HEAD}\n${open.replace('opened', 'ignored')}`, /“why”/],
+    [`${HEAD}\n${open.replace('opened', 'refused')}`, /“code”/],
+    [`${HEAD}\n${open.replace('open"', 'deliver"')}`, /“frame”/],
+    [`${HEAD}\n${open.replace('open"', 'move"')}`, /a move has no place/],
+  ];
+  for (const [text, sentence] of cases) {
+    await assert.rejects(read(text), (fault) => {
+      assert.ok(fault instanceof runs.RunFault, String(fault.stack));
+      assert.match(fault.message, sentence);
+      return true;
+    });
+  }
+});
+
+test('a frame that no station gave, and a station that is not there, are no trouble', async () => {
+  const text = [HEAD,
+    '{"event":0,"moment":0,"station":0,"do":"deliver","frame":9,"result":"refused","code":"M3"}',
+    '{"event":1,"moment":0,"station":9,"do":"tick","result":"refused","code":"M4"}'].join('\n');
+  const run = await read(text);
+  assert.deepEqual(way.follow(run).sends, []);
+  assert.equal(way.total(run).refused, 2);
+});
+
+test('the kept samples and the page’s own are what their maker makes', () => {
+  for (const name of ['four', 'road']) {
+    const kept = fs.readFileSync(path.join(samples.DATA, `${name}.jsonl`), 'utf8');
+    assert.equal(kept, samples[name]());
+  }
+  assert.equal(fs.readFileSync(path.join(TOP, 'sample.js'), 'utf8'), samples.pageSample());
+});
+
+test('text is as strong as WCAG AA asks, light and dark', () => {
+  const css = fs.readFileSync(path.join(TOP, 'style.css'), 'utf8');
+  const colours = (block) => Object.fromEntries(
+    [...block.matchAll(/--([\w-]+): (#\w{6})/g)].map(([, name, value]) => [name, value]));
+  const [light, dark] = css.match(/:root \{[^}]*\}/g).map(colours);
+  const luminance = (colour) => {
+    const [r, g, b] = [1, 3, 5].map((at) => {
+      const part = parseInt(colour.slice(at, at + 2), 16) / 255;
+      return part <= 0.04045 ? part / 12.92 : ((part + 0.055) / 1.055) ** 2.4;
+    });
+    return 0.2126 * r + 0.7152 * g + 0.0722 * b;
+  };
+  const ratio = (a, b) => {
+    const [dim, bright] = [luminance(a), luminance(b)].sort((x, y) => x - y);
+    return (bright + 0.05) / (dim + 0.05);
+  };
+  const dots = ['idle', 'accepted', 'delivered', 'sender'];
+  const pairs = [['on-accent', ['accent']], ['on-dot', dots]];
+  for (const ink of ['text', 'quiet', 'accepted', 'delivered', 'refused']) {
+    pairs.push([ink, ['panel', 'ground', 'mark']]);
+  }
+  for (const look of [light, {...light, ...dark}]) {
+    for (const [ink, papers] of pairs) {
+      for (const paper of papers) {
+        const found = ratio(look[ink], look[paper]);
+        assert.ok(found >= 4.5, `${ink} on ${paper}: ${found.toFixed(2)}`);
+      }
+    }
+    for (const line of ['accepted', 'duplicate', 'refused', 'area', 'idle']) {
+      const found = ratio(look[line], look.map);
+      assert.ok(found >= 3, `${line} on the map: ${found.toFixed(2)}`);
+    }
+  }
+});
+
+test('the page takes nothing from elsewhere and puts no data in as markup', () => {
+  for (const name of fs.readdirSync(TOP).filter((file) => /\.(js|html|css)$/.test(file))) {
+    const text = fs.readFileSync(path.join(TOP, name), 'utf8');
+    const markup = /innerHTML|outerHTML|insertAdjacentHTML|document\.write|\beval\b/;
+    assert.doesNotMatch(text, markup, name);
+    assert.doesNotMatch(text.replace('http://www.w3.org/2000/svg', ''), /https?:\/\//, name);
+    if (name.endsWith('.js')) assert.match(text, /^\/\/! [A-Z]/, name);
+  }
+});
