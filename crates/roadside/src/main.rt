@@ -1,15 +1,12 @@
 //! A road-side unit: a station in a few lines, for whoever embeds one.
 //!
-//! Standard input stands for its link: each line is a moment in milliseconds, a space, and the
-//! frame that came then, in hexadecimal. Until that moment the unit sleeps, and wakes for its
-//! beacons. Standard output has a line for each payload that is delivered (`deliver PAYLOAD from
-//! ADDRESS`), each frame that goes out (`send FRAME`) and each frame that is refused (`refused
-//! CODE`), and at the end what was counted.
+//! Each line of standard input is a moment, a space, and the frame that came then in hexadecimal.
+//! The unit sleeps until then, but for its beacons. Standard output has a line for each payload that
+//! is delivered, each frame that goes out and each that is refused, and at the end what was counted.
 //!
-//! A moment is milliseconds of any clock that doesn't fall; for the standard's time stamps, those
-//! of TAI since 2004-01-01. A clock that steps back is refused (S1) until it has caught up. A real
-//! unit draws a jitter of 0 to 750 ms once for each beacon, not for each `tick`; this one has none,
-//! so that its output is the same each time.
+//! A moment is milliseconds of any clock that doesn't fall; for the standard's time stamps, of TAI
+//! since 2004-01-01. After a step back calls are refused (S1) until the clock has caught up. A real
+//! unit draws a jitter once for each beacon, not for each `tick`; this one has none.
 #![tactic(auto)]
 
 use its_gnvalue::{GnAddress, Place};
@@ -17,17 +14,6 @@ use its_headers::Kind;
 use its_linkframe::read_frame;
 use its_loctable::SortedTable;
 use its_station::{Counts, Outcome, Refused, Station};
-use std::alloc::Global;
-
-/// The unit stands at a crossing, knows up to 64 stations, and remembers 8 packets of each. Port
-/// 2002 is that of hazard warnings.
-fn unit(alloc: Global) -> anyhow::Result<Station<SortedTable>> {
-    let address = GnAddress::from_u64(0x3c00_0200_0000_0010)?;
-    let here = Place::new(449, 0)?;
-    let mut station = Station::new(alloc, address, here, 64, 8)?;
-    station.open(1000, 2002)?;
-    Ok(station)
-}
 
 /// A frame came: delivers its payload and passes the frame on, where the station says so.
 fn hear(
@@ -60,8 +46,7 @@ fn hear(
     Ok(())
 }
 
-/// Sleeps until a moment, and sends each beacon that is due until then. It hands in its place
-/// before, which gives the beacon its time stamp.
+/// Sends each beacon that is due until a moment, with its place as handed in just before.
 fn sleep_until(
     rt: &(impl Print + AllocGlobal),
     station: &mut Station<SortedTable>,
@@ -83,7 +68,10 @@ fn sleep_until(
 }
 
 fn main(rt: HostRuntime) -> anyhow::Result<()> {
-    let mut station = unit(rt.alloc())?;
+    // The unit knows up to 64 stations; port 2002 is that of hazard warnings.
+    let address = GnAddress::from_u64(0x3c00_0200_0000_0010)?;
+    let mut station = Station::new(rt.alloc(), address, Place::new(449, 0)?, 64, 8)?;
+    station.open(1000, 2002)?;
     let mut counts = Counts::new();
     for line in rt.lines(rt.alloc()) {
         let line = line?;
