@@ -1,4 +1,4 @@
--- The machine values of C's handle, and how its pointer and what it owns come apart. Assumes `Logic`.
+-- The machine values of handles and slots, and how a pointer and what it owns come apart.
 use Rattle.std.proofs.Common.{◌≡◌, List, [], ◌∷◌, ◌++◌, refl, subst}
 use mathlib.Core.Bool.{true, ◌&&◌}
 use lib.Dec.{T, lit<}
@@ -6,7 +6,8 @@ use seplogic.Ra.Ura.{Ura}
 use mir.Syntax.{impl, tnil, dnil, ty_ptr}
 use mir.Val.{Val, vstruct, of_list, has_ty, WT}
 use types.Logic.{Logic}
-use types.Kit.{Item, Goal, Seq, Step, step, ‵, ◌$◌, move, drop, fsplit, fjoin, fpick, fpack, feq_i, feq_l}
+use types.Kit.{Item, Goal, Seq, Step, step, ‵, ◌$◌, move, drop, fsplit, fjoin, fpick, fpack, feq_i}
+use types.Kit.{feq_l}
 use denote.RattleType.{RattleType, Valss}
 use denote.Builtin.{RawPtr}
 use denote.RawPtr.{Ptr, block_ptr, null_ptr, ptr_val}
@@ -61,34 +62,70 @@ ptr_good null_ptr = (tt, record { fits = lit< tt })
 pub both_good : (p : Ptr) (h : Val) → Good (layout Z) h
     → T (has_ty ty_ptr (ptr_val p) && (has_ty (layout Z) h && true)) × WT (both (ptr_val p) h)
 both_good (block_ptr b o) h fits = (and_tt (has_ty (layout Z) h) fits.0, (tt, (fits.1, tt)))
-both_good null_ptr h fits = (and_tt (has_ty (layout Z) h) fits.0, (record { fits = lit< tt }, (fits.1, tt)))
+both_good null_ptr h fits = (
+  and_tt (has_ty (layout Z) h) fits.0,
+  (
+    record { fits = lit< tt },
+    (fits.1, tt),
+  ),
+)
 
-module _ {M : Type 1} {𝓤 : Ura M} {𝓛 : Logic 𝓤} {K : Type 0} {Γ : List (Item 𝓤)} {G : Goal 𝓤 𝓛.H} where
-  pub held_out : K → (d : Held.Denot) (vs : List Val)
-      → ((h : Val) → vs ≡ both (ptr_val d.at) h ∷ [] → Good (layout Z) h → Seq K 𝓛 (‵ (held_owns d.alloc d.at d.station) ∷ ‵ (Z.own_val d.alloc (h ∷ [])) ∷ Γ) G)
-      → Seq K 𝓛 (‵ (Held.own_val d vs) ∷ Γ) G
-  held_out t d vs k =
-      fsplit t $ fpick t (λ vss. fsplit t $ feq_l t (λ ev. fsplit t $ feq_l t (λ ep. fsplit t $ handle_tells al t d.alloc vss.1.0 (λ h ea fits. move t (1 ∷ []) $ drop t $ move t (1 ∷ []) $ k h
-      (subst (λ (ws : List Val). vs ≡ vstruct (of_list (ptr_val d.at ∷ (ws ++ []))) ∷ []) ea (subst (λ (ps : List Val). vs ≡ vstruct (of_list (ps ++ (vss.1.0 ++ []))) ∷ []) ep ev)) fits))))
+module _ {M : Type 1} {𝓤 : Ura M} {𝓛 : Logic 𝓤} {K : Type 0} {Γ : List (Item 𝓤)} {G : Goal 𝓤 𝓛.H}
+  where
+    pub held_out : K → (d : Held.Denot) (vs : List Val)
+        → ((h : Val) → vs ≡ both (ptr_val d.at) h ∷ [] → Good (layout Z) h →
+        Seq K 𝓛 (‵ (held_owns d.alloc d.at d.station) ∷ ‵ (Z.own_val d.alloc (h ∷ [])) ∷ Γ) G)
+        → Seq K 𝓛 (‵ (Held.own_val d vs) ∷ Γ) G
+    held_out t d vs k =
+        fsplit t $ fpick t (λ vss. fsplit t $ feq_l t (λ ev. fsplit t $ feq_l t (λ ep. fsplit t $
+        handle_tells al t d.alloc vss.1.0 (λ h ea fits. move t (1 ∷ []) $ drop t $
+        move t (1 ∷ []) $ k h
+        (subst (λ (ws : List Val). vs ≡ vstruct (of_list (ptr_val d.at ∷ (ws ++ []))) ∷
+        []) ea (subst (λ (ps : List Val). vs ≡ vstruct (of_list (ps ++ (vss.1.0 ++ []))) ∷
+        []) ep ev)) fits))))
 
-  pub held_in : K → (p : Ptr) (h : Val) (a : Z.Denot) (st : Option StationState)
-      → Step K 𝓛 (‵ (Held.own_val (record { at = p; alloc = a; station = st }) (both (ptr_val p) h ∷ [])) ∷ Γ) G (‵ (held_owns a p st) ∷ ‵ (Z.own_val a (h ∷ [])) ∷ Γ) G
-  held_in t p h a st = step (λ s. let v : Val = both (ptr_val p) h in
-      nothing t $ move t (2 ∷ 0 ∷ []) $ fjoin t $ feq_i t (List Val) (ptr_val p ∷ []) (ptr_val p ∷ []) refl $ fjoin t $ feq_i t (List Val) (v ∷ []) (v ∷ []) refl $ fjoin t $
-      fpack t (Valss (RawPtr ∷ Z ∷ [])) (within (shape held.the_type) (to held.the_type (record { at = p; alloc = a; station = st })) (v ∷ [])) (ptr_val p ∷ [], (h ∷ [], tt)) $ fjoin t $ s)
+    pub held_in : K → (p : Ptr) (h : Val) (a : Z.Denot) (st : Option StationState)
+        → Step K 𝓛 (‵ (Held.own_val (record { at = p; alloc = a; station = st }) (both (ptr_val p) h
+        ∷ [])) ∷ Γ) G (‵ (held_owns a p st) ∷ ‵ (Z.own_val a (h ∷ [])) ∷ Γ) G
+    held_in t p h a st = step (λ s. let v : Val = both (ptr_val p) h in
+        nothing t $ move t (2 ∷ 0 ∷ []) $ fjoin t $
+        feq_i t (List Val) (ptr_val p ∷ []) (ptr_val p ∷ []) refl $ fjoin t $
+        feq_i t (List Val) (v ∷ []) (v ∷ []) refl $ fjoin t $
+        fpack t (Valss (RawPtr ∷ Z ∷
+        [])) (within (shape held.the_type) (to held.the_type (record {
+          at = p;
+          alloc = a;
+          station =
+              st;
+        })) (v ∷ [])) (ptr_val p ∷ [], (h ∷ [], tt)) $ fjoin t $ s)
 
-  pub loosed : K → (d : Loose.Denot) (vs : List Val)
-      → ((h : Val) → vs ≡ both (ptr_val d.at) h ∷ [] → Good (layout Z) h → Seq K 𝓛 (‵ (box_owns (ghosts.dealloc_token d.alloc) R d.at d.value) ∷ ‵ (Z.own_val d.alloc (h ∷ [])) ∷ Γ) G)
-      → Seq K 𝓛 (‵ (Loose.own_val d vs) ∷ Γ) G
-  loosed t d vs k =
-      fsplit t $ fpick t (λ vss. fsplit t $ feq_l t (λ ev. fsplit t $ feq_l t (λ ep. fsplit t $ handle_tells al t d.alloc vss.1.0 (λ h ea fits. move t (1 ∷ []) $ drop t $ move t (1 ∷ []) $ k h
-      (subst (λ (ws : List Val). vs ≡ vstruct (of_list (ptr_val d.at ∷ (ws ++ []))) ∷ []) ea (subst (λ (ps : List Val). vs ≡ vstruct (of_list (ps ++ (vss.1.0 ++ []))) ∷ []) ep ev)) fits))))
+    pub loosed : K → (d : Loose.Denot) (vs : List Val)
+        → ((h : Val) → vs ≡ both (ptr_val d.at) h ∷ [] → Good (layout Z) h →
+        Seq K 𝓛 (‵ (box_owns (ghosts.dealloc_token d.alloc) R d.at d.value) ∷
+        ‵ (Z.own_val d.alloc (h ∷ [])) ∷ Γ) G)
+        → Seq K 𝓛 (‵ (Loose.own_val d vs) ∷ Γ) G
+    loosed t d vs k =
+        fsplit t $ fpick t (λ vss. fsplit t $ feq_l t (λ ev. fsplit t $ feq_l t (λ ep. fsplit t $
+        handle_tells al t d.alloc vss.1.0 (λ h ea fits. move t (1 ∷ []) $ drop t $
+        move t (1 ∷ []) $ k h
+        (subst (λ (ws : List Val). vs ≡ vstruct (of_list (ptr_val d.at ∷ (ws ++ []))) ∷
+        []) ea (subst (λ (ps : List Val). vs ≡ vstruct (of_list (ps ++ (vss.1.0 ++ []))) ∷
+        []) ep ev)) fits))))
 
-  pub loose_of : K → (p : Ptr) (h : Val) (a : Z.Denot) (x : R.Denot)
-      → Step K 𝓛 (‵ (Loose.own_val (record { at = p; alloc = a; value = x }) (both (ptr_val p) h ∷ [])) ∷ Γ) G (‵ (box_owns (ghosts.dealloc_token a) R p x) ∷ ‵ (Z.own_val a (h ∷ [])) ∷ Γ) G
-  loose_of t p h a x = step (λ s. let v : Val = both (ptr_val p) h in
-      nothing t $ move t (2 ∷ 0 ∷ []) $ fjoin t $ feq_i t (List Val) (ptr_val p ∷ []) (ptr_val p ∷ []) refl $ fjoin t $ feq_i t (List Val) (v ∷ []) (v ∷ []) refl $ fjoin t $
-      fpack t (Valss (RawPtr ∷ Z ∷ [])) (within (shape (loose.the_type R Z ghosts)) (p, (a, tt)) (v ∷ [])) (ptr_val p ∷ [], (h ∷ [], tt)) $ fjoin t $ s)
+    pub loose_of : K → (p : Ptr) (h : Val) (a : Z.Denot) (x : R.Denot)
+        → Step K 𝓛 (‵ (Loose.own_val (record { at = p; alloc = a; value = x }) (both (ptr_val p) h ∷
+        [])) ∷ Γ) G (‵ (box_owns (ghosts.dealloc_token a) R p x) ∷ ‵ (Z.own_val a (h ∷ [])) ∷ Γ) G
+    loose_of t p h a x = step (λ s. let v : Val = both (ptr_val p) h in
+        nothing t $ move t (2 ∷ 0 ∷ []) $ fjoin t $
+        feq_i t (List Val) (ptr_val p ∷ []) (ptr_val p ∷ []) refl $ fjoin t $
+        feq_i t (List Val) (v ∷ []) (v ∷ []) refl $ fjoin t $
+        fpack t (Valss (RawPtr ∷ Z ∷ [])) (within (shape (loose.the_type R Z ghosts)) (
+          p,
+          (
+            a,
+            tt,
+          ),
+        ) (v ∷ [])) (ptr_val p ∷ [], (h ∷ [], tt)) $ fjoin t $ s)
 
 -- the same of a handle on the heap
 abbrev pub G : RattleType
@@ -100,22 +137,47 @@ Slot = slot.the_row
 abbrev pub LooseHandle : RattleType
 LooseHandle = loose.the_row G Z ghosts
 
-module _ {M : Type 1} {𝓤 : Ura M} {𝓛 : Logic 𝓤} {K : Type 0} {Γ : List (Item 𝓤)} {Go : Goal 𝓤 𝓛.H} where
-  pub handle_of : K → (p : Ptr) (h : Val) (a : Z.Denot) (x : G.Denot)
-      → Step K 𝓛 (‵ (LooseHandle.own_val (record { at = p; alloc = a; value = x }) (both (ptr_val p) h ∷ [])) ∷ Γ) Go (‵ (box_owns (ghosts.dealloc_token a) G p x) ∷ ‵ (Z.own_val a (h ∷ [])) ∷ Γ) Go
-  handle_of t p h a x = step (λ s. let v : Val = both (ptr_val p) h in
-      nothing t $ move t (2 ∷ 0 ∷ []) $ fjoin t $ feq_i t (List Val) (ptr_val p ∷ []) (ptr_val p ∷ []) refl $ fjoin t $ feq_i t (List Val) (v ∷ []) (v ∷ []) refl $ fjoin t $
-      fpack t (Valss (RawPtr ∷ Z ∷ [])) (within (shape (loose.the_type G Z ghosts)) (p, (a, tt)) (v ∷ [])) (ptr_val p ∷ [], (h ∷ [], tt)) $ fjoin t $ s)
+module _ {M : Type 1} {𝓤 : Ura M} {𝓛 : Logic 𝓤} {K : Type 0} {Γ : List (Item 𝓤)} {Go : Goal 𝓤 𝓛.H}
+  where
+    pub handle_of : K → (p : Ptr) (h : Val) (a : Z.Denot) (x : G.Denot)
+        → Step K 𝓛 (‵ (LooseHandle.own_val (record { at = p; alloc = a; value = x }) (both (ptr_val
+        p) h ∷ [])) ∷ Γ) Go (‵ (box_owns (ghosts.dealloc_token a) G p x) ∷ ‵ (Z.own_val a (h ∷
+        [])) ∷ Γ) Go
+    handle_of t p h a x = step (λ s. let v : Val = both (ptr_val p) h in
+        nothing t $ move t (2 ∷ 0 ∷ []) $ fjoin t $
+        feq_i t (List Val) (ptr_val p ∷ []) (ptr_val p ∷ []) refl $ fjoin t $
+        feq_i t (List Val) (v ∷ []) (v ∷ []) refl $ fjoin t $
+        fpack t (Valss (RawPtr ∷ Z ∷ [])) (within (shape (loose.the_type G Z ghosts)) (
+          p,
+          (
+            a,
+            tt,
+          ),
+        ) (v ∷ [])) (ptr_val p ∷ [], (h ∷ [], tt)) $ fjoin t $ s)
 
-  pub handle_loosed : K → (d : LooseHandle.Denot) (vs : List Val)
-      → ((h : Val) → vs ≡ both (ptr_val d.at) h ∷ [] → Good (layout Z) h → Seq K 𝓛 (‵ (box_owns (ghosts.dealloc_token d.alloc) G d.at d.value) ∷ ‵ (Z.own_val d.alloc (h ∷ [])) ∷ Γ) Go)
-      → Seq K 𝓛 (‵ (LooseHandle.own_val d vs) ∷ Γ) Go
-  handle_loosed t d vs k =
-      fsplit t $ fpick t (λ vss. fsplit t $ feq_l t (λ ev. fsplit t $ feq_l t (λ ep. fsplit t $ handle_tells al t d.alloc vss.1.0 (λ h ea fits. move t (1 ∷ []) $ drop t $ move t (1 ∷ []) $ k h
-      (subst (λ (ws : List Val). vs ≡ vstruct (of_list (ptr_val d.at ∷ (ws ++ []))) ∷ []) ea (subst (λ (ps : List Val). vs ≡ vstruct (of_list (ps ++ (vss.1.0 ++ []))) ∷ []) ep ev)) fits))))
+    pub handle_loosed : K → (d : LooseHandle.Denot) (vs : List Val)
+        → ((h : Val) → vs ≡ both (ptr_val d.at) h ∷ [] → Good (layout Z) h →
+        Seq K 𝓛 (‵ (box_owns (ghosts.dealloc_token d.alloc) G d.at d.value) ∷
+        ‵ (Z.own_val d.alloc (h ∷ [])) ∷ Γ) Go)
+        → Seq K 𝓛 (‵ (LooseHandle.own_val d vs) ∷ Γ) Go
+    handle_loosed t d vs k =
+        fsplit t $ fpick t (λ vss. fsplit t $ feq_l t (λ ev. fsplit t $ feq_l t (λ ep. fsplit t $
+        handle_tells al t d.alloc vss.1.0 (λ h ea fits. move t (1 ∷ []) $ drop t $
+        move t (1 ∷ []) $ k h
+        (subst (λ (ws : List Val). vs ≡ vstruct (of_list (ptr_val d.at ∷ (ws ++ []))) ∷
+        []) ea (subst (λ (ps : List Val). vs ≡ vstruct (of_list (ps ++ (vss.1.0 ++ []))) ∷
+        []) ep ev)) fits))))
 
-  pub slot_in : K → (p : Ptr) (h : Val) (a : Z.Denot) (st : Option Handle)
-      → Step K 𝓛 (‵ (Slot.own_val (record { at = p; alloc = a; handle = st }) (both (ptr_val p) h ∷ [])) ∷ Γ) Go (‵ (slot_owns a p st) ∷ ‵ (Z.own_val a (h ∷ [])) ∷ Γ) Go
-  slot_in t p h a st = step (λ s. let v : Val = both (ptr_val p) h in
-      nothing t $ move t (2 ∷ 0 ∷ []) $ fjoin t $ feq_i t (List Val) (ptr_val p ∷ []) (ptr_val p ∷ []) refl $ fjoin t $ feq_i t (List Val) (v ∷ []) (v ∷ []) refl $ fjoin t $
-      fpack t (Valss (RawPtr ∷ Z ∷ [])) (within (shape slot.the_type) (to slot.the_type (record { at = p; alloc = a; handle = st })) (v ∷ [])) (ptr_val p ∷ [], (h ∷ [], tt)) $ fjoin t $ s)
+    pub slot_in : K → (p : Ptr) (h : Val) (a : Z.Denot) (st : Option Handle)
+        → Step K 𝓛 (‵ (Slot.own_val (record { at = p; alloc = a; handle = st }) (both (ptr_val p) h ∷
+        [])) ∷ Γ) Go (‵ (slot_owns a p st) ∷ ‵ (Z.own_val a (h ∷ [])) ∷ Γ) Go
+    slot_in t p h a st = step (λ s. let v : Val = both (ptr_val p) h in
+        nothing t $ move t (2 ∷ 0 ∷ []) $ fjoin t $
+        feq_i t (List Val) (ptr_val p ∷ []) (ptr_val p ∷ []) refl $ fjoin t $
+        feq_i t (List Val) (v ∷ []) (v ∷ []) refl $ fjoin t $
+        fpack t (Valss (RawPtr ∷ Z ∷
+        [])) (within (shape slot.the_type) (to slot.the_type (record {
+          at = p;
+          alloc = a;
+          handle = st;
+        })) (v ∷ [])) (ptr_val p ∷ [], (h ∷ [], tt)) $ fjoin t $ s)

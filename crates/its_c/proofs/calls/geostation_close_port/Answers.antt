@@ -9,7 +9,8 @@ use Rattle.its_c.proofs.calls.geostation_close_port.Goals as goal
 pub invariant_of-s : goal.invariant_of-s
 invariant_of-s c =
     record {
-      represents = stays_open (Says Closed) c.close-said.result c.deref_mut.result.now c.close-said.new.self
+      represents = stays_open (Says Closed) c.close-said.result c.deref_mut.result.now
+          c.close-said.new.self
           (λ m. station_step m c.args.now (Own (Close c.args.port))) c.args.s.now.held.station
           c.put.new.self.station c.close-said.ensures.step c.close-said.ensures.unchanged
           (search rules) (search rules) c.args.s.now.represents;

@@ -12,8 +12,10 @@ use Rattle.its_c.proofs.calls.geostation_move.Goals as goal
 pub invariant_of-s : goal.invariant_of-s
 invariant_of-s c =
     record {
-      represents = stays_open (Says Moved) c.move_to-said.result c.deref_mut.result.now c.move_to-said.new.self
-          (λ m. station_step m c.args.now (Own (Move c.in-Ok.place (not (nat_eq c.args.accurate 0)) (to_z w16 (of_z w16 c.args.speed)) c.args.heading))) c.args.s.now.held.station
+      represents = stays_open (Says Moved) c.move_to-said.result c.deref_mut.result.now
+          c.move_to-said.new.self
+          (λ m. station_step m c.args.now (Own (Move c.in-Ok.place (not (nat_eq c.args.accurate 0))
+          (to_z w16 (of_z w16 c.args.speed)) c.args.heading))) c.args.s.now.held.station
           c.put.new.self.station c.move_to-said.ensures.step c.move_to-said.ensures.unchanged
           (search rules) (search rules) c.args.s.now.represents;
     }

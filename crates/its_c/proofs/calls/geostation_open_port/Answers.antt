@@ -9,7 +9,8 @@ use Rattle.its_c.proofs.calls.geostation_open_port.Goals as goal
 pub invariant_of-s : goal.invariant_of-s
 invariant_of-s c =
     record {
-      represents = stays_open (Says Opened) c.open-said.result c.deref_mut.result.now c.open-said.new.self
+      represents = stays_open (Says Opened) c.open-said.result c.deref_mut.result.now
+          c.open-said.new.self
           (λ m. station_step m c.args.now (Own (Open c.args.port))) c.args.s.now.held.station
           c.put.new.self.station c.open-said.ensures.step c.open-said.ensures.unchanged
           (search rules) (search rules) c.args.s.now.represents;

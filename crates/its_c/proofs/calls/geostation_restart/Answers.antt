@@ -9,7 +9,8 @@ use Rattle.its_c.proofs.calls.geostation_restart.Goals as goal
 pub invariant_of-s : goal.invariant_of-s
 invariant_of-s c =
     record {
-      represents = stays_open (Says Restarted) c.restart-said.result c.deref_mut.result.now c.restart-said.new.self
+      represents = stays_open (Says Restarted) c.restart-said.result c.deref_mut.result.now
+          c.restart-said.new.self
           (λ m. station_step m c.args.now (Own (Restart c.args.number))) c.args.s.now.held.station
           c.put.new.self.station c.restart-said.ensures.step c.restart-said.ensures.unchanged
           (search rules) (search rules) c.args.s.now.represents;

@@ -8,7 +8,8 @@ use Rattle.its_c.proofs.receiving.geostation_receive.Goals as goal
 pub invariant_of-s : goal.invariant_of-s
 invariant_of-s c =
     record {
-      represents = stays_open (Tells) c.receive-said.result c.deref_mut.result.now c.receive-said.new.self
+      represents = stays_open (Tells) c.receive-said.result c.deref_mut.result.now
+          c.receive-said.new.self
           (λ m. station_step m c.args.now c.receive-said.ensures.step.0) c.args.s.now.held.station
           c.put.new.self.station c.receive-said.ensures.step.2 c.receive-said.ensures.unchanged
           (search rules) (search rules) c.args.s.now.represents;

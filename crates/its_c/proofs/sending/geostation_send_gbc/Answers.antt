@@ -12,9 +12,12 @@ use Rattle.its_c.proofs.sending.geostation_send_gbc.Goals as goal
 pub invariant_of-s : goal.invariant_of-s
 invariant_of-s c =
     record {
-      represents = stays_open (TellsSent) c.send_geobroadcast-said.result c.deref_mut.result.now c.send_geobroadcast-said.new.self
-          (λ m. station_step m c.args.now (Own (SendGbc (gbc_request c.area_request-r.result)))) c.args.s.now.held.station
-          c.put.new.self.station c.send_geobroadcast-said.ensures.step c.send_geobroadcast-said.ensures.unchanged
+      represents = stays_open (TellsSent) c.send_geobroadcast-said.result c.deref_mut.result.now
+          c.send_geobroadcast-said.new.self
+          (λ m. station_step m c.args.now (Own (SendGbc (gbc_request c.area_request-r.result))))
+          c.args.s.now.held.station
+          c.put.new.self.station c.send_geobroadcast-said.ensures.step
+          c.send_geobroadcast-said.ensures.unchanged
           (search rules) (search rules) c.args.s.now.represents;
     }
 
@@ -25,7 +28,8 @@ returns-clause-step c = λ m long model fine.
     let area = c.in-Some.area in
     let made : IsAreaOf c.args.request.now area = search rules in
     let asked = gbc_asked c.args.request.now area c.args.payload.now in
-    let done = subst (λ (k : GbcRequest). IsStepOf TellsSent c.send_geobroadcast-said.result c.send_geobroadcast-said.new.self
+    let done = subst (λ (k : GbcRequest). IsStepOf TellsSent c.send_geobroadcast-said.result
+    c.send_geobroadcast-said.new.self
     (station_step m c.args.now (Own (SendGbc k)))) c.area_request-r.ensures
     (c.send_geobroadcast-said.ensures.step m rep) in (
       area,

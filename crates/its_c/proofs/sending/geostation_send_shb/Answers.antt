@@ -12,8 +12,10 @@ use Rattle.its_c.proofs.sending.geostation_send_shb.Goals as goal
 pub invariant_of-s : goal.invariant_of-s
 invariant_of-s c =
     record {
-      represents = stays_open (TellsSent) c.send_shb-said.result c.deref_mut.result.now c.send_shb-said.new.self
-          (λ m. station_step m c.args.now (Own (SendShb (record (shb_asked c.args.request.now c.args.payload.now) { class = c.from_octet-class.result })))) c.args.s.now.held.station
+      represents = stays_open (TellsSent) c.send_shb-said.result c.deref_mut.result.now
+          c.send_shb-said.new.self
+          (λ m. station_step m c.args.now (Own (SendShb (record (shb_asked c.args.request.now
+          c.args.payload.now) { class = c.from_octet-class.result })))) c.args.s.now.held.station
           c.put.new.self.station c.send_shb-said.ensures.step c.send_shb-said.ensures.unchanged
           (search rules) (search rules) c.args.s.now.represents;
     }

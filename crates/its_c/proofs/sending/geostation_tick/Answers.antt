@@ -10,7 +10,8 @@ use Rattle.its_c.proofs.sending.geostation_tick.Goals as goal
 pub invariant_of-s : goal.invariant_of-s
 invariant_of-s c =
     record {
-      represents = stays_open (TellsTick) c.tick-said.result c.deref_mut.result.now c.tick-said.new.self
+      represents = stays_open (TellsTick) c.tick-said.result c.deref_mut.result.now
+          c.tick-said.new.self
           (λ m. station_step m c.args.now (Own (Tick c.args.jitter))) c.args.s.now.held.station
           c.put.new.self.station c.tick-said.ensures.step c.tick-said.ensures.unchanged
           (search rules) (search rules) c.args.s.now.represents;
