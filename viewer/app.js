@@ -183,6 +183,7 @@
     sends.mark(state.send + 1);
     showFigures(chosen);
     byId('tree').hidden = !chosen;
+    byId('sends').parentElement.classList.toggle('all', !chosen);
     tree.show(state.steps.length, state.steps.findIndex((step) => step.event === state.at));
     if (run.events.length > 0 || map.scene) drawMap();
   }
@@ -211,8 +212,9 @@
     if (duplicates > 0) words.push(`${duplicates} knew it`);
     const kind = hop === 0 ? 'sent' : delivered ? 'accepted delivered' : 'accepted';
     const later = event > state.at ? ' later' : '';
-    return {kind: `step ${kind}${later}`, hop: Math.min(hop, 12), cells: [
-      ['entry', `station ${station}`], ['note', words.join(', ')], ['moment', `+${start} ms`],
+    const note = words.join(', ');
+    return {kind: `step ${kind}${later}`, hop: Math.min(hop, 12), title: note, cells: [
+      ['entry', `station ${station}`], ['note', note], ['moment', `+${start} ms`],
     ]};
   }
 

@@ -53,7 +53,7 @@
         this.parent.append(this.items[this.used]);
       }
       const item = this.items[this.used];
-      item.style.display = '';
+      if (item.style.display !== '') item.style.display = '';
       this.used += 1;
       return item;
     }

@@ -6,6 +6,8 @@
 
   const {svg, set, Pool} = geostation.dom;
   const MOST_LINKS = 400;
+  /** With more than these, lines have no tips. */
+  const MANY_LINKS = 120;
   const MOST_LABELS = 60;
   const LONGEST_TRAIL = 200;
   const MARGIN = 0.075;
@@ -47,6 +49,7 @@
       this.areas = new Pool(() => svg('path', {class: 'area'}), this.layers.areas);
       this.makeScale();
       this.view = {east: 0, north: 0, scale: 1};
+      this.box = {width: 300, height: 150};
       this.scene = undefined;
       root.addEventListener('click', (event) => this.click(event, pickStation, pickFrame));
       this.listen();
@@ -69,6 +72,7 @@
       this.layers.labels.replaceChildren(...labels);
       this.layers.trails.replaceChildren();
       this.bounds = this.findBounds(areas);
+      this.measure();
       this.fit();
     }
 
@@ -89,7 +93,7 @@
     }
 
     /**
-     * All places of the run, and those areas that aren't much larger.
+     * All places of the run, and of areas that aren't larger what is near them.
      * @param {import('./geo.js').Area[]} areas
      */
     findBounds(areas) {
@@ -105,14 +109,17 @@
         for (const move of station.moves) take(this.point(this.run.events[move]), 0);
       }
       if (bounds.west > bounds.east) take({east: 0, north: 0}, 50);
-      const size = Math.max(bounds.east - bounds.west, bounds.north - bounds.south, 100);
-      for (const area of areas) {
+      const size = Math.max(bounds.east - bounds.west, bounds.north - bounds.south);
+      const near = Math.max(0.1 * size, 150);
+      const {west, east, south, north} = bounds;
+      const within = (low, value, high) => Math.max(low - near, Math.min(value, high + near));
+      for (const area of areas.filter(({a, b}) => Math.max(a, b) <= Math.max(size, near))) {
+        const centre = this.point(area);
         for (const corner of outline(area, 16)) {
-          const centre = this.point(area);
-          const point = {east: centre.east + corner.east, north: centre.north + corner.north};
-          const isNear = point.east > bounds.west - size && point.east < bounds.east + size &&
-            point.north > bounds.south - size && point.north < bounds.north + size;
-          if (isNear && Math.max(area.a, area.b) < size) take(point, 0);
+          take({
+            east: within(west, centre.east + corner.east, east),
+            north: within(south, centre.north + corner.north, north),
+          }, 0);
         }
       }
       return bounds;
@@ -121,7 +128,7 @@
     /** Shows the whole run. */
     fit() {
       if (!this.bounds) return;
-      const {width, height} = this.size();
+      const {width, height} = this.box;
       const {west, east, south, north} = this.bounds;
       const across = ((1 - 2 * MARGIN) * width) / Math.max(east - west, 20);
       const along = ((1 - 2 * MARGIN) * height - 40) / Math.max(north - south, 20);
@@ -130,12 +137,14 @@
       this.look({east: (west + east) / 2, north: (south + north) / 2, scale});
     }
 
-    size() {
+    /** Asks the browser for the map's size, which is dear between changes, so only here. */
+    measure() {
       const {clientWidth, clientHeight} = this.root;
-      return {width: clientWidth || 300, height: clientHeight || 150};
+      this.box = {width: clientWidth || 300, height: clientHeight || 150};
     }
 
     resize() {
+      this.measure();
       if (this.isFitted) this.fit();
       else this.look(this.view);
     }
@@ -143,7 +152,7 @@
     /** @param {{east: number, north: number, scale: number}} view */
     look(view) {
       this.view = view;
-      const {width, height} = this.size();
+      const {width, height} = this.box;
       this.root.setAttribute('viewBox', `0 0 ${width} ${height}`);
       this.drawScale(width, height);
       if (this.scene) this.draw(true);
@@ -154,7 +163,7 @@
      * @param {number} factor @param {number} [x] @param {number} [y]
      */
     zoom(factor, x, y) {
-      const {width, height} = this.size();
+      const {width, height} = this.box;
       const dx = (x ?? width / 2) - width / 2;
       const dy = (y ?? height / 2) - height / 2;
       const scale = Math.min(50, Math.max(1e-6, this.view.scale * factor));
@@ -165,7 +174,7 @@
 
     /** @param {Point} point @returns {{x: number, y: number}} on the screen */
     screen({east, north}) {
-      const {width, height} = this.size();
+      const {width, height} = this.box;
       return {
         x: width / 2 + (east - this.view.east) * this.view.scale,
         y: height / 2 - (north - this.view.north) * this.view.scale,
@@ -220,6 +229,7 @@
 
     drawLinks() {
       this.links.begin();
+      this.layers.links.classList.toggle('many', this.scene.links.length > MANY_LINKS);
       for (const link of this.scene.links.slice(-MOST_LINKS)) {
         const from = this.stations[link.from];
         const to = this.stations[link.to];
@@ -227,8 +237,10 @@
         const path = arc(from, to, to.radius + 3);
         if (path === '') continue;
         const group = this.links.next();
-        group.dataset.frame = String(link.frame);
-        group.setAttribute('class', `link ${link.kind}${link.isNew ? ' new' : ''}`);
+        const kind = `link ${link.kind}${link.isNew ? ' new' : ''}`;
+        if (group.dataset.frame !== String(link.frame)) group.dataset.frame = String(link.frame);
+        if (group.getAttribute('class') !== kind) group.setAttribute('class', kind);
+        if (group.firstChild.getAttribute('d') === path) continue;
         for (const line of group.children) line.setAttribute('d', path);
       }
       this.links.finish();

@@ -21,7 +21,7 @@ async function main(folder) {
     await page.picture(path.join(folder, `${name}-empty.png`));
     await page.click('#sample');
     await page.until('document.body.dataset.state === "run"');
-    await page.value(`geostation.app.go(${process.env.EVENT ?? 60})`);
+    await page.value(`geostation.app.go(${process.env.EVENT ?? 104})`);
     await page.picture(path.join(folder, `${name}.png`));
     if (width < 600) {
       await page.value('window.scrollTo(0, 760)');

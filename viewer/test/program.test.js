@@ -1,0 +1,59 @@
+//! The page's reading against the program itself, where it is built and knows `sim --json`: the
+//! events of each sample scenario against what `sim` prints, the ways against `sim --summary`.
+//! GEOSTATION may name the program.
+
+'use strict';
+
+const assert = require('node:assert/strict');
+const {spawnSync} = require('node:child_process');
+const fs = require('node:fs');
+const path = require('node:path');
+const test = require('node:test');
+const {load, TOP} = require('./load.js');
+
+const {run: runs, way} = load();
+const CRATES = path.join(TOP, '..', 'crates');
+const PROGRAM = process.env.GEOSTATION ?? path.join(CRATES, 'geostation', 'out', 'geostation');
+const DATA = path.join(CRATES, 'examples', 'data');
+
+/** What the program prints. */
+function print(...words) {
+  const {status, stdout, stderr} = spawnSync(PROGRAM, words, {encoding: 'utf8'});
+  assert.ok(status === 0 || status === 1, `${words.join(' ')}: status ${status}: ${stderr}`);
+  return stdout;
+}
+
+/** Why the program can't be asked; false where it can. */
+function missing() {
+  if (!fs.existsSync(PROGRAM)) return 'the program isn’t built';
+  const asked = spawnSync(PROGRAM, ['sim', '--json', '-'], {encoding: 'utf8', input: ''});
+  return asked.stdout === '{"stations":[]}\n' ? false : 'the program has no sim --json';
+}
+
+/** The line of the summary, without `inside`, which the run doesn't tell. */
+function sendLine(run, send) {
+  const {moment, station, do: what, port, delivered, frames, hops, last} = way.figures(run, send);
+  return `send ${send.event} ${moment} ${station} ${what} port ${port} delivered ${delivered} ` +
+    `frames ${frames} hops ${hops} last ${last}`;
+}
+
+function totalLine(run) {
+  return ['total', ...Object.entries(way.total(run)).flat()].join(' ');
+}
+
+const skip = missing();
+for (const name of fs.readdirSync(DATA).filter((file) => file.endsWith('.toml'))) {
+  test(`${name} is read as the program runs it`, {skip}, async () => {
+    const file = path.join(DATA, name);
+    const hasAir = /^\s*\[air\]/m.test(fs.readFileSync(file, 'utf8'));
+    const run = await runs.read((async function* () {
+      yield print('sim', '--json', file);
+    })());
+    const lines = run.events.map((event) => [event.index, run.moment(event.index), event.station,
+      ...(hasAir ? [runs.doing(event)] : []), runs.entry(event)].join(' ') + '\n');
+    assert.equal(lines.join(''), print('sim', file));
+    const summary = [...way.follow(run).sends.map((send) => sendLine(run, send)), totalLine(run)];
+    const printed = print('sim', '--summary', file).replace(/ inside \d+/g, '');
+    assert.equal(summary.join('\n') + '\n', printed);
+  });
+}
