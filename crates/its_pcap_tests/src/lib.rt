@@ -1,0 +1,7 @@
+//! Tests of captures of other programs through their public calls, a module for each subject.
+#![tactic(auto)]
+
+#[cfg(test)]
+mod pcap;
+#[cfg(test)]
+mod pcapng;

@@ -1,0 +1,183 @@
+//! pcapng: sections of either order, interfaces and their options, packets, and each fault.
+
+use its_linkframe::{CaptureFault, Counted};
+use its_pcap::{Head, PcapngReader, SourceFault, Step};
+use std::test::Fail;
+
+/// A section header, the lowest octet first: 28 octets, version 1.0, of no known length.
+const SECTION: &[u8; 28] = b"\x0a\x0d\x0d\x0a\x1c\0\0\0\x4d\x3c\x2b\x1a\x01\0\0\0\
+    \xff\xff\xff\xff\xff\xff\xff\xff\x1c\0\0\0";
+
+/// The same, the highest octet first.
+const OTHER_SECTION: &[u8; 28] = b"\x0a\x0d\x0d\x0a\0\0\0\x1c\x1a\x2b\x3c\x4d\0\x01\0\0\
+    \xff\xff\xff\xff\xff\xff\xff\xff\0\0\0\x1c";
+
+/// An interface of Ethernet with no option, snap length 4, the highest octet first.
+const OTHER_INTERFACE: &[u8; 20] = b"\0\0\0\x01\0\0\0\x14\0\x01\0\0\0\0\0\x04\0\0\0\x14";
+
+/// A simple packet of 6 octets on the wire, of which there are 4, the highest octet first.
+const OTHER_SIMPLE: &[u8; 20] = b"\0\0\0\x03\0\0\0\x14\0\0\0\x06wxyz\0\0\0\x14";
+
+/// An interface of Ethernet with thousandths (3) and an offset of one second taken, and the end of
+/// options.
+const INTERFACE: &[u8; 44] = b"\x01\0\0\0\x2c\0\0\0\x01\0\0\0\0\0\0\0\
+    \x09\0\x01\0\x03\0\0\0\x0e\0\x08\0\xff\xff\xff\xff\xff\xff\xff\xff\0\0\0\0\x2c\0\0\0";
+
+/// An enhanced packet of the first interface at tick 1001, with 3 octets of 3.
+const PACKET: &[u8; 36] = b"\x06\0\0\0\x24\0\0\0\0\0\0\0\0\0\0\0\xe9\x03\0\0\
+    \x03\0\0\0\x03\0\0\0abc\0\x24\0\0\0";
+
+/// A block of another kind, with 4 octets.
+const UNKNOWN: &[u8; 16] = b"\x05\0\0\0\x10\0\0\0....\x10\0\0\0";
+
+/// The pieces, one behind the other.
+fn joined(rt: &HostRuntime, pieces: &[&[u8]]) -> Result<Vec<u8>, Fail> {
+    let mut whole = Vec::new(rt.alloc());
+    for piece in pieces {
+        whole.extend_from_slice(piece)?;
+    }
+    Ok(whole)
+}
+
+/// The answers of a reader up to the first end or fault, and that one.
+fn answers(rt: &HostRuntime, file: &[u8]) -> Result<Vec<Result<Step, SourceFault>>, Fail> {
+    let mut reader = PcapngReader::new(rt.alloc(), Counted::new(file), 1469);
+    let mut frame = Vec::new(rt.alloc());
+    let mut given = Vec::new(rt.alloc());
+    for _ in 0..20 {
+        let answer = reader.next_into(&mut frame);
+        given.push(answer)?;
+        match answer {
+            Ok(Step::End) | Err(_) => break,
+            Ok(_) => {}
+        }
+    }
+    Ok(given)
+}
+
+/// The last answer of a reader.
+fn last(rt: &HostRuntime, pieces: &[&[u8]]) -> Result<Option<Result<Step, SourceFault>>, Fail> {
+    let file = joined(rt, pieces)?;
+    let given = answers(rt, file.as_slice())?;
+    Ok(given.last().copied())
+}
+
+#[test]
+fn sections_of_both_orders_are_read(rt: HostRuntime) -> Result<(), Fail> {
+    let file = joined(
+        &rt,
+        &[
+            SECTION.as_slice(),
+            UNKNOWN.as_slice(),
+            INTERFACE.as_slice(),
+            PACKET.as_slice(),
+            OTHER_SECTION.as_slice(),
+            OTHER_INTERFACE.as_slice(),
+            OTHER_SIMPLE.as_slice(),
+        ],
+    )?;
+    let given = answers(&rt, file.as_slice())?;
+    let first = Head {
+        moment: 1,
+        captured: 3,
+        wire: 3,
+        is_ethernet: true,
+    };
+    let second = Head {
+        moment: 0,
+        captured: 4,
+        wire: 6,
+        is_ethernet: true,
+    };
+    let wanted = [
+        Ok(Step::Passed),
+        Ok(Step::Passed),
+        Ok(Step::Passed),
+        Ok(Step::Record(first)),
+        Ok(Step::Passed),
+        Ok(Step::Passed),
+        Ok(Step::Record(second)),
+        Ok(Step::End),
+    ];
+    assert_eq!(rt; given.as_slice(), wanted.as_slice());
+    Ok(())
+}
+
+/// A cut anywhere but between two blocks is P1.
+#[test]
+fn each_cut_is_told(rt: HostRuntime) -> Result<(), Fail> {
+    let file = joined(
+        &rt,
+        &[SECTION.as_slice(), INTERFACE.as_slice(), PACKET.as_slice()],
+    )?;
+    for (at, _) in file.iter().enumerate() {
+        let given = answers(&rt, &file[..at])?;
+        let whole = at == 0 || at == 28 || at == 72;
+        let wanted = if whole {
+            Ok(Step::End)
+        } else {
+            Err(SourceFault::CutFile)
+        };
+        assert_eq!(rt; given.last().copied(), Some(wanted), "{at}");
+    }
+    Ok(())
+}
+
+/// A first block of another kind, a packet of no interface, a moment below 0, and lengths.
+#[test]
+fn what_is_wrong_is_refused(rt: HostRuntime) -> Result<(), Fail> {
+    let wrong = Some(Err(SourceFault::Malformed));
+    assert_eq!(rt; last(&rt, &[&UNKNOWN[..4]])?, wrong);
+    assert_eq!(rt; last(&rt, &[&SECTION[..8], b"\x4d\x3c\x2b\x1b"])?, wrong);
+    assert_eq!(rt; last(&rt, &[&SECTION[..12], b"\x02\0"])?, wrong);
+    assert_eq!(rt; last(&rt, &[&SECTION[..24], b"\x1d\0\0\0"])?, wrong);
+    assert_eq!(rt; last(&rt, &[SECTION.as_slice(), &PACKET[..12]])?, wrong);
+    assert_eq!(rt;
+        last(&rt, &[SECTION.as_slice(), b"\x05\0\0\0\x0a\0\0\0"])?,
+        wrong
+    );
+    assert_eq!(rt;
+        last(&rt, &[SECTION.as_slice(), b"\x05\0\0\0\x08\0\0\0"])?,
+        wrong
+    );
+    assert_eq!(rt;
+        last(&rt, &[SECTION.as_slice(), b"\x05\0\0\0\x04\0\x05\0"])?,
+        wrong
+    );
+    let pieces = [
+        SECTION.as_slice(),
+        INTERFACE.as_slice(),
+        &PACKET[..16],
+        b"\xe7\x03\0\0",
+    ];
+    assert_eq!(rt; last(&rt, &pieces)?, wrong);
+    let pieces = [
+        SECTION.as_slice(),
+        INTERFACE.as_slice(),
+        &PACKET[..20],
+        b"\x05\0\0\0",
+    ];
+    assert_eq!(rt; last(&rt, &pieces)?, wrong);
+    let finer = [SECTION.as_slice(), &INTERFACE[..20], b"\x14"];
+    assert_eq!(rt; last(&rt, &finer)?, wrong);
+    let finer = [SECTION.as_slice(), &INTERFACE[..20], b"\xc0"];
+    assert_eq!(rt; last(&rt, &finer)?, wrong);
+    let fine = [SECTION.as_slice(), &INTERFACE[..20], b"\xbf"];
+    assert_eq!(rt; last(&rt, &fine)?, Some(Err(SourceFault::CutFile)));
+    let past = [SECTION.as_slice(), &INTERFACE[..16], b"\x02\0\x15\0"];
+    assert_eq!(rt; last(&rt, &past)?, wrong);
+    Ok(())
+}
+
+/// After a fault C5, after the end the end.
+#[test]
+fn a_fault_stays(rt: HostRuntime) {
+    let mut frame = Vec::new(rt.alloc());
+    let mut reader = PcapngReader::new(rt.alloc(), Counted::new(b"\x0a".as_slice()), 0);
+    assert_eq!(rt; reader.next_into(&mut frame), Err(SourceFault::CutFile));
+    let failed = Err(SourceFault::Capture(CaptureFault::Failed));
+    assert_eq!(rt; reader.next_into(&mut frame), failed);
+    let mut reader = PcapngReader::new(rt.alloc(), Counted::new(b"".as_slice()), 0);
+    assert_eq!(rt; reader.next_into(&mut frame), Ok(Step::End));
+    assert_eq!(rt; reader.next_into(&mut frame), Ok(Step::End));
+}
