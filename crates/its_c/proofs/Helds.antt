@@ -169,7 +169,8 @@ module _ {M : Type 1} {𝓤 : Ura M} {𝓛 : Logic 𝓤} {K : Type 0} {Γ : List
         []) ep ev)) fits))))
 
     pub slot_in : K → (p : Ptr) (h : Val) (a : Z.Denot) (st : Option Handle)
-        → Step K 𝓛 (‵ (Slot.own_val (record { at = p; alloc = a; handle = st }) (both (ptr_val p) h ∷
+        → Step K 𝓛 (‵ (Slot.own_val (record { at = p; alloc = a; handle = st })
+        (both (ptr_val p) h ∷
         [])) ∷ Γ) Go (‵ (slot_owns a p st) ∷ ‵ (Z.own_val a (h ∷ [])) ∷ Γ) Go
     slot_in t p h a st = step (λ s. let v : Val = both (ptr_val p) h in
         nothing t $ move t (2 ∷ 0 ∷ []) $ fjoin t $
