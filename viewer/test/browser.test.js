@@ -228,6 +228,7 @@ test('a file that is no run gets a sentence, and leaves the last run', async () 
   assert.equal(await page.value('document.getElementById("fault").hidden'), true);
   assert.match(await fault(write('cut.jsonl', samples.four().slice(0, 900))), /Line \d+ .* cut/);
   assert.match(await text('#totals'), /^4 stations/);
+  assert.ok(await page.value('document.documentElement.scrollHeight') <= 800);
   noFault();
 });
 
