@@ -67,7 +67,6 @@
     Object.assign(state, {run, at: 0, station: undefined, frame: undefined}, ways.follow(run));
     state.total = ways.total(run);
     state.name = name;
-    state.widest = String(run.events.length - 1).length;
     document.body.dataset.state = 'run';
     document.title = `${name}: geostation`;
     byId('name').textContent = name;
@@ -135,7 +134,7 @@
     if (state.station === undefined) return void go(state.at + by);
     const row = Math.max(0, Math.min(presentRow() + by, rowCount() - 1));
     if (rowCount() > 0) go(eventOfRow(row));
-    if (row === rowCount() - 1) timeline.pause();
+    if (row >= rowCount() - 1) timeline.pause();
   }
 
   /** @param {import('./run.js').Event} event */

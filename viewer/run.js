@@ -44,6 +44,8 @@
   const RESULTS = ['moved', 'opened', 'closed', 'restarted', 'quiet', 'sent', 'ignored',
     'accepted', 'refused'];
 
+  /** No line of a run comes near it: 65535 stations take some 4 million letters. */
+  const LONGEST_LINE = 1 << 24;
   const NOT_A_RUN = 'This isn’t the output of “sim --json”';
 
   /** A file isn't the output of `sim --json`; the message says why. */
@@ -278,6 +280,7 @@
       const lines = (rest + piece).split('\n');
       rest = lines.pop();
       for (const line of lines) run.add(line);
+      if (rest.length > LONGEST_LINE) throw new RunFault(`${NOT_A_RUN}: a line has no end.`);
       progress?.(run);
     }
     if (rest !== '') run.add(rest);

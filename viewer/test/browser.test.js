@@ -228,6 +228,51 @@ test('a file that is no run gets a sentence, and leaves the last run', async () 
   assert.equal(await page.value('document.getElementById("fault").hidden'), true);
   assert.match(await fault(write('cut.jsonl', samples.four().slice(0, 900))), /Line \d+ .* cut/);
   assert.match(await text('#totals'), /^4 stations/);
+  assert.ok(await page.value('document.documentElement.scrollHeight') <= 800);
+  noFault();
+});
+
+test('a frame is drawn by what became of it', async () => {
+  const octets = samples.four().match(/"octets":"(\w+)"/)[1];
+  const stations = [0, 1, 2, 3].map((i) =>
+    ({address: `140002000000000${i + 1}`, lat: 9000 * i, lon: 5000 * (i % 2)}));
+  const to = (station, result) => ({moment: 6, station, do: 'deliver', frame: 0, ...result});
+  const events = [
+    {moment: 5, station: 0, do: 'gbc', result: 'sent', sent: 0, octets},
+    to(1, {result: 'accepted'}), to(2, {result: 'ignored', why: 'duplicate'}),
+    to(3, {result: 'refused', code: 'S4', reason: 'the table is full'}),
+  ];
+  const lines = [{stations}, ...events.map((event, i) => ({event: i, ...event}))];
+  const file = path.join(room, 'fates.jsonl');
+  fs.writeFileSync(file, lines.map((line) => JSON.stringify(line)).join('\n'));
+  await show(file);
+  await page.press('End');
+  const drawn = (kind) => page.value(`(() => {
+    const {strokeWidth, strokeDasharray} =
+      getComputedStyle(document.querySelector('g.link.${kind} .seen'));
+    return [parseFloat(strokeWidth), strokeDasharray !== 'none'];
+  })()`);
+  const [thick, isDashed] = await drawn('accepted');
+  const [thin, isThinDashed] = await drawn('duplicate');
+  assert.deepEqual([isDashed, isThinDashed, (await drawn('refused'))[1]], [false, false, true]);
+  assert.ok(thin < thick);
+  assert.equal(await text('#present'),
+    'Event 3, 6 ms, station 3: deliver 0, refused S4 (the table is full)');
+  noFault();
+});
+
+test('a station without events stops playing at once', async () => {
+  const file = path.join(room, 'idle.jsonl');
+  fs.writeFileSync(file, samples.four().replace('"stations":[',
+    '"stations":[{"address":"1400020000000009","lat":0,"lon":9000},')
+    .replace(/"station":(\d)/g, (_, i) => `"station":${Number(i) + 1}`));
+  await show(file);
+  await page.click('.station[data-station="0"]');
+  assert.deepEqual(await rows('events'), []);
+  await page.press('ArrowRight');
+  await page.press(' ');
+  await page.until('!!document.querySelector("#play[aria-label=Play]")');
+  assert.match(await text('#present'), /^Event 0,/);
   noFault();
 });
 

@@ -1,4 +1,5 @@
 //! Loads the page's scripts into node, as the page does: one after the other into one namespace.
+//! Those that are loaded touch the page only when they are called to.
 
 'use strict';
 
@@ -7,9 +8,9 @@ const path = require('node:path');
 const vm = require('node:vm');
 
 const TOP = path.join(__dirname, '..');
-const NAMES = ['geo', 'frame', 'run', 'way'];
+const NAMES = ['dom', 'geo', 'frame', 'run', 'way', 'map'];
 
-/** @returns {any} the namespace `geostation`, with the parts that need no page */
+/** @returns {any} the namespace `geostation`, with the parts that are tested by node */
 function load() {
   if (globalThis.geostation === undefined) {
     for (const name of NAMES) {

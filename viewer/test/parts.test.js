@@ -10,7 +10,7 @@ const test = require('node:test');
 const {load, TOP} = require('./load.js');
 const samples = require('./samples.js');
 
-const {frame, geo, run: runs, way} = load();
+const {frame, geo, map, run: runs, way} = load();
 const EXAMPLES = path.join(TOP, '..', 'crates', 'examples', 'data');
 const WARNING = 'ffffffffffff020000000001894711001a0a2040008000060a00000000001400020000000001' +
   '000000000000000000000000000000000000000000000000006400000000000007d200006869';
@@ -102,6 +102,27 @@ test('an area holds a place up to its border', () => {
   assert.equal(holds('ellipse', 0, 0, 100, 50, 0, [5390, 3595]), false);
 });
 
+test('an area is drawn where the stations have it', () => {
+  const areas = [
+    {shape: 'circle', a: 300, b: 0, angle: 0}, {shape: 'rectangle', a: 400, b: 90, angle: 74},
+    {shape: 'ellipse', a: 400, b: 90, angle: 338}, {shape: 'rectangle', a: 50, b: 400, angle: 200},
+  ];
+  for (const area of areas.map((size) => ({...size, lat: 0, lon: 0}))) {
+    for (const {east, north} of map.outline(area, 32)) {
+      const at = (part) => ({lat: Math.round((part * north) / 0.011132),
+        lon: Math.round((part * east) / 0.011132)});
+      assert.equal(geo.contains(area, at(0.99)), true, `${area.shape} ${area.angle}`);
+      assert.equal(geo.contains(area, at(1.01)), false, `${area.shape} ${area.angle}`);
+    }
+  }
+});
+
+test('the scale bar is a round length', () => {
+  const lengths = [0.3, 1, 1.9, 2, 4.99, 9, 10, 499, 500, 99999];
+  const rounded = [0.2, 1, 1, 2, 2, 5, 10, 200, 500, 50000];
+  assert.deepEqual(lengths.map(map.roundLength), rounded);
+});
+
 test('the four stations run as their scenario says', async () => {
   const run = await read(samples.four());
   const shown = run.events.map((event) =>
@@ -173,6 +194,15 @@ test('lines are whole wherever the text was cut into pieces', async () => {
     })());
     assert.equal(run.events.length, 8);
   }
+});
+
+test('a line without an end is refused before it fills the memory', async () => {
+  let pieces = 0;
+  const endless = runs.read((async function* () {
+    for (; pieces < 64; pieces += 1) yield 'x'.repeat(1 << 20);
+  })());
+  await assert.rejects(endless, /a line has no end/);
+  assert.ok(pieces < 20);
 });
 
 test('what is no run is refused with a sentence', async () => {
