@@ -273,10 +273,10 @@ test('text is as strong as WCAG AA asks, light and dark', () => {
     pairs.push([ink, ['panel', 'ground', 'mark']]);
   }
   for (const look of [light, {...light, ...dark}]) {
-    for (const [ink, papers] of pairs) {
-      for (const paper of papers) {
-        const found = ratio(look[ink], look[paper]);
-        assert.ok(found >= 4.5, `${ink} on ${paper}: ${found.toFixed(2)}`);
+    for (const [ink, grounds] of pairs) {
+      for (const ground of grounds) {
+        const found = ratio(look[ink], look[ground]);
+        assert.ok(found >= 4.5, `${ink} on ${ground}: ${found.toFixed(2)}`);
       }
     }
     for (const line of ['accepted', 'duplicate', 'refused', 'area', 'idle']) {
