@@ -37,8 +37,8 @@ use its_loctable::{Heard, LocationStore, Verdict};
 impl<S: LocationStore> Station<S> {
     /// Takes the octets that came. They are refused for their moment (S1, S2), by `Frame` (S3)
     /// where they are no frame, by `TableFull` (S4) where the location table has no room for the
-    /// packet's source, and by `NoMemory` (S5) only where the packet is accepted, and its source is
-    /// new or it goes on. A frame is ignored for the first reason of `Why` that holds, and sets the
+    /// packet's source, and by `NoMemory` (S5) only where the packet is accepted, and its source
+    /// isn't live or it goes on, also where it then goes to nobody. A frame is ignored for the first reason of `Why` that holds, and sets the
     /// clock alone. Else its packet is accepted: its payload is delivered where its port is open
     /// and, for an area, where the area holds the station's place, and a packet for an area may go
     /// on. What is delivered is the end of the frame.
