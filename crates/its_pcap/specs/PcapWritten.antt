@@ -5,7 +5,8 @@ use Rattle.byteorder.specs.Endian.{little_bytes}
 -- the mark d4c3b2a1, version 2.4, zone 0, accuracy 0, snap length 262144, Ethernet (1)
 abbrev pub file_header : List ℕ
 file_header =
-    212 ∷ 195 ∷ 178 ∷ 161 ∷ 2 ∷ 0 ∷ 4 ∷ 0 ∷ 0 ∷ 0 ∷ 0 ∷ 0 ∷ 0 ∷ 0 ∷ 0 ∷ 0 ∷ 0 ∷ 0 ∷ 4 ∷ 0 ∷ 1 ∷ 0 ∷ 0
+    212 ∷ 195 ∷ 178 ∷ 161 ∷ 2 ∷ 0 ∷ 4 ∷ 0 ∷ 0 ∷ 0 ∷ 0 ∷ 0 ∷ 0 ∷ 0 ∷ 0 ∷ 0 ∷ 0 ∷ 0 ∷ 4 ∷ 0
+    ∷ 1 ∷ 0 ∷ 0
     ∷ 0 ∷ []
 
 -- before a frame its moment, in seconds and millionths, and its length twice: captured and on the

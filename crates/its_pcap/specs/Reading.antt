@@ -49,7 +49,8 @@ IsCutShort size old new (faults.Capture captures.NoMemory) = ⊥
 IsCutShort size old new (faults.Capture captures.Failed) = ⊥
 
 -- So many octets went, and the first of them were kept, as many as are wanted and there are.
-pub record GivesFrame (captured keep : ℕ) (frame : List ℕ) (old new : Option (List ℕ)) : Type 0 where
+pub record GivesFrame (captured keep : ℕ) (frame : List ℕ) (old new : Option (List ℕ))
+    : Type 0 where
   pub passes : Passes captured old new
   pub kept : frame ≡ take (min captured keep) passes.gone
 

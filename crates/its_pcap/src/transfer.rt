@@ -1,6 +1,7 @@
 //! Whole buffers and counts of octets, in as many calls as the device needs.
 
-ghost use Rattle.std.specs.Prelude.{◌≡◌, ◌-◌, ◌+◌, ◌^◌, ◌<◌, ◌≤◌, length, take, ◌++◌, MatchOption, OnOk, IfErr};
+ghost use Rattle.std.specs.Prelude.{◌≡◌, ◌-◌, ◌+◌, ◌^◌, ◌<◌, ◌≤◌, ◌++◌, length, take};
+ghost use Rattle.std.specs.Prelude.{MatchOption, OnOk, IfErr};
 ghost use Rattle.std.specs.Prelude.{IfSome, IfNone, Err, min, vec_capacity, ◌≢◌, if◌then◌else◌};
 ghost use Rattle.std.specs.Io.KnownBytes.{Consumes, Appends, IsAtEnd};
 ghost use Rattle.its_linkframe.specs.Devices.{counted, ConsumesPrefix, AppendsPrefix};

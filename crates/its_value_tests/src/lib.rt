@@ -1,12 +1,10 @@
-//! Tests of values, of geometry and of location tables through their public calls, a module for
-//! each subject; and of the budgets of memory on which other tests stand.
+//! Tests of values and of geometry through their public calls, a module for each subject; and of
+//! the budgets of memory on which other tests stand.
 #![tactic(auto)]
 
 #[cfg(test)]
 mod geometry;
 #[cfg(test)]
 mod shortage;
-#[cfg(test)]
-mod tables;
 #[cfg(test)]
 mod values;

@@ -1,8 +1,9 @@
 //! A road-side unit: a station in a few lines, for whoever embeds one.
 //!
 //! Each line of standard input is a moment, a space, and the frame that came then in hexadecimal.
-//! The unit sleeps until then, but for its beacons. Standard output has a line for each payload that
-//! is delivered, each frame that goes out and each that is refused, and at the end what was counted.
+//! The unit sleeps until then, but for its beacons. Standard output has a line for each payload
+//! that is delivered, each frame that goes out and each that is refused, and at the end what was
+//! counted.
 //!
 //! A moment is milliseconds of any clock that doesn't fall; for the standard's time stamps, of TAI
 //! since 2004-01-01. After a step back calls are refused (S1) until the clock has caught up. A real

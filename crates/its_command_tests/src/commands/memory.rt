@@ -17,13 +17,13 @@ const BUDGETS: usize = MOST / STEP + 1;
 
 /// Under how many budgets a command was done, and under how many memory ran out.
 #[derive(Drop)]
-struct Budgets {
+pub(crate) struct Budgets {
     done: u64,
     refused: u64,
 }
 
 impl Budgets {
-    fn new() -> Budgets {
+    pub(crate) fn new() -> Budgets {
         Budgets {
             done: 0,
             refused: 0,
@@ -31,7 +31,7 @@ impl Budgets {
     }
 
     /// Counts one, by the status and by what was said on standard error. Whether it was done.
-    fn count(&mut self, rt: &impl Abort, status: Status, said: &[u8]) -> bool {
+    pub(crate) fn count(&mut self, rt: &impl Abort, status: Status, said: &[u8]) -> bool {
         if status == Status::Done {
             self.done = self.done.saturating_add(1);
             assert_eq!(rt; written(said), b"".as_slice());
@@ -44,7 +44,7 @@ impl Budgets {
     }
 
     /// Some were enough, and some weren't.
-    fn expect_both(&self, rt: &impl Abort) {
+    pub(crate) fn expect_both(&self, rt: &impl Abort) {
         assert!(rt; self.refused > 0, "never refused");
         assert!(rt; self.done > 0, "never done");
     }

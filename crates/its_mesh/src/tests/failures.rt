@@ -105,6 +105,8 @@ struct Slots {
 }
 
 impl Sockets for Slots {
+    ghost Asked = { λ _ _. Unit {0} };
+
     fn make(&mut self) -> io::Result<()> {
         Ok(())
     }

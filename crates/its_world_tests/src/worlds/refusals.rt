@@ -89,3 +89,13 @@ fn faults_of_events_have_codes_and_sentences(rt: HostRuntime) -> Result<(), Fail
     }
     Ok(())
 }
+
+/// The station of a number is shown, and none where there is none.
+#[test]
+fn a_world_shows_its_stations(rt: HostRuntime) -> Result<(), Fail> {
+    let world = World::new(rt.alloc(), &[config(FIRST, 0, 0)?, config(SECOND, 449, 0)?])?;
+    let address = world.station(1).map(|station| station.address().as_u64());
+    assert_eq!(rt; address, Some(SECOND));
+    assert!(rt; world.station(2).is_none());
+    Ok(())
+}

@@ -1,4 +1,5 @@
-use Rattle.std.proofs.Common.{inl, inr, arith, length-append, ◌∙◌, sym, ◌≡◌, ℕ, ◌%◌, ◌++◌, ap, length}
+use Rattle.std.proofs.Common.{◌≡◌, ℕ, ◌%◌, ◌++◌, ◌∙◌, inl, inr, arith, sym, ap}
+use Rattle.std.proofs.Common.{length, length-append}
 use Rattle.std.proofs.KnownBytes.{Consumes-trans}
 use Rattle.std.proofs.lemmas.Result.{err_from_is_err_and}
 use Rattle.its_pcap.specs.Pcap.{HasWrongHeader, HasOtherLink, HasHeader}
@@ -18,7 +19,8 @@ returns-in_err-fill_whole-2-clause-fault g c =
     (λ v few. inr (
       c.in-Some.mark,
       inl (
-        HasMark-more c.in-Some.mark first v (omega arith, sym c.read_u32.ensures ∙ c.in-Some.ensures),
+        HasMark-more c.in-Some.mark first v
+            (omega arith, sym c.read_u32.ensures ∙ c.in-Some.ensures),
         omega (arith, length-append first v),
       ),
     ))
@@ -41,7 +43,13 @@ returns-then-half_at-ne-MAJOR_VERSION-clause-fault g c =
               omega arith,
               sym c.read_u32.ensures ∙ c.in-Some.ensures,
             )),
-            omega (arith, four, two, length-append first version, length-append (first ++ version) v),
+            omega (
+              arith,
+              four,
+              two,
+              length-append first version,
+              length-append (first ++ version) v,
+            ),
             λ is. c.if-half_at-ne-MAJOR_VERSION.true
                 (c.half_at.ensures ∙ sym (version-behind m first version v four two) ∙ is),
           )),
@@ -66,7 +74,14 @@ returns-in_err-fill_whole-3-clause-fault g c =
       inr (
         HasVersion-parts m first version v four two (sym c.read_u32.ensures ∙ c.in-Some.ensures)
             (sym c.half_at.ensures ∙ c.if-half_at-ne-MAJOR_VERSION.false),
-        omega (arith, four, two, few, length-append first version, length-append (first ++ version) v),
+        omega (
+          arith,
+          four,
+          two,
+          few,
+          length-append first version,
+          length-append (first ++ version) v,
+        ),
       ),
     ))
     c.in_err-fill_whole-3.ensures.fault)
@@ -91,7 +106,15 @@ returns-then-word_at-ne-ETHERNET-clause-fault g c =
             HasVersion-longer m first version others v four two
                 (sym c.read_u32.ensures ∙ c.in-Some.ensures)
                 (sym c.half_at.ensures ∙ c.if-half_at-ne-MAJOR_VERSION.false),
-            omega (arith, four, two, more, front, all, length-append ((first ++ version) ++ others) v),
+            omega (
+              arith,
+              four,
+              two,
+              more,
+              front,
+              all,
+              length-append ((first ++ version) ++ others) v,
+            ),
             λ is. c.if-word_at-ne-ETHERNET.true
                 (ap (λ (t : ℕ). t % 65536) c.word_at.ensures
                 ∙ sym (link_type-parts m first version others v four two more) ∙ is),
@@ -122,8 +145,15 @@ returns-clause-header g c =
             HasVersion-longer m first version others v four two
                 (sym c.read_u32.ensures ∙ c.in-Some.ensures)
                 (sym c.half_at.ensures ∙ c.if-half_at-ne-MAJOR_VERSION.false),
-            omega
-                (arith, four, two, more, front, all, length-append ((first ++ version) ++ others) v),
+            omega (
+              arith,
+              four,
+              two,
+              more,
+              front,
+              all,
+              length-append ((first ++ version) ++ others) v,
+            ),
             link_type-parts m first version others v four two more
                 ∙ ap (λ (t : ℕ). t % 65536) (sym c.word_at.ensures)
                 ∙ c.if-word_at-ne-ETHERNET.false,

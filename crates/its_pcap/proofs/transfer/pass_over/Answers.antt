@@ -10,7 +10,8 @@ returns-in_err-fill_whole-clause-fault g c =
     let p = err_from_is_err_and c.from_residual.result c.from_residual.ensures.1 in
     rw (p.1, p.2)
     (IsCutShort-after _ _ _ before.gone _ c.args.count _
-    (omega (arith, before.size, c.min-size.ensures, length-take c.min-size.result c.loop-left.piece))
+    (omega
+    (arith, before.size, c.min-size.ensures, length-take c.min-size.result c.loop-left.piece))
     before.consumes c.in_err-fill_whole.ensures.fault)
 
 pub loop-left-preserved : goal.loop-left-preserved
@@ -19,7 +20,13 @@ loop-left-preserved g c =
     let more : Passes c.min-size.result (g.S.Read.remaining c.loop-left.source)
     (g.S.Read.remaining c.fill_whole.new.source) = record {
       gone = c.fill_whole.new.buf;
-      size = omega (arith, c.fill_whole.auto.buf, c.min-size.ensures, length-take c.min-size.result c.loop-left.piece);
+      size =
+          omega (
+            arith,
+            c.fill_whole.auto.buf,
+            c.min-size.ensures,
+            length-take c.min-size.result c.loop-left.piece,
+          );
       consumes = c.in_ok-fill_whole.ensures.octets;
     } in (
       omega (arith, c.min-size.ensures),

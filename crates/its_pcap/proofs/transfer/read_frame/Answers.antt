@@ -1,4 +1,5 @@
-use Rattle.std.proofs.Common.{◌≡◌, ℕ, ◌++◌, List, OnOk, length, take, drop, min, sym, ap, subst, ◌∙◌}
+use Rattle.std.proofs.Common.{◌≡◌, ℕ, ◌++◌, ◌∙◌, List, OnOk, length, take, drop, min}
+use Rattle.std.proofs.Common.{sym, ap, subst}
 use Rattle.std.proofs.Common.{arith, ◌-◌}
 use Rattle.std.proofs.Math.Seq.{take-append_seam}
 use Rattle.its_pcap.specs.Reading.{GivesFrame, Passes}
@@ -18,7 +19,8 @@ returns-clause-frame g c =
     let old = g.S.Read.remaining c.args.source.now in
     let mid = g.S.Read.remaining c.fill_whole.new.source in
     let new = g.S.Read.remaining c.pass_over.new.source in
-    subst (λ (t : List ℕ). OnOk c.pass_over.result (GivesFrame c.args.captured c.args.keep t old new))
+    subst
+    (λ (t : List ℕ). OnOk c.pass_over.result (GivesFrame c.args.captured c.args.keep t old new))
     (sym whole)
     (frame-given c.pass_over.result old mid new buf c.args.captured c.args.keep size
     c.in_ok-fill_whole.ensures.octets
@@ -29,4 +31,5 @@ pub returns-clause-fault : goal.returns-clause-fault
 returns-clause-fault g c =
     let len : c.resize.new.self.len ≡ c.min-kept.result = grind arith in
     frame-fault c.pass_over.result _ _ _ c.fill_whole.new.buf _ c.args.captured
-    (omega (arith, len, c.min-kept.ensures)) c.in_ok-fill_whole.ensures.octets c.pass_over.ensures.fault
+    (omega (arith, len, c.min-kept.ensures)) c.in_ok-fill_whole.ensures.octets
+    c.pass_over.ensures.fault

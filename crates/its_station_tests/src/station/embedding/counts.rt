@@ -2,10 +2,10 @@
 
 use super::beacon;
 use crate::station::receiver;
-use its_vectors::GEOBROADCAST;
 use its_headers::Kind;
 use its_loctable::SortedTable;
 use its_station::Counts;
+use its_vectors::GEOBROADCAST;
 use std::test::Fail;
 
 #[test]

@@ -2,12 +2,11 @@
 
 use super::beacon;
 use crate::station::{circle, receiver, request};
-use its_vectors::{FIRST, GEOBROADCAST, PORT, SECOND};
 use its_gnvalue::{GnAddress, Place};
 use its_linkframe::read_frame;
 use its_loctable::{LocationStore, OrderedTable, SortedTable};
 use its_station::{Outcome, Station};
-use its_world::{Config, World};
+use its_vectors::{FIRST, GEOBROADCAST, PORT, SECOND};
 use std::alloc::Global;
 use std::process::Abort;
 use std::test::Fail;
@@ -91,22 +90,4 @@ fn expect_neighbours<S: LocationStore>(rt: &impl Abort, alloc: Global) -> Result
 fn neighbours_come_by_address(rt: HostRuntime) -> Result<(), Fail> {
     expect_neighbours::<SortedTable>(&rt, rt.alloc())?;
     expect_neighbours::<OrderedTable>(&rt, rt.alloc())
-}
-
-#[test]
-fn a_world_shows_its_stations(rt: HostRuntime) -> Result<(), Fail> {
-    let config = Config {
-        address: GnAddress::from_u64(SECOND)?,
-        place: Place::new(449, 0)?,
-        capacity: 4,
-        remember: 8,
-    };
-    let world = World::new(rt.alloc(), &[config])?;
-    let station: Option<&Station<SortedTable>> = world.station(0);
-    assert_eq!(rt;
-        station.map(|station| station.address().as_u64()),
-        Some(SECOND)
-    );
-    assert!(rt; world.station(1).is_none());
-    Ok(())
 }

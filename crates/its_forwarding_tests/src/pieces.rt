@@ -3,11 +3,11 @@
 
 ghost use Rattle.std.specs.Prelude.{◌≤◌, ◌^◌};
 
-use its_vectors::FIRST;
 use its_forwarding::{Choice, choose};
 use its_geometry::{Area, Centre, Nearer};
 use its_gnvalue::{GnAddress, LongPv, Place};
 use its_loctable::{Heard, LocationStore, OrderedTable, Piece, SortedTable};
+use its_vectors::FIRST;
 use std::alloc::Global;
 use std::process::Abort;
 use std::test::Fail;

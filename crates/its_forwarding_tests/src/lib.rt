@@ -1,0 +1,10 @@
+//! Tests of forwarding, of walks over neighbours and of ports through their public calls, a module
+//! for each subject.
+#![tactic(auto)]
+
+#[cfg(test)]
+mod forwarding;
+#[cfg(test)]
+mod pieces;
+#[cfg(test)]
+mod ports;
