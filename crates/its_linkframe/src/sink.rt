@@ -15,7 +15,8 @@ pub trait Sink: Write {
         ensures { result ≡ failed self.now };
 
     /// One write, and how many octets it took: one at least, unless it was given none. `None` is a
-    /// failed call, which adds one to the count and is not tried again.
+    /// failed call, which adds one to the count and is not tried again. The count has to be below
+    /// 2^64 - 1.
     fn push(&mut self, buf: &[u8]) -> Option<usize>
         requires { failed self.old < 2 ^ 64 - 1 }
         ensures bound { IfSome result (λ n. n ≤ length buf.now) }

@@ -15,7 +15,8 @@ pub trait Source: Read {
         ensures { result ≡ failed self.now };
 
     /// One read, and how many octets it gave: 0 at the end, or where there is no room for one.
-    /// `None` is a failed call, which adds one to the count and is not tried again.
+    /// `None` is a failed call, which adds one to the count and is not tried again. The count
+    /// has to be below 2^64 - 1.
     fn pull(&mut self, buf: &mut [u8]) -> Option<usize>
         requires { failed self.old < 2 ^ 64 - 1 }
         ensures bound { IfSome result (λ n. n ≤ length buf.new) }

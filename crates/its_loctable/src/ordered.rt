@@ -219,6 +219,7 @@ impl LocationStore for OrderedTable {
     }
 
     fn capacity(&self) -> u16 {
+        // For the proof alone.
         let _len = self.slots.len();
         self.capacity
     }

@@ -32,7 +32,8 @@ pub enum Verdict {
 /// from the last of their moments on: its answers are those of `its_model` for every history that
 /// it represents. It is made for a number of live sources and for a number of sequence numbers that
 /// are remembered of each, and no call changes either. Moments are milliseconds, at most 2^62.
-/// Only `empty` and `accept` may take memory, and `accept` takes none for a live source.
+/// Only `empty` and `accept` may take memory, and `accept` never answers out of memory for a live
+/// source.
 pub trait LocationStore: Sized + Drop {
     /// What is kept of each address, expired entries among it.
     ghost content: { Self → List Entry };

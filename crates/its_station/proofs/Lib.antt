@@ -5,3 +5,4 @@ pub mod PortSets
 pub mod AreaCalls
 pub mod Runs
 pub mod Beacons
+pub mod Sizes

@@ -1,6 +1,6 @@
 -- What a station answers to a frame.
 use Rattle.std.specs.Prelude.{◌≡◌, ℕ, ◌++◌, not, ◌==◌, ◌&&◌, nat_le, if◌then◌else◌, Bool, true}
-use Rattle.std.specs.Prelude.{false, List, Vec, Option, Some, None}
+use Rattle.std.specs.Prelude.{false, List, length, ◌≤◌, Vec, Option, Some, None, IfSome}
 use Rattle.std.specs.Option.{option_map}
 use Rattle.std.specs.declared.alloc.Global.{Global}
 use Rattle.its_gnvalue.specs.Values.{Position, PositionVector, broadcast, mid_of}
@@ -69,6 +69,11 @@ HandsOutEndOf w (Some h) = (front : List ℕ) × (w ≡ front ++ h.payload.now)
 abbrev pub DeliversEndOf : List ℕ → Outcome → Type 0
 DeliversEndOf w (outcomes.Ignored why) = Unit {0}
 DeliversEndOf w (outcomes.Accepted handed sent) = HandsOutEndOf w handed
+
+-- the frame that is sent on, if there is one, has at most so many octets
+abbrev pub SendsAtMost : ℕ → Outcome → Type 0
+SendsAtMost most (outcomes.Ignored why) = Unit {0}
+SendsAtMost most (outcomes.Accepted handed sent) = IfSome sent (λ w. length w.items ≤ most)
 
 -- From this place, with so many hops left, a packet goes on: a geobroadcast that has another hop,
 -- and outside of its area a geoanycast.

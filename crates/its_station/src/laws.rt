@@ -13,6 +13,7 @@ pub fn one_call()
     ensures { (octets : List ℕ) (call other : Call) → IsBytes octets
         → IsFrameCall octets call → IsFrameCall octets other → call ≡ other }
 {
+    // Laws, for the proof alone.
     one_frame();
     one_frame_fault();
 }

@@ -1,7 +1,7 @@
 //! What a station does with a frame (EN 302 636-4-1 clause 10, in this profile).
 
 ghost use Rattle.std.specs.Prelude.{◌≡◌, ◌≤◌, ◌^◌, ◌∷◌, ℕ, List, None};
-ghost use Rattle.std.specs.Prelude.{Err, IfOk, OnErr, OnOk, IsTrue, IsFalse};
+ghost use Rattle.std.specs.Prelude.{Err, IfOk, IfSome, OnErr, OnOk, IsTrue, IsFalse, length};
 ghost use Rattle.its_gnvalue.specs.Values.{Position};
 ghost use Rattle.std.specs.Option.{option_map};
 ghost use Rattle.its_model.specs.Packet.{Transmission, number_in};
@@ -21,6 +21,7 @@ ghost use Rattle.its_station.specs.Steps.{IsStepOf};
 ghost use Rattle.its_station.specs.Receiving.{IsFrameCall, Tells, why_found, said_by, IsRelay};
 ghost use Rattle.its_station.specs.Receiving.{TakesMemory, copy_of, goes_on, is_inside, report_of};
 ghost use Rattle.its_station.specs.Receiving.{accept_step, DeliversEndOf, HandsOutEndOf};
+ghost use Rattle.its_station.specs.Receiving.{SendsAtMost};
 ghost use Rattle.its_station.specs.Runs.{Fits, HandingFits};
 
 use crate::outcome::{Handed, Outcome, Why};
@@ -37,11 +38,12 @@ use its_loctable::{Heard, LocationStore, Verdict};
 impl<S: LocationStore> Station<S> {
     /// Takes the octets that came. They are refused for their moment (S1, S2), by `Frame` (S3)
     /// where they are no frame, by `TableFull` (S4) where the location table has no room for the
-    /// packet's source, and by `NoMemory` (S5) only where the packet is accepted, and its source is
-    /// new or it goes on. A frame is ignored for the first reason of `Why` that holds, and sets the
-    /// clock alone. Else its packet is accepted: its payload is delivered where its port is open
-    /// and, for an area, where the area holds the station's place, and a packet for an area may go
-    /// on. What is delivered is the end of the frame.
+    /// packet's source, and by `NoMemory` (S5) only where the packet is accepted, and its source
+    /// isn't live or it goes on, also where it then goes to nobody. A frame is ignored for the
+    /// first reason of `Why` that holds, and sets the clock alone. Else its packet is accepted: its
+    /// payload is delivered where its port is open and, for an area, where the area holds the
+    /// station's place, and a packet for an area may go on. What is delivered is the end of the
+    /// frame.
     pub fn receive<'a>(&mut self, now: u64, frame: &'a [u8]) -> Result<Outcome<'a>, Refused>
         ensures step { (call : Call) × IsFrameCall frame.now call
             × ((s : StationModel) → RepresentsStation self.old s →
@@ -53,6 +55,7 @@ impl<S: LocationStore> Station<S> {
         ensures unchanged { OnErr result (self.new ≡ self.old) }
         ensures payload { IfOk result (DeliversEndOf frame.now) }
         ensures short { IfOk result (Fits 1394) }
+        ensures short_frame { IfOk result (SendsAtMost 1468) }
     {
         match read_frame(frame) {
             Ok(view) => self.receive_frame(now, &view),
@@ -82,6 +85,7 @@ impl<S: LocationStore> Station<S> {
         ensures unchanged { OnErr result (self.new ≡ self.old) }
         ensures payload { IfOk result (DeliversEndOf (payload_of frame.now.packet.pdu.body)) }
         ensures short { IfOk result (Fits 1394) }
+        ensures short_frame { IfOk result (SendsAtMost 1468) }
     {
         self.check_moment(now)?;
         self.hear(now, frame)
@@ -102,6 +106,7 @@ impl<S: LocationStore> Station<S> {
         ensures unchanged { OnErr result (self.new ≡ self.old) }
         ensures payload { IfOk result (DeliversEndOf (payload_of frame.now.packet.pdu.body)) }
         ensures short { IfOk result (Fits 1394) }
+        ensures short_frame { IfOk result (SendsAtMost 1468) }
     {
         if let Some(why) = self.reason_to_ignore(now, frame) {
             self.clock = now;
@@ -171,6 +176,7 @@ impl<S: LocationStore> Station<S> {
         ensures unchanged { OnErr result (self.new ≡ self.old) }
         ensures payload { IfOk result (DeliversEndOf (payload_of frame.now.packet.pdu.body)) }
         ensures short { IfOk result (Fits 1394) }
+        ensures short_frame { IfOk result (SendsAtMost 1468) }
     {
         let inside = self.is_inside(&frame.packet);
         let copy = self.copy_for_relay(frame, inside)?;
@@ -272,7 +278,8 @@ impl<S: LocationStore> Station<S> {
         requires time { now ≤ 2 ^ 62 }
         requires copy { IsRelay copy
             (copy_of self.now.vector (transmission_of frame.now) frame.now.packet.pdu.body) }
-        ensures { (ports : List ℕ) (history : List Reception) →
+        ensures short_frame { IfSome result (λ relayed. length relayed.items ≤ 1468) }
+        ensures relay { (ports : List ℕ) (history : List Reception) →
             Represents self.now.remember self.now.content history now →
             IsRelay result (relayed (model_of self.now ports history) now
             (transmission_of frame.now) frame.now.packet.pdu.body) }
@@ -311,8 +318,9 @@ fn goes_on(packet: &PacketView<'_>, inside: bool) -> bool
 /// A frame with another target.
 fn sent_to(octets: Vec<u8>, mac: Mac) -> Vec<u8>
     requires { IsFrame octets.items }
-    ensures { (t : Transmission) → EncodesFrame t octets.items →
+    ensures octets { (t : Transmission) → EncodesFrame t octets.items →
         EncodesFrame (record t { link_target = mac }) result.items }
+    ensures short_frame { length result.items ≤ 1468 }
 {
     let mut octets = octets;
     retarget(octets.as_mut_slice(), mac);

@@ -24,7 +24,7 @@ use its_model::laws::{calls_go_on, sources_are_isolated};
 use std::alloc::Global;
 
 /// A call of a station, with its arguments but for the moment. It owns its octets.
-#[derive(Drop)]
+#[derive(Debug, Drop, PartialEq, Eq)]
 pub enum Call {
     /// `move_to`; the speed is in its range.
     MoveTo {
@@ -56,7 +56,7 @@ pub enum Call {
 }
 
 /// What was delivered to a port, with a payload of its own.
-#[derive(Drop)]
+#[derive(Debug, Drop, PartialEq, Eq)]
 pub struct Delivery {
     /// The destination port (BTP-B).
     pub port: u16,
@@ -67,7 +67,7 @@ pub struct Delivery {
 }
 
 /// The answer to a call.
-#[derive(Drop)]
+#[derive(Debug, Drop, PartialEq, Eq)]
 pub enum Reply {
     /// The station moved, opened or closed a port, or restarted.
     Done,
@@ -89,7 +89,7 @@ pub enum Reply {
 }
 
 /// What came of the calls: a reply for each that was made.
-#[derive(Drop)]
+#[derive(Debug, Drop, PartialEq, Eq)]
 pub struct Ran {
     /// The replies, in order.
     pub replies: Vec<Reply>,
@@ -116,6 +116,7 @@ impl<S: LocationStore> Station<S> {
             IsIsolatedRunOf s (take (length result.replies.items) calls.now)
             result.replies.items self.new }
     {
+        // Laws, for the proof alone.
         sources_are_isolated();
         self.run_all(calls)
     }
@@ -132,6 +133,7 @@ impl<S: LocationStore> Station<S> {
             IsRunOf s (take (length result.replies.items) calls.now)
             result.replies.items self.new }
     {
+        // Laws, for the proof alone.
         calls_go_on();
         let mut replies = Vec::new(self.alloc());
         for call in calls {
@@ -303,6 +305,13 @@ fn refusal(refused: Refused) -> Result<Reply, NoMemory>
 {
     match refused {
         Refused::NoMemory => Err(NoMemory),
-        _ => Ok(Reply::Refused(refused)),
+        Refused::MomentEarlier
+        | Refused::MomentTooLate
+        | Refused::JitterRange
+        | Refused::Frame(_)
+        | Refused::Port(_)
+        | Refused::PayloadTooLong
+        | Refused::HopLimitZero
+        | Refused::TableFull => Ok(Reply::Refused(refused)),
     }
 }

@@ -2,7 +2,7 @@
 //! broadcasts, geobroadcasts and geoanycasts.
 
 ghost use Rattle.std.specs.Prelude.{◌≡◌, ◌≢◌, ◌≤◌, ◌<◌, ◌^◌, ◌+◌, ℕ, List, length};
-ghost use Rattle.std.specs.Prelude.{None, Err, IfOk, OnErr, IsTrue, nat_le, true};
+ghost use Rattle.std.specs.Prelude.{None, Err, IfOk, IfSome, OnErr, IsTrue, nat_le, true};
 ghost use Rattle.its_gnvalue.specs.Values.{mid_of, broadcast};
 ghost use Rattle.its_model.specs.Packet.{area_body};
 ghost use Rattle.its_model.specs.Calls.{Own, area_call};
@@ -63,6 +63,8 @@ impl<S: LocationStore> Station<S> {
             result ≡ Err Refused.NoMemory →
             (first (moment_refusal s now) (own_refusal s (Tick jitter)) ≡ None)
             × IsTrue (nat_le (s.beacon_from + jitter) now) }
+        ensures short_frame { IfOk result (λ beacon.
+            IfSome beacon (λ frame. length frame.items ≤ 1468)) }
     {
         self.check_moment(now)?;
         if jitter > MAX_JITTER {
@@ -87,6 +89,7 @@ impl<S: LocationStore> Station<S> {
         ensures memory { (s : StationModel) → RepresentsStation self.old s →
             result ≡ Err Refused.NoMemory →
             first (moment_refusal s now) (own_refusal s (SendShb (shb_request r.now))) ≡ None }
+        ensures short_frame { IfOk result (λ frame. length frame.items ≤ 1468) }
     {
         self.check_moment(now)?;
         if r.payload.len() > MAX_PAYLOAD {
@@ -108,6 +111,7 @@ impl<S: LocationStore> Station<S> {
         ensures memory { (s : StationModel) → RepresentsStation self.old s →
             result ≡ Err Refused.NoMemory →
             first (moment_refusal s now) (own_refusal s (SendGbc (gbc_request r.now))) ≡ None }
+        ensures short_frame { IfOk result (λ frame. length frame.items ≤ 1468) }
     {
         self.send_to_area(now, AreaCast::Geobroadcast, r)
     }
@@ -122,6 +126,7 @@ impl<S: LocationStore> Station<S> {
         ensures memory { (s : StationModel) → RepresentsStation self.old s →
             result ≡ Err Refused.NoMemory →
             first (moment_refusal s now) (own_refusal s (SendGac (gbc_request r.now))) ≡ None }
+        ensures short_frame { IfOk result (λ frame. length frame.items ≤ 1468) }
     {
         self.send_to_area(now, AreaCast::Geoanycast, r)
     }
@@ -139,6 +144,7 @@ impl<S: LocationStore> Station<S> {
         ensures memory { (s : StationModel) → RepresentsStation self.old s →
             result ≡ Err Refused.NoMemory → first (moment_refusal s now)
             (own_refusal s (area_call (kind_of_cast cast) (gbc_request r.now))) ≡ None }
+        ensures short_frame { IfOk result (λ frame. length frame.items ≤ 1468) }
     {
         self.check_moment(now)?;
         if r.payload.len() > MAX_PAYLOAD {
@@ -180,8 +186,9 @@ impl<S: LocationStore> Station<S> {
     }
 
     fn beacon_frame(&self) -> Result<Vec<u8>, NoMemory>
-        ensures { (ports : List ℕ) (history : List Reception) →
+        ensures octets { (ports : List ℕ) (history : List Reception) →
             IfOk result (λ w. EncodesFrame (beacon_of (model_of self.now ports history)) w.items) }
+        ensures short_frame { IfOk result (λ frame. length frame.items ≤ 1468) }
     {
         let packet = Packet::Beacon(self.short_header(TrafficClass::from_octet(0)));
         write_frame(self.alloc, Mac::BROADCAST, self.mac(), &packet)
@@ -189,8 +196,9 @@ impl<S: LocationStore> Station<S> {
 
     fn shb_frame(&self, r: &ShbRequest<'_>) -> Result<Vec<u8>, NoMemory>
         requires { length r.now.payload.now ≤ 1394 }
-        ensures { (ports : List ℕ) (history : List Reception) → IfOk result (λ w.
+        ensures octets { (ports : List ℕ) (history : List Reception) → IfOk result (λ w.
             EncodesFrame (shb_of (model_of self.now ports history) (shb_request r.now)) w.items) }
+        ensures short_frame { IfOk result (λ frame. length frame.items ≤ 1468) }
     {
         let packet = Packet::Shb(SingleHopBroadcast {
             header: self.short_header(r.class),
@@ -204,12 +212,13 @@ impl<S: LocationStore> Station<S> {
         requires time { now ≤ 2 ^ 62 }
         requires size { length r.now.payload.now ≤ 1394 }
         requires hops { 0 < r.now.max_hops }
-        ensures { (ports : List ℕ) (history : List Reception) →
+        ensures octets { (ports : List ℕ) (history : List Reception) →
             Represents self.now.remember self.now.content history now → IfOk result (λ w.
             EncodesFrame (area_packet (model_of self.now ports history) now (gbc_request r.now)
             (area_body (kind_of_cast cast) self.now.next_number r.now.area
             (gbc_request r.now).message))
             w.items) }
+        ensures short_frame { IfOk result (λ frame. length frame.items ≤ 1468) }
     {
         let target = self.area_target(now, &r.area);
         let packet = self.area_packet(cast, r)?;

@@ -16,6 +16,7 @@ use its_btp::Ports;
 use its_gnvalue::{GnAddress, LongPv, Mac, Place};
 use its_loctable::LocationStore;
 use std::alloc::Global;
+use std::fmt;
 use std::marker::Model;
 
 /// The last moment of a call, in milliseconds (profile).
@@ -53,6 +54,18 @@ impl<S: LocationStore> Model for Station<S> {
     } };
 
     ghost invariant = { λ s. (s.clock ≤ 2 ^ 62) × (s.beacon_from ≤ 2 ^ 62 + 3000) };
+}
+
+/// The location table is left out: it may hold thousands of sources.
+impl<S: LocationStore> fmt::Debug for Station<S> {
+    fn fmt<W: fmt::Write>(&self, f: &mut fmt::Formatter<W>) -> fmt::Result {
+        f.debug_struct("Station")
+            .field("vector", &self.vector)
+            .field("clock", &self.clock)
+            .field("next_number", &self.next_number)
+            .field("beacon_from", &self.beacon_from)
+            .finish_non_exhaustive()
+    }
 }
 
 impl<S: LocationStore> Station<S> {

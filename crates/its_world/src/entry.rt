@@ -53,7 +53,7 @@ impl fmt::Display for EntryCode {
 }
 
 /// What is told of an event that was done. A frame is told by its number.
-#[derive(Drop)]
+#[derive(Debug, Drop, PartialEq, Eq)]
 pub enum Entry {
     /// The station moved.
     Moved,

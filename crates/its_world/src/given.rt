@@ -148,6 +148,13 @@ fn refusal(refused: Refused) -> Result<Given, NoMemory>
 {
     match refused {
         Refused::NoMemory => Err(NoMemory),
-        _ => Ok(Given::Told(Entry::Refused(EntryFault::Station(refused)))),
+        Refused::MomentEarlier
+        | Refused::MomentTooLate
+        | Refused::JitterRange
+        | Refused::Frame(_)
+        | Refused::Port(_)
+        | Refused::PayloadTooLong
+        | Refused::HopLimitZero
+        | Refused::TableFull => Ok(Given::Told(Entry::Refused(EntryFault::Station(refused)))),
     }
 }

@@ -13,7 +13,7 @@ use its_model::laws::{every_schedule, runs_go_on};
 use std::alloc::Global;
 
 /// What came of the events.
-#[derive(Drop)]
+#[derive(Debug, Drop, PartialEq, Eq)]
 pub struct Run {
     /// An entry for each event that was done, in order.
     pub log: Vec<Entry>,
@@ -28,12 +28,12 @@ impl World {
     /// after it is done, the world stands as after those before it, and `run` may be called again.
     /// The speed of each `MoveTo` has to be in its range.
     ///
-    /// For every run at whose end the world stood, these events continue it as the model does, and
-    /// of the longer run hold the laws over every schedule of losses, repeats and reorderings: what
-    /// is delivered of a packet for an area was sent earlier to that port for an area that holds
-    /// the receiver then; a relay is the received packet, one hop fewer; no station delivers a send
-    /// twice unless, between, as many others came as it remembers, its source's session broke or it
-    /// restarted.
+    /// For every run at whose end the world stood, these events continue it as the written rules
+    /// say, and of the longer run hold the laws over every schedule of losses, repeats and
+    /// reorderings: what is delivered of a packet for an area was sent earlier to that port for an
+    /// area that holds the receiver then; a relay is the received packet, one hop fewer; no station
+    /// delivers a send twice unless, between, as many other packets of the source came as it
+    /// remembers, nothing new of the source came for 20 s, or the station restarted.
     pub fn run(&mut self, events: &[Event]) -> Run
         requires { All (λ event. IsInRange event.what) events.now }
         ensures log { length result.log.items ≡ result.done }
@@ -45,6 +45,7 @@ impl World {
             IsLawfulRunOf configs past (map event_of (take result.done events.now))
             result.log.items self.new }
     {
+        // Laws, for the proof alone.
         every_schedule();
         runs_go_on();
         self.run_all(events)
@@ -60,6 +61,7 @@ impl World {
         ensures run { (w : WorldModel) → RepresentsWorld self.old w →
             IsRunOf w (map event_of (take result.done events.now)) result.log.items self.new }
     {
+        // Laws, for the proof alone.
         runs_go_on();
         let mut log = Vec::new(self.alloc());
         for event in events {

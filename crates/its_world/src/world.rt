@@ -46,8 +46,9 @@ impl Model for World {
 }
 
 impl World {
-    /// The world of these configs, at most 65535, in which nothing happened yet. Refused by
-    /// `SameMid` (M1) exactly where two stations share a MID, and else by `NoMemory` (M2).
+    /// The world of these configs, at most 65535, in which nothing happened yet. The capacity of
+    /// each is 1 to 4096, and what it remembers 1 to 64. Refused by `SameMid` (M1) exactly where
+    /// two stations share a MID, and else by `NoMemory` (M2) where an allocation failed.
     pub fn new(alloc: Global, configs: &[Config]) -> Result<World, WorldFault>
         requires ranges { All IsConfig configs.now }
         requires count { length configs.now ≤ 65535 }
@@ -112,6 +113,7 @@ impl World {
         let Some(frame) = delivered(&self.air, &event.what) else {
             return Ok(Entry::Refused(EntryFault::NoSuchFrame));
         };
+        // Laws, for the proof alone.
         one_frame();
         one_frame_fault();
         let station = &mut self.stations[event.station];
@@ -130,7 +132,14 @@ fn delivered<'a>(air: &'a [Vec<u8>], what: &What) -> Option<&'a [u8]>
             Some(frame) => Some(frame.as_slice()),
             None => None,
         },
-        _ => Some(&[]),
+        What::MoveTo { .. }
+        | What::Open(_)
+        | What::Close(_)
+        | What::Tick(_)
+        | What::SendShb(_)
+        | What::SendGeobroadcast(_)
+        | What::SendGeoanycast(_)
+        | What::Restart(_) => Some(&[]),
     }
 }
 

@@ -7,7 +7,7 @@
 //!
 //! A moment is milliseconds of any clock that doesn't fall; for the standard's time stamps, of TAI
 //! since 2004-01-01. After a step back calls are refused (S1) until the clock has caught up. A real
-//! unit draws a jitter once for each beacon, not for each `tick`; this one has none.
+//! unit draws a jitter of 0 to 750 ms once for each beacon, not for each `tick`; this one has none.
 #![tactic(auto)]
 
 use its_gnvalue::{GnAddress, Place};

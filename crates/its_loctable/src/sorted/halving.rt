@@ -37,7 +37,7 @@ pub fn search(slots: &[Slot], address: GnAddress) -> Result<usize, usize>
 }
 
 /// The last slot that doesn't come after an address; 0 where all do. Halvings with no loop become
-/// conditional moves, where those of a loop are branches that are foretold half of the time.
+/// conditional moves, where those of a loop are branches that are predicted half of the time.
 fn last_up_to(slots: &[Slot], address: GnAddress) -> usize
     requires rising { IsTrue (is_rising (held slots.now)) }
     requires few { length slots.now ≤ 4096 }

@@ -13,7 +13,7 @@ pub fn calls_go_on()
 {}
 
 /// What a station's own applications and one source see of it is what they see without the frames
-/// of others, as long as its table is never full.
+/// of others, as long as moments don't fall and no answer is that the table is full.
 pub fn sources_are_isolated()
     ensures { SourcesAreIsolated }
 {}

@@ -62,6 +62,7 @@ pub fn every_schedule()
     ensures { (configs : List Config) (events : List Event) →
         HoldsOfSchedules configs (world_run (opening configs) events) }
 {
+    // Laws, for the proof alone.
     handed_as_sent();
     relays_are_faithful();
     at_most_once();

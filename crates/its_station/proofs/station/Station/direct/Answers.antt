@@ -9,6 +9,7 @@ use Rattle.its_loctable.specs.Content.{Represents}
 use Rattle.its_station.specs.State.{StationState, model_of}
 use Rattle.its_station.specs.Receiving.{IsRelay, copy_of}
 use Rattle.its_station.proofs.Hearing.{frame_of_relay, directed_to}
+use Rattle.its_station.proofs.Sizes.{short_relay}
 use Rattle.its_station.proofs.station.Station.direct.Goals as goal
 
 pub sent_to-requires : goal.sent_to-requires
@@ -20,8 +21,8 @@ sent_to-requires g c =
     in
     frame_of_relay c.in-Some-Some.octets (copy_of c.args.self.now.vector t t.pdu.body) copy
 
-pub returns-in-To : goal.returns-in-To
-returns-in-To g c = λ ports history rep.
+pub returns-in-To-clause-relay : goal.returns-in-To-clause-relay
+returns-in-To-clause-relay g c = λ ports history rep.
     let t = transmission_of c.args.frame.now in
     let copy = subst
     (λ (o : Option (Vec ℕ Global)).
@@ -42,5 +43,14 @@ returns-in-To g c = λ ports history rep.
     ∙ ap (λ (st : StationState).
     decision (stations_at st.remember c.args.now history) c.args.self.now.vector.place
     c.in-Some-Some.area (Some t.link_source)) c.self.view_is)
-    c.sent_to.ensures
+    c.sent_to.ensures.octets
     copy
+
+pub returns-in-Broadcast-clause-short_frame : goal.returns-in-Broadcast-clause-short_frame
+returns-in-Broadcast-clause-short_frame g c =
+    let t = transmission_of c.args.frame.now in
+    let copy = subst
+    (λ (o : Option (Vec ℕ Global)).
+    IsRelay o (copy_of c.args.self.now.vector t t.pdu.body)) c.in-Some-Some.is-0 c.requires.copy
+    in
+    short_relay c.in-Some-Some.octets (copy_of c.args.self.now.vector t t.pdu.body) copy

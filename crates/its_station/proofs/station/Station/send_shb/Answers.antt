@@ -45,5 +45,5 @@ returns-clause-step g c =
       sent = shb_of (model_of c.args.self.now ports history) r;
       is = refl;
       frame =
-          c.in_ok-frame.ensures ports history;
+          c.in_ok-frame.ensures.octets ports history;
     })

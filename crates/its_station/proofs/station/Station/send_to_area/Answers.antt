@@ -82,6 +82,6 @@ returns-clause-step g c =
     (λ ports history past. record {
       sent = area_packet (model_of st ports history) c.args.now r body;
       is = refl;
-      frame = c.in_ok-frame.ensures ports history
+      frame = c.in_ok-frame.ensures.octets ports history
           (Represents-later _ _ _ _ _ c.in_ok-check_moment.ensures.time.0 past.table);
     })

@@ -79,5 +79,5 @@ returns-clause-step g c =
       sent = beacon_of (model_of c.args.self.now ports history);
       is = refl;
       frame =
-          c.in_ok-frame.ensures ports history;
+          c.in_ok-frame.ensures.octets ports history;
     })

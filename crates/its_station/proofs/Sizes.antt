@@ -1,0 +1,21 @@
+-- How long frames are.
+use Rattle.std.proofs.Common.{◌≤◌, length}
+use Rattle.std.specs.Prelude.{ℕ, Vec, Result, Ok, Err, IfOk, Option, Some, None}
+use Rattle.std.specs.declared.alloc.Global.{Global}
+use Rattle.its_model.specs.Packet.{Transmission}
+use Rattle.its_gnvalue.specs.declared.fault.NoMemory.{NoMemory}
+use Rattle.its_linkframe.specs.Frames.{EncodesFrame}
+use Rattle.its_linkframe.proofs.Fronts.{frame_bounds}
+use Rattle.its_station.specs.Receiving.{IsRelay}
+
+-- a frame that is written has at most 1468 octets
+pub short_frame : (t : Transmission) (r : Result (Vec ℕ Global) NoMemory)
+    → IfOk r (λ w. EncodesFrame t w.items) → IfOk r (λ w. length w.items ≤ 1468)
+short_frame t (Ok w) is = (frame_bounds t w.items is).1
+short_frame t (Err e) is = is
+
+-- and so has one in which a packet goes on
+pub short_relay : (w : Vec ℕ Global) (o : Option Transmission) → IsRelay (Some w) o
+    → length w.items ≤ 1468
+short_relay w None h = absurd h
+short_relay w (Some t) h = (frame_bounds t w.items h).1
