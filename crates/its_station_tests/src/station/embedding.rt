@@ -72,3 +72,19 @@ fn the_example_runs(rt: HostRuntime) -> Result<(), Fail> {
     assert_eq!(rt; outbox[1].len(), 76);
     Ok(())
 }
+
+/// The table is left out of what a station prints for whoever debugs.
+#[test]
+fn a_station_prints_but_for_its_table(rt: HostRuntime) -> Result<(), Fail> {
+    let alloc = rt.alloc();
+    let address = GnAddress::from_u64(0x1400_0200_0000_0002)?;
+    let here = Place::new(449, 0)?;
+    let mut station: Station<SortedTable> = Station::new(alloc, address, here, 1, 8)?;
+    let beacon = station.tick(1000, 0)?;
+    assert!(rt; beacon.is_some());
+    let text = format!(in alloc; "{station:?}")?;
+    assert!(rt; text.as_str().starts_with("Station { vector: LongPv { "));
+    let end = " }, clock: 1000, next_number: 0, beacon_from: 4000, .. }";
+    assert!(rt; text.as_str().ends_with(end));
+    Ok(())
+}
