@@ -93,7 +93,7 @@ int main(int argc, char **argv) {
         .latitude = 514776500, .longitude = -10000, .a = 500,
     };
     const char *warning = "road works";
-    uint64_t warn_at = now + 500, tick_at = now;
+    uint64_t warn_at = now + 500;
     size_t n;
     while ((now = now_ms()) < end) {
         if (now >= warn_at) {
@@ -105,16 +105,17 @@ int main(int argc, char **argv) {
             put_on_air(link, &peer, frame, n);
             warn_at = end;
         }
-        if (now >= tick_at) {
-            status = geostation_tick(s, now, 0, frame, sizeof frame, &n);
-            if (status != GEOSTATION_OK) {
-                return fail("tick", status);
-            }
-            put_on_air(link, &peer, frame, n);
-            tick_at = now + 250;
+        status = geostation_tick(s, now, 0, frame, sizeof frame, &n);
+        if (status != GEOSTATION_OK) {
+            return fail("tick", status);
         }
-        uint64_t next = tick_at < warn_at ? tick_at : warn_at;
+        put_on_air(link, &peer, frame, n);
+
+        /* asleep until the next beacon is due, the warning is, or a frame comes */
+        uint64_t next = geostation_next_beacon(s);
+        next = next < warn_at ? next : warn_at;
         next = next < end ? next : end;
+        now = now_ms();
         struct pollfd ready = { .fd = link, .events = POLLIN, .revents = 0 };
         if (poll(&ready, 1, next > now ? (int)(next - now) : 0) > 0) {
             hear(s, link, &peer);

@@ -54,6 +54,14 @@ enum geostation_why {
 
 enum geostation_shape { GEOSTATION_CIRCLE = 0, GEOSTATION_RECTANGLE = 1, GEOSTATION_ELLIPSE = 2 };
 
+/* The kinds of packet. */
+enum geostation_kind {
+    GEOSTATION_BEACON = 1,
+    GEOSTATION_SHB = 2, /* a single-hop broadcast, to all in reach */
+    GEOSTATION_GBC = 3, /* a geobroadcast, to all stations in an area */
+    GEOSTATION_GAC = 4  /* a geoanycast, to any one station in an area */
+};
+
 /* A station: what is in it is the library's own. C++ has the short name for a namespace, that of
  * geostation.hpp, and calls the struct geostation_handle; so may C. */
 #ifdef __cplusplus
@@ -92,6 +100,49 @@ struct geostation_area_request {
     int32_t latitude, longitude; /* of the centre, in 0.1 microdegree */
     uint16_t a, b;               /* metres, from 1; a circle's radius is a, and b isn't read */
     uint16_t angle;              /* degrees from north, 0 to 359; of a circle it isn't read */
+};
+
+/* Where a station is, by its own words: its position vector. */
+struct geostation_vector {
+    uint64_t address;            /* the station's */
+    uint32_t timestamp;          /* the moment of the place, in ms modulo 2^32 */
+    int32_t latitude, longitude; /* in 0.1 microdegree */
+    int16_t speed;               /* in 0.01 m/s, -16384 to 16383, negative backwards */
+    uint16_t heading;            /* in 0.1 degree, clockwise from north */
+    uint8_t accurate;            /* 1 where the place is accurate (PAI), else 0 */
+};
+
+/* Where a packet is to go. */
+struct geostation_area {
+    int32_t latitude, longitude; /* of the centre, in 0.1 microdegree */
+    uint16_t a, b;               /* metres; a circle's radius is a, and its b 0 */
+    uint16_t angle;              /* degrees from north, 0 to 359; of a circle 0 */
+    uint8_t shape;               /* an enum geostation_shape */
+};
+
+/* What a packet brings to a port. */
+struct geostation_message {
+    size_t payload_start;  /* where in the frame the payload begins */
+    size_t payload_length; /* how many octets it has */
+    uint16_t port, info;   /* the destination port (BTP-B) and its info */
+};
+
+/* All fields of a frame. Where the octets are no frame all is 0 but the fault. */
+struct geostation_packet {
+    uint8_t target[6], source[6];      /* the link addresses to which and from which it goes */
+    uint32_t kind;                     /* an enum geostation_kind */
+    struct geostation_vector vector;   /* the source's */
+    uint8_t hops_left, max_hops;       /* RHL and MHL, from 1 */
+    uint8_t lifetime;                  /* its octet: a multiplier, then a base */
+    uint8_t traffic_class;             /* its octet */
+    uint8_t mobile;                    /* 1 where the source is mobile, else 0 */
+    uint8_t media[4];                  /* of an SHB: the media-dependent data */
+    uint16_t number;                   /* of a GBC or GAC: its sequence number */
+    struct geostation_area area;       /* of a GBC or GAC */
+    struct geostation_message message; /* of all but a BEACON */
+    uint32_t fault;                    /* of GEOSTATION_BAD_FRAME: 1 to 5, for L1 to L5 */
+    uint32_t fault_kind;               /* at 5 (L5): 1 to 12, for G1 to G12 */
+    size_t fault_at;                   /* at 5 (L5): the octet of the packet */
 };
 
 /* Makes a station to which nothing happened yet. Its location table has room for `capacity`
@@ -139,6 +190,26 @@ int geostation_send_gac(geostation_handle *s, uint64_t now,
 /* Takes a frame that came. What is to be sent on is written to `relay`. S1 to S5, NO_ROOM. */
 int geostation_receive(geostation_handle *s, uint64_t now, const uint8_t *frame, size_t length,
                        struct geostation_reception *out, uint8_t *relay, size_t room);
+
+/* The least moment at which geostation_tick with no jitter gives a beacon, in ms: a program sleeps
+ * until then, and asks anew after each other call. */
+uint64_t geostation_next_beacon(const geostation_handle *s);
+
+/* Look-ups in what the station heard: of the live neighbour of least address above `after` (a
+ * neighbour is heard directly), and of the live source of an address. They return 1 and write the
+ * newest vector where there is one, and 0 and zeros else, also at a moment that is before the
+ * station's last call or over GEOSTATION_LAST_MOMENT. All neighbours:
+ *
+ *     uint64_t after = 0;
+ *     struct geostation_vector v;
+ *     for (; geostation_neighbour(s, now, after, &v); after = v.address) { .. } */
+int geostation_neighbour(const geostation_handle *s, uint64_t now, uint64_t after,
+                         struct geostation_vector *out);
+int geostation_look_up(const geostation_handle *s, uint64_t now, uint64_t address,
+                       struct geostation_vector *out);
+
+/* Reads the octets of a frame, without a station. S3. */
+int geostation_read_frame(const uint8_t *frame, size_t length, struct geostation_packet *out);
 
 /* A sentence for a status, and for the fault of a bad frame. */
 const char *geostation_status_text(int status);

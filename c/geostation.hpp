@@ -55,6 +55,24 @@ struct Received {
     Octets payload;
 };
 
+/// What the octets of a frame say: `payload` lies in the octets that were given to `read_frame`.
+struct Packet {
+    Status status;
+    geostation_packet packet;
+    Octets payload;
+};
+
+/// Reads the octets of a frame, without a station.
+inline Packet read_frame(Octets frame) noexcept {
+    Packet got{};
+    got.status = static_cast<Status>(geostation_read_frame(frame.data, frame.size, &got.packet));
+    if (got.packet.message.payload_length != 0) {
+        got.payload = {frame.data + got.packet.message.payload_start,
+                       got.packet.message.payload_length};
+    }
+    return got;
+}
+
 /// A station. One thread at a time uses it; after a move from it only its end and a move to it are
 /// left.
 class Station {
@@ -132,6 +150,25 @@ class Station {
                            got.reception.payload_length};
         }
         return got;
+    }
+
+    /// The least moment at which `tick` with no jitter gives a beacon.
+    std::uint64_t next_beacon() const noexcept { return geostation_next_beacon(handle_); }
+
+    /// The vector of the live neighbour of least address above `after`.
+    std::optional<geostation_vector> neighbour(std::uint64_t now,
+                                               std::uint64_t after) const noexcept {
+        geostation_vector vector;
+        return geostation_neighbour(handle_, now, after, &vector) == 1 ? std::optional(vector)
+                                                                       : std::nullopt;
+    }
+
+    /// The newest vector of the live source of an address.
+    std::optional<geostation_vector> look_up(std::uint64_t now,
+                                             std::uint64_t address) const noexcept {
+        geostation_vector vector;
+        return geostation_look_up(handle_, now, address, &vector) == 1 ? std::optional(vector)
+                                                                       : std::nullopt;
     }
 
   private:

@@ -224,10 +224,124 @@ static void test_receiving(long damaged) {
     geostation_free(c);
 }
 
+static int is_vector(const struct geostation_vector *v, uint64_t address, uint32_t timestamp,
+                     int32_t longitude, int16_t speed, uint16_t heading, uint8_t accurate) {
+    return v->address == address && v->timestamp == timestamp && v->latitude == 449
+        && v->longitude == longitude && v->speed == speed && v->heading == heading
+        && v->accurate == accurate;
+}
+
+/* B hears beacons of A and of the station with address 0, and C by a packet for an area alone. */
+static void test_look_ups(void) {
+    const uint64_t group = B_ADDRESS | UINT64_C(1) << 40;
+    struct geostation *a = station(A_ADDRESS, 0, 64), *b = station(B_ADDRESS, 900, 64);
+    struct geostation *c = station(C_ADDRESS, 1800, 64), *zero = station(0, 7, 64);
+    struct geostation_vector v;
+    size_t n;
+    memset(&v, 1, sizeof v);
+    CHECK(geostation_neighbour(b, 0, 0, &v) == 0 && v.accurate == 0 && v.timestamp == 0);
+    CHECK(v.address == 0 && v.latitude == 0 && v.longitude == 0 && v.heading == 0);
+    CHECK(geostation_move(a, 5, 449, -31, 1, -7, 900) == GEOSTATION_OK);
+    CHECK(geostation_tick(a, 10, 0, frame, ROOM, &n) == GEOSTATION_OK && n == 50);
+    CHECK(geostation_receive(b, 20, frame, n, &r, relay, ROOM) == GEOSTATION_OK);
+    CHECK(geostation_tick(zero, 10, 0, frame, ROOM, &n) == GEOSTATION_OK && n == 50);
+    CHECK(geostation_receive(b, 20, frame, n, &r, relay, ROOM) == GEOSTATION_OK);
+    CHECK(geostation_send_gbc(c, 20, &AREA, HI, 2, frame, ROOM, &n) == GEOSTATION_OK);
+    CHECK(geostation_receive(b, 21, frame, n, &r, relay, ROOM) == GEOSTATION_OK);
+
+    /* a neighbour is one that was heard directly; the address 0 is above none */
+    CHECK(geostation_neighbour(b, 21, 0, &v) == 1);
+    CHECK(is_vector(&v, A_ADDRESS, 5, -31, -7, 900, 1));
+    CHECK(geostation_neighbour(b, 21, A_ADDRESS - 1, &v) == 1 && v.address == A_ADDRESS);
+    CHECK(geostation_neighbour(b, 21, A_ADDRESS, &v) == 0 && v.address == 0);
+    CHECK(geostation_neighbour(b, 21, UINT64_MAX, &v) == 0);
+    CHECK(geostation_neighbour(b, 21, group, &v) == 0);
+    CHECK(geostation_neighbour(b, 21, UINT64_C(1) << 40, &v) == 1 && v.address == A_ADDRESS);
+    CHECK(geostation_look_up(b, 21, C_ADDRESS, &v) == 1);
+    CHECK(is_vector(&v, C_ADDRESS, 0, 1800, 0, 0, 0));
+    CHECK(geostation_look_up(b, 21, 0, &v) == 1 && is_vector(&v, 0, 0, 7, 0, 0, 0));
+    CHECK(geostation_look_up(b, 21, B_ADDRESS, &v) == 0 && v.longitude == 0);
+    CHECK(geostation_look_up(b, 21, group, &v) == 0);
+
+    /* 20000 ms after its last packet a source isn't live; an earlier or too late moment has none */
+    CHECK(geostation_look_up(b, 20, A_ADDRESS, &v) == 0);
+    CHECK(geostation_neighbour(b, 20, 0, &v) == 0);
+    CHECK(geostation_look_up(b, 20019, A_ADDRESS, &v) == 1);
+    CHECK(geostation_look_up(b, 20020, A_ADDRESS, &v) == 0);
+    CHECK(geostation_neighbour(b, 20019, 0, &v) == 1);
+    CHECK(geostation_neighbour(b, 20020, 0, &v) == 0);
+    CHECK(geostation_look_up(b, GEOSTATION_LAST_MOMENT + 1, A_ADDRESS, &v) == 0);
+    CHECK(geostation_look_up(b, 21, A_ADDRESS, &v) == 1);
+
+    /* a beacon is due 3000 ms after the last packet of the station's own */
+    CHECK(geostation_next_beacon(b) == 21 && geostation_next_beacon(a) == 3010);
+    CHECK(geostation_next_beacon(c) == 3020);
+    geostation_free(a);
+    geostation_free(b);
+    geostation_free(c);
+    geostation_free(zero);
+}
+
+/* The fields of a GBC, an SHB and a BEACON, and what is wrong with others. */
+static void test_frames(void) {
+    static const uint8_t all[6] = { 255, 255, 255, 255, 255, 255 };
+    static const uint8_t mid[6] = { 2, 0, 0, 0, 0, 1 };
+    static const struct geostation_packet nothing;
+    const struct geostation_shb_request shb = { .port = 2001, .info = 9, .traffic_class = 3 };
+    struct geostation *a = station(A_ADDRESS, 12, 64);
+    struct geostation_area_request area = AREA;
+    struct geostation_packet p;
+    size_t n;
+    area.shape = GEOSTATION_ELLIPSE, area.b = 100, area.angle = 30, area.longitude = -5;
+    CHECK(geostation_move(a, 5, 449, 12, 0, 8, 9) == GEOSTATION_OK);
+    CHECK(geostation_restart(a, 5, 77) == GEOSTATION_OK);
+    CHECK(geostation_send_gbc(a, 6, &area, HI, 2, frame, ROOM, &n) == GEOSTATION_OK && n == 76);
+    memset(&p, 1, sizeof p);
+    CHECK(geostation_read_frame(frame, n, &p) == GEOSTATION_OK);
+    CHECK(memcmp(p.target, all, 6) == 0 && memcmp(p.source, mid, 6) == 0);
+    CHECK(p.kind == GEOSTATION_GBC && p.hops_left == 5 && p.max_hops == 5 && p.lifetime == 0x1a);
+    CHECK(p.traffic_class == 2 && p.mobile == 1 && p.number == 77);
+    CHECK(p.media[0] == 0 && p.media[3] == 0);
+    CHECK(is_vector(&p.vector, A_ADDRESS, 5, 12, 8, 9, 0));
+    CHECK(p.area.shape == GEOSTATION_ELLIPSE && p.area.latitude == 449 && p.area.longitude == -5);
+    CHECK(p.area.a == 200 && p.area.b == 100 && p.area.angle == 30);
+    CHECK(p.message.port == 2002 && p.message.info == 7);
+    CHECK(p.message.payload_start == 74 && p.message.payload_length == 2);
+    CHECK(p.fault == 0 && p.fault_kind == 0 && p.fault_at == 0);
+
+    CHECK(geostation_send_gac(a, 6, &area, HI, 0, frame, ROOM, &n) == GEOSTATION_OK && n == 74);
+    CHECK(geostation_read_frame(frame, n, &p) == GEOSTATION_OK);
+    CHECK(p.kind == GEOSTATION_GAC && p.number == 78 && p.message.payload_length == 0);
+
+    CHECK(geostation_send_shb(a, 7, &shb, HI, 2, frame, ROOM, &n) == GEOSTATION_OK && n == 60);
+    frame[50] = 1, frame[53] = 4; /* the media-dependent data */
+    CHECK(geostation_read_frame(frame, n, &p) == GEOSTATION_OK);
+    CHECK(p.kind == GEOSTATION_SHB && p.hops_left == 1 && p.max_hops == 1 && p.number == 0);
+    CHECK(p.media[0] == 1 && p.media[1] == 0 && p.media[3] == 4 && p.traffic_class == 3);
+    CHECK(p.message.port == 2001 && p.message.info == 9);
+    CHECK(p.message.payload_start == 58 && p.message.payload_length == 2);
+    CHECK(p.area.a == 0 && p.area.latitude == 0);
+
+    CHECK(geostation_tick(a, 9000, 0, frame, ROOM, &n) == GEOSTATION_OK && n == 50);
+    CHECK(geostation_read_frame(frame, n, &p) == GEOSTATION_OK && p.kind == GEOSTATION_BEACON);
+    CHECK(p.message.port == 0 && p.message.payload_start == 0 && p.message.payload_length == 0);
+    CHECK(is_vector(&p.vector, A_ADDRESS, 5, 12, 8, 9, 0));
+
+    CHECK(geostation_read_frame(frame, n - 1, &p) == GEOSTATION_BAD_FRAME);
+    CHECK(p.fault == 5 && p.fault_kind == 1 && p.fault_at == 35);
+    p.fault = 0, p.fault_kind = 0, p.fault_at = 0;
+    CHECK(memcmp(&p, &nothing, sizeof p) == 0);
+    CHECK(geostation_read_frame(NULL, 0, &p) == GEOSTATION_BAD_FRAME && p.fault == 1);
+    CHECK(p.fault_kind == 0 && p.fault_at == 0 && p.kind == 0);
+    geostation_free(a);
+}
+
 int main(int argc, char **argv) {
     test_new();
     test_calls();
     test_beacons();
+    test_look_ups();
+    test_frames();
     test_receiving(argc > 1 ? atol(argv[1]) : 1000);
     for (int status = 0; status <= 21; status++)
         if (status <= 11 || status >= 20)

@@ -1,4 +1,5 @@
 pub mod Values
 pub mod Helds
 pub mod Opens
-pub mod Telling
+pub mod Lookups
+pub mod Messages

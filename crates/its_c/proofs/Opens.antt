@@ -1,5 +1,5 @@
 -- A handle's station still represents one of the model after a call.
-use Rattle.std.proofs.Common.{◌≡◌, Some, None, Option, refl, sym, subst}
+use Rattle.std.proofs.Common.{◌≡◌, Some, None, Option, refl, sym, subst, ◌∙◌}
 use mathlib.Core.Bool.{Bool-set}
 use Rattle.std.proofs.Math.Logic.{∥∥₁_map, ∥∥₁_elim}
 use Rattle.std.proofs.lemmas.Grind.{merely}
@@ -53,3 +53,9 @@ stays_open Tells said old new step held after is same was now opened =
     ∥∥₁_map opened (λ found. let kept = keeps Tells said old new step is same
     (found.0, held_model held old found.0 was found.1) in
     (kept.0, model_held after new kept.0 now kept.1))
+
+-- a station that is taken out and put back as it was
+pub still_open : (held after : Option StationState) (st : StationState)
+    → held ≡ Some st → after ≡ Some st → IsOpen held → IsOpen after
+still_open held after st was now opened =
+    subst (λ (h : Option StationState). IsOpen h) (was ∙ sym now) opened

@@ -1,5 +1,5 @@
 -- What a call tells C.
-use Rattle.std.specs.Prelude.{◌≡◌, ◌≤◌, ℕ, ℤ, List, length, take, drop, Vec, Option, Some, None}
+use Rattle.std.specs.Prelude.{◌≡◌, ℕ, ℤ, List, length, take, drop, Vec, Option, Some, None}
 use Rattle.std.specs.Prelude.{Result, Ok, Err}
 use Rattle.std.specs.declared.alloc.Global.{Global}
 use Rattle.its_faults.specs.declared.frame.FrameFault.{FrameFault}
@@ -98,17 +98,36 @@ number_of_kind kinds.PayloadLength = 10
 number_of_kind kinds.Position = 11
 number_of_kind kinds.Area = 12
 
--- the reception of octets with this fault: the number of its layer, and of a packet's fault its
--- kind and the octet
+-- the number of a fault's code
+abbrev pub layer_of : FrameFault → ℕ
+layer_of faults.Short = 1
+layer_of faults.EtherType = 2
+layer_of faults.TooLong = 3
+layer_of faults.Trailing = 4
+layer_of (faults.Packet f) = 5
+
+-- of a packet's fault the number of its kind, else 0
+abbrev pub kind_of : FrameFault → ℕ
+kind_of faults.Short = 0
+kind_of faults.EtherType = 0
+kind_of faults.TooLong = 0
+kind_of faults.Trailing = 0
+kind_of (faults.Packet f) = number_of_kind f.kind
+
+-- of a packet's fault the octet of the packet, else 0
+abbrev pub place_in : FrameFault → ℕ
+place_in faults.Short = 0
+place_in faults.EtherType = 0
+place_in faults.TooLong = 0
+place_in faults.Trailing = 0
+place_in (faults.Packet f) = f.at
+
+-- the reception of octets with this fault
 abbrev pub faulty : FrameFault → Reception
-faulty faults.Short = record nothing_received { fault = 1 }
-faulty faults.EtherType = record nothing_received { fault = 2 }
-faulty faults.TooLong = record nothing_received { fault = 3 }
-faulty faults.Trailing = record nothing_received { fault = 4 }
-faulty (faults.Packet f) = record nothing_received {
-  fault = 5;
-  fault_kind = number_of_kind f.kind;
-  fault_at = f.at;
+faulty fault = record nothing_received {
+  fault = layer_of fault;
+  fault_kind = kind_of fault;
+  fault_at = place_in fault;
 }
 
 -- the reception of a frame that is refused
@@ -143,31 +162,3 @@ ShowsOutcome w r room (outcomes.Accepted handed sent) =
 abbrev pub ShowsReceived : List ℕ → Reception → List ℕ → Result Outcome Refused → Type 0
 ShowsReceived w r room (Ok outcome) = ShowsOutcome w r room outcome
 ShowsReceived w r room (Err e) = r ≡ refused_reception e
-
--- ---- words of private functions: what fits the buffer is written to it
-
-abbrev pub HoldsIfFits : ℕ → List ℕ → List ℕ → Type 0
-HoldsIfFits n room w = length w ≤ length room → Holds n room w
-
-abbrev pub ShowsFrameIfFits : ℕ → List ℕ → Result (Vec ℕ Global) Refused → Type 0
-ShowsFrameIfFits n room (Ok w) = HoldsIfFits n room w.items
-ShowsFrameIfFits n room (Err e) = n ≡ 0
-
-abbrev pub ShowsSentIfFits : ℕ → List ℕ → Option (Vec ℕ Global) → Type 0
-ShowsSentIfFits n room None = n ≡ 0
-ShowsSentIfFits n room (Some w) = HoldsIfFits n room w.items
-
-abbrev pub ShowsBeaconIfFits : ℕ → List ℕ → Result (Option (Vec ℕ Global)) Refused → Type 0
-ShowsBeaconIfFits n room (Ok sent) = ShowsSentIfFits n room sent
-ShowsBeaconIfFits n room (Err e) = n ≡ 0
-
-abbrev pub ShowsOutcomeIfFits : List ℕ → Reception → List ℕ → Outcome → Type 0
-ShowsOutcomeIfFits w r room (outcomes.Ignored reason) =
-    r ≡ record nothing_received { ignored = number_of reason }
-ShowsOutcomeIfFits w r room (outcomes.Accepted handed sent) =
-    (r.ignored ≡ 0) × (r.fault ≡ 0) × ShowsHanded w r handed
-    × ShowsSentIfFits r.relay_length room sent
-
-abbrev pub ShowsReceivedIfFits : List ℕ → Reception → List ℕ → Result Outcome Refused → Type 0
-ShowsReceivedIfFits w r room (Ok outcome) = ShowsOutcomeIfFits w r room outcome
-ShowsReceivedIfFits w r room (Err e) = r ≡ refused_reception e

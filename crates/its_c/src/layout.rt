@@ -82,3 +82,150 @@ pub struct AreaRequest {
     /// The angle clockwise from north, 0 to 359 degrees; of a circle it isn't read.
     pub angle: u16,
 }
+
+/// Where a station is, by its own words: `struct geostation_vector` of C.
+#[repr(C)]
+#[derive(Clone, Copy)]
+pub struct Vector {
+    /// The station's address.
+    pub address: u64,
+    /// The moment of the place, in milliseconds modulo 2^32.
+    pub timestamp: u32,
+    /// The latitude, in 0.1 microdegree.
+    pub latitude: i32,
+    /// The longitude, in 0.1 microdegree.
+    pub longitude: i32,
+    /// The speed in 0.01 m/s, from -16384 to 16383, negative backwards.
+    pub speed: i16,
+    /// The heading in 0.1 degree, clockwise from north.
+    pub heading: u16,
+    /// 1 where the place is accurate (PAI), else 0.
+    pub accurate: u8,
+}
+
+impl Vector {
+    /// What is written where no station is found.
+    pub(crate) const NOTHING: Vector = Vector {
+        address: 0,
+        timestamp: 0,
+        latitude: 0,
+        longitude: 0,
+        speed: 0,
+        heading: 0,
+        accurate: 0,
+    };
+}
+
+/// Where a packet is to go: `struct geostation_area` of C.
+#[repr(C)]
+#[derive(Clone, Copy)]
+pub struct PacketArea {
+    /// The latitude of the centre, in 0.1 microdegree.
+    pub latitude: i32,
+    /// The longitude of the centre, in 0.1 microdegree.
+    pub longitude: i32,
+    /// The radius of a circle, else the half length along the angle, in metres.
+    pub a: u16,
+    /// The half length across the angle, in metres; of a circle 0.
+    pub b: u16,
+    /// The angle clockwise from north, 0 to 359 degrees; of a circle 0.
+    pub angle: u16,
+    /// 0 for a circle, 1 for a rectangle, 2 for an ellipse.
+    pub shape: u8,
+}
+
+impl PacketArea {
+    /// What is written of a packet that has no area.
+    pub(crate) const NOTHING: PacketArea = PacketArea {
+        latitude: 0,
+        longitude: 0,
+        a: 0,
+        b: 0,
+        angle: 0,
+        shape: 0,
+    };
+}
+
+/// What a packet brings to a port: `struct geostation_message` of C.
+#[repr(C)]
+#[derive(Clone, Copy)]
+pub struct PacketMessage {
+    /// Where in the frame the payload begins.
+    pub payload_start: usize,
+    /// How many octets the payload has.
+    pub payload_length: usize,
+    /// The destination port (BTP-B).
+    pub port: u16,
+    /// The destination port info.
+    pub info: u16,
+}
+
+impl PacketMessage {
+    /// What is written of a packet that has no message.
+    pub(crate) const NOTHING: PacketMessage = PacketMessage {
+        payload_start: 0,
+        payload_length: 0,
+        port: 0,
+        info: 0,
+    };
+}
+
+/// All fields of a frame: `struct geostation_packet` of C.
+#[repr(C)]
+#[derive(Clone, Copy)]
+pub struct Packet {
+    /// The link address that the frame goes to.
+    pub target: [u8; 6],
+    /// The link address that it comes from.
+    pub source: [u8; 6],
+    /// The kind of its packet: 1 BEACON, 2 SHB, 3 GBC, 4 GAC; 0 where the octets are no frame.
+    pub kind: u32,
+    /// The source's position vector.
+    pub vector: Vector,
+    /// The hops that are left (RHL).
+    pub hops_left: u8,
+    /// The hops that there were at most (MHL).
+    pub max_hops: u8,
+    /// The octet of the lifetime: a multiplier of six bits, then a base of two.
+    pub lifetime: u8,
+    /// The octet of the traffic class.
+    pub traffic_class: u8,
+    /// 1 where the source is mobile, else 0.
+    pub mobile: u8,
+    /// The media-dependent data of an SHB, else zeros.
+    pub media: [u8; 4],
+    /// The sequence number of a GBC or GAC, else 0.
+    pub number: u16,
+    /// The area of a GBC or GAC, else zeros.
+    pub area: PacketArea,
+    /// What an SHB, GBC or GAC brings to a port, else zeros.
+    pub message: PacketMessage,
+    /// Where the octets are no frame, the number of the fault's code, L1 to L5; else 0.
+    pub fault: u32,
+    /// At L5 the number of the packet's fault, G1 to G12; else 0.
+    pub fault_kind: u32,
+    /// At L5 the octet of the packet at which the field begins, or the packet's length at G1.
+    pub fault_at: usize,
+}
+
+impl Packet {
+    /// What is written of octets of which nothing is known.
+    pub(crate) const NOTHING: Packet = Packet {
+        target: [0; 6],
+        source: [0; 6],
+        kind: 0,
+        vector: Vector::NOTHING,
+        hops_left: 0,
+        max_hops: 0,
+        lifetime: 0,
+        traffic_class: 0,
+        mobile: 0,
+        media: [0; 4],
+        number: 0,
+        area: PacketArea::NOTHING,
+        message: PacketMessage::NOTHING,
+        fault: 0,
+        fault_kind: 0,
+        fault_at: 0,
+    };
+}

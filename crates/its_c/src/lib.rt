@@ -7,17 +7,21 @@
 #![tactic(auto)]
 
 mod calls;
+mod fault;
 mod handle;
 mod heap;
 mod held;
+mod knowledge;
 mod layout;
 mod loose;
+mod reading;
 mod receiving;
 mod sending;
 mod slot;
 mod status;
+mod to_area;
 mod told;
 
 pub use handle::Geostation;
-pub use layout::{AreaRequest, Reception, ShbRequest};
+pub use layout::{AreaRequest, Packet, PacketArea, PacketMessage, Reception, ShbRequest, Vector};
 pub use slot::Slot;

@@ -1,24 +1,22 @@
-//! The calls that send: a frame is written into the caller's buffer.
+//! The calls that send to all in reach: beacons and single-hop broadcasts, written into the caller's
+//! buffer.
 
-ghost use Rattle.std.specs.Prelude.{◌≡◌, ◌≢◌, ◌≤◌, ◌<◌, ◌+◌, pos, length, IsTrue, nat_le};
-ghost use Rattle.std.specs.Prelude.{None, IfSome};
-ghost use Rattle.its_geometry.specs.Area.{GeoArea};
+ghost use Rattle.std.specs.Prelude.{◌≡◌, ◌≢◌, ◌≤◌, ◌<◌, ◌+◌, pos, length, IsTrue, nat_le, None};
 ghost use Rattle.its_model.specs.Calls.{Own};
-ghost use Rattle.its_model.specs.Calls.OwnCall.{Tick, SendShb, SendGbc, SendGac};
+ghost use Rattle.its_model.specs.Calls.OwnCall.{Tick, SendShb};
 ghost use Rattle.its_model.specs.Station.{StationModel, station_step};
 ghost use Rattle.its_model.specs.Station.{first, moment_refusal, own_refusal};
-ghost use Rattle.its_station.specs.Requests.{TellsTick, TellsSent, gbc_request};
-ghost use Rattle.its_c.specs.Arguments.{IsAreaOf, gbc_asked, shb_asked};
+ghost use Rattle.its_station.specs.Requests.{TellsTick, TellsSent};
+ghost use Rattle.its_c.specs.Arguments.{shb_asked};
 ghost use Rattle.its_c.specs.Open.{HoldsModel};
 ghost use Rattle.its_c.specs.Told.{IsTold, ShowsBeacon, ShowsFrame};
 
 use crate::handle::Geostation;
-use crate::layout::{AreaRequest, ShbRequest};
-use crate::status::{BAD_ARGUMENT, NO_ROOM};
+use crate::layout::ShbRequest;
+use crate::status::NO_ROOM;
 use crate::told::{told_beacon, told_frame};
-use its_geometry::{Area, Shape};
-use its_gnvalue::{Lifetime, Place, TrafficClass};
-use its_station::{GbcRequest, ShbRequest as StationShbRequest};
+use its_gnvalue::TrafficClass;
+use its_station::ShbRequest as StationShbRequest;
 use std::alloc::Global;
 
 /// The longest frame, in octets: a call that may write one wants room for it.
@@ -96,118 +94,4 @@ pub extern "C" fn geostation_send_shb(
     let said = station.send_shb(now, &r);
     s.held.put(station);
     told_frame(said, frame, written)
-}
-
-/// Writes the frame of a geobroadcast (GBC), to all stations in an area, with the station's next
-/// sequence number. Refused by `NO_ROOM` for a buffer under 1468 octets, by `BAD_ARGUMENT` for a
-/// request that has no area, for its moment (S1, S2), for a payload over 1394 octets (S6), for no
-/// hop (S7), and for memory (S5).
-#[unsafe(no_mangle)]
-pub extern "C" fn geostation_send_gbc(
-    alloc: Global,
-    s: &mut Geostation,
-    now: u64,
-    request: &AreaRequest,
-    payload: &[u8],
-    frame: &mut [u8],
-    written: &mut usize,
-) -> i32
-    ensures room { length frame.old < 1468 → (result ≡ pos 21) × (s.new ≡ s.old) }
-    ensures step { (m : StationModel) → 1468 ≤ length frame.old →
-        HoldsModel s.old.held.station m → result ≢ pos 20 →
-        (area : GeoArea) × IsAreaOf request.now area ×
-        IsTold TellsSent (ShowsFrame written.new frame.new) result s.new.held.station
-        (station_step m now (Own (SendGbc (gbc_asked request.now area payload.now)))) }
-    ensures refused { result ≡ pos 20 → (area : GeoArea) → IsAreaOf request.now area → ⊥ }
-    ensures unchanged { result ≢ pos 0 → s.new.held.station ≡ s.old.held.station }
-    ensures nothing { result ≢ pos 0 → written.new ≡ 0 }
-    ensures memory { (m : StationModel) → HoldsModel s.old.held.station m → result ≡ pos 5 →
-        (area : GeoArea) × IsAreaOf request.now area ×
-        (first (moment_refusal m now)
-        (own_refusal m (SendGbc (gbc_asked request.now area payload.now))) ≡ None) }
-{
-    *written = 0;
-    if frame.len() < LONGEST_FRAME {
-        return NO_ROOM;
-    }
-    let Some(area) = area_of(request) else {
-        return BAD_ARGUMENT;
-    };
-    let r = area_request(request, area, payload);
-    let mut station = s.held.take(alloc);
-    let said = station.send_geobroadcast(now, &r);
-    s.held.put(station);
-    told_frame(said, frame, written)
-}
-
-/// Writes the frame of a geoanycast (GAC), to any one station in an area, with the station's next
-/// sequence number. It is refused as a geobroadcast is.
-#[unsafe(no_mangle)]
-pub extern "C" fn geostation_send_gac(
-    alloc: Global,
-    s: &mut Geostation,
-    now: u64,
-    request: &AreaRequest,
-    payload: &[u8],
-    frame: &mut [u8],
-    written: &mut usize,
-) -> i32
-    ensures room { length frame.old < 1468 → (result ≡ pos 21) × (s.new ≡ s.old) }
-    ensures step { (m : StationModel) → 1468 ≤ length frame.old →
-        HoldsModel s.old.held.station m → result ≢ pos 20 →
-        (area : GeoArea) × IsAreaOf request.now area ×
-        IsTold TellsSent (ShowsFrame written.new frame.new) result s.new.held.station
-        (station_step m now (Own (SendGac (gbc_asked request.now area payload.now)))) }
-    ensures refused { result ≡ pos 20 → (area : GeoArea) → IsAreaOf request.now area → ⊥ }
-    ensures unchanged { result ≢ pos 0 → s.new.held.station ≡ s.old.held.station }
-    ensures nothing { result ≢ pos 0 → written.new ≡ 0 }
-    ensures memory { (m : StationModel) → HoldsModel s.old.held.station m → result ≡ pos 5 →
-        (area : GeoArea) × IsAreaOf request.now area ×
-        (first (moment_refusal m now)
-        (own_refusal m (SendGac (gbc_asked request.now area payload.now))) ≡ None) }
-{
-    *written = 0;
-    if frame.len() < LONGEST_FRAME {
-        return NO_ROOM;
-    }
-    let Some(area) = area_of(request) else {
-        return BAD_ARGUMENT;
-    };
-    let r = area_request(request, area, payload);
-    let mut station = s.held.take(alloc);
-    let said = station.send_geoanycast(now, &r);
-    s.held.put(station);
-    told_frame(said, frame, written)
-}
-
-/// The area of a request, if it has one.
-fn area_of(r: &AreaRequest) -> Option<Area>
-    ensures made { IfSome result (IsAreaOf r.now) }
-    ensures none { result ≡ None → (area : GeoArea) → IsAreaOf r.now area → ⊥ }
-{
-    let Ok(centre) = Place::new(r.latitude, r.longitude) else {
-        return None;
-    };
-    let made = match r.shape {
-        0 => Area::circle(centre, r.a),
-        1 => Area::rectangle(centre, r.a, r.b, r.angle),
-        2 => Area::ellipse(centre, r.a, r.b, r.angle),
-        _ => return None,
-    };
-    made.ok()
-}
-
-/// What the station is asked for.
-fn area_request<'a>(request: &AreaRequest, area: Area, payload: &'a [u8]) -> GbcRequest<'a>
-    ensures { gbc_request result ≡ gbc_asked request.now area payload.now }
-{
-    GbcRequest {
-        port: request.port,
-        info: request.info,
-        class: TrafficClass::from_octet(request.traffic_class),
-        lifetime: Lifetime::from_octet(request.lifetime),
-        max_hops: request.max_hops,
-        area,
-        payload,
-    }
 }

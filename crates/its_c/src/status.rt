@@ -9,6 +9,9 @@ use its_station::Refused;
 /// The call was done.
 pub(crate) const OK: i32 = 0;
 
+/// The octets are no frame (S3).
+pub(crate) const BAD_FRAME: i32 = 3;
+
 /// An allocation failed (S5).
 pub(crate) const NO_MEMORY: i32 = 5;
 

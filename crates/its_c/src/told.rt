@@ -1,15 +1,14 @@
 //! What a call tells C: its status, and what it writes into the caller's buffers.
 
-ghost use Rattle.std.specs.Prelude.{◌≡◌, pos, length, Err, IfOk};
-ghost use Rattle.its_station.specs.Receiving.{DeliversEndOf, HandsOutEndOf};
+ghost use Rattle.std.specs.Prelude.{◌≡◌, ◌≤◌, pos, length, Err, IfOk, IfSome};
+ghost use Rattle.its_station.specs.Receiving.{DeliversEndOf, HandsOutEndOf, SendsAtMost};
 ghost use Rattle.its_c.specs.Status.{status_in};
-ghost use Rattle.its_c.specs.Told.{HoldsIfFits, ShowsFrameIfFits, ShowsBeaconIfFits, ShowsHanded};
-ghost use Rattle.its_c.specs.Told.{ShowsReceivedIfFits, nothing_received, number_of};
-ghost use Rattle.its_c.specs.Told.{number_of_kind, refused_reception};
+ghost use Rattle.its_c.specs.Told.{Holds, ShowsFrame, ShowsBeacon, ShowsHanded, ShowsReceived};
+ghost use Rattle.its_c.specs.Told.{nothing_received, number_of, refused_reception};
 
+use crate::fault::FaultNumbers;
 use crate::layout::Reception;
 use crate::status::{OK, status_of};
-use its_faults::{FaultKind, FrameFault};
 use its_station::{Handed, Outcome, Refused, Why};
 
 /// The status of a call that tells nothing else.
@@ -29,10 +28,11 @@ pub(crate) fn told_frame(
     frame: &mut [u8],
     written: &mut usize,
 ) -> i32
-    requires { written.old ≡ 0 }
+    requires nothing { written.old ≡ 0 }
+    requires room { 1468 ≤ length frame.old }
+    requires short { IfOk said (λ sent. length sent.items ≤ 1468) }
     ensures status { result ≡ status_in said }
-    ensures shown { ShowsFrameIfFits written.new frame.new said }
-    ensures room { length frame.new ≡ length frame.old }
+    ensures shown { ShowsFrame written.new frame.new said }
     ensures memory { result ≡ pos 5 → said ≡ Err Refused.NoMemory }
 {
     match said {
@@ -50,10 +50,11 @@ pub(crate) fn told_beacon(
     frame: &mut [u8],
     written: &mut usize,
 ) -> i32
-    requires { written.old ≡ 0 }
+    requires nothing { written.old ≡ 0 }
+    requires room { 1468 ≤ length frame.old }
+    requires short { IfOk said (λ beacon. IfSome beacon (λ sent. length sent.items ≤ 1468)) }
     ensures status { result ≡ status_in said }
-    ensures shown { ShowsBeaconIfFits written.new frame.new said }
-    ensures room { length frame.new ≡ length frame.old }
+    ensures shown { ShowsBeacon written.new frame.new said }
     ensures memory { result ≡ pos 5 → said ≡ Err Refused.NoMemory }
 {
     match said {
@@ -75,9 +76,10 @@ pub(crate) fn told_outcome(
 ) -> i32
     requires nothing { reception.old ≡ nothing_received }
     requires end { IfOk said (DeliversEndOf frame.now) }
+    requires room { 1468 ≤ length relay.old }
+    requires short { IfOk said (SendsAtMost 1468) }
     ensures status { result ≡ status_in said.entry }
-    ensures shown { ShowsReceivedIfFits frame.now reception.new relay.new said.entry }
-    ensures room { length relay.new ≡ length relay.old }
+    ensures shown { ShowsReceived frame.now reception.new relay.new said.entry }
     ensures memory { result ≡ pos 5 → said.entry ≡ Err Refused.NoMemory }
 {
     match said {
@@ -121,27 +123,14 @@ fn tell_handed(handed: Option<Handed<'_>>, frame: &[u8], reception: &mut Recepti
 fn refused_reception(refused: Refused) -> Reception
     ensures { result ≡ refused_reception refused }
 {
-    match refused {
-        Refused::Frame(FrameFault::Short) => faulty(1),
-        Refused::Frame(FrameFault::EtherType) => faulty(2),
-        Refused::Frame(FrameFault::TooLong) => faulty(3),
-        Refused::Frame(FrameFault::Trailing) => faulty(4),
-        Refused::Frame(FrameFault::Packet(fault)) => Reception {
-            fault: 5,
-            fault_kind: number_of_kind(fault.kind),
-            fault_at: fault.at,
-            ..Reception::NOTHING
-        },
-        _ => Reception::NOTHING,
-    }
-}
-
-/// The reception of a fault of the frame's own.
-fn faulty(fault: u32) -> Reception
-    ensures { result ≡ record nothing_received { fault = fault } }
-{
+    let Refused::Frame(fault) = refused else {
+        return Reception::NOTHING;
+    };
+    let numbers = FaultNumbers::of(fault);
     Reception {
-        fault,
+        fault: numbers.layer,
+        fault_kind: numbers.kind,
+        fault_at: numbers.at,
         ..Reception::NOTHING
     }
 }
@@ -157,33 +146,11 @@ fn number_of(why: Why) -> u32
     }
 }
 
-fn number_of_kind(kind: FaultKind) -> u32
-    ensures { result ≡ number_of_kind kind }
-{
-    match kind {
-        FaultKind::Truncated => 1,
-        FaultKind::Version => 2,
-        FaultKind::BasicNext => 3,
-        FaultKind::Reserved => 4,
-        FaultKind::HopZero => 5,
-        FaultKind::CommonNext => 6,
-        FaultKind::HeaderType => 7,
-        FaultKind::SubType => 8,
-        FaultKind::HopAboveMax => 9,
-        FaultKind::PayloadLength => 10,
-        FaultKind::Position => 11,
-        FaultKind::Area => 12,
-    }
-}
-
-/// Writes a frame into a buffer.
+/// Writes a frame to the beginning of a buffer.
 fn hand_out(octets: &[u8], room: &mut [u8]) -> usize
-    ensures holds { HoldsIfFits result room.new octets.now }
-    ensures room { length room.new ≡ length room.old }
+    requires { length octets.now ≤ length room.old }
+    ensures { Holds result room.new octets.now }
 {
-    if octets.len() > room.len() {
-        return 0;
-    }
     room[..octets.len()].copy_from_slice(octets);
     octets.len()
 }

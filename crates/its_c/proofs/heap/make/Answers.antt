@@ -1,6 +1,5 @@
-use Rattle.std.proofs.Common.{rules, ◌≡◌}
+use Rattle.std.proofs.Common.{rules}
 use Rattle.its_model.specs.Station.{new_station}
-use Rattle.its_c.specs.Arguments.{place_of}
 use Rattle.its_c.specs.Open.{HoldsModel}
 use Rattle.its_c.proofs.Opens.{is_open}
 use Rattle.its_c.proofs.heap.make.Goals as goal

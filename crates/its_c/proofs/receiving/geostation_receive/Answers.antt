@@ -1,8 +1,7 @@
-use Rattle.std.proofs.Common.{rules, ◌≡◌, ◌≤◌, length}
+use Rattle.std.proofs.Common.{rules}
 use Rattle.its_model.specs.Station.{station_step}
 use Rattle.its_station.specs.Receiving.{Tells}
 use Rattle.its_c.proofs.Opens.{held_model, stays_open}
-use Rattle.its_c.proofs.Telling.{outcome_shown}
 use Rattle.its_c.proofs.receiving.geostation_receive.Goals as goal
 
 pub invariant_of-s : goal.invariant_of-s
@@ -17,8 +16,7 @@ invariant_of-s c =
 
 pub returns-clause-step : goal.returns-clause-step
 returns-clause-step c = λ long.
-    let found = c.receive-said.ensures.step in
-    let room : 1468 ≤ length c.told_outcome.new.relay = search rules in (
+    let found = c.receive-said.ensures.step in (
       found.0,
       found.1,
       λ m model. let rep = held_model c.args.s.now.held.station c.deref_mut.result.now m
@@ -30,8 +28,6 @@ returns-clause-step c = λ long.
             held = search rules;
             done = done;
             code = search rules;
-            shown = outcome_shown c.receive-said.result c.receive-said.new.self
-                (station_step m c.args.now found.0) c.args.frame.now c.told_outcome.new.reception
-                c.told_outcome.new.relay room done c.told_outcome.ensures.shown;
+            shown = c.told_outcome.ensures.shown;
           },
     )

@@ -1,4 +1,4 @@
-use Rattle.std.proofs.Common.{rules, ◌≡◌, ◌≤◌, ℕ, length, subst}
+use Rattle.std.proofs.Common.{rules, ℕ, subst}
 use Rattle.its_model.specs.Calls.{Own}
 use Rattle.its_model.specs.Calls.OwnCall.{SendShb}
 use Rattle.its_model.specs.Station.{station_step}
@@ -6,7 +6,6 @@ use Rattle.its_station.specs.Requests.{TellsSent}
 use Rattle.its_station.specs.Steps.{IsStepOf}
 use Rattle.its_c.specs.Arguments.{shb_asked}
 use Rattle.its_c.proofs.Opens.{held_model, stays_open}
-use Rattle.its_c.proofs.Telling.{frame_shown}
 use Rattle.its_c.proofs.sending.geostation_send_shb.Goals as goal
 
 pub invariant_of-s : goal.invariant_of-s
@@ -23,7 +22,6 @@ invariant_of-s c =
 pub returns-clause-step : goal.returns-clause-step
 returns-clause-step c = λ m long model.
     let rep = held_model c.args.s.now.held.station c.deref_mut.result.now m (search rules) model in
-    let room : 1468 ≤ length c.told_frame.new.frame = search rules in
     let asked = shb_asked c.args.request.now c.args.payload.now in
     let done = subst (λ (k : ℕ). IsStepOf TellsSent c.send_shb-said.result c.send_shb-said.new.self
     (station_step m c.args.now (Own (SendShb (record asked { class = k })))))
@@ -34,7 +32,5 @@ returns-clause-step c = λ m long model.
       held = search rules;
       done = done;
       code = search rules;
-      shown = frame_shown c.send_shb-said.result c.send_shb-said.new.self
-          (station_step m c.args.now (Own (SendShb asked)))
-          c.told_frame.new.written c.told_frame.new.frame room done c.told_frame.ensures.shown;
+      shown = c.told_frame.ensures.shown;
     }

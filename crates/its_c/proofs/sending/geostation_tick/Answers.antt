@@ -1,10 +1,9 @@
-use Rattle.std.proofs.Common.{rules, ◌≡◌, ◌≤◌, length}
+use Rattle.std.proofs.Common.{rules}
 use Rattle.its_model.specs.Calls.{Own}
 use Rattle.its_model.specs.Calls.OwnCall.{Tick}
 use Rattle.its_model.specs.Station.{station_step}
 use Rattle.its_station.specs.Requests.{TellsTick}
 use Rattle.its_c.proofs.Opens.{held_model, stays_open}
-use Rattle.its_c.proofs.Telling.{beacon_shown}
 use Rattle.its_c.proofs.sending.geostation_tick.Goals as goal
 
 pub invariant_of-s : goal.invariant_of-s
@@ -21,14 +20,11 @@ pub returns-clause-step : goal.returns-clause-step
 returns-clause-step c = λ m long model.
     let rep = held_model c.args.s.now.held.station c.deref_mut.result.now m (search rules) model in
     let done = c.tick-said.ensures.step m rep in
-    let room : 1468 ≤ length c.told_beacon.new.frame = search rules in
     record {
       said = c.tick-said.result;
       after = c.tick-said.new.self;
       held = search rules;
       done = done;
       code = search rules;
-      shown = beacon_shown c.tick-said.result c.tick-said.new.self
-          (station_step m c.args.now (Own (Tick c.args.jitter)))
-          c.told_beacon.new.written c.told_beacon.new.frame room done c.told_beacon.ensures.shown;
+      shown = c.told_beacon.ensures.shown;
     }

@@ -1,0 +1,205 @@
+//! The calls that send to an area: geobroadcasts and geoanycasts, written into the caller's buffer.
+
+ghost use Rattle.std.specs.Prelude.{◌≡◌, ◌≢◌, ◌≤◌, ◌<◌, pos, length};
+ghost use Rattle.std.specs.Prelude.{None, Err, IfOk, IfSome, OnErr};
+ghost use Rattle.its_geometry.specs.Area.{GeoArea};
+ghost use Rattle.its_model.specs.Calls.{Own, area_call};
+ghost use Rattle.its_model.specs.Calls.OwnCall.{SendGbc, SendGac};
+ghost use Rattle.its_model.specs.Station.{StationModel, station_step};
+ghost use Rattle.its_model.specs.Station.{first, moment_refusal, own_refusal};
+ghost use Rattle.its_station.specs.Requests.{TellsSent, gbc_request};
+ghost use Rattle.its_station.specs.State.{RepresentsStation};
+ghost use Rattle.its_station.specs.Steps.{IsStepOf};
+ghost use Rattle.its_c.specs.Arguments.{IsAreaOf, gbc_asked, kind_of_cast};
+ghost use Rattle.its_c.specs.Open.{HoldsModel};
+ghost use Rattle.its_c.specs.Told.{IsTold, ShowsFrame};
+
+use crate::handle::Geostation;
+use crate::layout::AreaRequest;
+use crate::sending::LONGEST_FRAME;
+use crate::status::{BAD_ARGUMENT, NO_ROOM};
+use crate::told::told_frame;
+use its_geometry::Area;
+use its_gnvalue::{Lifetime, Place, TrafficClass};
+use its_loctable::SortedTable;
+use its_station::{GbcRequest, Refused, Station};
+use std::alloc::Global;
+
+/// The kinds of packet for an area.
+#[derive(Clone, Copy)]
+enum AreaCast {
+    Geobroadcast,
+    Geoanycast,
+}
+
+/// Writes the frame of a geobroadcast (GBC), to all stations in an area, with the station's next
+/// sequence number. Refused by `NO_ROOM` for a buffer under 1468 octets, by `BAD_ARGUMENT` for a
+/// request that has no area, for its moment (S1, S2), for a payload over 1394 octets (S6), for no
+/// hop (S7), and for memory (S5).
+#[unsafe(no_mangle)]
+pub extern "C" fn geostation_send_gbc(
+    alloc: Global,
+    s: &mut Geostation,
+    now: u64,
+    request: &AreaRequest,
+    payload: &[u8],
+    frame: &mut [u8],
+    written: &mut usize,
+) -> i32
+    ensures room { length frame.old < 1468 → (result ≡ pos 21) × (s.new ≡ s.old) }
+    ensures step { (m : StationModel) → 1468 ≤ length frame.old →
+        HoldsModel s.old.held.station m → result ≢ pos 20 →
+        (area : GeoArea) × IsAreaOf request.now area ×
+        IsTold TellsSent (ShowsFrame written.new frame.new) result s.new.held.station
+        (station_step m now (Own (SendGbc (gbc_asked request.now area payload.now)))) }
+    ensures refused { result ≡ pos 20 → (area : GeoArea) → IsAreaOf request.now area → ⊥ }
+    ensures unchanged { result ≢ pos 0 → s.new.held.station ≡ s.old.held.station }
+    ensures nothing { result ≢ pos 0 → written.new ≡ 0 }
+    ensures memory { (m : StationModel) → HoldsModel s.old.held.station m → result ≡ pos 5 →
+        (area : GeoArea) × IsAreaOf request.now area ×
+        (first (moment_refusal m now)
+        (own_refusal m (SendGbc (gbc_asked request.now area payload.now))) ≡ None) }
+{
+    send_to_area(
+        alloc,
+        s,
+        now,
+        AreaCast::Geobroadcast,
+        request,
+        payload,
+        frame,
+        written,
+    )
+}
+
+/// Writes the frame of a geoanycast (GAC), to any one station in an area, with the station's next
+/// sequence number. It is refused as a geobroadcast is.
+#[unsafe(no_mangle)]
+pub extern "C" fn geostation_send_gac(
+    alloc: Global,
+    s: &mut Geostation,
+    now: u64,
+    request: &AreaRequest,
+    payload: &[u8],
+    frame: &mut [u8],
+    written: &mut usize,
+) -> i32
+    ensures room { length frame.old < 1468 → (result ≡ pos 21) × (s.new ≡ s.old) }
+    ensures step { (m : StationModel) → 1468 ≤ length frame.old →
+        HoldsModel s.old.held.station m → result ≢ pos 20 →
+        (area : GeoArea) × IsAreaOf request.now area ×
+        IsTold TellsSent (ShowsFrame written.new frame.new) result s.new.held.station
+        (station_step m now (Own (SendGac (gbc_asked request.now area payload.now)))) }
+    ensures refused { result ≡ pos 20 → (area : GeoArea) → IsAreaOf request.now area → ⊥ }
+    ensures unchanged { result ≢ pos 0 → s.new.held.station ≡ s.old.held.station }
+    ensures nothing { result ≢ pos 0 → written.new ≡ 0 }
+    ensures memory { (m : StationModel) → HoldsModel s.old.held.station m → result ≡ pos 5 →
+        (area : GeoArea) × IsAreaOf request.now area ×
+        (first (moment_refusal m now)
+        (own_refusal m (SendGac (gbc_asked request.now area payload.now))) ≡ None) }
+{
+    send_to_area(
+        alloc,
+        s,
+        now,
+        AreaCast::Geoanycast,
+        request,
+        payload,
+        frame,
+        written,
+    )
+}
+
+/// What both calls for an area do.
+fn send_to_area(
+    alloc: Global,
+    s: &mut Geostation,
+    now: u64,
+    cast: AreaCast,
+    request: &AreaRequest,
+    payload: &[u8],
+    frame: &mut [u8],
+    written: &mut usize,
+) -> i32
+    ensures room { length frame.old < 1468 → (result ≡ pos 21) × (s.new ≡ s.old) }
+    ensures step { (m : StationModel) → 1468 ≤ length frame.old →
+        HoldsModel s.old.held.station m → result ≢ pos 20 →
+        (area : GeoArea) × IsAreaOf request.now area ×
+        IsTold TellsSent (ShowsFrame written.new frame.new) result s.new.held.station
+        (station_step m now
+        (Own (area_call (kind_of_cast cast) (gbc_asked request.now area payload.now)))) }
+    ensures refused { result ≡ pos 20 → (area : GeoArea) → IsAreaOf request.now area → ⊥ }
+    ensures unchanged { result ≢ pos 0 → s.new.held.station ≡ s.old.held.station }
+    ensures nothing { result ≢ pos 0 → written.new ≡ 0 }
+    ensures memory { (m : StationModel) → HoldsModel s.old.held.station m → result ≡ pos 5 →
+        (area : GeoArea) × IsAreaOf request.now area ×
+        (first (moment_refusal m now) (own_refusal m
+        (area_call (kind_of_cast cast) (gbc_asked request.now area payload.now))) ≡ None) }
+{
+    *written = 0;
+    if frame.len() < LONGEST_FRAME {
+        return NO_ROOM;
+    }
+    let Some(area) = area_of(request) else {
+        return BAD_ARGUMENT;
+    };
+    let r = area_request(request, area, payload);
+    let mut station = s.held.take(alloc);
+    let said = frame_for_area(&mut station, now, cast, &r);
+    s.held.put(station);
+    told_frame(said, frame, written)
+}
+
+/// The station's frame for an area.
+fn frame_for_area(
+    station: &mut Station<SortedTable>,
+    now: u64,
+    cast: AreaCast,
+    r: &GbcRequest<'_>,
+) -> Result<Vec<u8>, Refused>
+    ensures step { (m : StationModel) → RepresentsStation station.old m →
+        IsStepOf TellsSent result station.new
+        (station_step m now (Own (area_call (kind_of_cast cast) (gbc_request r.now)))) }
+    ensures unchanged { OnErr result (station.new ≡ station.old) }
+    ensures memory { (m : StationModel) → RepresentsStation station.old m →
+        result ≡ Err Refused.NoMemory → first (moment_refusal m now)
+        (own_refusal m (area_call (kind_of_cast cast) (gbc_request r.now))) ≡ None }
+    ensures short_frame { IfOk result (λ sent. length sent.items ≤ 1468) }
+{
+    match cast {
+        AreaCast::Geobroadcast => station.send_geobroadcast(now, r),
+        AreaCast::Geoanycast => station.send_geoanycast(now, r),
+    }
+}
+
+/// The area of a request, if it has one.
+fn area_of(r: &AreaRequest) -> Option<Area>
+    ensures made { IfSome result (IsAreaOf r.now) }
+    ensures none { result ≡ None → (area : GeoArea) → IsAreaOf r.now area → ⊥ }
+{
+    let Ok(centre) = Place::new(r.latitude, r.longitude) else {
+        return None;
+    };
+    let made = match r.shape {
+        0 => Area::circle(centre, r.a),
+        1 => Area::rectangle(centre, r.a, r.b, r.angle),
+        2 => Area::ellipse(centre, r.a, r.b, r.angle),
+        _ => return None,
+    };
+    made.ok()
+}
+
+/// What the station is asked for.
+fn area_request<'a>(request: &AreaRequest, area: Area, payload: &'a [u8]) -> GbcRequest<'a>
+    ensures { gbc_request result ≡ gbc_asked request.now area payload.now }
+{
+    GbcRequest {
+        port: request.port,
+        info: request.info,
+        class: TrafficClass::from_octet(request.traffic_class),
+        lifetime: Lifetime::from_octet(request.lifetime),
+        max_hops: request.max_hops,
+        area,
+        payload,
+    }
+}
