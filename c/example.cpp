@@ -1,4 +1,5 @@
-// Two stations of C++: the first sends to an area, the second delivers it and relays.
+// Two stations of C++: the first sends to an area, the second delivers it, relays, and knows where
+// the first is.
 #include "geostation.hpp"
 
 #include <cstdio>
@@ -38,5 +39,9 @@ int main() {
     std::printf("%.*s at port %u, %zu octets go on\n", static_cast<int>(got.payload.size),
                 reinterpret_cast<const char *>(got.payload.data), unsigned{got.reception.port},
                 relay.size);
+    const auto packet = geostation::read_frame(Octets{frame.octets.data(), frame.size}).packet;
+    const auto where = b.look_up(11, 0x1400020000000001);
+    std::printf("%u hops left of a packet from latitude %d\n", unsigned{packet.hops_left},
+                where ? where->latitude : 0);
     return got.status == Status::Ok && got.payload.size == 2 && relay.size == 76 ? 0 : 1;
 }
