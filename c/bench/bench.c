@@ -1,0 +1,141 @@
+/* A call from C beside the same call in Rust: the loops of loops.rt.txt and the same loops over
+ * geostation.h, in turns. Prints for each the least nanoseconds of processor time a call, and their
+ * ratio. */
+#define _POSIX_C_SOURCE 200809L
+#include "geostation.h"
+#include <inttypes.h>
+#include <stdio.h>
+#include <stdlib.h>
+#include <string.h>
+#include <time.h>
+
+#define ADDRESS UINT64_C(0x1400020000000001)
+#define OTHER UINT64_C(0x1400020000000002)
+#define MANY 1000
+#define TURNS 40
+
+uint64_t bench_receive(uint64_t address, const uint8_t *frames, size_t length, size_t stride,
+                       uint32_t rounds);
+uint64_t bench_send(uint64_t address, const uint8_t *payload, size_t length, uint32_t rounds);
+
+static uint8_t frames[MANY * 100], relay[GEOSTATION_FRAME_MAX], payload[20];
+static size_t frames_length, stride;
+
+static const struct geostation_area_request AREA = {
+    .port = 2002, .info = 7, .traffic_class = 2, .lifetime = 0x1a, .max_hops = 5,
+    .shape = GEOSTATION_CIRCLE, .latitude = 449, .longitude = 0, .a = 200,
+};
+
+static struct geostation *station(uint64_t address, int32_t longitude) {
+    struct geostation *s;
+    if (geostation_new(&s, address, 449, longitude, 64, 8) != GEOSTATION_OK) {
+        exit(1);
+    }
+    (void)geostation_open_port(s, 0, 2002);
+    return s;
+}
+
+static uint64_t receive_from_c(uint32_t rounds) {
+    struct geostation *s = station(OTHER, 900);
+    struct geostation_reception r;
+    uint64_t sum = 0;
+    for (uint32_t k = 0; k < rounds; k++) {
+        for (size_t at = 0; at < frames_length; at += stride) {
+            if (geostation_receive(s, 5, frames + at, stride, &r, relay, sizeof relay)
+                == GEOSTATION_OK) {
+                sum += r.payload_length + r.relay_length;
+            }
+        }
+    }
+    geostation_free(s);
+    return sum;
+}
+
+static uint64_t receive_in_rust(uint32_t rounds) {
+    return bench_receive(OTHER, frames, frames_length, stride, rounds);
+}
+
+static uint64_t send_from_c(uint32_t rounds) {
+    struct geostation *s = station(OTHER, 900);
+    uint64_t sum = 0;
+    size_t n;
+    for (uint32_t k = 0; k < rounds * MANY; k++) {
+        if (geostation_send_gbc(s, 5, &AREA, payload, sizeof payload, relay, sizeof relay, &n)
+            == GEOSTATION_OK) {
+            sum += n;
+        }
+    }
+    geostation_free(s);
+    return sum;
+}
+
+static uint64_t send_in_rust(uint32_t rounds) {
+    return bench_send(OTHER, payload, sizeof payload, rounds * MANY);
+}
+
+static double processor_ns(void) {
+    struct timespec t;
+    clock_gettime(CLOCK_PROCESS_CPUTIME_ID, &t);
+    return (double)t.tv_sec * 1e9 + (double)t.tv_nsec;
+}
+
+static double once(uint64_t (*loop)(uint32_t), uint32_t rounds, uint64_t *sum) {
+    double from = processor_ns();
+    *sum = loop(rounds);
+    return (processor_ns() - from) / rounds / MANY;
+}
+
+static void row(const char *what, uint64_t (*c)(uint32_t), uint64_t (*rust)(uint32_t)) {
+    double least_c = 1e9, least_rust = 1e9;
+    uint64_t sum_c, sum_rust;
+    for (int turn = 0; turn < TURNS; turn++) {
+        double took_c = once(c, 20, &sum_c), took_rust = once(rust, 20, &sum_rust);
+        least_c = took_c < least_c ? took_c : least_c;
+        least_rust = took_rust < least_rust ? took_rust : least_rust;
+        if (sum_c != sum_rust) {
+            fprintf(stderr, "%s: %" PRIu64 " from C, %" PRIu64 " in Rust\n", what, sum_c, sum_rust);
+            exit(1);
+        }
+    }
+    printf("%-34s %6.1f ns from C %6.1f ns in Rust  %.2f\n", what, least_c, least_rust,
+           least_c / least_rust);
+}
+
+/* So many frames of this kind, one after the other. */
+static void fill(int kind) {
+    const struct geostation_shb_request shb = { .port = 2002, .info = 0, .traffic_class = 0 };
+    struct geostation *s = station(ADDRESS, 0);
+    size_t n = 0;
+    for (frames_length = 0; frames_length < MANY * stride; frames_length += stride) {
+        uint8_t *to = relay;
+        if (kind == GEOSTATION_BEACON) {
+            (void)geostation_tick(s, 3000 * (frames_length / stride), 0, to, sizeof relay, &n);
+        } else if (kind == GEOSTATION_SHB) {
+            (void)geostation_send_shb(s, 5, &shb, payload, sizeof payload, to, sizeof relay, &n);
+        } else {
+            (void)geostation_send_gbc(s, 5, &AREA, payload, sizeof payload, to, sizeof relay, &n);
+        }
+        if (n != stride) {
+            exit(1);
+        }
+        memcpy(frames + frames_length, to, n);
+    }
+    geostation_free(s);
+}
+
+int main(void) {
+    stride = 50, fill(GEOSTATION_BEACON);
+    row("receive a BEACON", receive_from_c, receive_in_rust);
+    stride = 78, fill(GEOSTATION_SHB);
+    row("receive an SHB, delivered", receive_from_c, receive_in_rust);
+    stride = 94, fill(GEOSTATION_GBC);
+    row("receive a GBC, delivered, relayed", receive_from_c, receive_in_rust);
+    for (size_t at = stride; at < frames_length; at += stride) {
+        memcpy(frames + at, frames, stride);
+    }
+    row("receive a duplicate", receive_from_c, receive_in_rust);
+    memset(frames, 0, frames_length);
+    row("receive junk", receive_from_c, receive_in_rust);
+    row("send a GBC", send_from_c, send_in_rust);
+    return 0;
+}
