@@ -4,7 +4,7 @@ use Rattle.std.proofs.Common.{IfSome, IfErr, OnOk, Result, Ok, Err, ◌-◌, min
 use Rattle.std.proofs.Common.{arith, length-append}
 use Rattle.std.proofs.Math.Seq.{take-append_seam}
 use Rattle.std.proofs.KnownBytes.{Consumes-trans}
-use Rattle.std.specs.Io.KnownBytes.{Consumes, IsAtEnd}
+use Rattle.std.specs.Io.KnownBytes.{Consumes}
 use Rattle.its_linkframe.specs.Devices.{ConsumesPrefix}
 use Rattle.its_linkframe.specs.declared.record.CaptureFault.TheVariants as captures
 use Rattle.its_pcap.specs.declared.fault.SourceFault.{SourceFault}

@@ -1,4 +1,9 @@
 pub mod Cuts
+pub mod Firsts
+pub mod Frames
+pub mod Given
+pub mod Layouts
+pub mod OptionChains
 pub mod Parts
 pub mod PcapHeaders
 pub mod PcapRecords

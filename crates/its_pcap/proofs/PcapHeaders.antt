@@ -1,5 +1,5 @@
 -- The header of a pcap file, part by part.
-use Rattle.std.proofs.Common.{◌≡◌, ℕ, ◌+◌, ◌<◌, ◌≤◌, ◌%◌, List, ◌++◌, length, drop, Option, sym, ap}
+use Rattle.std.proofs.Common.{◌≡◌, ℕ, ◌<◌, ◌%◌, List, ◌++◌, length, drop, Option, sym, ap}
 use Rattle.std.proofs.Common.{◌∙◌, arith, length-append, append_assoc, subst}
 use Rattle.std.specs.Io.KnownBytes.{Consumes}
 use Rattle.byteorder.specs.Endian.{big_number}

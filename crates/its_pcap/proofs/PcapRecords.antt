@@ -1,7 +1,7 @@
 -- A record of a pcap file, part by part.
-use Rattle.std.proofs.Common.{◌≡◌, ℕ, ◌+◌, ◌<◌, ◌≤◌, ◌⊎◌, inl, inr, List, [], ◌++◌}
+use Rattle.std.proofs.Common.{◌≡◌, ℕ, ◌+◌, ◌<◌, ◌≤◌, inl, inr, List, ◌++◌}
 use Rattle.std.proofs.Common.{length, take, drop}
-use Rattle.std.proofs.Common.{min, true, Option, None, Some, IfSome, sym, ap, subst, ◌∙◌, arith}
+use Rattle.std.proofs.Common.{min, true, Option, None, Some, sym, ap, subst, ◌∙◌, arith}
 use Rattle.std.proofs.Common.{append_assoc, append-nil, length-append}
 use Rattle.std.proofs.lemmas.List.{take_all, take-append-le}
 use Rattle.std.proofs.Math.Seq.{drop-append_seam}
@@ -14,9 +14,9 @@ use Rattle.its_pcap.specs.declared.pcap.Mark.{Mark}
 use Rattle.its_pcap.specs.declared.pcap.TheConstants.{LONGEST_CAPTURED}
 use Rattle.its_pcap.specs.declared.record.Head.{Head}
 use Rattle.its_pcap.specs.Octets.{number_in}
-use Rattle.its_pcap.specs.Reading.{IsCutShort, IsFrameFault, EndsWhere, GivesFrame}
+use Rattle.its_pcap.specs.Reading.{IsCutShort, IsFrameFault, EndsWhere}
 use Rattle.its_pcap.specs.Pcap.{captured_of, moment_of, AnnouncesRecord, EndsInRecord}
-use Rattle.its_pcap.specs.Pcap.{IsRecordFault, HasRecord, ReadsRecord, AnnouncesTooMuch}
+use Rattle.its_pcap.specs.Pcap.{IsRecordFault, HasRecord}
 use Rattle.its_pcap.proofs.Cuts.{ConsumesPrefix-after}
 use Rattle.its_pcap.proofs.Parts.{IfSome-of, EndsWhere-after, number_in-front, number_in-behind}
 

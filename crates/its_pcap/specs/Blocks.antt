@@ -1,16 +1,172 @@
--- How far a reader of a pcapng file is.
-use Rattle.std.specs.Prelude.{Bool, true, false}
-use Rattle.its_pcap.specs.declared.pcapng.Stage.{Stage}
-use Rattle.its_pcap.specs.declared.pcapng.Stage.TheVariants as stages
+-- The blocks of a pcapng file. Each begins with its type and its length, which stands at its end
+-- again; a section header says the order of octets for the blocks behind it.
+use Rattle.std.specs.Prelude.{◌≡◌, ◌≢◌, ℕ, ◌+◌, ◌-◌, ◌*◌, ◌^◌, ◌%◌, ◌≤◌, ◌⊎◌, ◌==◌, min}
+use Rattle.std.specs.Prelude.{List, drop, if◌then◌else◌, Some, None}
+use Rattle.std.specs.List.{slice_get}
+use Rattle.byteorder.specs.Endian.{big_number}
+use Rattle.its_pcap.specs.declared.blocks.Block.{Block}
+use Rattle.its_pcap.specs.declared.blocks.Block.TheVariants as blocks
+use Rattle.its_pcap.specs.declared.blocks.Kind.{Kind}
+use Rattle.its_pcap.specs.declared.blocks.Kind.TheVariants as kinds
+use Rattle.its_pcap.specs.declared.field.TheConstants.{LONGEST_BLOCK}
+use Rattle.its_pcap.specs.declared.interface.Interface.{Interface}
+use Rattle.its_pcap.specs.declared.octets.Order.{Order}
+use Rattle.its_pcap.specs.declared.octets.Order.TheVariants as orders
+use Rattle.its_pcap.specs.declared.pcap.TheConstants.{LONGEST_CAPTURED}
+use Rattle.its_pcap.specs.Layouts.{Layout, behind, field, frame, gives, number, number_that, octets}
+use Rattle.its_pcap.specs.Interfaces.{plain, options}
+use Rattle.its_pcap.specs.Moments.{IsMoment, IsNoMoment}
+use Rattle.its_pcap.specs.Octets.{number_in}
 
-abbrev pub is_failed : Stage → Bool
-is_failed stages.Start = false
-is_failed (stages.Blocks _) = false
-is_failed stages.Ended = false
-is_failed stages.Failed = true
+-- a length that a block may have, of which its type always has `least` octets
+abbrev pub IsBlockLength : ℕ → ℕ → Type 0
+IsBlockLength least n = (n % 4 ≡ 0) × (n ≤ LONGEST_BLOCK) × (least ≤ n)
 
-abbrev pub is_ended : Stage → Bool
-is_ended stages.Start = false
-is_ended (stages.Blocks _) = false
-is_ended stages.Ended = true
-is_ended stages.Failed = false
+abbrev pub block_length : Order → ℕ → Layout ℕ
+block_length o least = number_that o 4 (IsBlockLength least)
+
+-- the length of a block of n octets at its end
+abbrev pub last_length : Order → ℕ → Layout (Unit {0})
+last_length o n = field 4 (λ _ w. number_in o 4 w ≡ n) (λ w. number_in o 4 w ≢ n)
+
+-- what is left of a block of n octets before its end, and the length at its end
+unfoldable pub closing : Order → ℕ → ℕ → Layout (Unit {0})
+closing o rest n =
+    behind (octets rest) (λ _. last_length o n)
+
+-- ---- a section header, behind its type
+
+-- the magic 1a2b3c4d, in either order of octets
+abbrev pub magic_of : Order → ℕ
+magic_of orders.High = 439041101
+magic_of orders.Low = 1295788826
+
+abbrev pub HasMagic : Order → List ℕ → Type 0
+HasMagic o w = big_number 4 (drop 4 w) ≡ magic_of o
+
+-- the length, and the magic, which says its order
+pub record IsSectionHead (head : Order × ℕ) (w : List ℕ) : Type 0 where
+  pub magic : HasMagic head.0 w
+  pub length : head.1 ≡ number_in head.0 4 w
+  pub fits : IsBlockLength 28 head.1
+
+-- the magic is checked before the length
+abbrev pub IsWrongSection : List ℕ → Type 0
+IsWrongSection w =
+    ((o : Order) → ¬ HasMagic o w)
+    ⊎ ((o : Order) × HasMagic o w × ¬ IsBlockLength 28 (number_in o 4 w))
+
+abbrev pub section_head : Layout (Order × ℕ)
+section_head = field 8 IsSectionHead IsWrongSection
+
+-- behind the magic a major version of 1; minor version, section length and options aren't read
+unfoldable pub section : Layout Block
+section =
+    behind section_head
+    (λ head. behind (number_that head.0 2 (λ version. version ≡ 1))
+    (λ _. behind (closing head.0 (head.1 - 18) head.1) (λ _. gives (blocks.Section head.0))))
+
+-- ---- an interface, behind its type
+
+unfoldable pub interface : Order → Layout Block
+interface o =
+    behind (block_length o 20)
+    (λ n. behind (plain o)
+    (λ i. behind (options o (n - 20) i)
+    (λ known. behind (closing o known.0 n) (λ _. gives (blocks.Interface known.1)))))
+
+-- ---- packets, behind their type, of the interfaces of their section
+
+-- an interface by its number, from 0
+abbrev pub named : Order → List Interface → Layout Interface
+named o is =
+    field 4 (λ i w. slice_get is (number_in o 4 w) ≡ Some i)
+    (λ w. slice_get is (number_in o 4 w) ≡ None)
+
+-- a timestamp: the upper 32 bits, and the lower
+abbrev pub timestamp_in : Order → List ℕ → ℕ
+timestamp_in o w = number_in o 4 w * 2 ^ 32 + number_in o 4 (drop 4 w)
+
+abbrev pub moment : Order → Interface → Layout ℕ
+moment o i =
+    field 8 (λ m w. IsMoment i.ticks i.ahead i.behind (timestamp_in o w) m)
+    (λ w. IsNoMoment i.ticks i.ahead i.behind (timestamp_in o w))
+
+-- a captured length that a record may have, and for which the block has room
+abbrev pub FitsRecord : ℕ → ℕ → Type 0
+FitsRecord room c = (c ≤ LONGEST_CAPTURED) × (c ≤ room)
+
+unfoldable pub packet : Order → List Interface → ℕ → List ℕ → Layout Block
+packet o is keep kept =
+    behind (block_length o 32)
+    (λ n. behind (named o is)
+    (λ i. behind (moment o i)
+    (λ m. behind (number_that o 4 (FitsRecord (n - 32)))
+    (λ c. behind (number o 4)
+    (λ wire. behind (frame c keep kept)
+    (λ _. behind (closing o (n - 32 - c) n)
+    (λ _. gives (blocks.Record (record {
+      moment = m;
+      captured = c;
+      wire = wire;
+      is_ethernet = i.is_ethernet;
+    })))))))))
+
+-- the first interface of a section: no octet says it
+abbrev pub first : List Interface → Layout Interface
+first is = field 0 (λ i _. slice_get is 0 ≡ Some i) (λ _. slice_get is 0 ≡ None)
+
+-- a simple packet has the lesser of its length and the interface's snap length, where that is not 0
+abbrev pub simple_length : ℕ → ℕ → ℕ
+simple_length snap wire = if snap == 0 then wire else min wire snap
+
+-- the length on the wire, and how many octets there are of it
+pub record IsSimpleLength (o : Order) (i : Interface) (room : ℕ) (lengths : ℕ × ℕ) (w : List ℕ)
+    : Type 0 where
+  pub wire : lengths.0 ≡ number_in o 4 w
+  pub captured : lengths.1 ≡ simple_length i.snap lengths.0
+  pub fits : FitsRecord room lengths.1
+
+abbrev pub simple_lengths : Order → Interface → ℕ → Layout (ℕ × ℕ)
+simple_lengths o i room =
+    field 4 (IsSimpleLength o i room)
+    (λ w. ¬ FitsRecord room (simple_length i.snap (number_in o 4 w)))
+
+-- a simple packet: a record of the first interface, at moment 0
+unfoldable pub simple : Order → List Interface → ℕ → List ℕ → Layout Block
+simple o is keep kept =
+    behind (block_length o 16)
+    (λ n. behind (first is)
+    (λ i. behind (simple_lengths o i (n - 16))
+    (λ lengths. behind (frame lengths.1 keep kept)
+    (λ _. behind (closing o (n - 16 - lengths.1) n)
+    (λ _. gives (blocks.Record (record {
+      moment = 0;
+      captured = lengths.1;
+      wire = lengths.0;
+      is_ethernet = i.is_ethernet;
+    })))))))
+
+-- ---- a block of another kind, behind its type: it is passed over
+
+unfoldable pub other : Order → Layout Block
+other o =
+    behind (block_length o 12) (λ n. behind (closing o (n - 12) n) (λ _. gives blocks.Other))
+
+-- ---- any block
+
+abbrev pub kind_of_block : ℕ → Kind
+kind_of_block number =
+    if number == 168627466 then kinds.Section
+    else if number == 1 then kinds.Interface
+    else if number == 3 then kinds.Simple
+    else if number == 6 then kinds.Packet
+    else kinds.Other
+
+-- a block of this type, in a section of this order with these interfaces
+abbrev pub block_of : Order → List Interface → ℕ → List ℕ → Kind → Layout Block
+block_of o is keep kept kinds.Section = section
+block_of o is keep kept kinds.Interface = interface o
+block_of o is keep kept kinds.Simple = simple o is keep kept
+block_of o is keep kept kinds.Packet = packet o is keep kept
+block_of o is keep kept kinds.Other = other o

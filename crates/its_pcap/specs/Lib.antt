@@ -1,10 +1,17 @@
+pub mod Begun
 pub mod Blocks
 pub mod Codes
 pub mod Formats
+pub mod Interfaces
+pub mod Layouts
 pub mod Moments
 pub mod Octets
+pub mod Padding
 pub mod Pcap
 pub mod PcapWritten
+pub mod Pcapng
+pub mod PcapngWritten
 pub mod Reading
 pub mod Records
+pub mod Sources
 pub mod Writing

@@ -1,11 +1,10 @@
 -- Classic pcap: a header of 24 octets, and records, each with four numbers of 32 bits before its
 -- octets: seconds, fraction, captured length, wire length.
 use Rattle.std.specs.Prelude.{◌≡◌, ◌≢◌, ℕ, ◌+◌, ◌*◌, ◌/◌, ◌%◌, ◌<◌, ◌≤◌, ◌⊎◌, Bool, true, false}
-use Rattle.std.specs.Prelude.{List, [], ◌++◌, length, take, drop, min, Option, IfSome}
+use Rattle.std.specs.Prelude.{List, [], length, take, drop, min, Option, IfSome}
 use Rattle.std.specs.Prelude.{Result, Ok, Err}
-use Rattle.std.specs.Io.KnownBytes.{Consumes, IsAtEnd}
+use Rattle.std.specs.Io.KnownBytes.{Consumes}
 use Rattle.byteorder.specs.Endian.{big_number}
-use Rattle.its_linkframe.specs.declared.record.CaptureFault.{CaptureFault}
 use Rattle.its_linkframe.specs.declared.record.CaptureFault.TheVariants as captures
 use Rattle.its_linkframe.specs.Devices.{ConsumesPrefix}
 use Rattle.its_pcap.specs.declared.fault.SourceFault.{SourceFault}

@@ -1,8 +1,7 @@
 -- What one part of a file does to the octets that a source has left.
-use Rattle.std.specs.Prelude.{◌≡◌, ℕ, ◌<◌, Bool, true, false, List, [], length, take, min, ◌≤◌}
+use Rattle.std.specs.Prelude.{◌≡◌, ℕ, ◌<◌, Bool, true, false, List, [], length, take, min}
 use Rattle.std.specs.Prelude.{Option, Result, Ok, Err, IfSome}
 use Rattle.std.specs.Io.KnownBytes.{Consumes, IsAtEnd}
-use Rattle.its_linkframe.specs.declared.record.CaptureFault.{CaptureFault}
 use Rattle.its_linkframe.specs.declared.record.CaptureFault.TheVariants as captures
 use Rattle.its_linkframe.specs.Devices.{ConsumesPrefix}
 use Rattle.its_pcap.specs.declared.fault.SourceFault.{SourceFault}

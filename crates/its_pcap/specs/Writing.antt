@@ -1,6 +1,5 @@
 -- What a writer of records does.
 use Rattle.std.specs.Prelude.{◌≡◌, ℕ, ◌<◌, Bool, true, false, List, length, Option, Result, Ok, Err}
-use Rattle.std.specs.Io.KnownBytes.{Appends}
 use Rattle.its_linkframe.specs.Devices.{AppendsPrefix}
 use Rattle.its_pcap.specs.declared.pcap.TheConstants.{LONGEST_CAPTURED}
 use Rattle.its_pcap.specs.declared.put_fault.PutFault.{PutFault}
@@ -18,6 +17,8 @@ abbrev pub is_io_failure : {T : Type 0} → Result T PutFault → Bool
 is_io_failure (Ok _) = false
 is_io_failure (Err faults.Length) = false
 is_io_failure (Err faults.Moment) = false
+is_io_failure (Err faults.Interface) = false
+is_io_failure (Err faults.Name) = false
 is_io_failure (Err faults.Io) = true
 is_io_failure (Err faults.Failed) = false
 
@@ -28,6 +29,8 @@ abbrev pub IsPutFault : (ℕ → Type 0) → ℕ → List ℕ → List ℕ → W
 IsPutFault IsLate moment frame text old new faults.Length =
     (LONGEST_CAPTURED < length frame) × (new ≡ old)
 IsPutFault IsLate moment frame text old new faults.Moment = IsLate moment × (new ≡ old)
+IsPutFault IsLate moment frame text old new faults.Interface = ⊥
+IsPutFault IsLate moment frame text old new faults.Name = ⊥
 IsPutFault IsLate moment frame text old new faults.Io =
     AppendsPrefix old.contents new.contents text
 IsPutFault IsLate moment frame text old new faults.Failed = new ≡ old
@@ -36,5 +39,7 @@ IsPutFault IsLate moment frame text old new faults.Failed = new ≡ old
 abbrev pub IsStartFault : List ℕ → Writing → Writing → PutFault → Type 0
 IsStartFault text old new faults.Length = ⊥
 IsStartFault text old new faults.Moment = ⊥
+IsStartFault text old new faults.Interface = ⊥
+IsStartFault text old new faults.Name = ⊥
 IsStartFault text old new faults.Io = AppendsPrefix old.contents new.contents text
 IsStartFault text old new faults.Failed = new ≡ old

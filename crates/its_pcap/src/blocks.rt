@@ -1,32 +1,38 @@
 //! The blocks of a pcapng file, each read behind its type.
 
-ghost use Rattle.std.specs.Prelude.{◌≡◌, ◌-◌, ◌+◌, ◌^◌, ◌<◌, ◌≤◌, ◌%◌, ◌↔◌, IsTrue, if◌then◌else◌};
-ghost use Rattle.std.specs.Prelude.{IfOk};
+ghost use Rattle.std.specs.Prelude.{◌≡◌, ◌≢◌, ◌-◌, ◌+◌, ◌*◌, ◌^◌, ◌<◌, ◌≤◌, ◌↔◌, IsTrue};
+ghost use Rattle.std.specs.Prelude.{IfOk, if◌then◌else◌, MatchOption, MatchResult};
+ghost use Rattle.std.specs.List.{slice_get};
+ghost use Rattle.its_pcap.specs.Blocks.{section_head, section, interface, named, moment};
+ghost use Rattle.its_pcap.specs.Interfaces.{plain};
+ghost use Rattle.its_pcap.specs.Blocks.{FitsRecord, packet, first, simple_length, simple_lengths};
+ghost use Rattle.its_pcap.specs.Blocks.{simple, other, kind_of_block, block_of, magic_of};
+ghost use Rattle.its_pcap.specs.Layouts.{IsAnswerOf, number_that};
 ghost use Rattle.its_pcap.specs.Reading.{is_io};
+ghost use Rattle.its_pcap.specs.declared.fault.SourceFault.TheVariants as faults;
 
 use crate::fault::SourceFault;
-use crate::interface::{Interface, MICROS, moment_of, seconds_of, ticks_in};
-use crate::octets::{Order, half_at, long_at, word_at};
+use crate::field::{block_length, end_block, half, is_block_length, word};
+use crate::interface::{Interface, MICROS, moment_of};
+use crate::octets::{Order, half_at, word_at};
+use crate::options::read_options;
 use crate::pcap::{ETHERNET, LONGEST_CAPTURED};
 use crate::record::Head;
-use crate::transfer::{fill_whole, pass_over, read_frame};
+use crate::transfer::{fill_whole, read_frame};
 use byteorder::{BigEndian, ByteOrder};
-use its_linkframe::{CaptureFault, Source};
+use its_linkframe::Source;
 
-/// The most octets of a block.
-const LONGEST_BLOCK: u32 = 327_680;
-
-/// The type of a section header.
+/// The type of a section header, the same in either order of octets.
 pub(crate) const SECTION: u32 = 0x0a0d_0d0a;
 
 /// The type of an interface block.
-pub(crate) const INTERFACE: u32 = 1;
+const INTERFACE: u32 = 1;
 
 /// The type of a simple packet block.
-pub(crate) const SIMPLE: u32 = 3;
+const SIMPLE: u32 = 3;
 
 /// The type of an enhanced packet block.
-pub(crate) const PACKET: u32 = 6;
+const PACKET: u32 = 6;
 
 /// The magic of a section, read with the highest octet first, where that is its order.
 const MAGIC_HIGH: u32 = 0x1a2b_3c4d;
@@ -34,8 +40,14 @@ const MAGIC_HIGH: u32 = 0x1a2b_3c4d;
 /// The same where the lowest octet comes first.
 const MAGIC_LOW: u32 = 0x4d3c_2b1a;
 
+/// The one major version of a section.
+const MAJOR_VERSION: u16 = 1;
+
 /// The least octets of a section header.
 const LEAST_SECTION: u32 = 28;
+
+/// Its octets up to its minor version, with its length at its end.
+const SECTION_FRONT: usize = 18;
 
 /// The least octets of an interface block.
 const LEAST_INTERFACE: u32 = 20;
@@ -49,66 +61,75 @@ const LEAST_PACKET: u32 = 32;
 /// The least octets of any other block.
 const LEAST: u32 = 12;
 
-/// The next number of 32 bits.
-pub(crate) fn word<S: Source>(source: &mut S, order: Order) -> Result<u32, SourceFault>
-    requires { S.failed source.old < 2 ^ 64 - 1 }
-    ensures counts { S.failed source.new ≡ S.failed source.old + (if is_io result then 1 else 0) }
-{
-    let mut octets = [0; 4];
-    fill_whole(source, &mut octets)?;
-    Ok(word_at(order, &octets, 0))
+/// What a block is.
+#[derive(Clone, Copy, Debug, PartialEq, Eq)]
+pub(crate) enum Kind {
+    /// A section header.
+    Section,
+    /// An interface.
+    Interface,
+    /// A packet with nothing but its length on the wire.
+    Simple,
+    /// A packet with its interface and its moment.
+    Packet,
+    /// Any other.
+    Other,
 }
 
-/// The next number of 16 bits.
-fn half<S: Source>(source: &mut S, order: Order) -> Result<u16, SourceFault>
-    requires { S.failed source.old < 2 ^ 64 - 1 }
-    ensures counts { S.failed source.new ≡ S.failed source.old + (if is_io result then 1 else 0) }
-{
-    let mut octets = [0; 2];
-    fill_whole(source, &mut octets)?;
-    Ok(half_at(order, &octets, 0))
+/// What a block gives.
+#[derive(Clone, Copy)]
+pub(crate) enum Block {
+    /// A section begins, with this order of octets.
+    Section(Order),
+    /// A further interface of the section.
+    Interface(Interface),
+    /// A record.
+    Record(Head),
+    /// Nothing that is read.
+    Other,
 }
 
-/// Whether a block may have so many octets, of which its type always has `least`.
-fn is_block_length(length: u32, least: u32) -> bool
-    ensures { IsTrue result ↔ ((length % 4 ≡ 0) × (length ≤ LONGEST_BLOCK) × (least ≤ length)) }
+/// What a block is, by the number of its type.
+pub(crate) fn kind_of(number: u32) -> Kind
+    ensures { result ≡ kind_of_block number }
 {
-    length % 4 == 0 && length <= LONGEST_BLOCK && length >= least
-}
-
-/// The length of a block, of which its type always has `least` octets. P2 where it is another.
-fn block_length<S: Source>(source: &mut S, order: Order, least: u32) -> Result<u32, SourceFault>
-    requires { S.failed source.old < 2 ^ 64 - 1 }
-    ensures fits { IfOk result (λ n. (least ≤ n) × (n ≤ LONGEST_BLOCK)) }
-    ensures counts { S.failed source.new ≡ S.failed source.old + (if is_io result then 1 else 0) }
-{
-    let length = word(source, order)?;
-    if !is_block_length(length, least) {
-        return Err(SourceFault::Malformed);
+    match number {
+        SECTION => Kind::Section,
+        INTERFACE => Kind::Interface,
+        SIMPLE => Kind::Simple,
+        PACKET => Kind::Packet,
+        _ => Kind::Other,
     }
-    Ok(length)
 }
 
-/// The rest of a block, of so many octets before its length, which stands at its end again. P2
-/// where that is another.
-fn end_block<S: Source>(
+/// A block behind its type, in a section of this order with these interfaces. The frame of a packet
+/// goes into the buffer.
+pub(crate) fn read_block<S: Source>(
     source: &mut S,
+    kind: Kind,
     order: Order,
-    rest: usize,
-    length: u32,
-) -> Result<(), SourceFault>
+    interfaces: &[Interface],
+    keep: usize,
+    frame: &mut Vec<u8>,
+) -> Result<Block, SourceFault>
     requires { S.failed source.old < 2 ^ 64 - 1 }
+    ensures answer { IsAnswerOf (block_of order interfaces.now keep frame.new.items kind)
+        (S.remaining source.old) (S.remaining source.new) result }
     ensures counts { S.failed source.new ≡ S.failed source.old + (if is_io result then 1 else 0) }
 {
-    pass_over(source, rest)?;
-    if word(source, order)? != length {
-        return Err(SourceFault::Malformed);
+    match kind {
+        Kind::Section => section_block(source),
+        Kind::Interface => interface_block(source, order),
+        Kind::Simple => simple_block(source, order, interfaces, keep, frame),
+        Kind::Packet => packet_block(source, order, interfaces, keep, frame),
+        Kind::Other => other_block(source, order),
     }
-    Ok(())
 }
 
 /// The order of octets that a magic says.
-fn order_in(magic: u32) -> Option<Order> {
+fn order_in(magic: u32) -> Option<Order>
+    ensures { MatchOption result ((o : Order) → ¬ (magic ≡ magic_of o)) (λ o. magic ≡ magic_of o) }
+{
     match magic {
         MAGIC_HIGH => Some(Order::High),
         MAGIC_LOW => Some(Order::Low),
@@ -116,10 +137,13 @@ fn order_in(magic: u32) -> Option<Order> {
     }
 }
 
-/// A section header, behind its type: its order of octets. The magic is checked before the length,
-/// whose octets it orders.
-pub(crate) fn section_block<S: Source>(source: &mut S) -> Result<Order, SourceFault>
+/// The length and the magic of a section header. The magic is checked before the length, whose
+/// octets it orders.
+fn read_section_head<S: Source>(source: &mut S) -> Result<(Order, u32), SourceFault>
     requires { S.failed source.old < 2 ^ 64 - 1 }
+    ensures answer { IsAnswerOf section_head (S.remaining source.old) (S.remaining source.new)
+        result }
+    ensures fits { IfOk result (λ head. LEAST_SECTION ≤ head.1) }
     ensures counts { S.failed source.new ≡ S.failed source.old + (if is_io result then 1 else 0) }
 {
     let mut head = [0; 8];
@@ -131,190 +155,244 @@ pub(crate) fn section_block<S: Source>(source: &mut S) -> Result<Order, SourceFa
     if !is_block_length(length, LEAST_SECTION) {
         return Err(SourceFault::Malformed);
     }
-    if half(source, order)? != 1 {
-        return Err(SourceFault::Malformed);
-    }
-    end_block(source, order, length as usize - 18, length)?;
-    Ok(order)
+    Ok((order, length))
 }
 
-/// An interface block, behind its type.
-pub(crate) fn interface_block<S: Source>(
-    source: &mut S,
-    order: Order,
-) -> Result<Interface, SourceFault>
+/// The major version of a section. P2 where it is not 1.
+fn read_version<S: Source>(source: &mut S, order: Order) -> Result<u16, SourceFault>
     requires { S.failed source.old < 2 ^ 64 - 1 }
+    ensures answer { IsAnswerOf (number_that order 2 (λ version. version ≡ 1))
+        (S.remaining source.old) (S.remaining source.new) result }
     ensures counts { S.failed source.new ≡ S.failed source.old + (if is_io result then 1 else 0) }
 {
-    let length = block_length(source, order, LEAST_INTERFACE)?;
+    let version = half(source, order)?;
+    if version != MAJOR_VERSION {
+        return Err(SourceFault::Malformed);
+    }
+    Ok(version)
+}
+
+/// A section header, behind its type: its order of octets.
+fn section_block<S: Source>(source: &mut S) -> Result<Block, SourceFault>
+    requires { S.failed source.old < 2 ^ 64 - 1 }
+    ensures answer { IsAnswerOf section (S.remaining source.old) (S.remaining source.new) result }
+    ensures counts { S.failed source.new ≡ S.failed source.old + (if is_io result then 1 else 0) }
+{
+    let (order, length) = read_section_head(source)?;
+    read_version(source, order)?;
+    end_block(source, order, length as usize - SECTION_FRONT, length)?;
+    Ok(Block::Section(order))
+}
+
+/// The link type and the snap length of an interface.
+fn read_plain<S: Source>(source: &mut S, order: Order) -> Result<Interface, SourceFault>
+    requires { S.failed source.old < 2 ^ 64 - 1 }
+    ensures answer { IsAnswerOf (plain order) (S.remaining source.old) (S.remaining source.new)
+        result }
+    ensures counts { S.failed source.new ≡ S.failed source.old + (if is_io result then 1 else 0) }
+{
     let mut head = [0; 8];
     fill_whole(source, &mut head)?;
-    let mut interface = Interface {
+    Ok(Interface {
         is_ethernet: u32::from(half_at(order, &head, 0)) == ETHERNET,
         snap: word_at(order, &head, 4),
         ticks: MICROS,
         ahead: 0,
         behind: 0,
-    };
-    let left = read_options(source, order, length as usize - 20, &mut interface)?;
-    end_block(source, order, left, length)?;
-    Ok(interface)
+    })
 }
 
-/// The options of an interface, in so many octets: how many are left behind the end of options.
-fn read_options<S: Source>(
-    source: &mut S,
-    order: Order,
-    room: usize,
-    interface: &mut Interface,
-) -> Result<usize, SourceFault>
+/// An interface block, behind its type.
+fn interface_block<S: Source>(source: &mut S, order: Order) -> Result<Block, SourceFault>
     requires { S.failed source.old < 2 ^ 64 - 1 }
-    ensures left { IfOk result (λ n. n ≤ room) }
+    ensures answer { IsAnswerOf (interface order) (S.remaining source.old) (S.remaining source.new)
+        result }
     ensures counts { S.failed source.new ≡ S.failed source.old + (if is_io result then 1 else 0) }
 {
-    let mut left = room;
-    while left >= 4 {
-        let code = half(source, order)?;
-        let size = half(source, order)? as usize;
-        left -= 4;
-        if code == 0 {
-            return Ok(left);
-        }
-        let padded = size + (4 - size % 4) % 4;
-        if padded > left {
-            return Err(SourceFault::Malformed);
-        }
-        read_option(source, order, code, size, interface)?;
-        left -= padded;
-    }
-    Ok(left)
+    let length = block_length(source, order, LEAST_INTERFACE)?;
+    let plain = read_plain(source, order)?;
+    let (left, interface) = read_options(
+        source,
+        order,
+        (length - LEAST_INTERFACE) as usize,
+        plain,
+    )?;
+    end_block(source, order, left, length)?;
+    Ok(Block::Interface(interface))
 }
 
-/// An option of an interface, with its padding, behind its code and its size.
-fn read_option<S: Source>(
+/// The interface of a packet, by its number. P2 where there is none.
+fn read_interface<S: Source>(
     source: &mut S,
     order: Order,
-    code: u16,
-    size: usize,
-    interface: &mut Interface,
-) -> Result<(), SourceFault>
-    requires ready { S.failed source.old < 2 ^ 64 - 1 }
-    requires small { size < 2 ^ 16 }
+    interfaces: &[Interface],
+) -> Result<Interface, SourceFault>
+    requires { S.failed source.old < 2 ^ 64 - 1 }
+    ensures answer { IsAnswerOf (named order interfaces.now) (S.remaining source.old)
+        (S.remaining source.new) result }
     ensures counts { S.failed source.new ≡ S.failed source.old + (if is_io result then 1 else 0) }
 {
-    match (code, size) {
-        (RESOLUTION, 1) => {
-            let mut octet = [0; 1];
-            fill_whole(source, &mut octet)?;
-            let Some(ticks) = ticks_in(octet[0]) else {
-                return Err(SourceFault::Malformed);
-            };
-            interface.ticks = ticks;
-            pass_over(source, 3)
-        }
-        (OFFSET, 8) => {
-            let mut octets = [0; 8];
-            fill_whole(source, &mut octets)?;
-            let (ahead, behind) = seconds_of(long_at(order, &octets));
-            interface.ahead = ahead;
-            interface.behind = behind;
-            Ok(())
-        }
-        _ => pass_over(source, size + (4 - size % 4) % 4),
+    let number = word(source, order)?;
+    match interfaces.get(number as usize) {
+        Some(interface) => Ok(*interface),
+        None => Err(SourceFault::Malformed),
     }
 }
 
-/// `if_tsresol`.
-const RESOLUTION: u16 = 9;
+/// The moment of a packet, in milliseconds. P2 where it is below 0 or of 2^64 and more.
+fn read_moment<S: Source>(
+    source: &mut S,
+    order: Order,
+    interface: &Interface,
+) -> Result<u64, SourceFault>
+    requires { S.failed source.old < 2 ^ 64 - 1 }
+    ensures answer { IsAnswerOf (moment order interface.now) (S.remaining source.old)
+        (S.remaining source.new) result }
+    ensures counts { S.failed source.new ≡ S.failed source.old + (if is_io result then 1 else 0) }
+{
+    let mut octets = [0; 8];
+    fill_whole(source, &mut octets)?;
+    let timestamp = timestamp_of(word_at(order, &octets, 0), word_at(order, &octets, 4));
+    match moment_of(interface, timestamp) {
+        Some(moment) => Ok(moment),
+        None => Err(SourceFault::Malformed),
+    }
+}
 
-/// `if_tsoffset`.
-const OFFSET: u16 = 14;
+/// A timestamp of its upper and its lower 32 bits.
+fn timestamp_of(high: u32, low: u32) -> u64
+    ensures { result ≡ high * 2 ^ 32 + low }
+{
+    u64::from(high) * (1 << 32) + u64::from(low)
+}
+
+/// Whether a record may have so many octets, for which its block has this room.
+fn fits_record(captured: u32, room: u32) -> bool
+    ensures { IsTrue result ↔ FitsRecord room captured }
+{
+    captured <= LONGEST_CAPTURED && captured <= room
+}
+
+/// The captured length of a packet, for which its block has this room. P2 where it is longer, or
+/// over 262144.
+fn read_captured<S: Source>(source: &mut S, order: Order, room: u32) -> Result<u32, SourceFault>
+    requires { S.failed source.old < 2 ^ 64 - 1 }
+    ensures answer { IsAnswerOf (number_that order 4 (FitsRecord room)) (S.remaining source.old)
+        (S.remaining source.new) result }
+    ensures fits { IfOk result (FitsRecord room) }
+    ensures counts { S.failed source.new ≡ S.failed source.old + (if is_io result then 1 else 0) }
+{
+    let captured = word(source, order)?;
+    if !fits_record(captured, room) {
+        return Err(SourceFault::Malformed);
+    }
+    Ok(captured)
+}
 
 /// An enhanced packet block, behind its type: a record.
-pub(crate) fn packet_block<S: Source>(
+fn packet_block<S: Source>(
     source: &mut S,
     order: Order,
     interfaces: &[Interface],
     keep: usize,
     frame: &mut Vec<u8>,
-) -> Result<Head, SourceFault>
+) -> Result<Block, SourceFault>
     requires { S.failed source.old < 2 ^ 64 - 1 }
+    ensures answer { IsAnswerOf (packet order interfaces.now keep frame.new.items)
+        (S.remaining source.old) (S.remaining source.new) result }
     ensures counts { S.failed source.new ≡ S.failed source.old + (if is_io result then 1 else 0) }
 {
     let length = block_length(source, order, LEAST_PACKET)?;
-    let Some(interface) = interfaces.get(word(source, order)? as usize) else {
-        return Err(SourceFault::Malformed);
-    };
-    let high = word(source, order)?;
-    let low = word(source, order)?;
-    let Some(moment) = moment_of(interface, u64::from(high) << 32 | u64::from(low)) else {
-        return Err(SourceFault::Malformed);
-    };
-    let captured = word(source, order)?;
-    if captured > LONGEST_CAPTURED || captured > length - LEAST_PACKET {
-        return Err(SourceFault::Malformed);
-    }
+    let room = length - LEAST_PACKET;
+    let interface = read_interface(source, order, interfaces)?;
+    let moment = read_moment(source, order, &interface)?;
+    let captured = read_captured(source, order, room)?;
     let wire = word(source, order)?;
     read_frame(source, captured as usize, keep, frame)?;
-    end_block(
-        source,
-        order,
-        (length - LEAST_PACKET - captured) as usize,
-        length,
-    )?;
-    Ok(Head {
+    end_block(source, order, (room - captured) as usize, length)?;
+    Ok(Block::Record(Head {
         moment,
         captured,
         wire,
         is_ethernet: interface.is_ethernet,
-    })
+    }))
+}
+
+/// The first interface of a section. P2 where there is none.
+fn first_of(interfaces: &[Interface]) -> Result<Interface, SourceFault>
+    ensures { MatchResult result (λ i. slice_get interfaces.now 0 ≡ Some i)
+        (λ f. (f ≡ faults.Malformed) × (slice_get interfaces.now 0 ≡ None)) }
+{
+    match interfaces.first() {
+        Some(interface) => Ok(*interface),
+        None => Err(SourceFault::Malformed),
+    }
+}
+
+/// The length on the wire of a simple packet, and how many of these octets there are, for which its
+/// block has this room. P2 where that is too little, or they are over 262144.
+fn read_lengths<S: Source>(
+    source: &mut S,
+    order: Order,
+    interface: &Interface,
+    room: u32,
+) -> Result<(u32, u32), SourceFault>
+    requires { S.failed source.old < 2 ^ 64 - 1 }
+    ensures answer { IsAnswerOf (simple_lengths order interface.now room) (S.remaining source.old)
+        (S.remaining source.new) result }
+    ensures fits { IfOk result (λ lengths. FitsRecord room lengths.1) }
+    ensures counts { S.failed source.new ≡ S.failed source.old + (if is_io result then 1 else 0) }
+{
+    let wire = word(source, order)?;
+    let captured = captured_in(wire, interface.snap);
+    if !fits_record(captured, room) {
+        return Err(SourceFault::Malformed);
+    }
+    Ok((wire, captured))
 }
 
 /// A simple packet block, behind its type: a record of the first interface, at moment 0.
-pub(crate) fn simple_block<S: Source>(
+fn simple_block<S: Source>(
     source: &mut S,
     order: Order,
     interfaces: &[Interface],
     keep: usize,
     frame: &mut Vec<u8>,
-) -> Result<Head, SourceFault>
+) -> Result<Block, SourceFault>
     requires { S.failed source.old < 2 ^ 64 - 1 }
+    ensures answer { IsAnswerOf (simple order interfaces.now keep frame.new.items)
+        (S.remaining source.old) (S.remaining source.new) result }
     ensures counts { S.failed source.new ≡ S.failed source.old + (if is_io result then 1 else 0) }
 {
     let length = block_length(source, order, LEAST_SIMPLE)?;
-    let Some(interface) = interfaces.first() else {
-        return Err(SourceFault::Malformed);
-    };
-    let wire = word(source, order)?;
-    let captured = captured_in(wire, interface.snap);
-    if captured > LONGEST_CAPTURED || captured > length - LEAST_SIMPLE {
-        return Err(SourceFault::Malformed);
-    }
+    let room = length - LEAST_SIMPLE;
+    let interface = first_of(interfaces)?;
+    let (wire, captured) = read_lengths(source, order, &interface, room)?;
     read_frame(source, captured as usize, keep, frame)?;
-    end_block(
-        source,
-        order,
-        (length - LEAST_SIMPLE - captured) as usize,
-        length,
-    )?;
-    Ok(Head {
+    end_block(source, order, (room - captured) as usize, length)?;
+    Ok(Block::Record(Head {
         moment: 0,
         captured,
         wire,
         is_ethernet: interface.is_ethernet,
-    })
+    }))
 }
 
 /// How many octets of a frame a simple packet has: at most the snap length, where that is not 0.
-fn captured_in(wire: u32, snap: u32) -> u32 {
+fn captured_in(wire: u32, snap: u32) -> u32
+    ensures { result ≡ simple_length snap wire }
+{
     if snap == 0 { wire } else { wire.min(snap) }
 }
 
 /// A block of another kind, behind its type: it is passed over.
-pub(crate) fn other_block<S: Source>(source: &mut S, order: Order) -> Result<(), SourceFault>
+fn other_block<S: Source>(source: &mut S, order: Order) -> Result<Block, SourceFault>
     requires { S.failed source.old < 2 ^ 64 - 1 }
+    ensures answer { IsAnswerOf (other order) (S.remaining source.old) (S.remaining source.new)
+        result }
     ensures counts { S.failed source.new ≡ S.failed source.old + (if is_io result then 1 else 0) }
 {
     let length = block_length(source, order, LEAST)?;
-    end_block(source, order, (length - LEAST) as usize, length)
+    end_block(source, order, (length - LEAST) as usize, length)?;
+    Ok(Block::Other)
 }

@@ -1,6 +1,6 @@
 //! Interfaces of a pcapng file, and the moments that they count.
 
-ghost use Rattle.std.specs.Prelude.{◌≡◌, ◌^◌, ◌<◌, MatchOption, IfSome};
+ghost use Rattle.std.specs.Prelude.{◌≡◌, ◌^◌, ◌<◌, ◌≤◌, MatchOption, IfSome};
 ghost use Rattle.its_pcap.specs.Moments.{ticks_of, IsTooFine, IsMoment, IsNoMoment, ahead_of};
 ghost use Rattle.its_pcap.specs.Moments.{behind_of};
 
@@ -26,6 +26,7 @@ pub(crate) const MICROS: u64 = 1_000_000;
 /// is set. Nothing where they are finer than 10^-19 or 2^-63.
 pub(crate) fn ticks_in(resolution: u8) -> Option<u64>
     ensures ticks { MatchOption result (IsTooFine resolution) (λ n. n ≡ ticks_of resolution) }
+    ensures fine { IfSome result (λ _. ¬ IsTooFine resolution) }
     ensures some { IfSome result (λ n. 0 < n) }
 {
     if resolution < 128 {
@@ -40,6 +41,7 @@ pub(crate) fn ticks_in(resolution: u8) -> Option<u64>
 
 fn power_of_ten(exponent: u8) -> Option<u64>
     ensures power { MatchOption result (19 < exponent) (λ n. n ≡ 10 ^ exponent) }
+    ensures within { IfSome result (λ _. exponent ≤ 19) }
     ensures some { IfSome result (λ n. 0 < n) }
 {
     let power = match exponent {

@@ -1,23 +1,34 @@
 //! Captures of other programs: records of pcap and pcapng files, read and written.
 #![tactic(auto)]
 
+mod begun;
 mod blocks;
 mod fault;
+mod field;
 mod format;
 mod interface;
 mod octets;
+mod options;
+mod padding;
 mod pcap;
 mod pcap_writer;
 mod pcapng;
+mod pcapng_writer;
 mod put_fault;
 mod record;
+mod sink;
+mod source;
 mod transfer;
 
 pub use fault::SourceFault;
 pub use format::{Format, format_of};
 pub use octets::Order;
+pub use padding::without_padding;
 pub use pcap::{LONGEST_CAPTURED, Mark, PcapReader, Unit};
 pub use pcap_writer::PcapWriter;
 pub use pcapng::PcapngReader;
+pub use pcapng_writer::PcapngWriter;
 pub use put_fault::PutFault;
 pub use record::{Head, RecordFault, Step};
+pub use sink::{AnySink, RecordSink, SinkFault};
+pub use source::{AnySource, CaptureSource, RecordSource};

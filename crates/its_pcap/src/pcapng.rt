@@ -3,21 +3,17 @@
 ghost use Rattle.std.specs.Prelude.{◌≡◌, ◌-◌, ◌+◌, ◌^◌, ◌<◌, ◌↔◌, ◌||◌, Ok, Err, IsTrue, is_err};
 ghost use Rattle.std.specs.Prelude.{if◌then◌else◌, false};
 ghost use Rattle.its_linkframe.specs.declared.record.CaptureFault.TheVariants as captures;
-ghost use Rattle.its_pcap.specs.Blocks.{is_failed, is_ended};
+ghost use Rattle.its_pcap.specs.Pcapng.{is_failed, is_ended, IsTaken};
 ghost use Rattle.its_pcap.specs.Reading.{is_io};
 ghost use Rattle.its_pcap.specs.declared.fault.SourceFault.TheVariants as faults;
 ghost use Rattle.its_pcap.specs.declared.record.Step.TheVariants as steps;
 
-use crate::blocks::{
-    INTERFACE, PACKET, SECTION, SIMPLE, interface_block, other_block, packet_block, section_block,
-    simple_block,
-};
+use crate::blocks::{Block, Kind, kind_of, read_block};
 use crate::fault::SourceFault;
 use crate::interface::Interface;
 use crate::octets::{Order, word_at};
 use crate::record::Step;
 use crate::transfer::fill;
-use byteorder::{BigEndian, ByteOrder};
 use its_linkframe::{CaptureFault, Source};
 use std::alloc::Global;
 use std::marker::Model;
@@ -48,7 +44,7 @@ pub struct PcapngReader<R: Source> {
 impl<R: Source> Model for PcapngReader<R> {
     ghost use Rattle.std.specs.Prelude.{◌≡◌, ◌-◌, ◌^◌, ◌<◌, false};
     ghost use Rattle.its_linkframe.specs.Reading.{Reading};
-    ghost use Rattle.its_pcap.specs.Blocks.{is_failed, is_ended};
+    ghost use Rattle.its_pcap.specs.Pcapng.{is_failed, is_ended};
 
     ghost Value = { Reading };
 
@@ -101,22 +97,22 @@ impl<R: Source> PcapngReader<R> {
             Stage::Ended => return Ok(Step::End),
             Stage::Failed => return Err(SourceFault::Capture(CaptureFault::Failed)),
         };
-        match read_block(
+        match read_next(
             &mut self.source,
             order,
             &mut self.interfaces,
             self.keep,
             frame,
         ) {
-            Ok(Block::Section(order)) => {
+            Ok(Next::Section(order)) => {
                 self.stage = Stage::Blocks(order);
                 Ok(Step::Passed)
             }
-            Ok(Block::Step(Step::End)) => {
+            Ok(Next::Step(Step::End)) => {
                 self.stage = Stage::Ended;
                 Ok(Step::End)
             }
-            Ok(Block::Step(step)) => Ok(step),
+            Ok(Next::Step(step)) => Ok(step),
             Err(fault) => {
                 self.stage = Stage::Failed;
                 Err(fault)
@@ -133,9 +129,9 @@ impl<R: Source> PcapngReader<R> {
     }
 }
 
-/// What a block gives.
+/// What a call meets.
 #[derive(Clone, Copy, Debug, PartialEq, Eq)]
-enum Block {
+enum Next {
     /// A section begins, with this order of octets.
     Section(Order),
     /// A record, or none, or the end.
@@ -144,76 +140,52 @@ enum Block {
 
 /// The next block, in a section of this order; the first block of a file is in none. P2 where that
 /// is no section header.
-fn read_block<S: Source>(
+fn read_next<S: Source>(
     source: &mut S,
     order: Option<Order>,
     interfaces: &mut Vec<Interface>,
     keep: usize,
     frame: &mut Vec<u8>,
-) -> Result<Block, SourceFault>
+) -> Result<Next, SourceFault>
     requires { S.failed source.old < 2 ^ 64 - 1 }
     ensures counts { S.failed source.new ≡ S.failed source.old + (if is_io result then 1 else 0) }
 {
-    let mut kind = [0; 4];
-    let Some(n) = fill(source, &mut kind) else {
+    let mut octets = [0; 4];
+    let Some(n) = fill(source, &mut octets) else {
         return Err(SourceFault::Capture(CaptureFault::Io));
     };
     if n == 0 {
-        return Ok(Block::Step(Step::End));
+        return Ok(Next::Step(Step::End));
     }
-    if n < 4 {
+    if n < octets.len() {
         return Err(SourceFault::CutFile);
     }
-    if BigEndian::read_u32(&kind) == SECTION {
-        let order = section_block(source)?;
-        interfaces.clear();
-        return Ok(Block::Section(order));
-    }
-    let Some(order) = order else {
+    let in_order = order.unwrap_or(Order::High);
+    let kind = kind_of(word_at(in_order, &octets, 0));
+    if order.is_none() && kind != Kind::Section {
         return Err(SourceFault::Malformed);
-    };
-    let step = read_inner(
-        source,
-        order,
-        word_at(order, &kind, 0),
-        interfaces,
-        keep,
-        frame,
-    )?;
-    Ok(Block::Step(step))
+    }
+    let block = read_block(source, kind, in_order, interfaces.as_slice(), keep, frame)?;
+    take(block, interfaces)
 }
 
-/// A block of a section, behind its type.
-fn read_inner<S: Source>(
-    source: &mut S,
-    order: Order,
-    kind: u32,
-    interfaces: &mut Vec<Interface>,
-    keep: usize,
-    frame: &mut Vec<u8>,
-) -> Result<Step, SourceFault>
-    requires { S.failed source.old < 2 ^ 64 - 1 }
-    ensures counts { S.failed source.new ≡ S.failed source.old + (if is_io result then 1 else 0) }
+/// What a block gives, and makes of the interfaces of its section. C4 where their list can't grow.
+fn take(block: Block, interfaces: &mut Vec<Interface>) -> Result<Next, SourceFault>
+    ensures taken { IsTaken block interfaces.old.items interfaces.new.items result }
+    ensures counts { is_io result ≡ false }
 {
-    match kind {
-        INTERFACE => {
-            let interface = interface_block(source, order)?;
+    match block {
+        Block::Section(order) => {
+            interfaces.clear();
+            Ok(Next::Section(order))
+        }
+        Block::Interface(interface) => {
             if interfaces.push(interface).is_err() {
                 return Err(SourceFault::Capture(CaptureFault::NoMemory));
             }
-            Ok(Step::Passed)
+            Ok(Next::Step(Step::Passed))
         }
-        SIMPLE => {
-            let head = simple_block(source, order, interfaces.as_slice(), keep, frame)?;
-            Ok(Step::Record(head))
-        }
-        PACKET => {
-            let head = packet_block(source, order, interfaces.as_slice(), keep, frame)?;
-            Ok(Step::Record(head))
-        }
-        _ => {
-            other_block(source, order)?;
-            Ok(Step::Passed)
-        }
+        Block::Record(head) => Ok(Next::Step(Step::Record(head))),
+        Block::Other => Ok(Next::Step(Step::Passed)),
     }
 }

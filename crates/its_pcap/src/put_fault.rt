@@ -6,10 +6,15 @@ use std::fmt;
 /// Why a header or a record is not written.
 #[derive(Clone, Copy, Debug, PartialEq, Eq)]
 pub enum PutFault {
-    /// The frame has more octets than 262144. Nothing is written.
+    /// The frame has more octets than 262144, or in a capture 0 or more than 1468. Nothing is
+    /// written.
     Length,
     /// The second of the moment is 2^32 or more (classic pcap). Nothing is written.
     Moment,
+    /// There is no such interface, or no room for a further one (pcapng). Nothing is written.
+    Interface,
+    /// The name of an interface has more octets than 65535 (pcapng). Nothing is written.
+    Name,
     /// A call of the device failed; a prefix is written.
     Io,
     /// An earlier call of the device failed. Nothing is written.
@@ -19,8 +24,10 @@ pub enum PutFault {
 impl fmt::Display for PutFault {
     fn fmt<W: fmt::Write>(&self, f: &mut fmt::Formatter<W>) -> fmt::Result {
         let sentence = match self {
-            PutFault::Length => "a frame of more than 262144 octets",
+            PutFault::Length => "a frame of a length that the format has no place for",
             PutFault::Moment => "a moment whose second is 2^32 or more",
+            PutFault::Interface => "no such interface, or no room for one",
+            PutFault::Name => "a name of more than 65535 octets",
             PutFault::Io => "a call of the device failed",
             PutFault::Failed => "an earlier call failed",
         };

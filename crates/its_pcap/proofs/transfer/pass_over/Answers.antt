@@ -1,4 +1,4 @@
-use Rattle.std.proofs.Common.{ap, arith, ◌≡◌, length, length-take}
+use Rattle.std.proofs.Common.{arith, length-take}
 use Rattle.std.proofs.lemmas.Result.{err_from_is_err_and}
 use Rattle.its_pcap.proofs.Cuts.{IsCutShort-after, Passes-after}
 use Rattle.its_pcap.specs.Reading.{Passes}

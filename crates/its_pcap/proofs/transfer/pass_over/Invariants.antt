@@ -1,4 +1,4 @@
-use Rattle.std.proofs.Common.{◌-◌, ◌+◌, ◌≡◌, ◌≤◌, List, ℕ}
+use Rattle.std.proofs.Common.{◌-◌, ◌≡◌, ◌≤◌}
 use Rattle.its_pcap.specs.Reading.{Passes}
 use Rattle.its_pcap.proofs.transfer.pass_over.Given as goal
 

@@ -1,0 +1,22 @@
+use Rattle.std.proofs.Common.{refl, sym, Ok}
+use Rattle.std.proofs.lemmas.Result.{err_from_is_err_and}
+use Rattle.its_pcap.proofs.Layouts.{behind-answer, first-fault}
+use Rattle.std.proofs.Common.{arith}
+use Rattle.its_pcap.proofs.Layouts.{reads, part-cut}
+use Rattle.its_pcap.proofs.OptionChains.{has-offset}
+use Rattle.its_pcap.specs.Interfaces.{offset}
+use Rattle.its_pcap.specs.Layouts.{number}
+use Rattle.its_pcap.proofs.options.read_offset.Goals as goal
+
+pub returns-in_err-fill_whole-clause-answer : goal.returns-in_err-fill_whole-clause-answer
+unfolding offset
+returns-in_err-fill_whole-clause-answer g c =
+    let p = err_from_is_err_and c.from_residual.result c.from_residual.ensures.1 in
+    rw (p.1, p.2)
+    (first-fault _ _ _ _ _ (part-cut (number c.args.order 8) 8 _ _ _ (λ w few. few) c.in_err-fill_whole.ensures.fault))
+
+pub returns-clause-answer : goal.returns-clause-answer
+unfolding offset
+returns-clause-answer g c =
+    (behind-answer _ _ c.long_at.result (Ok _) _ _ _ (reads ((number c.args.order 8).Is c.long_at.result) _ _ c.fill_whole.new.buf (omega arith, (sym c.long_at.ensures, tt)) c.in_ok-fill_whole.ensures.octets)
+    (has-offset c.args.interface _ _ _ c.seconds_of-ahead.ensures.ahead c.seconds_of-ahead.ensures.behind refl refl refl))

@@ -1,0 +1,255 @@
+//! The options of an interface block.
+
+ghost use Rattle.std.specs.Prelude.{◌≡◌, ◌-◌, ◌+◌, ◌^◌, ◌<◌, ◌≤◌, IfOk, if◌then◌else◌, MatchResult, false};
+ghost use Rattle.its_pcap.specs.Moments.{ticks_of, IsTooFine};
+ghost use Rattle.its_pcap.specs.declared.fault.SourceFault.TheVariants as faults;
+ghost use Rattle.its_pcap.specs.Interfaces.{kind_of_option, option_room, option_head, one_option};
+ghost use Rattle.its_pcap.specs.Interfaces.{options, resolution, offset, passed, is_end};
+ghost use Rattle.its_pcap.specs.Interfaces.{option_value};
+ghost use Rattle.its_pcap.specs.Layouts.{IsAnswerOf};
+ghost use Rattle.its_pcap.specs.Reading.{is_io};
+
+use crate::fault::SourceFault;
+use crate::interface::{Interface, seconds_of, ticks_in};
+use crate::octets::{Order, half_at, long_at};
+use crate::transfer::{fill_whole, pass_over};
+use its_linkframe::Source;
+
+/// The octets of an option before its value: its code, and its size.
+const HEAD: usize = 4;
+
+/// The end of options.
+const END: u16 = 0;
+
+/// `if_tsresol`.
+const RESOLUTION: u16 = 9;
+
+/// `if_tsoffset`.
+const OFFSET: u16 = 14;
+
+/// What an option is.
+#[derive(Clone, Copy, Debug, PartialEq, Eq)]
+enum OptionKind {
+    /// The end of options.
+    End,
+    /// How many ticks a second has, in one octet.
+    Resolution,
+    /// Seconds that are added to each moment, in 8 octets.
+    Offset,
+    /// Any other: it is passed over.
+    Other,
+}
+
+/// What is known behind an option.
+#[derive(Clone, Copy)]
+struct Turn {
+    /// How many octets the options have left.
+    left: usize,
+    /// The interface, as the options so far say.
+    interface: Interface,
+    /// Whether it was the end of options.
+    is_end: bool,
+}
+
+/// The options of an interface, in so many octets: how many are left behind the end of options, and
+/// what they say of the interface. P2 where one goes past its block, or its ticks are too fine.
+pub(crate) fn read_options<S: Source>(
+    source: &mut S,
+    order: Order,
+    room: usize,
+    interface: Interface,
+) -> Result<(usize, Interface), SourceFault>
+    requires { S.failed source.old < 2 ^ 64 - 1 }
+    ensures answer { IsAnswerOf (options order room interface) (S.remaining source.old)
+        (S.remaining source.new) result }
+    ensures counts { S.failed source.new ≡ S.failed source.old + (if is_io result then 1 else 0) }
+{
+    let mut left = room;
+    let mut known = interface;
+    while left >= HEAD {
+        let turn = read_option(source, order, left, known)?;
+        left = turn.left;
+        known = turn.interface;
+        if turn.is_end {
+            return Ok((left, known));
+        }
+    }
+    Ok((left, known))
+}
+
+/// An option, where so many octets are left.
+fn read_option<S: Source>(
+    source: &mut S,
+    order: Order,
+    left: usize,
+    interface: Interface,
+) -> Result<Turn, SourceFault>
+    requires ready { S.failed source.old < 2 ^ 64 - 1 }
+    requires some { HEAD ≤ left }
+    ensures answer { IsAnswerOf (one_option order left interface) (S.remaining source.old)
+        (S.remaining source.new) result }
+    ensures less { IfOk result (λ t. t.left < left) }
+    ensures counts { S.failed source.new ≡ S.failed source.old + (if is_io result then 1 else 0) }
+{
+    let (kind, room) = read_head(source, order, left - HEAD)?;
+    let known = read_value(source, order, kind, room, interface)?;
+    Ok(Turn {
+        left: left - HEAD - room,
+        interface: known,
+        is_end: ends(kind),
+    })
+}
+
+/// Whether it is the end of options.
+fn ends(kind: OptionKind) -> bool
+    ensures { result ≡ is_end kind }
+{
+    match kind {
+        OptionKind::End => true,
+        OptionKind::Resolution | OptionKind::Offset | OptionKind::Other => false,
+    }
+}
+
+/// The value of an option, which takes so many octets.
+fn read_value<S: Source>(
+    source: &mut S,
+    order: Order,
+    kind: OptionKind,
+    room: usize,
+    interface: Interface,
+) -> Result<Interface, SourceFault>
+    requires { S.failed source.old < 2 ^ 64 - 1 }
+    ensures answer { IsAnswerOf (option_value order interface kind room)
+        (S.remaining source.old) (S.remaining source.new) result }
+    ensures counts { S.failed source.new ≡ S.failed source.old + (if is_io result then 1 else 0) }
+{
+    match kind {
+        OptionKind::End => Ok(interface),
+        OptionKind::Resolution => read_resolution(source, interface),
+        OptionKind::Offset => read_offset(source, order, interface),
+        OptionKind::Other => pass_value(source, room, interface),
+    }
+}
+
+/// A value that is passed over.
+fn pass_value<S: Source>(
+    source: &mut S,
+    room: usize,
+    interface: Interface,
+) -> Result<Interface, SourceFault>
+    requires { S.failed source.old < 2 ^ 64 - 1 }
+    ensures answer { IsAnswerOf (passed room interface) (S.remaining source.old)
+        (S.remaining source.new) result }
+    ensures counts { S.failed source.new ≡ S.failed source.old + (if is_io result then 1 else 0) }
+{
+    pass_over(source, room)?;
+    Ok(interface)
+}
+
+/// What the head of an option says, and how many octets its value takes of those that are left,
+/// with its padding. P2 where that is more.
+fn read_head<S: Source>(
+    source: &mut S,
+    order: Order,
+    left: usize,
+) -> Result<(OptionKind, usize), SourceFault>
+    requires { S.failed source.old < 2 ^ 64 - 1 }
+    ensures answer { IsAnswerOf (option_head order left) (S.remaining source.old)
+        (S.remaining source.new) result }
+    ensures fits { IfOk result (λ head. head.1 ≤ left) }
+    ensures counts { S.failed source.new ≡ S.failed source.old + (if is_io result then 1 else 0) }
+{
+    let mut head = [0; HEAD];
+    fill_whole(source, &mut head)?;
+    let code = half_at(order, &head, 0);
+    let size = half_at(order, &head, 2);
+    let room = room_of(code, size);
+    if room > left {
+        return Err(SourceFault::Malformed);
+    }
+    Ok((kind_of(code, size), room))
+}
+
+/// What an option is, by its code and its size: one of a wrong size is passed over.
+fn kind_of(code: u16, size: u16) -> OptionKind
+    ensures { result ≡ kind_of_option code size }
+{
+    match (code, size) {
+        (END, _) => OptionKind::End,
+        (RESOLUTION, 1) => OptionKind::Resolution,
+        (OFFSET, 8) => OptionKind::Offset,
+        _ => OptionKind::Other,
+    }
+}
+
+/// How many octets its value takes: a multiple of 4. The end of options has none, whatever its
+/// size.
+fn room_of(code: u16, size: u16) -> usize
+    ensures { result ≡ option_room code size }
+{
+    if code == END {
+        return 0;
+    }
+    let size = size as usize;
+    size + (4 - size % 4) % 4
+}
+
+/// The ticks of a second, by the octet of `if_tsresol`. P2 where they are too fine.
+fn ticks_said(octet: u8) -> Result<u64, SourceFault>
+    ensures ticks { MatchResult result
+        (λ n. (n ≡ ticks_of octet) × ¬ IsTooFine octet)
+        (λ f. (f ≡ faults.Malformed) × IsTooFine octet) }
+    ensures some { IfOk result (λ n. 0 < n) }
+    ensures counts { is_io result ≡ false }
+{
+    match ticks_in(octet) {
+        Some(ticks) => Ok(ticks),
+        None => Err(SourceFault::Malformed),
+    }
+}
+
+/// `if_tsresol`, with its padding.
+fn read_resolution<S: Source>(
+    source: &mut S,
+    interface: Interface,
+) -> Result<Interface, SourceFault>
+    requires { S.failed source.old < 2 ^ 64 - 1 }
+    ensures answer { IsAnswerOf (resolution interface) (S.remaining source.old)
+        (S.remaining source.new) result }
+    ensures counts { S.failed source.new ≡ S.failed source.old + (if is_io result then 1 else 0) }
+{
+    let mut octet = [0; 1];
+    fill_whole(source, &mut octet)?;
+    let ticks = ticks_said(octet[0])?;
+    pass_over(source, 3)?;
+    Ok(Interface {
+        is_ethernet: interface.is_ethernet,
+        snap: interface.snap,
+        ticks,
+        ahead: interface.ahead,
+        behind: interface.behind,
+    })
+}
+
+/// `if_tsoffset`.
+fn read_offset<S: Source>(
+    source: &mut S,
+    order: Order,
+    interface: Interface,
+) -> Result<Interface, SourceFault>
+    requires { S.failed source.old < 2 ^ 64 - 1 }
+    ensures answer { IsAnswerOf (offset order interface) (S.remaining source.old)
+        (S.remaining source.new) result }
+    ensures counts { S.failed source.new ≡ S.failed source.old + (if is_io result then 1 else 0) }
+{
+    let mut octets = [0; 8];
+    fill_whole(source, &mut octets)?;
+    let (ahead, behind) = seconds_of(long_at(order, &octets));
+    Ok(Interface {
+        is_ethernet: interface.is_ethernet,
+        snap: interface.snap,
+        ticks: interface.ticks,
+        ahead,
+        behind,
+    })
+}

@@ -1,0 +1,344 @@
+//! Writing a pcapng file.
+
+ghost use Rattle.std.specs.Prelude.{◌≡◌, ◌-◌, ◌+◌, ◌/◌, ◌%◌, ◌^◌, ◌<◌, ◌≤◌, ◌↔◌, ◌||◌, ◌++◌};
+ghost use Rattle.std.specs.Prelude.{false, OnOk, IfErr, Err, IsTrue, if◌then◌else◌, MatchOption, length};
+ghost use Rattle.std.specs.Io.KnownBytes.{Appends};
+ghost use Rattle.byteorder.specs.Endian.{little_bytes};
+ghost use Rattle.its_linkframe.specs.Devices.{counted, AppendsPrefix};
+ghost use Rattle.its_pcap.specs.PcapngWritten.{padding_size, section_octets, interface_front};
+ghost use Rattle.its_pcap.specs.PcapngWritten.{interface_end, name_head};
+ghost use Rattle.its_pcap.specs.PcapngWritten.{named_octets, interface_octets, packet_size, packet_head, padding_of};
+ghost use Rattle.its_pcap.specs.PcapngWritten.{packet_octets, IsSectionFault, IsInterfaceFault};
+ghost use Rattle.its_pcap.specs.PcapngWritten.{IsPacketFault};
+ghost use Rattle.its_pcap.specs.Writing.{is_io_failure};
+ghost use Rattle.its_pcap.specs.declared.put_fault.PutFault.TheVariants as put_faults;
+
+use crate::pcap::LONGEST_CAPTURED;
+use crate::put_fault::PutFault;
+use crate::transfer::{store, store_both};
+use byteorder::{ByteOrder, LittleEndian};
+use its_linkframe::Sink;
+use std::marker::Model;
+
+/// A section header: version 1.0, section length -1, no options.
+const SECTION: [u8; 28] = [
+    0x0a, 0x0d, 0x0d, 0x0a, 28, 0, 0, 0, 0x4d, 0x3c, 0x2b, 0x1a, 1, 0, 0, 0, 255, 255, 255, 255,
+    255, 255, 255, 255, 28, 0, 0, 0,
+];
+
+/// The type of an interface block.
+const INTERFACE: u32 = 1;
+
+/// The type of an enhanced packet block.
+const PACKET: u32 = 6;
+
+/// The type of Ethernet.
+const ETHERNET: u16 = 1;
+
+/// The option `if_name`.
+const NAME: u16 = 2;
+
+/// The options `if_tsresol` 3, by which a tick is a millisecond, and end of options.
+const OPTIONS: [u8; 12] = [9, 0, 1, 0, 3, 0, 0, 0, 0, 0, 0, 0];
+
+/// The octets of an interface before its options.
+const INTERFACE_FRONT: usize = 16;
+
+/// The octets of an interface with no name, and of a name's option before the name.
+const PLAIN_SIZE: u32 = 32;
+
+/// The octets of an interface with a name, beside the name and its padding.
+const NAMED_SIZE: u32 = 36;
+
+/// The octets of a packet before its frame.
+const HEAD: usize = 28;
+
+/// The octets of a packet beside its frame and the padding of that.
+const PACKET_SIZE: u32 = 32;
+
+/// Octets of padding.
+const PADDING: [u8; 3] = [0; 3];
+
+/// Writes a pcapng file of one section: its header, its interfaces, then its records, one after the
+/// other. It takes no memory.
+#[derive(Drop)]
+pub struct PcapngWriter<W: Sink> {
+    sink: W,
+    interfaces: u32,
+    failed: bool,
+}
+
+impl<W: Sink> Model for PcapngWriter<W> {
+    ghost use Rattle.std.specs.Prelude.{◌≡◌, ◌-◌, ◌^◌, ◌<◌, false};
+    ghost use Rattle.its_pcap.specs.PcapngWritten.{Writing};
+
+    ghost Value = { Writing };
+
+    ghost view = { λ w. record {
+      failed = w.failed;
+      interfaces = w.interfaces;
+      contents = W.contents w.sink;
+      failures = W.failed w.sink;
+    } };
+
+    ghost invariant = { λ w. w.failed ≡ false → W.failed w.sink < 2 ^ 64 - 1 };
+}
+
+impl<W: Sink> PcapngWriter<W> {
+    /// A writer behind what the sink has. Nothing is written yet.
+    pub fn new(sink: W) -> PcapngWriter<W>
+        requires { W.failed sink < 2 ^ 64 - 1 }
+        ensures { result ≡ record {
+          failed = false;
+          interfaces = 0;
+          contents = W.contents sink;
+          failures = W.failed sink;
+        } }
+    {
+        PcapngWriter {
+            sink,
+            interfaces: 0,
+            failed: false,
+        }
+    }
+
+    /// Writes the section header: the first call.
+    pub fn start(&mut self) -> Result<(), PutFault>
+        ensures stored { OnOk result (Appends self.old.contents self.new.contents section_octets) }
+        ensures same { OnOk result (self.new.interfaces ≡ self.old.interfaces) }
+        ensures fault { IfErr result (IsSectionFault self.old self.new) }
+        ensures counts { self.new.failures
+            ≡ self.old.failures + (if is_io_failure result then 1 else 0) }
+        ensures failed { (result ≡ Err put_faults.Failed) ↔ IsTrue self.old.failed }
+        ensures breaks { self.new.failed ≡ (self.old.failed || is_io_failure result) }
+    {
+        if self.failed {
+            return Err(PutFault::Failed);
+        }
+        match store(&mut self.sink, &SECTION) {
+            Some(()) => Ok(()),
+            None => {
+                self.failed = true;
+                Err(PutFault::Io)
+            }
+        }
+    }
+
+    /// Writes an interface of Ethernet whose ticks are milliseconds, with this name, or with none
+    /// where it is empty; its number is how many there are before it. A file has at most 2^32 - 1
+    /// of them; that is checked before a name of more than 65535 octets is refused.
+    pub fn add_interface(&mut self, name: &str) -> Result<(), PutFault>
+        ensures stored { OnOk result
+            (Appends self.old.contents self.new.contents (interface_octets name.now)) }
+        ensures added { OnOk result (self.new.interfaces ≡ self.old.interfaces + 1) }
+        ensures fault { IfErr result (IsInterfaceFault name.now self.old self.new) }
+        ensures counts { self.new.failures
+            ≡ self.old.failures + (if is_io_failure result then 1 else 0) }
+        ensures failed { (result ≡ Err put_faults.Failed) ↔ IsTrue self.old.failed }
+        ensures breaks { self.new.failed ≡ (self.old.failed || is_io_failure result) }
+    {
+        if self.failed {
+            return Err(PutFault::Failed);
+        }
+        if self.interfaces == u32::MAX {
+            return Err(PutFault::Interface);
+        }
+        let Ok(size) = u16::try_from(name.len()) else {
+            return Err(PutFault::Name);
+        };
+        match store_interface(&mut self.sink, name.as_bytes(), size) {
+            Some(()) => {
+                self.interfaces += 1;
+                Ok(())
+            }
+            None => {
+                self.failed = true;
+                Err(PutFault::Io)
+            }
+        }
+    }
+
+    /// Writes a record of a frame of Ethernet, whole, as one of this interface: the moment is in
+    /// milliseconds. An interface that was not written is refused before a frame of more than
+    /// 262144 octets.
+    pub fn put(&mut self, interface: u32, moment: u64, frame: &[u8]) -> Result<(), PutFault>
+        ensures stored { OnOk result (Appends self.old.contents self.new.contents
+            (packet_octets interface moment frame.now)) }
+        ensures fits { OnOk result ((interface < self.old.interfaces)
+            × (length frame.now ≤ LONGEST_CAPTURED)) }
+        ensures same { self.new.interfaces ≡ self.old.interfaces }
+        ensures fault { IfErr result
+            (IsPacketFault interface moment frame.now self.old self.new) }
+        ensures counts { self.new.failures
+            ≡ self.old.failures + (if is_io_failure result then 1 else 0) }
+        ensures failed { (result ≡ Err put_faults.Failed) ↔ IsTrue self.old.failed }
+        ensures breaks { self.new.failed ≡ (self.old.failed || is_io_failure result) }
+    {
+        if self.failed {
+            return Err(PutFault::Failed);
+        }
+        if interface >= self.interfaces {
+            return Err(PutFault::Interface);
+        }
+        if frame.len() > LONGEST_CAPTURED as usize {
+            return Err(PutFault::Length);
+        }
+        match store_packet(&mut self.sink, interface, moment, frame) {
+            Some(()) => Ok(()),
+            None => {
+                self.failed = true;
+                Err(PutFault::Io)
+            }
+        }
+    }
+
+    /// The sink, with what it has.
+    pub fn into_inner(self) -> W
+        ensures contents { W.contents result ≡ self.contents }
+        ensures failures { W.failed result ≡ self.failures }
+    {
+        self.sink
+    }
+}
+
+/// How many octets of padding follow so many octets.
+fn padding_after(size: u32) -> u32
+    ensures value { result ≡ padding_size size }
+    ensures few { result < 4 }
+{
+    (4 - size % 4) % 4
+}
+
+/// What goes before the options of an interface.
+#[tactic(auto, unfolding(crate::specs::PcapngWritten::interface_front))]
+fn front_for(size: u32) -> [u8; INTERFACE_FRONT]
+    ensures { result ≡ interface_front size }
+{
+    let mut front = [0; INTERFACE_FRONT];
+    LittleEndian::write_u32(&mut front, INTERFACE);
+    LittleEndian::write_u32(&mut front[4..], size);
+    LittleEndian::write_u16(&mut front[8..], ETHERNET);
+    LittleEndian::write_u32(&mut front[12..], LONGEST_CAPTURED);
+    front
+}
+
+/// The options behind a name, and the size of the block.
+#[tactic(auto, unfolding(crate::specs::PcapngWritten::interface_end))]
+fn end_for(size: u32) -> [u8; 16]
+    ensures { result ≡ interface_end size }
+{
+    let mut end = [0; 16];
+    end[..OPTIONS.len()].copy_from_slice(&OPTIONS);
+    LittleEndian::write_u32(&mut end[OPTIONS.len()..], size);
+    end
+}
+
+/// The same with a name's option, up to the name.
+#[tactic(auto, unfolding(crate::specs::PcapngWritten::interface_front, crate::specs::PcapngWritten::name_head))]
+fn named_front(block: u32, size: u16) -> [u8; INTERFACE_FRONT + 4]
+    ensures { result ≡ interface_front block ++ name_head size }
+{
+    let mut front = [0; INTERFACE_FRONT + 4];
+    LittleEndian::write_u32(&mut front, INTERFACE);
+    LittleEndian::write_u32(&mut front[4..], block);
+    LittleEndian::write_u16(&mut front[8..], ETHERNET);
+    LittleEndian::write_u32(&mut front[12..], LONGEST_CAPTURED);
+    LittleEndian::write_u16(&mut front[16..], NAME);
+    LittleEndian::write_u16(&mut front[18..], size);
+    front
+}
+
+/// Writes an interface, with the option of a name where that isn't empty.
+fn store_interface<S: Sink>(sink: &mut S, name: &[u8], size: u16) -> Option<()>
+    requires ready { S.failed sink.old < 2 ^ 64 - 1 }
+    requires size { size ≡ length name.now }
+    ensures counts { S.failed sink.new ≡ counted (S.failed sink.old) result }
+    ensures bytes { MatchOption result
+        (AppendsPrefix (S.contents sink.old) (S.contents sink.new) (interface_octets name.now))
+        (λ _. Appends (S.contents sink.old) (S.contents sink.new) (interface_octets name.now)) }
+{
+    if name.is_empty() {
+        return store_both(sink, &front_for(PLAIN_SIZE), &end_for(PLAIN_SIZE));
+    }
+    store_named(sink, name, size)
+}
+
+/// Writes an interface with this name.
+fn store_named<S: Sink>(sink: &mut S, name: &[u8], size: u16) -> Option<()>
+    requires ready { S.failed sink.old < 2 ^ 64 - 1 }
+    requires size { size ≡ length name.now }
+    ensures counts { S.failed sink.new ≡ counted (S.failed sink.old) result }
+    ensures bytes { MatchOption result
+        (AppendsPrefix (S.contents sink.old) (S.contents sink.new) (named_octets name.now))
+        (λ _. Appends (S.contents sink.old) (S.contents sink.new) (named_octets name.now)) }
+{
+    let padding = padding_after(u32::from(size));
+    let block = NAMED_SIZE + (u32::from(size) + padding);
+    let head = named_front(block, size);
+    store_parts(sink, &head, name, padding, &end_for(block))
+}
+
+/// Writes the head of a block, octets, so many of padding, and the end of the block.
+fn store_parts<S: Sink>(
+    sink: &mut S,
+    head: &[u8],
+    octets: &[u8],
+    padding: u32,
+    end: &[u8],
+) -> Option<()>
+    requires ready { S.failed sink.old < 2 ^ 64 - 1 }
+    requires padding { padding ≡ padding_size (length octets.now) }
+    ensures counts { S.failed sink.new ≡ counted (S.failed sink.old) result }
+    ensures bytes { MatchOption result
+        (AppendsPrefix (S.contents sink.old) (S.contents sink.new)
+        ((head.now ++ octets.now) ++ (padding_of octets.now ++ end.now)))
+        (λ _. Appends (S.contents sink.old) (S.contents sink.new)
+        ((head.now ++ octets.now) ++ (padding_of octets.now ++ end.now))) }
+{
+    store_both(sink, head, octets)?;
+    store_both(sink, &PADDING[..padding as usize], end)
+}
+
+/// What goes before a frame.
+#[tactic(auto, unfolding(crate::specs::PcapngWritten::packet_head))]
+fn head_for(interface: u32, moment: u64, block: u32, size: u32) -> [u8; HEAD]
+    requires { block ≡ packet_size size }
+    ensures { result ≡ packet_head interface moment size }
+{
+    let mut head = [0; HEAD];
+    LittleEndian::write_u32(&mut head, PACKET);
+    LittleEndian::write_u32(&mut head[4..], block);
+    LittleEndian::write_u32(&mut head[8..], interface);
+    LittleEndian::write_u32(&mut head[12..], (moment / (1 << 32)) as u32);
+    LittleEndian::write_u32(&mut head[16..], (moment % (1 << 32)) as u32);
+    LittleEndian::write_u32(&mut head[20..], size);
+    LittleEndian::write_u32(&mut head[24..], size);
+    head
+}
+
+/// Writes a packet.
+fn store_packet<S: Sink>(sink: &mut S, interface: u32, moment: u64, frame: &[u8]) -> Option<()>
+    requires ready { S.failed sink.old < 2 ^ 64 - 1 }
+    requires fits { length frame.now ≤ LONGEST_CAPTURED }
+    ensures counts { S.failed sink.new ≡ counted (S.failed sink.old) result }
+    ensures bytes { MatchOption result
+        (AppendsPrefix (S.contents sink.old) (S.contents sink.new)
+        (packet_octets interface moment frame.now))
+        (λ _. Appends (S.contents sink.old) (S.contents sink.new)
+        (packet_octets interface moment frame.now)) }
+{
+    let size = frame.len() as u32;
+    let padding = padding_after(size);
+    let block = PACKET_SIZE + (size + padding);
+    let head = head_for(interface, moment, block, size);
+    store_parts(sink, &head, frame, padding, &end_of(block))
+}
+
+/// The size of a block, as it stands at its end.
+fn end_of(block: u32) -> [u8; 4]
+    ensures { result ≡ little_bytes 4 block }
+{
+    let mut end = [0; 4];
+    LittleEndian::write_u32(&mut end, block);
+    end
+}

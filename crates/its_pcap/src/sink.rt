@@ -1,0 +1,162 @@
+//! Files with records of any format, written through one call.
+
+ghost use Rattle.std.specs.Prelude.{◌-◌, ◌^◌, ◌<◌};
+
+use crate::format::Format;
+use crate::pcap_writer::PcapWriter;
+use crate::pcapng_writer::PcapngWriter;
+use crate::put_fault::PutFault;
+use crate::record::{Head, RecordFault};
+use its_linkframe::{CaptureFault, CaptureWriter, Sink};
+use std::error::Error;
+use std::fmt;
+
+/// Why a record is not written.
+#[derive(Clone, Copy, Debug, PartialEq, Eq)]
+pub enum SinkFault {
+    /// It is no frame of Ethernet, or was cut. Nothing is written.
+    Record(RecordFault),
+    /// Its frame or its moment has no place in the file, or the file failed.
+    Put(PutFault),
+}
+
+impl SinkFault {
+    /// What is wrong with the record, in the program's words: `link type`, `cut`, `length` or
+    /// `moment`. Nothing where the file failed.
+    pub fn word(&self) -> Option<&'static str> {
+        match self {
+            SinkFault::Record(RecordFault::LinkType) => Some("link type"),
+            SinkFault::Record(RecordFault::CutFrame) => Some("cut"),
+            SinkFault::Put(PutFault::Length) => Some("length"),
+            SinkFault::Put(PutFault::Moment) => Some("moment"),
+            SinkFault::Put(_) => None,
+        }
+    }
+}
+
+impl From<PutFault> for SinkFault {
+    fn from(fault: PutFault) -> SinkFault {
+        SinkFault::Put(fault)
+    }
+}
+
+impl fmt::Display for SinkFault {
+    fn fmt<W: fmt::Write>(&self, f: &mut fmt::Formatter<W>) -> fmt::Result {
+        match self {
+            SinkFault::Record(fault) => write!(f, "{fault}"),
+            SinkFault::Put(fault) => write!(f, "{fault}"),
+        }
+    }
+}
+
+impl Error for SinkFault {}
+
+/// A file to which records are written, one after the other. A further format is one more
+/// implementation.
+pub trait RecordSink {
+    /// Writes what stands before the records, with one interface that has no name: the first call.
+    fn start(&mut self) -> Result<(), PutFault>;
+
+    /// Writes a frame of Ethernet of this interface, where the format has any, at a moment in
+    /// milliseconds.
+    fn put_frame(&mut self, interface: u32, moment: u64, frame: &[u8]) -> Result<(), PutFault>;
+
+    /// Writes a record of the first interface: one that is no frame of Ethernet is refused first,
+    /// then one that was cut, then its length, then its moment.
+    fn put(&mut self, head: &Head, frame: &[u8]) -> Result<(), SinkFault> {
+        if let Some(fault) = head.fault() {
+            return Err(SinkFault::Record(fault));
+        }
+        self.put_frame(0, head.moment, frame)?;
+        Ok(())
+    }
+}
+
+impl<W: Sink> RecordSink for CaptureWriter<W> {
+    fn start(&mut self) -> Result<(), PutFault> {
+        Ok(())
+    }
+
+    fn put_frame(&mut self, _interface: u32, moment: u64, frame: &[u8]) -> Result<(), PutFault> {
+        match self.put(moment, frame) {
+            Ok(()) => Ok(()),
+            Err(CaptureFault::Length) => Err(PutFault::Length),
+            Err(CaptureFault::Io) => Err(PutFault::Io),
+            Err(CaptureFault::CutRecord | CaptureFault::NoMemory | CaptureFault::Failed) => {
+                Err(PutFault::Failed)
+            }
+        }
+    }
+}
+
+impl<W: Sink> RecordSink for PcapWriter<W> {
+    fn start(&mut self) -> Result<(), PutFault> {
+        self.start()
+    }
+
+    fn put_frame(&mut self, _interface: u32, moment: u64, frame: &[u8]) -> Result<(), PutFault> {
+        self.put(moment, frame)
+    }
+}
+
+impl<W: Sink> RecordSink for PcapngWriter<W> {
+    fn start(&mut self) -> Result<(), PutFault> {
+        self.start()?;
+        self.add_interface("")
+    }
+
+    fn put_frame(&mut self, interface: u32, moment: u64, frame: &[u8]) -> Result<(), PutFault> {
+        self.put(interface, moment, frame)
+    }
+}
+
+/// A file of any of the formats.
+#[derive(Drop)]
+pub enum AnySink<W: Sink> {
+    /// A capture of this project's own.
+    Capture(CaptureWriter<W>),
+    /// Classic pcap.
+    Pcap(PcapWriter<W>),
+    /// pcapng.
+    Pcapng(PcapngWriter<W>),
+}
+
+impl<W: Sink> AnySink<W> {
+    /// A file of this format behind what the sink has. Nothing is written yet.
+    pub fn new(sink: W, format: Format) -> AnySink<W>
+        requires { W.failed sink < 2 ^ 64 - 1 }
+    {
+        match format {
+            Format::Capture => AnySink::Capture(CaptureWriter::new(sink)),
+            Format::Pcap => AnySink::Pcap(PcapWriter::new(sink)),
+            Format::Pcapng => AnySink::Pcapng(PcapngWriter::new(sink)),
+        }
+    }
+
+    /// The sink, with what it has.
+    pub fn into_inner(self) -> W {
+        match self {
+            AnySink::Capture(writer) => writer.into_inner(),
+            AnySink::Pcap(writer) => writer.into_inner(),
+            AnySink::Pcapng(writer) => writer.into_inner(),
+        }
+    }
+}
+
+impl<W: Sink> RecordSink for AnySink<W> {
+    fn start(&mut self) -> Result<(), PutFault> {
+        match self {
+            AnySink::Capture(writer) => RecordSink::start(writer),
+            AnySink::Pcap(writer) => RecordSink::start(writer),
+            AnySink::Pcapng(writer) => RecordSink::start(writer),
+        }
+    }
+
+    fn put_frame(&mut self, interface: u32, moment: u64, frame: &[u8]) -> Result<(), PutFault> {
+        match self {
+            AnySink::Capture(writer) => writer.put_frame(interface, moment, frame),
+            AnySink::Pcap(writer) => writer.put_frame(interface, moment, frame),
+            AnySink::Pcapng(writer) => writer.put_frame(interface, moment, frame),
+        }
+    }
+}

@@ -1,0 +1,138 @@
+//! Files with records of any format, read through one call.
+
+ghost use Rattle.std.specs.Prelude.{◌≡◌, ◌-◌, ◌^◌, ◌<◌, IfOk, IfSome};
+ghost use Rattle.its_pcap.specs.Sources.{format_of_source};
+
+use crate::begun::Begun;
+use crate::fault::SourceFault;
+use crate::format::{Format, format_of};
+use crate::pcap::PcapReader;
+use crate::pcapng::PcapngReader;
+use crate::record::{Head, Step};
+use its_linkframe::{CaptureFault, CaptureReader, Source};
+use std::alloc::Global;
+
+/// A file with records, which are read one after the other. A further format is one more
+/// implementation.
+pub trait RecordSource {
+    /// The next step: a record, whose octets are put into the buffer in place of what is there, or
+    /// a part of the file that has none, or the end, which is answered from then on. After a fault
+    /// each call answers C5.
+    fn next_into(&mut self, frame: &mut Vec<u8>) -> Result<Step, SourceFault>;
+}
+
+impl<R: Source> RecordSource for PcapReader<R> {
+    fn next_into(&mut self, frame: &mut Vec<u8>) -> Result<Step, SourceFault> {
+        self.next_into(frame)
+    }
+}
+
+impl<R: Source> RecordSource for PcapngReader<R> {
+    fn next_into(&mut self, frame: &mut Vec<u8>) -> Result<Step, SourceFault> {
+        self.next_into(frame)
+    }
+}
+
+/// The records of a capture of this project's own: frames of Ethernet, none of them cut.
+#[derive(Drop)]
+pub struct CaptureSource<R: Source> {
+    reader: CaptureReader<R>,
+}
+
+impl<R: Source> CaptureSource<R> {
+    /// A reader at the start of a capture, which takes memory for frames from `alloc`.
+    pub fn new(alloc: Global, source: R) -> CaptureSource<R>
+        requires { R.failed source < 2 ^ 64 - 1 }
+    {
+        CaptureSource {
+            reader: CaptureReader::new(alloc, source),
+        }
+    }
+}
+
+impl<R: Source> RecordSource for CaptureSource<R> {
+    fn next_into(&mut self, frame: &mut Vec<u8>) -> Result<Step, SourceFault> {
+        match self.reader.next_into(frame)? {
+            None => Ok(Step::End),
+            Some(moment) => {
+                let size = frame.len() as u32;
+                Ok(Step::Record(Head {
+                    moment,
+                    captured: size,
+                    wire: size,
+                    is_ethernet: true,
+                }))
+            }
+        }
+    }
+}
+
+/// A file of any of the formats.
+#[derive(Drop)]
+pub enum AnySource<S: Source> {
+    /// A capture of this project's own.
+    Capture(CaptureSource<Begun<S>>),
+    /// Classic pcap.
+    Pcap(PcapReader<Begun<S>>),
+    /// pcapng.
+    Pcapng(PcapngReader<Begun<S>>),
+}
+
+impl<S: Source + Drop> AnySource<S> {
+    /// A file of this format, or, where none is given, of the one that its first four octets say.
+    /// The first `keep` octets of a frame are kept at most, but for a capture, of which all are.
+    /// Memory is taken from `alloc`. C3 where a call of the device failed.
+    pub fn open(
+        alloc: Global,
+        source: S,
+        format: Option<Format>,
+        keep: usize,
+    ) -> Result<AnySource<S>, SourceFault>
+        requires { S.failed source < 2 ^ 64 - 1 }
+        ensures { IfOk result (λ file. IfSome format (λ f. format_of_source file ≡ f)) }
+    {
+        match format {
+            Some(format) => Ok(AnySource::of(alloc, Begun::new(source), format, keep)),
+            None => {
+                let Some(begun) = Begun::look(source) else {
+                    return Err(SourceFault::Capture(CaptureFault::Io));
+                };
+                let format = format_of(begun.looked());
+                Ok(AnySource::of(alloc, begun, format, keep))
+            }
+        }
+    }
+
+    /// A file of this format.
+    fn of(alloc: Global, source: Begun<S>, format: Format, keep: usize) -> AnySource<S>
+        requires { S.failed source.source < 2 ^ 64 - 1 }
+        ensures { format_of_source result ≡ format }
+    {
+        match format {
+            Format::Capture => AnySource::Capture(CaptureSource::new(alloc, source)),
+            Format::Pcap => AnySource::Pcap(PcapReader::new(source, keep)),
+            Format::Pcapng => AnySource::Pcapng(PcapngReader::new(alloc, source, keep)),
+        }
+    }
+
+    /// The format of the file.
+    pub fn format(&self) -> Format
+        ensures { result ≡ format_of_source self.now }
+    {
+        match self {
+            AnySource::Capture(_) => Format::Capture,
+            AnySource::Pcap(_) => Format::Pcap,
+            AnySource::Pcapng(_) => Format::Pcapng,
+        }
+    }
+}
+
+impl<S: Source> RecordSource for AnySource<S> {
+    fn next_into(&mut self, frame: &mut Vec<u8>) -> Result<Step, SourceFault> {
+        match self {
+            AnySource::Capture(reader) => reader.next_into(frame),
+            AnySource::Pcap(reader) => reader.next_into(frame),
+            AnySource::Pcapng(reader) => reader.next_into(frame),
+        }
+    }
+}
