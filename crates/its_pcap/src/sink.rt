@@ -54,8 +54,12 @@ impl Error for SinkFault {}
 /// A file to which records are written, one after the other. A further format is one more
 /// implementation.
 pub trait RecordSink {
-    /// Writes what stands before the records, with one interface that has no name: the first call.
+    /// Writes what a file begins with: the first call.
     fn start(&mut self) -> Result<(), PutFault>;
+
+    /// Writes an interface with this name, or with none where it is empty, if the format has
+    /// interfaces. The first is number 0. All of them are written before the first record.
+    fn add_interface(&mut self, name: &str) -> Result<(), PutFault>;
 
     /// Writes a frame of Ethernet of this interface, where the format has any, at a moment in
     /// milliseconds.
@@ -77,6 +81,10 @@ impl<W: Sink> RecordSink for CaptureWriter<W> {
         Ok(())
     }
 
+    fn add_interface(&mut self, _name: &str) -> Result<(), PutFault> {
+        Ok(())
+    }
+
     fn put_frame(&mut self, _interface: u32, moment: u64, frame: &[u8]) -> Result<(), PutFault> {
         match self.put(moment, frame) {
             Ok(()) => Ok(()),
@@ -94,6 +102,10 @@ impl<W: Sink> RecordSink for PcapWriter<W> {
         self.start()
     }
 
+    fn add_interface(&mut self, _name: &str) -> Result<(), PutFault> {
+        Ok(())
+    }
+
     fn put_frame(&mut self, _interface: u32, moment: u64, frame: &[u8]) -> Result<(), PutFault> {
         self.put(moment, frame)
     }
@@ -101,8 +113,11 @@ impl<W: Sink> RecordSink for PcapWriter<W> {
 
 impl<W: Sink> RecordSink for PcapngWriter<W> {
     fn start(&mut self) -> Result<(), PutFault> {
-        self.start()?;
-        self.add_interface("")
+        self.start()
+    }
+
+    fn add_interface(&mut self, name: &str) -> Result<(), PutFault> {
+        self.add_interface(name)
     }
 
     fn put_frame(&mut self, interface: u32, moment: u64, frame: &[u8]) -> Result<(), PutFault> {
@@ -149,6 +164,14 @@ impl<W: Sink> RecordSink for AnySink<W> {
             AnySink::Capture(writer) => RecordSink::start(writer),
             AnySink::Pcap(writer) => RecordSink::start(writer),
             AnySink::Pcapng(writer) => RecordSink::start(writer),
+        }
+    }
+
+    fn add_interface(&mut self, name: &str) -> Result<(), PutFault> {
+        match self {
+            AnySink::Capture(writer) => writer.add_interface(name),
+            AnySink::Pcap(writer) => writer.add_interface(name),
+            AnySink::Pcapng(writer) => RecordSink::add_interface(writer, name),
         }
     }
 

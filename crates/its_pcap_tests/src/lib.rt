@@ -5,3 +5,5 @@
 mod pcap;
 #[cfg(test)]
 mod pcapng;
+#[cfg(test)]
+mod pcapng_writer;
