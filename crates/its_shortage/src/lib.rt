@@ -25,11 +25,14 @@
 
 use std::alloc::{AllocError, Global};
 
-/// The largest budget, in octets.
+/// The largest budget of most tests, in octets.
 pub const MOST: usize = 100_000;
 
 /// From one budget to the next, in octets: the least by which the heap tells sizes apart.
 pub const STEP: usize = 16;
+
+/// The largest piece of a budget: the heap has much larger ones apart, in pages of their own.
+const LARGEST_PLUG: usize = 100_000;
 
 /// The most pieces that are held.
 const PIECES: usize = 200_000;
@@ -55,17 +58,29 @@ pub fn written(buffer: &[u8]) -> &[u8] {
 #[derive(Drop)]
 pub struct Shortage {
     alloc: Global,
+    most: usize,
     held: Vec<Vec<u8>>,
-    plug: Option<Vec<u8>>,
+    plugs: Vec<Vec<u8>>,
 }
 
 impl Shortage {
     /// Takes all memory that is left, with the `MOST` octets out of which `leave` makes its
     /// budgets. An error says that there was no room to note all that is held.
     pub fn new(alloc: Global) -> Result<Shortage, AllocError> {
+        Shortage::with_most(alloc, MOST)
+    }
+
+    /// The same, with another largest budget.
+    pub fn with_most(alloc: Global, most: usize) -> Result<Shortage, AllocError> {
         let held = Vec::with_capacity(alloc, PIECES)?;
-        let plug = Some(Vec::with_capacity(alloc, MOST)?);
-        let mut shortage = Shortage { alloc, held, plug };
+        let plugs = Vec::with_capacity(alloc, most / LARGEST_PLUG + 1)?;
+        let mut shortage = Shortage {
+            alloc,
+            most,
+            held,
+            plugs,
+        };
+        shortage.plug(most)?;
         let mut size = LARGEST;
         while size > LARGEST_SMALL {
             shortage.take(size)?;
@@ -75,20 +90,31 @@ impl Shortage {
         Ok(shortage)
     }
 
-    /// Leaves a budget of about that many octets, `MOST` at most, in one piece; no octet at 0.
+    /// Leaves a budget of about that many octets, the largest at most, in one piece; no octet at 0.
     /// Answers whether it holds: false where the rest cannot be taken back, or a far larger piece
     /// is left.
     #[must_use]
     pub fn leave(&mut self, octets: usize) -> bool {
-        self.plug = None;
-        self.plug = Vec::with_capacity(self.alloc, MOST.saturating_sub(octets)).ok();
+        self.plugs.clear();
+        let is_plugged = self.plug(self.most.saturating_sub(octets)).is_ok();
         if octets == 0 {
             return self.take_small().is_ok();
         }
         // A smaller piece might stay apart in the heap once it is let go, and part the next budget.
         let far_larger = octets.saturating_add(LARGEST_SMALL);
         let left = Vec::<u8>::with_capacity(self.alloc, far_larger);
-        self.plug.is_some() && left.is_err()
+        is_plugged && left.is_err()
+    }
+
+    /// Takes so many octets, the largest budget at most.
+    fn plug(&mut self, octets: usize) -> Result<(), AllocError> {
+        let mut rest = octets;
+        for _ in 0..self.plugs.capacity() {
+            let size = rest.min(LARGEST_PLUG);
+            self.plugs.push(Vec::with_capacity(self.alloc, size)?)?;
+            rest -= size;
+        }
+        Ok(())
     }
 
     /// Takes pieces of that many octets until there is none.

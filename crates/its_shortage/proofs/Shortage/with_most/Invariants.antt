@@ -1,4 +1,4 @@
-use Rattle.its_shortage.proofs.Shortage.new.Given as goal
+use Rattle.its_shortage.proofs.Shortage.with_most.Given as goal
 
 -- each size is below the last one
 abbrev pub decreases-loop-size : goal.decreases-loop-size
