@@ -1,3 +1,5 @@
 pub mod Events
 pub mod Documents
 pub mod Faults
+pub mod Keys
+pub mod Airs

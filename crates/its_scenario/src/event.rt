@@ -1,27 +1,25 @@
 //! The events of a scenario.
 
 ghost use Rattle.std.specs.Prelude.{◌<◌, ◌^◌, IfOk};
-ghost use Rattle.its_gnvalue.specs.Values.{IsSpeed};
 ghost use Rattle.its_scenario.specs.Events.{FitsEvent, FitsWhat};
 
-use crate::fault::KeyFault;
+use crate::fault::{KeyFault, Wrong};
+use crate::fields::Fields;
 use crate::geocast::read_geocast;
 use crate::key::Key;
-use crate::keys::{number, octets, place, text, truth};
+use crate::keys::{number, octet, octets, place, text, truth, whole};
 use its_gnvalue::TrafficClass;
 use its_station::OwnedShbRequest;
 use its_world::{Event, What};
 use std::alloc::Global;
-use toml::Table;
 
-/// Reads an event: `station`, `at`, `do`, and then the keys of the action, checked in this order.
-/// There may be no such station, and for `deliver` no such frame.
-pub(crate) fn read_event(alloc: Global, table: &Table) -> Result<Event, KeyFault>
+/// Reads an event: `station`, and then what is done there and when, checked in this order. There may
+/// be no such station, and for `deliver` no such frame.
+pub(crate) fn read_event<F: Fields>(alloc: Global, fields: &F) -> Result<Event, KeyFault>
     ensures { IfOk result FitsEvent }
 {
-    let station = number::<u16>(table, Key::Station)?;
-    let moment = read_moment(table)?;
-    let what = read_what(alloc, table)?;
+    let station = number(fields, Key::Station)?;
+    let (moment, what) = read_action(alloc, fields)?;
     Ok(Event {
         station: station as usize,
         moment,
@@ -29,71 +27,53 @@ pub(crate) fn read_event(alloc: Global, table: &Table) -> Result<Event, KeyFault
     })
 }
 
-/// Reads what the station does: the word under `do`, and the keys of that word.
-fn read_what(alloc: Global, table: &Table) -> Result<What, KeyFault>
-    ensures { IfOk result FitsWhat }
+/// Reads what a station does, and when: `at`, in milliseconds below 2^63, `do`, and then the keys of
+/// that word, checked in this order.
+///
+/// The first key that is missing, of another kind or out of range is refused.
+pub fn read_action<F: Fields>(alloc: Global, fields: &F) -> Result<(u64, What), KeyFault>
+    ensures { IfOk result (λ action. (action.0 < 2 ^ 63) × FitsWhat action.1) }
 {
-    match text(table, Key::Do)? {
-        "move" => read_move(table),
-        "open" => Ok(What::Open(number(table, Key::Port)?)),
-        "close" => Ok(What::Close(number(table, Key::Port)?)),
-        "tick" => Ok(What::Tick(number(table, Key::Jitter)?)),
-        "shb" => Ok(What::SendShb(read_single_hop(alloc, table)?)),
-        "gbc" => Ok(What::SendGeobroadcast(read_geocast(alloc, table)?)),
-        "gac" => Ok(What::SendGeoanycast(read_geocast(alloc, table)?)),
-        "restart" => Ok(What::Restart(number(table, Key::Number)?)),
-        "deliver" => {
-            let frame = number::<u32>(table, Key::Frame)?;
-            Ok(What::Deliver(frame as usize))
-        }
-        _ => Err(KeyFault::Refused(Key::Do)),
-    }
+    let moment = whole(fields, Key::At)? as u64;
+    Ok((moment, read_what(alloc, fields)?))
 }
 
-/// Reads a moment: an integer of TOML that is not below 0 is below 2^63.
-fn read_moment(table: &Table) -> Result<u64, KeyFault>
-    ensures { IfOk result (λ moment. moment < 2 ^ 63) }
+/// Reads what the station does: the word under `do`, and the keys of that word.
+fn read_what<F: Fields>(alloc: Global, fields: &F) -> Result<What, KeyFault>
+    ensures { IfOk result FitsWhat }
 {
-    let moment = number::<i64>(table, Key::At)?;
-    if moment < 0 {
-        return Err(KeyFault::Refused(Key::At));
+    match text(fields, Key::Do)? {
+        "move" => read_move(fields),
+        "open" => Ok(What::Open(number(fields, Key::Port)?)),
+        "close" => Ok(What::Close(number(fields, Key::Port)?)),
+        "tick" => Ok(What::Tick(number(fields, Key::Jitter)?)),
+        "shb" => Ok(What::SendShb(read_single_hop(alloc, fields)?)),
+        "gbc" => Ok(What::SendGeobroadcast(read_geocast(alloc, fields)?)),
+        "gac" => Ok(What::SendGeoanycast(read_geocast(alloc, fields)?)),
+        "restart" => Ok(What::Restart(number(fields, Key::Number)?)),
+        "deliver" => Ok(What::Deliver(whole(fields, Key::Frame)? as usize)),
+        _ => Err(KeyFault::Refused(Key::Do, Wrong::Value)),
     }
-    Ok(moment as u64)
 }
 
 /// Reads a move: `lat`, `lon`, `pai`, `speed`, `heading`, checked in this order.
-fn read_move(table: &Table) -> Result<What, KeyFault>
+fn read_move<F: Fields>(fields: &F) -> Result<What, KeyFault>
     ensures { IfOk result FitsWhat }
 {
-    let place = place(table, Key::Lat, Key::Lon)?;
-    let pai = truth(table, Key::Pai)?;
-    let speed = read_speed(table)?;
-    let heading = number(table, Key::Heading)?;
     Ok(What::MoveTo {
-        place,
-        pai,
-        speed,
-        heading,
+        place: place(fields, Key::Lat, Key::Lon)?,
+        pai: truth(fields, Key::Pai)?,
+        speed: whole(fields, Key::Speed)? as i16,
+        heading: number(fields, Key::Heading)?,
     })
 }
 
-/// Reads a speed in 0.01 m/s.
-fn read_speed(table: &Table) -> Result<i16, KeyFault>
-    ensures { IfOk result IsSpeed }
-{
-    let speed = number(table, Key::Speed)?;
-    if speed < -16384 || speed > 16383 {
-        return Err(KeyFault::Refused(Key::Speed));
-    }
-    Ok(speed)
-}
-
 /// Reads a single-hop broadcast: `port`, `info`, `tc`, `payload`, checked in this order.
-fn read_single_hop(alloc: Global, table: &Table) -> Result<OwnedShbRequest, KeyFault> {
+fn read_single_hop<F: Fields>(alloc: Global, fields: &F) -> Result<OwnedShbRequest, KeyFault> {
     Ok(OwnedShbRequest {
-        port: number(table, Key::Port)?,
-        info: number(table, Key::Info)?,
-        class: TrafficClass::from_octet(number(table, Key::Tc)?),
-        payload: octets(alloc, table, Key::Payload)?,
+        port: number(fields, Key::Port)?,
+        info: number(fields, Key::Info)?,
+        class: TrafficClass::from_octet(octet(fields, Key::Tc)?),
+        payload: octets(alloc, fields, Key::Payload)?,
     })
 }

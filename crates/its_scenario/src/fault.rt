@@ -6,6 +6,7 @@ ghost use Rattle.its_scenario.specs.Faults.{fault_of};
 ghost use Rattle.its_scenario.specs.declared.fault.ScenarioFault.TheVariants.{OutOfMemory};
 
 use crate::key::Key;
+use crate::position::TomlFault;
 use its_world::WorldFault;
 use std::alloc::{AllocError, AllocFailed};
 use thiserror::Error;
@@ -16,22 +17,28 @@ use thiserror::Error;
 pub enum ScenarioFault {
     /// The text is no TOML document.
     #[error("scenario: not TOML")]
-    NotToml,
+    NotToml(TomlFault),
     /// `station` is there and no array of tables.
     #[error("scenario: station")]
     Stations,
     /// `event` is there and no array of tables.
     #[error("scenario: event")]
     Events,
+    /// `air` is there and no table.
+    #[error("scenario: air")]
+    Air,
     /// There are more stations than are taken.
     #[error("scenario: too many stations")]
     TooManyStations,
     /// A key of a station, counted from 0, is missing, of another kind or out of range.
     #[error("scenario: station {0}: {1}")]
-    Station(usize, Key),
+    Station(usize, Key, Wrong),
+    /// A key of the air is missing, of another kind or out of range.
+    #[error("scenario: air: {0}")]
+    AirKey(Key, Wrong),
     /// A key of an event, counted from 0, is missing, of another kind or out of range.
     #[error("scenario: event {0}: {1}")]
-    Event(usize, Key),
+    Event(usize, Key, Wrong),
     /// Two stations, counted from 0, have the same MID: the second is the first that has one of
     /// before.
     #[error("scenario: stations {0} and {1} share a MID")]
@@ -68,11 +75,24 @@ impl<T: Drop> From<AllocFailed<T>> for ScenarioFault {
     }
 }
 
+/// What is wrong with the value of a key.
+#[derive(Clone, Copy, Debug, PartialEq, Eq)]
+pub enum Wrong {
+    /// There is none.
+    Missing,
+    /// It is of another kind than the key takes.
+    Kind,
+    /// It is out of the key's range, or a text that it doesn't take.
+    Value,
+    /// It isn't 0, as it has to be of a circle.
+    OfCircle,
+}
+
 /// Why the value of a key was not taken.
-#[derive(Clone, Copy, Debug)]
-pub(crate) enum KeyFault {
+#[derive(Clone, Copy, Debug, PartialEq, Eq)]
+pub enum KeyFault {
     /// The key is missing, or its value is of another kind or out of range.
-    Refused(Key),
+    Refused(Key, Wrong),
     /// An allocation failed.
     OutOfMemory,
 }
@@ -83,7 +103,17 @@ impl KeyFault {
         ensures { IsPastToml result }
     {
         match self {
-            KeyFault::Refused(key) => ScenarioFault::Station(number, key),
+            KeyFault::Refused(key, wrong) => ScenarioFault::Station(number, key, wrong),
+            KeyFault::OutOfMemory => ScenarioFault::OutOfMemory,
+        }
+    }
+
+    /// The fault of the scenario whose air has the key.
+    pub(crate) fn of_air(self) -> ScenarioFault
+        ensures { IsPastToml result }
+    {
+        match self {
+            KeyFault::Refused(key, wrong) => ScenarioFault::AirKey(key, wrong),
             KeyFault::OutOfMemory => ScenarioFault::OutOfMemory,
         }
     }
@@ -93,7 +123,7 @@ impl KeyFault {
         ensures { IsPastToml result }
     {
         match self {
-            KeyFault::Refused(key) => ScenarioFault::Event(number, key),
+            KeyFault::Refused(key, wrong) => ScenarioFault::Event(number, key, wrong),
             KeyFault::OutOfMemory => ScenarioFault::OutOfMemory,
         }
     }

@@ -1,8 +1,11 @@
-//! The keys of stations and events.
+//! The keys of stations, of the air and of events: the one table of their words and ranges.
+
+ghost use Rattle.std.specs.Prelude.{◌≡◌};
+ghost use Rattle.its_scenario.specs.Keys.{least_of, most_of};
 
 use std::fmt;
 
-/// A key of a station or of an event. It prints as its word in the document.
+/// A key of a station, of the air or of an event. It prints as its word in the document.
 #[derive(Clone, Copy, Debug, PartialEq, Eq)]
 pub enum Key {
     /// The address of a station: 16 hexadecimal digits, no group MID.
@@ -57,6 +60,18 @@ pub enum Key {
     Number,
     /// The frame that is delivered, counted from 0: 0 to 4294967295.
     Frame,
+    /// How far a frame is heard: 1 to 65535 m.
+    Range,
+    /// The milliseconds from a frame's sending to its deliveries: 0 to 65535, else 1.
+    Delay,
+    /// How many deliveries of a hundred are lost: 0 to 100, else 0.
+    Loss,
+    /// What the draws begin with: 0 to 2^63 - 1, else 0.
+    Seed,
+    /// Whether each station ticks by itself: true or false, else false.
+    Beacons,
+    /// The last moment that is run: 0 to 2^62.
+    Until,
 }
 
 impl Key {
@@ -89,6 +104,66 @@ impl Key {
             Key::Angle => "angle",
             Key::Number => "number",
             Key::Frame => "frame",
+            Key::Range => "range",
+            Key::Delay => "delay",
+            Key::Loss => "loss",
+            Key::Seed => "seed",
+            Key::Beacons => "beacons",
+            Key::Until => "until",
+        }
+    }
+
+    /// The least number that it takes.
+    pub(crate) fn least(self) -> i64
+        ensures { result ≡ least_of self }
+    {
+        match self {
+            Key::Lat | Key::Alat => -900_000_000,
+            Key::Lon | Key::Alon => -1_800_000_000,
+            Key::Speed => -16384,
+            Key::Capacity | Key::Remember | Key::A | Key::B | Key::Range => 1,
+            _ => 0,
+        }
+    }
+
+    /// The greatest number that it takes; 0 where its value is no number.
+    pub(crate) fn most(self) -> i64
+        ensures { result ≡ most_of self }
+    {
+        match self {
+            Key::Address | Key::Do | Key::Pai | Key::Payload | Key::Shape | Key::Beacons => 0,
+            Key::Lat | Key::Alat => 900_000_000,
+            Key::Lon | Key::Alon => 1_800_000_000,
+            Key::Speed => 16383,
+            Key::Capacity => 4096,
+            Key::Remember => 64,
+            Key::Loss => 100,
+            Key::Tc | Key::Lt | Key::Hops => 255,
+            Key::Angle => 359,
+            Key::Frame => 4_294_967_295,
+            Key::Until => 1 << 62,
+            Key::At | Key::Seed => i64::MAX,
+            _ => 65535,
+        }
+    }
+
+    /// What a value of another kind than it takes is not.
+    pub(crate) fn kind(self) -> &'static str {
+        match self {
+            Key::Address | Key::Do | Key::Payload | Key::Shape => "a text",
+            Key::Pai | Key::Beacons => "true or false",
+            _ => "a whole number",
+        }
+    }
+
+    /// What a text is not that it doesn't take; nothing where its value is no text.
+    pub(crate) fn form(self) -> Option<&'static str> {
+        match self {
+            Key::Address => Some("16 hexadecimal digits of an address that is no group's"),
+            Key::Do => Some("a word for what a station does"),
+            Key::Payload => Some("an even number of hexadecimal digits"),
+            Key::Shape => Some("circle, rectangle or ellipse"),
+            _ => None,
         }
     }
 }

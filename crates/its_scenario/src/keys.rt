@@ -1,69 +1,92 @@
 //! The values of keys.
 
-ghost use Rattle.std.specs.Prelude.{◌<◌, ◌≤◌, IfOk};
+ghost use Rattle.std.specs.Prelude.{◌≤ℤ◌, pos, negsuc, IfOk};
+ghost use Rattle.its_scenario.specs.Keys.{IsTakenBy, least_of, most_of};
 
-use crate::fault::KeyFault;
+use crate::fault::{KeyFault, Wrong};
+use crate::fields::Fields;
 use crate::key::Key;
 use its_gnvalue::Place;
 use std::alloc::Global;
-use toml::{Table, Value};
 
-/// An integer of the type under a key.
-pub(crate) fn number<N: TryFrom<i64>>(table: &Table, key: Key) -> Result<N, KeyFault>
-where
-    N::Error: Drop,
+/// The fault of a key that has no value of the kind that it takes.
+pub(crate) fn unlike<F: Fields>(fields: &F, key: Key) -> KeyFault {
+    let wrong = if fields.has(key.word()) {
+        Wrong::Kind
+    } else {
+        Wrong::Missing
+    };
+    KeyFault::Refused(key, wrong)
+}
+
+/// The whole number under a key, in the range of that key.
+pub(crate) fn whole<F: Fields>(fields: &F, key: Key) -> Result<i64, KeyFault>
+    ensures { IfOk result (IsTakenBy key) }
 {
-    match table.get(key.word()) {
-        Some(Value::Integer(number)) => N::try_from(*number).map_err(|_| KeyFault::Refused(key)),
-        _ => Err(KeyFault::Refused(key)),
+    match fields.integer(key.word()) {
+        Some(number) if key.least() <= number && number <= key.most() => Ok(number),
+        Some(_) => Err(KeyFault::Refused(key, Wrong::Value)),
+        None => Err(unlike(fields, key)),
     }
 }
 
-/// An integer from 1 to the most under a key, or the other number where the key is missing.
-pub(crate) fn count_or(table: &Table, key: Key, most: u16, other: u16) -> Result<u16, KeyFault>
-    requires { (0 < other) × (other ≤ most) }
-    ensures { IfOk result (λ count. (0 < count) × (count ≤ most)) }
+/// The whole number of 16 bits under a key.
+pub(crate) fn number<F: Fields>(fields: &F, key: Key) -> Result<u16, KeyFault>
+    requires { (pos 0 ≤ℤ least_of key) × (most_of key ≤ℤ pos 65535) }
+    ensures { IfOk result (λ n. IsTakenBy key (pos n)) }
 {
-    if table.get(key.word()).is_none() {
-        return Ok(other);
+    Ok(whole(fields, key)? as u16)
+}
+
+/// The octet under a key.
+pub(crate) fn octet<F: Fields>(fields: &F, key: Key) -> Result<u8, KeyFault>
+    requires { (pos 0 ≤ℤ least_of key) × (most_of key ≤ℤ pos 255) }
+    ensures { IfOk result (λ n. IsTakenBy key (pos n)) }
+{
+    Ok(whole(fields, key)? as u8)
+}
+
+/// The whole number under a key, or another of its range where the key is missing.
+pub(crate) fn whole_or<F: Fields>(fields: &F, key: Key, other: i64) -> Result<i64, KeyFault>
+    requires { IsTakenBy key other }
+    ensures { IfOk result (IsTakenBy key) }
+{
+    if fields.has(key.word()) {
+        whole(fields, key)
+    } else {
+        Ok(other)
     }
-    let count = number::<u16>(table, key)?;
-    if count == 0 || count > most {
-        return Err(KeyFault::Refused(key));
-    }
-    Ok(count)
 }
 
 /// True or false under a key.
-pub(crate) fn truth(table: &Table, key: Key) -> Result<bool, KeyFault> {
-    match table.get(key.word()) {
-        Some(Value::Boolean(truth)) => Ok(*truth),
-        _ => Err(KeyFault::Refused(key)),
-    }
+pub(crate) fn truth<F: Fields>(fields: &F, key: Key) -> Result<bool, KeyFault> {
+    fields.truth(key.word()).ok_or_else(|| unlike(fields, key))
 }
 
 /// The text under a key.
-pub(crate) fn text<'a>(table: &'a Table, key: Key) -> Result<&'a str, KeyFault> {
-    match table.get(key.word()) {
-        Some(Value::String(text)) => Ok(text.as_str()),
-        _ => Err(KeyFault::Refused(key)),
+pub(crate) fn text<'a, F: Fields>(fields: &'a F, key: Key) -> Result<&'a str, KeyFault> {
+    match fields.text(key.word()) {
+        Some(text) => Ok(text),
+        None => Err(unlike(fields, key)),
     }
 }
 
 /// The octets of the hexadecimal digits under a key, in either letter case.
-pub(crate) fn octets(alloc: Global, table: &Table, key: Key) -> Result<Vec<u8>, KeyFault> {
-    match hex::decode(alloc, text(table, key)?) {
+pub(crate) fn octets<F: Fields>(alloc: Global, fields: &F, key: Key) -> Result<Vec<u8>, KeyFault> {
+    match hex::decode(alloc, text(fields, key)?) {
         Ok(octets) => Ok(octets),
         Err(hex::FromHexError::OutOfMemory) => Err(KeyFault::OutOfMemory),
-        Err(_) => Err(KeyFault::Refused(key)),
+        Err(_) => Err(KeyFault::Refused(key, Wrong::Value)),
     }
 }
 
 /// The place of the latitude and the longitude under two keys, in tenths of a microdegree. The
 /// latitude is checked before the longitude is looked at.
-pub(crate) fn place(table: &Table, lat_key: Key, lon_key: Key) -> Result<Place, KeyFault> {
-    let lat = number(table, lat_key)?;
-    Place::new(lat, 0).map_err(|_| KeyFault::Refused(lat_key))?;
-    let lon = number(table, lon_key)?;
-    Place::new(lat, lon).map_err(|_| KeyFault::Refused(lon_key))
+pub(crate) fn place<F: Fields>(fields: &F, lat_key: Key, lon_key: Key) -> Result<Place, KeyFault>
+    requires latitude { (negsuc 899999999 ≤ℤ least_of lat_key) × (most_of lat_key ≤ℤ pos 900000000) }
+    requires longitude { (negsuc 1799999999 ≤ℤ least_of lon_key) × (most_of lon_key ≤ℤ pos 1800000000) }
+{
+    let lat = whole(fields, lat_key)? as i32;
+    let lon = whole(fields, lon_key)? as i32;
+    Place::new(lat, lon).map_err(|_| KeyFault::Refused(lon_key, Wrong::Value))
 }

@@ -1,15 +1,25 @@
-//! Scenarios: the stations and events of a TOML document, as those of a world. Each number is in
-//! its range, by the type of a scenario.
+//! Scenarios: the stations, the air and the events of a TOML document, as those of a world. Each
+//! number is in its range, by the type of a scenario.
 #![tactic(auto)]
 
+mod air;
 mod event;
 mod fault;
+mod fields;
 mod geocast;
 mod key;
 mod keys;
+mod position;
+mod reason;
 mod scenario;
 mod station;
 
-pub use fault::ScenarioFault;
+pub use air::Air;
+pub use event::read_action;
+pub use fault::{KeyFault, ScenarioFault, Wrong};
+pub use fields::Fields;
 pub use key::Key;
+pub use position::TomlFault;
+pub use reason::{Reason, WrongOf};
 pub use scenario::Scenario;
+pub use station::read_station;

@@ -1,7 +1,9 @@
 //! Scenarios: what is read, and each refusal.
 
+mod air;
 mod defaults;
 mod memory;
+mod reasons;
 mod refusals;
 mod values;
 

@@ -1,6 +1,9 @@
 //! What is told of an event that was done.
 
-ghost use Rattle.std.specs.Prelude.{◌≡◌};
+ghost use Rattle.std.specs.Prelude.{◌≡◌, ℕ};
+ghost use Rattle.its_model.specs.Calls.{Answer};
+ghost use Rattle.its_model.specs.World.{frame_of};
+ghost use Rattle.its_world.specs.Entries.{TellsEntry};
 
 use its_station::{Delivery, Refused, Why};
 use std::error::Error;
@@ -78,4 +81,23 @@ pub enum Entry {
     },
     /// The event was refused.
     Refused(EntryFault),
+}
+
+impl Entry {
+    /// The frame that was given, by its number; `None` where none was.
+    pub fn frame(&self) -> Option<usize>
+        ensures { (answer : Answer ℕ) → TellsEntry self.now answer → result ≡ frame_of answer }
+    {
+        match self {
+            Entry::Sent(frame) => Some(*frame),
+            Entry::Accepted { sent, .. } => *sent,
+            Entry::Moved
+            | Entry::Opened
+            | Entry::Closed
+            | Entry::Restarted
+            | Entry::Quiet
+            | Entry::Ignored(_)
+            | Entry::Refused(_) => None,
+        }
+    }
 }

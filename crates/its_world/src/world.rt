@@ -82,6 +82,13 @@ impl World {
         self.stations.get(number)
     }
 
+    /// The stations, in the order of the configs, as they stand after the events done.
+    pub fn stations(&self) -> &[Station<SortedTable>]
+        ensures { result.now ≡ self.now.stations }
+    {
+        self.stations.as_slice()
+    }
+
     /// How many frames there are.
     pub fn frames(&self) -> usize
         ensures { result ≡ length self.now.frames }
@@ -97,8 +104,10 @@ impl World {
         self.air[number].as_slice()
     }
 
-    /// One event. Where an allocation failed nothing changed.
-    pub(crate) fn step(&mut self, event: &Event) -> Result<Entry, NoMemory>
+    /// Does one event, whose speed has to be in its range where it is a `MoveTo`: the world goes one
+    /// step of the written rules, and the entry is what they log of it. Where an allocation failed
+    /// nothing changed, and the event may be done again. `run` does many, and says what holds then.
+    pub fn step(&mut self, event: &Event) -> Result<Entry, NoMemory>
         requires { IsInRange event.now.what }
         ensures step { IfOk result (λ entry. (w : WorldModel) → RepresentsWorld self.old w →
             RepresentsWorld self.new (world_step w (event_of event.now))

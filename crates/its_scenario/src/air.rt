@@ -1,0 +1,106 @@
+//! The air of a scenario.
+
+ghost use Rattle.std.specs.Prelude.{◌≡◌, ◌≤◌, ◌<◌, ◌^◌, ◌+◌, All, IfOk, IfSome};
+ghost use Rattle.std.proofs.Props.{props};
+ghost use Rattle.its_scenario.specs.Airs.{end_of, greatest_moment};
+
+use crate::fault::KeyFault;
+use crate::fields::Fields;
+use crate::key::Key;
+use crate::keys::{number, truth, whole, whole_or};
+use its_world::Event;
+
+/// How frames go from station to station by themselves.
+#[derive(Clone, Copy, Debug, PartialEq, Eq)]
+pub struct Air {
+    /// How far a frame is heard: 1 to 65535 m.
+    pub range: u16,
+    /// The milliseconds from a frame's sending to its deliveries.
+    pub delay: u16,
+    /// How many deliveries of a hundred are lost: 0 to 100.
+    pub loss: u8,
+    /// What the draws begin with: 0 to 2^63 - 1.
+    pub seed: u64,
+    /// Whether each station ticks by itself.
+    pub beacons: bool,
+    /// The last moment that is run, in milliseconds: 0 to 2^62. Where none is given, `end` tells.
+    pub until: Option<u64>,
+    ghost heard: { 1 ≤ range },
+    ghost percent: { loss ≤ 100 },
+    ghost signed: { seed < 2 ^ 63 },
+    ghost last: { IfSome until (λ moment. moment ≤ 2 ^ 62) } by { Prim.hlevel props },
+}
+
+/// How long an air runs on after the last event, in milliseconds.
+const AFTER_EVENTS: u64 = 10_000;
+
+impl Air {
+    /// The last moment that is run over these events: the one that is given, else ten seconds after
+    /// the greatest moment of an event.
+    pub fn end(&self, events: &[Event]) -> u64
+        requires { All (λ event. event.moment < 2 ^ 63) events.now }
+        ensures end { result ≡ end_of self.now.until events.now }
+        ensures bound { result < 2 ^ 63 + 10000 }
+    {
+        match self.until {
+            Some(until) => until,
+            None => greatest(events) + AFTER_EVENTS,
+        }
+    }
+}
+
+/// The greatest moment of an event, 0 where there is none.
+fn greatest(events: &[Event]) -> u64
+    requires { All (λ event. event.moment < 2 ^ 63) events.now }
+    ensures last { result ≡ greatest_moment events.now }
+    ensures bound { result < 2 ^ 63 }
+{
+    let mut last = 0;
+    for event in events {
+        last = last.max(event.moment);
+    }
+    last
+}
+
+/// Reads an air: `range`, `delay`, `loss`, `seed`, `beacons`, `until`, checked in this order. All
+/// but `range` may be missing.
+pub(crate) fn read_air<F: Fields>(fields: &F) -> Result<Air, KeyFault> {
+    let range = number(fields, Key::Range)?;
+    let delay = whole_or(fields, Key::Delay, 1)? as u16;
+    let loss = read_loss(fields)?;
+    let seed = read_seed(fields)?;
+    let beacons = fields.has(Key::Beacons.word()) && truth(fields, Key::Beacons)?;
+    let until = read_until(fields)?;
+    Ok(Air {
+        range,
+        delay,
+        loss,
+        seed,
+        beacons,
+        until,
+    })
+}
+
+/// How many deliveries of a hundred are lost: none, where nothing is given.
+fn read_loss<F: Fields>(fields: &F) -> Result<u8, KeyFault>
+    ensures { IfOk result (λ percent. percent ≤ 100) }
+{
+    Ok(whole_or(fields, Key::Loss, 0)? as u8)
+}
+
+/// What the draws begin with: 0, where nothing is given.
+fn read_seed<F: Fields>(fields: &F) -> Result<u64, KeyFault>
+    ensures { IfOk result (λ seed. seed < 2 ^ 63) }
+{
+    Ok(whole_or(fields, Key::Seed, 0)? as u64)
+}
+
+/// The last moment that is run, where it is given.
+fn read_until<F: Fields>(fields: &F) -> Result<Option<u64>, KeyFault>
+    ensures { IfOk result (λ until. IfSome until (λ moment. moment ≤ 2 ^ 62)) }
+{
+    if !fields.has(Key::Until.word()) {
+        return Ok(None);
+    }
+    Ok(Some(whole(fields, Key::Until)? as u64))
+}
