@@ -1,1 +1,1 @@
-pub mod Logs
+mod Told

@@ -6,17 +6,18 @@ use Rattle.its_world.specs.declared.entry.Entry.{Entry}
 use Rattle.its_world.specs.State.{WorldState, RepresentsWorld}
 use Rattle.its_world.specs.Entries.{AreEntries}
 
--- Of these configs the events were done: the world stands at the end of just this run of the model,
--- and of that very end hold the laws over every schedule.
+-- Of these configs the events were done, in order: the world stands at the end of just this run of
+-- the model, and of that very end hold the laws over every schedule.
 pub record IsSimulation (configs : List Config) (events : List Event)
     (world : WorldState) : Type 0 where
   pub stands : RepresentsWorld world (world_run (opening configs) events)
   pub laws : HoldsOfSchedules configs (world_run (opening configs) events)
 
--- The same, and what was taken are the model's entries of this run, one for one and in order.
+-- The same, and what was taken are the events and the model's entries of them, one for one.
 pub record IsSimulated (configs : List Config) (events : List Event) (world : WorldState)
-    (Took : List Entry → Type 0) : Type 0 where
-  pub run : IsSimulation configs events world
+    (Took : List Event → List Entry → Type 0) : Type 0 where
+  pub stands : RepresentsWorld world (world_run (opening configs) events)
+  pub laws : HoldsOfSchedules configs (world_run (opening configs) events)
   pub log : List Entry
   pub told : AreEntries log (entries (world_run (opening configs) events).log)
-  pub took : Took log
+  pub took : Took events log

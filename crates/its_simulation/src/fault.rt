@@ -1,6 +1,7 @@
 //! What ends a simulation before its last event.
 
 use its_gnvalue::NoMemory;
+use its_json::JsonFault;
 use std::alloc::AllocError;
 use std::io;
 use thiserror::Error;
@@ -19,5 +20,15 @@ pub enum SimulationFault {
 impl From<NoMemory> for SimulationFault {
     fn from(_: NoMemory) -> SimulationFault {
         SimulationFault::OutOfMemory(AllocError)
+    }
+}
+
+impl From<JsonFault> for SimulationFault {
+    fn from(fault: JsonFault) -> SimulationFault {
+        match fault {
+            JsonFault::OutOfMemory => SimulationFault::OutOfMemory(AllocError),
+            // No line of an event has such a value.
+            JsonFault::Kind => SimulationFault::Output(io::Error::from(io::ErrorKind::InvalidData)),
+        }
     }
 }

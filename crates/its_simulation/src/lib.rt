@@ -1,16 +1,27 @@
-//! A scenario run as a world of stations, with a printed line for each event.
+//! A scenario run as a world of stations, with a printed line for each event: words, or an object
+//! in JSON, of the same values.
 #![tactic(auto)]
 
+mod action;
+mod doing;
 mod entry;
 mod fault;
 mod hexadecimal;
-mod printer;
+mod json_lines;
+mod reason;
+mod record;
 mod simulation;
 mod sink;
+mod text_lines;
 
+pub use action::Action;
+pub use doing::do_event;
 pub use entry::EntryText;
 pub use fault::SimulationFault;
 pub use hexadecimal::Hex;
-pub use printer::Printer;
+pub use json_lines::JsonLines;
+pub use reason::{EntryReason, Explanation, FrameReason};
+pub use record::EventRecord;
 pub use simulation::{simulate, simulate_into};
-pub use sink::EntrySink;
+pub use sink::EventSink;
+pub use text_lines::TextLines;

@@ -1,20 +1,26 @@
-//! Where the entries of a simulation go.
+//! Where the events of a simulation go.
 
 ghost use Rattle.std.specs.Prelude.{◌++◌, ◌∷◌, [], List, OnOk};
+ghost use Rattle.its_model.specs.World.{Event as Happening};
+ghost use Rattle.its_simulation.specs.Records.{happening_in};
 
-use its_world::{Entry, Event};
-use std::io;
+use crate::fault::SimulationFault;
+use crate::record::EventRecord;
+use its_world::World;
 
-/// What takes the entries of a simulation, one by one in the order of the events.
-pub trait EntrySink {
+/// What takes the events of a simulation, one by one, as they are done.
+pub trait EventSink {
     ghost use Rattle.its_world.specs.declared.entry.Entry.{Entry};
 
-    /// What it says of having taken these entries, in order. A sink that keeps none may say nothing
-    /// of them.
-    ghost Took: { Self → List Entry → Type 0 };
+    /// What it says of having taken these events and these entries, in order. A sink that keeps none
+    /// may say nothing of them.
+    ghost Took: { Self → List Happening → List Entry → Type 0 };
 
-    /// Takes the entry of an event, whose place among the events, from 0, is `number`.
-    fn put(&mut self, number: usize, event: &Event, entry: &Entry) -> io::Result<()>
-        ensures { (log : List Entry) → Took self.old log
-            → OnOk result (Took self.new (log ++ entry.now ∷ [])) };
+    /// Takes an event that was done, with the world as it stands after it.
+    ///
+    /// `OutOfMemory` where an allocation failed, `Output` where a write did.
+    fn put(&mut self, world: &World, done: &EventRecord<'_>) -> Result<(), SimulationFault>
+        ensures { (events : List Happening) (log : List Entry) → Took self.old events log
+            → OnOk result (Took self.new (events ++ happening_in done.now ∷ [])
+            (log ++ done.now.entry.now ∷ [])) };
 }

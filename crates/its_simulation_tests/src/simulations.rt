@@ -2,10 +2,13 @@
 
 mod entries;
 mod failures;
+mod frames;
 mod large;
+mod objects;
+mod options;
 mod refusals;
 
-use its_commands::{Status, simulate};
+use its_commands::{RunOptions, Status, simulate};
 use std::alloc::{AllocError, Global};
 use std::io::Read;
 use std::process::Abort;
@@ -67,8 +70,12 @@ impl Left {
 }
 
 fn simulation_of<R: Read + Drop>(alloc: Global, reader: R) -> Left {
+    simulation_with(alloc, RunOptions::default(), reader)
+}
+
+fn simulation_with<R: Read + Drop>(alloc: Global, options: RunOptions, reader: R) -> Left {
     let (mut out, mut err) = (Vec::new(alloc), Vec::new(alloc));
-    let status = simulate(alloc, "a.toml", reader, &mut out, &mut err);
+    let status = simulate(alloc, "a.toml", reader, options, &mut out, &mut err);
     Left { status, out, err }
 }
 
@@ -98,6 +105,10 @@ fn scenario(alloc: Global, stations: &str, events: &[&str]) -> Result<String, Al
 
 /// What `sim` leaves of the three stations and these events.
 fn left_by(alloc: Global, events: &[&str]) -> Result<Left, AllocError> {
+    left_with(alloc, RunOptions::default(), events)
+}
+
+fn left_with(alloc: Global, options: RunOptions, events: &[&str]) -> Result<Left, AllocError> {
     let text = scenario(alloc, STATIONS, events)?;
-    Ok(simulation_of(alloc, text.as_bytes()))
+    Ok(simulation_with(alloc, options, text.as_bytes()))
 }

@@ -1,7 +1,7 @@
 //! A reader or an output that fails, files, and every budget of memory from none to enough.
 
 use super::{DELIVER, Left, OPEN, SEND, STATIONS, scenario, simulation_of};
-use its_commands::{Status, simulate, simulate_file};
+use its_commands::{RunOptions, Status, simulate, simulate_file};
 use its_shortage::{MOST, STEP, Shortage, written};
 use std::io::Read;
 use std::test::Fail;
@@ -60,7 +60,14 @@ fn a_write_that_fails_ends_it(rt: HostRuntime) -> Result<(), Fail> {
         let mut printed = [0u8; 200];
         let mut err = Vec::new(rt.alloc());
         let mut out = &mut printed[..room];
-        let status = simulate(rt.alloc(), "a.toml", text.as_bytes(), &mut out, &mut err);
+        let status = simulate(
+            rt.alloc(),
+            "a.toml",
+            text.as_bytes(),
+            RunOptions::default(),
+            &mut out,
+            &mut err,
+        );
         let done = room == LINES.len();
         assert_eq!(rt; status == Status::Done, done, "{room}");
         assert_eq!(rt; status == Status::Failed, !done, "{room}");
@@ -73,7 +80,15 @@ fn a_write_that_fails_ends_it(rt: HostRuntime) -> Result<(), Fail> {
 /// What `sim` leaves of a file.
 fn simulation_of_file(rt: &HostRuntime, file: &str) -> Left {
     let (mut out, mut err) = (Vec::new(rt.alloc()), Vec::new(rt.alloc()));
-    let status = simulate_file(rt, file, NOTHING, &mut out, &mut err);
+    let status = simulate_file(
+        rt,
+        file,
+        NOTHING,
+        None,
+        RunOptions::default(),
+        &mut out,
+        &mut err,
+    );
     Left { status, out, err }
 }
 
@@ -104,7 +119,14 @@ fn it_runs_short_of_memory(rt: HostRuntime) -> Result<(), Fail> {
         assert!(rt; shortage.leave(step * STEP));
         let (mut printed, mut said) = ([0u8; 200], [0u8; 64]);
         let (mut out, mut err) = (printed.as_mut_slice(), said.as_mut_slice());
-        let status = simulate(alloc, "a.toml", text.as_bytes(), &mut out, &mut err);
+        let status = simulate(
+            alloc,
+            "a.toml",
+            text.as_bytes(),
+            RunOptions::default(),
+            &mut out,
+            &mut err,
+        );
         let is_done = status == Status::Done;
         if is_done {
             done = done.saturating_add(1);

@@ -1,0 +1,23 @@
+use Rattle.std.proofs.Common.{List, [], ◌∷◌, ◌++◌, subst}
+use Rattle.its_model.specs.World.{Event}
+use Rattle.its_world.specs.declared.entry.Entry.{Entry}
+use Rattle.its_world.specs.Events.{event_of}
+use Rattle.its_simulation.specs.Records.{happening_in}
+use Rattle.its_simulation.proofs.Told.{told_more}
+use Rattle.its_simulation.proofs.doing.do_event.Goals as goal
+
+pub returns : goal.returns
+returns g c = λ configs events before.
+    let e = event_of c.args.event.now in
+    let entry = c.in_ok-entry.entry in
+    told_more configs events e c.args.world.now c.step.new.self entry
+    (g.S.EventSink.Took c.args.sink.now) (g.S.EventSink.Took c.put.new.self)
+    c.in_ok-entry.ensures.step c.runs_go_on.ensures
+    (c.every_schedule.ensures configs (events ++ e ∷ []))
+    (λ log took.
+    subst (λ (x : Event). g.S.EventSink.Took c.put.new.self (events ++ x ∷ []) (log ++ entry ∷ []))
+    c.of.ensures.event
+    (subst (λ (x : Entry). g.S.EventSink.Took c.put.new.self
+    (events ++ happening_in c.of.result ∷ []) (log ++ x ∷ []))
+    c.of.ensures.entry (c.in_ok-put.ensures events log took)))
+    before

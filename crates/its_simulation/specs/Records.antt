@@ -1,0 +1,32 @@
+-- What is told of an event.
+use Rattle.std.specs.Prelude.{ℕ, List, Vec, Option, Some, None, slice_get}
+use Rattle.std.specs.Option.{option_map}
+use Rattle.std.specs.declared.alloc.Global.{Global}
+use Rattle.its_model.specs.World.{Event}
+use Rattle.its_world.specs.Events.{what_of}
+use Rattle.its_world.specs.declared.event.What.{What}
+use Rattle.its_world.specs.declared.event.What.TheVariants as whats
+use Rattle.its_simulation.specs.declared.action.Action.{Action}
+use Rattle.its_simulation.specs.declared.action.Action.TheVariants as actions
+use Rattle.its_simulation.specs.declared.record.EventRecord.{EventRecord}
+
+-- what an event does, as far as a line tells it
+abbrev pub action_of : What → Action
+action_of (whats.MoveTo place pai speed heading) = actions.Move place
+action_of (whats.Open port) = actions.Open
+action_of (whats.Close port) = actions.Close
+action_of (whats.Tick jitter) = actions.Tick
+action_of (whats.SendShb r) = actions.SendShb
+action_of (whats.SendGeobroadcast r) = actions.SendGeobroadcast
+action_of (whats.SendGeoanycast r) = actions.SendGeoanycast
+action_of (whats.Restart number) = actions.Restart
+action_of (whats.Deliver k) = actions.Deliver k
+
+-- the event that a record is of
+abbrev pub happening_in : EventRecord → Event
+happening_in r = record { station = r.station; moment = r.moment; what = what_of r.what.now }
+
+-- the octets of a frame, if one is named and there is such a one
+abbrev pub octets_of : List (Vec ℕ Global) → Option ℕ → Option (List ℕ)
+octets_of frames None = None
+octets_of frames (Some k) = option_map (λ (w : Vec ℕ Global). w.items) (slice_get frames k)

@@ -1,0 +1,35 @@
+//! One event of a simulation.
+
+ghost use Rattle.std.specs.Prelude.{◌++◌, ◌∷◌, [], List, OnOk};
+ghost use Rattle.its_model.specs.World.{Config, Event as Happening};
+ghost use Rattle.its_world.specs.Events.{IsInRange, event_of};
+ghost use Rattle.its_simulation.specs.Simulated.{IsSimulated};
+
+use crate::fault::SimulationFault;
+use crate::record::EventRecord;
+use crate::sink::EventSink;
+use its_model::laws::{every_schedule, runs_go_on};
+use its_world::{Entry, Event, World};
+
+/// Does an event, which is the one of this number, and hands it to a sink: a world and a sink that
+/// stand after some events stand after one more. The speed of a `MoveTo` has to be in its range.
+///
+/// `OutOfMemory` where an allocation failed; else the sink failed.
+pub fn do_event<S: EventSink>(
+    world: &mut World,
+    number: usize,
+    event: &Event,
+    sink: &mut S,
+) -> Result<Entry, SimulationFault>
+    requires { IsInRange event.now.what }
+    ensures { (configs : List Config) (events : List Happening) →
+        IsSimulated configs events world.old (S.Took sink.old) → OnOk result (
+        IsSimulated configs (events ++ event_of event.now ∷ []) world.new (S.Took sink.new)) }
+{
+    // Laws, for the proof alone.
+    every_schedule();
+    runs_go_on();
+    let entry = world.step(event)?;
+    sink.put(world, &EventRecord::of(world, number, event, &entry))?;
+    Ok(entry)
+}

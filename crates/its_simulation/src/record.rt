@@ -1,0 +1,103 @@
+//! What is told of an event.
+
+ghost use Rattle.std.specs.Prelude.{◌≡◌, ℕ};
+ghost use Rattle.std.specs.Option.{option_map};
+ghost use Rattle.its_model.specs.Calls.{Answer};
+ghost use Rattle.its_model.specs.World.{frame_of};
+ghost use Rattle.its_world.specs.Entries.{TellsEntry};
+ghost use Rattle.its_world.specs.Events.{event_of};
+ghost use Rattle.its_simulation.specs.Records.{happening_in, octets_of};
+
+use crate::action::Action;
+use crate::entry::Told;
+use its_json::Octets;
+use its_world::{Entry, Event, What, World};
+use serde::Serialize;
+
+/// An event that was done, and what came of it.
+#[derive(Clone, Copy, Debug)]
+pub struct EventRecord<'a> {
+    /// Its place among the events, from 0.
+    pub number: usize,
+    /// Its moment, in milliseconds.
+    pub moment: u64,
+    /// Its station, by its place among the configs.
+    pub station: usize,
+    /// What it does.
+    pub what: &'a What,
+    /// What is told of it.
+    pub entry: &'a Entry,
+    /// The octets of the frame that was given, if one was. Its number is in the entry.
+    pub octets: Option<&'a [u8]>,
+}
+
+impl<'a> EventRecord<'a> {
+    /// The record of an event of this number that was done in a world, and of what came of it.
+    pub fn of(
+        world: &'a World,
+        number: usize,
+        event: &'a Event,
+        entry: &'a Entry,
+    ) -> EventRecord<'a>
+        ensures number { result.number ≡ number }
+        ensures event { happening_in result ≡ event_of event.now }
+        ensures entry { result.entry.now ≡ entry.now }
+        ensures octets { (answer : Answer ℕ) → TellsEntry entry.now answer →
+            option_map (λ octets. octets.now) result.octets
+            ≡ octets_of world.now.frames (frame_of answer) }
+    {
+        EventRecord {
+            number,
+            moment: event.moment,
+            station: event.station,
+            what: &event.what,
+            entry,
+            octets: match entry.frame() {
+                Some(frame) if frame < world.frames() => Some(world.frame(frame)),
+                _ => None,
+            },
+        }
+    }
+}
+
+/// What the JSON of an event tells, its keys in order.
+#[derive(Clone, Copy, Serialize)]
+pub(crate) struct EventLine<'a> {
+    event: usize,
+    moment: u64,
+    station: usize,
+    #[serde(rename = "do")]
+    word: &'static str,
+    #[serde(skip_serializing_if = "Option::is_none")]
+    frame: Option<usize>,
+    #[serde(skip_serializing_if = "Option::is_none")]
+    lat: Option<i32>,
+    #[serde(skip_serializing_if = "Option::is_none")]
+    lon: Option<i32>,
+    #[serde(flatten)]
+    told: Told<'a>,
+    #[serde(skip_serializing_if = "Option::is_none")]
+    octets: Option<Octets<'a>>,
+}
+
+impl<'a> EventLine<'a> {
+    pub(crate) fn of(done: &EventRecord<'a>) -> EventLine<'a> {
+        let action = Action::of(done.what);
+        let (frame, lat, lon) = match action {
+            Action::Deliver(frame) => (Some(frame), None, None),
+            Action::Move(place) => (None, Some(place.lat()), Some(place.lon())),
+            _ => (None, None, None),
+        };
+        EventLine {
+            event: done.number,
+            moment: done.moment,
+            station: done.station,
+            word: action.word(),
+            frame,
+            lat,
+            lon,
+            told: Told::of(done.entry),
+            octets: done.octets.map(Octets),
+        }
+    }
+}

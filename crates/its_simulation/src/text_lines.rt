@@ -1,0 +1,63 @@
+//! The lines of a simulation, as text.
+
+use crate::action::Action;
+use crate::entry::EntryText;
+use crate::fault::SimulationFault;
+use crate::record::EventRecord;
+use crate::sink::EventSink;
+use its_world::World;
+use std::io::Write;
+
+/// Writes a line for each entry, as `2 1010 1 accepted port 2002 info 0 6869 sent 1`: the event's
+/// place among the events, from 0, its moment in milliseconds, its station and what is told of it.
+#[derive(Drop)]
+pub struct TextLines<'a, W> {
+    out: &'a mut W,
+    explain: bool,
+    actions: bool,
+}
+
+impl<'a, W: Write> TextLines<'a, W> {
+    /// Lines without what an event does: a scenario's events are known. With `explain` a refusal
+    /// goes on with its sentence in parentheses.
+    pub fn new(out: &'a mut W, explain: bool) -> TextLines<'a, W> {
+        TextLines {
+            out,
+            explain,
+            actions: false,
+        }
+    }
+
+    /// Lines that tell what an event does before its entry, as
+    /// `2 1001 1 deliver 0 accepted sent 1`.
+    pub fn with_actions(out: &'a mut W, explain: bool) -> TextLines<'a, W> {
+        TextLines {
+            out,
+            explain,
+            actions: true,
+        }
+    }
+}
+
+impl<W: Write> EventSink for TextLines<'_, W> {
+    // What a text writes isn't said by contracts.
+    ghost Took = { λ _ _ _. Unit {0} };
+
+    fn put(&mut self, _world: &World, done: &EventRecord<'_>) -> Result<(), SimulationFault> {
+        let EventRecord {
+            number,
+            moment,
+            station,
+            what,
+            entry,
+            ..
+        } = *done;
+        write!(self.out, "{number} {moment} {station} ")?;
+        if self.actions {
+            write!(self.out, "{} ", Action::of(what))?;
+        }
+        let explain = self.explain;
+        writeln!(self.out, "{}", EntryText { entry, explain })?;
+        Ok(())
+    }
+}
