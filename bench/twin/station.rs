@@ -73,6 +73,18 @@ impl Station {
         }
     }
 
+    pub fn place(&self) -> Place {
+        self.vector.place
+    }
+
+    pub fn beacon_from(&self) -> u64 {
+        self.beacon_from
+    }
+
+    pub fn is_open(&self, port: u16) -> bool {
+        self.ports.contains(&port)
+    }
+
     fn check_moment(&self, now: u64) -> Result<(), Refused> {
         if now < self.clock || now > LAST_MOMENT { Err(Refused::Moment) } else { Ok(()) }
     }
@@ -259,7 +271,7 @@ impl World {
         events.iter().map(|event| self.step(event)).collect()
     }
 
-    fn step(&mut self, event: &Event) -> Entry {
+    pub fn step(&mut self, event: &Event) -> Entry {
         self.ask(event).unwrap_or_else(Entry::Refused)
     }
 

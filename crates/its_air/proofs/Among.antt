@@ -1,0 +1,25 @@
+-- Events among others.
+use Rattle.std.proofs.Common.{List, [], ◌∷◌, ◌++◌, refl, ap, ◌∙◌, append_assoc}
+use Rattle.its_model.specs.World.{Event}
+use Rattle.its_air.specs.AirRun.{AreAmong}
+
+-- one more of the others
+pub among_more : (xs ys : List Event) (e : Event) → AreAmong xs ys → AreAmong xs (ys ++ e ∷ [])
+among_more [] ys e h = tt
+among_more (x ∷ xs) ys e h = (
+  h.0,
+  h.1 ++ e ∷ [],
+  ap (λ (l : List Event). l ++ e ∷ []) h.2 ∙ append_assoc h.0 (x ∷ h.1) (e ∷ []),
+  among_more xs h.1 e h.3,
+)
+
+-- one more of both
+pub among_both : (xs ys : List Event) (e : Event) → AreAmong xs ys
+    → AreAmong (xs ++ e ∷ []) (ys ++ e ∷ [])
+among_both [] ys e h = (ys, [], refl, tt)
+among_both (x ∷ xs) ys e h = (
+  h.0,
+  h.1 ++ e ∷ [],
+  ap (λ (l : List Event). l ++ e ∷ []) h.2 ∙ append_assoc h.0 (x ∷ h.1) (e ∷ []),
+  among_both xs h.1 e h.3,
+)

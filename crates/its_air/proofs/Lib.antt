@@ -1,0 +1,4 @@
+pub mod Files
+pub mod Hearing
+pub mod Among
+pub mod Under

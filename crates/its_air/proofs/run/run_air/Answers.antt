@@ -1,0 +1,58 @@
+use Rattle.std.proofs.Common.{◌≤◌, [], map, length, sym, subst}
+use Rattle.std.specs.Prelude.{Vec, All}
+use Rattle.std.specs.declared.alloc.Global.{Global}
+use denote.Ref.{Bor}
+use Rattle.its_world.specs.declared.event.Event.{Event}
+use Rattle.its_world.specs.Events.{IsInRange, config_of, event_of}
+use Rattle.its_scenario.specs.Airs.{end_of}
+use Rattle.its_air.specs.AirRun.{AreDue}
+use Rattle.its_air.specs.Queues.{happenings_in}
+use Rattle.its_air.proofs.Under.{begins, ended}
+use Rattle.its_air.proofs.run.run_air.Goals as goal
+
+pub loop-number-init : goal.loop-number-init
+loop-number-init g c =
+    let run = c.in_ok-run.run' in
+    let configs = map config_of c.args.configs.now in
+    record {
+      due = c.in_ok-run.ensures.due;
+      ranges = c.in_ok-run.ensures.ranges;
+      run = λ took. (
+        [],
+        begins configs run (g.S.EventSink.Took c.args.sink.now) c.in_ok-run.ensures.world
+            (c.every_schedule.ensures configs []) took c.in_ok-run.ensures.start,
+      );
+    }
+
+pub loop-number-preserved : goal.loop-number-preserved
+loop-number-preserved g c =
+    let configs = map config_of c.args.configs.now in
+    let due = c.go_on.ensures.due in
+    record {
+      due =
+          subst (λ (d : Vec (Bor Event) Global).
+          AreDue (map event_of c.args.events.now) (end_of c.args.air.now.until c.args.events.now) (happenings_in d.items))
+          (sym due) c.loop-number.invariant.due;
+      ranges =
+          subst (λ (d : Vec (Bor Event) Global).
+          All (λ (e : Bor Event). IsInRange e.now.what) d.items)
+          (sym due) c.loop-number.invariant.ranges;
+      run = λ took.
+          let before = c.loop-number.invariant.run took in
+          c.in_ok-go_on.ensures.run configs before.0 before.1;
+    }
+
+pub returns-then-not-branch : goal.returns-then-not-branch
+returns-then-not-branch g c =
+    λ took.
+    let configs = map config_of c.args.configs.now in
+    let before = c.loop-number.invariant.run took in
+    let after = c.in_ok-go_on.ensures.run configs before.0 before.1 in
+    let all : length c.go_on.new.self.queue.due.items ≤ c.go_on.new.self.queue.taken =
+    c.in_ok-go_on.ensures.ended c.if-not-branch.true in
+    ended configs (map event_of c.args.events.now) after.0 (end_of c.args.air.now.until c.args.events.now)
+    c.go_on.new.self (g.S.EventSink.Took c.go_on.new.sink)
+    (subst (λ (d : Vec (Bor Event) Global).
+    AreDue (map event_of c.args.events.now) (end_of c.args.air.now.until c.args.events.now) (happenings_in d.items))
+    (sym c.go_on.ensures.due) c.loop-number.invariant.due)
+    all after.1

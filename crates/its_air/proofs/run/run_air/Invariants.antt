@@ -1,0 +1,19 @@
+use Rattle.std.proofs.Common.{List, [], map}
+use Rattle.std.specs.Prelude.{All}
+use Rattle.its_model.specs.World.{Event}
+use Rattle.its_world.specs.Events.{IsInRange, config_of, event_of}
+use Rattle.its_scenario.specs.Airs.{end_of}
+use Rattle.its_air.specs.AirRun.{AreDue}
+use Rattle.its_air.specs.Files.{happenings_due}
+use Rattle.its_air.specs.Runs.{IsUnderWay}
+use Rattle.its_air.proofs.run.run_air.Given as goal
+
+-- the run is under way, and the events of the file are those that wait
+abbrev pub invariant-loop-number : goal.invariant-loop-number
+invariant-loop-number g l =
+    record {
+      due : AreDue (map event_of l.events) (end_of l.air.until l.events) (happenings_due l.run.queue);
+      ranges : All (λ e. IsInRange e.now.what) l.run.queue.due.items;
+      run : g.S.EventSink.Took l.fn.sink [] [] → (past : List Event)
+          × IsUnderWay (map config_of l.configs) past l.run (g.S.EventSink.Took l.sink);
+    }

@@ -1,0 +1,36 @@
+-- What the run of an air did.
+use Rattle.std.specs.Prelude.{◌≡◌, ℕ, ◌≤◌, ◌==◌, List, [], ◌∷◌, ◌++◌, All}
+use Rattle.std.specs.List.{filter}
+use Rattle.std.specs.List.Sorted.{IsNonDecreasingBy}
+use Rattle.its_model.specs.World.{Config, Event}
+use Rattle.its_world.specs.declared.entry.Entry.{Entry}
+use Rattle.its_world.specs.State.{WorldState}
+use Rattle.its_simulation.specs.Simulated.{IsSimulated}
+
+-- the events of one moment
+abbrev pub of_moment : ℕ → List Event → List Event
+of_moment moment events = filter (λ e. e.moment == moment) events
+
+-- These are the file's events up to a moment in the order in which they wait: by their moments,
+-- those of one moment as in the file.
+pub record AreDue (file : List Event) (until : ℕ) (due : List Event) : Type 0 where
+  pub until_then : All (λ e. e.moment ≤ until) due
+  pub by_moment : IsNonDecreasingBy (λ e. e.moment) due
+  pub as_in_file : (moment : ℕ) → moment ≤ until → of_moment moment due ≡ of_moment moment file
+
+-- these events are among the others, in their order
+abbrev pub AreAmong : List Event → List Event → Type 0
+AreAmong [] others = Unit {0}
+AreAmong (e ∷ events) others =
+    (before : List Event) × (after : List Event) × (others ≡ before ++ e ∷ after)
+    × AreAmong events after
+
+-- There is a list of events, those of the file up to a moment among them in their order, that were
+-- done of these configs.
+pub record IsAirRun (configs : List Config) (file : List Event) (until : ℕ) (world : WorldState)
+    (Took : List Event → List Entry → Type 0) : Type 0 where
+  pub events : List Event
+  pub run : IsSimulated configs events world Took
+  pub due : List Event
+  pub is_due : AreDue file until due
+  pub among : AreAmong due events

@@ -1,0 +1,7 @@
+pub mod Draws
+pub mod Reach
+pub mod AirRun
+pub mod Queues
+pub mod Runs
+pub mod Files
+pub mod Scenarios

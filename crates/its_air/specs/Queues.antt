@@ -1,0 +1,57 @@
+-- What waits in an air.
+use Rattle.std.specs.Prelude.{◌≡◌, ℕ, ◌+◌, List, map, Some, slice_get}
+use Rattle.std.specs.Prelude.{◌≤◌, ◌<◌, All}
+use Rattle.std.specs.BinaryHeap.{IsUpperBound}
+use Rattle.std.specs.declared.cmp.Ordering.{Ordering}
+use Rattle.std.specs.Ordering.{nat_cmp, on, flip_args, then_cmp}
+use Rattle.its_model.specs.World.{Event, What}
+use Rattle.its_model.specs.World.What.{Calls, Deliver as Delivers}
+use Rattle.its_model.specs.Calls.OwnCall.{Tick as Ticks}
+use denote.Ref.{Bor}
+use Rattle.its_world.specs.declared.event.Event.{Event as Told}
+use Rattle.its_world.specs.Events.{event_of}
+use Rattle.its_air.specs.declared.waiting.Own.{Own}
+use Rattle.its_air.specs.declared.waiting.Own.TheVariants as owns
+use Rattle.its_air.specs.declared.waiting.Waiting.{Waiting}
+use Rattle.its_air.specs.declared.waiting.Next.{Next}
+use Rattle.its_air.specs.declared.waiting.Next.TheVariants as nexts
+
+-- what an air does by itself, in the model
+abbrev pub own_of : Own → What
+own_of (owns.Tick jitter) = Calls (Ticks jitter)
+own_of (owns.Deliver frame) = Delivers frame
+
+-- an event of the air's own
+abbrev pub happening_of : Waiting → Event
+happening_of w = record { station = w.station; moment = w.moment; what = own_of w.own }
+
+-- what is taken is the next of these events of the file, of which so many were taken before and
+-- after, or one of the air's own
+abbrev pub IsTaken : List (Bor Told) → Next → ℕ → ℕ → Type 0
+IsTaken due (nexts.OfFile e) old new = (slice_get due old ≡ Some e) × (new ≡ old + 1)
+IsTaken due (nexts.Own w) old new = new ≡ old
+
+-- the moment of what is taken
+abbrev pub moment_of : Next → ℕ
+moment_of (nexts.OfFile e) = e.now.moment
+moment_of (nexts.Own w) = w.moment
+
+-- events of the file
+abbrev pub happenings_in : List (Bor Told) → List Event
+happenings_in due = map (λ e. event_of e.now) due
+
+-- the order of the air's own events: the one that comes first is the greatest
+abbrev pub waiting_cmp : Waiting → Waiting → Ordering
+waiting_cmp =
+    then_cmp (flip_args (on (λ w. w.moment) nat_cmp)) (flip_args (on (λ w. w.place) nat_cmp))
+
+-- what is taken comes before all of the air's own events that are left: of one moment an event of
+-- the file goes before each of those
+abbrev pub ComesFirst : Next → List Waiting → Type 0
+ComesFirst (nexts.OfFile e) own = All (λ w. e.now.moment ≤ w.moment) own
+ComesFirst (nexts.Own w) own = IsUpperBound waiting_cmp w own
+
+-- one of the air's own events is taken only before the moment of the next event of the file
+abbrev pub IsFileFirst : ℕ → Next → Type 0
+IsFileFirst moment (nexts.OfFile e) = Unit {0}
+IsFileFirst moment (nexts.Own w) = w.moment < moment

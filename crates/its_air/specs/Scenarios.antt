@@ -1,0 +1,24 @@
+-- What the run of a scenario did.
+use Rattle.std.specs.Prelude.{List, Option, Some, None, map}
+use Rattle.its_model.specs.World.{Event}
+use Rattle.its_world.specs.declared.entry.Entry.{Entry}
+use Rattle.its_world.specs.State.{WorldState}
+use Rattle.its_world.specs.Events.{config_of, event_of}
+use Rattle.its_scenario.specs.declared.air.Air.{Air}
+use Rattle.its_scenario.specs.declared.scenario.Scenario.{Scenario}
+use Rattle.its_scenario.specs.Airs.{end_of}
+use Rattle.its_simulation.specs.Simulated.{IsSimulated}
+use Rattle.its_air.specs.AirRun.{IsAirRun}
+
+-- in no air, just the scenario's events were done; in an air, a list with them among it
+abbrev pub IsRunIn : Option Air → Scenario → WorldState → (List Event → List Entry → Type 0)
+    → Type 0
+IsRunIn None s world Took =
+    IsSimulated (map config_of s.stations.items) (map event_of s.events.items) world Took
+IsRunIn (Some air) s world Took =
+    IsAirRun (map config_of s.stations.items) (map event_of s.events.items)
+    (end_of air.until s.events.items) world Took
+
+-- the world stands at the end of the scenario's run, and this was taken of it
+abbrev pub IsRunOf : Scenario → WorldState → (List Event → List Entry → Type 0) → Type 0
+IsRunOf s world Took = IsRunIn s.air s world Took

@@ -1,0 +1,38 @@
+//! What ends the run of an air before its last event.
+
+ghost use Rattle.std.specs.Prelude.{◌≡◌};
+
+use its_gnvalue::NoMemory;
+use its_simulation::SimulationFault;
+use std::alloc::{AllocError, AllocFailed};
+use std::io;
+use thiserror::Error;
+
+/// Why the run of an air ended before its last event. The sink has the events before it.
+#[derive(Debug, Drop, Error)]
+pub enum AirFault {
+    /// An allocation failed.
+    #[error("out of memory")]
+    OutOfMemory(#[from(alloc)] AllocError),
+    /// The sink failed.
+    #[error("the output failed")]
+    Output(#[from] io::Error),
+    /// There are 2^64 events or more.
+    #[error("too many events")]
+    TooManyEvents,
+}
+
+impl From<NoMemory> for AirFault {
+    fn from(_: NoMemory) -> AirFault {
+        AirFault::OutOfMemory(AllocError)
+    }
+}
+
+impl From<SimulationFault> for AirFault {
+    fn from(fault: SimulationFault) -> AirFault {
+        match fault {
+            SimulationFault::OutOfMemory(error) => AirFault::OutOfMemory(error),
+            SimulationFault::Output(error) => AirFault::Output(error),
+        }
+    }
+}

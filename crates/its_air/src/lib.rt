@@ -1,0 +1,20 @@
+//! The air between stations: frames that are heard in reach, late and with losses, and the run of a
+//! world in it.
+#![tactic(auto)]
+
+mod draws;
+mod fault;
+mod reach;
+mod run;
+mod scenario;
+mod summary;
+mod tally;
+mod waiting;
+
+pub use draws::Draws;
+pub use fault::AirFault;
+pub use reach::{find_hearers, is_within};
+pub use run::run_air;
+pub use scenario::run_scenario;
+pub use summary::{SendKind, SendSummary, Total, Totals};
+pub use tally::Tally;

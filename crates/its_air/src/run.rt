@@ -1,0 +1,258 @@
+//! The run of an air.
+
+ghost use Rattle.std.specs.Prelude.{◌≡◌, ◌≤◌, ◌<◌, ◌^◌, ◌++◌, ◌∷◌, [], List, All, map, length};
+ghost use Rattle.std.specs.Prelude.{ℕ, ◌+◌};
+ghost use Rattle.std.specs.Prelude.{false, IfOk, OnOk};
+ghost use Rattle.its_model.specs.World.{Config as Beginning, Event as Happening, opening};
+ghost use Rattle.its_world.specs.State.{RepresentsWorld};
+ghost use Rattle.its_world.specs.Events.{IsConfig, IsInRange, config_of, event_of};
+ghost use Rattle.its_world.specs.Mids.{AreApart};
+ghost use Rattle.its_scenario.specs.Airs.{end_of};
+ghost use Rattle.its_simulation.specs.Simulated.{IsSimulated};
+ghost use Rattle.its_air.specs.AirRun.{AreDue, IsAirRun};
+ghost use Rattle.its_air.specs.Files.{SameFile, happenings_due};
+ghost use Rattle.its_air.specs.Runs.{IsUnderWay};
+
+use crate::draws::Draws;
+use crate::fault::AirFault;
+use crate::reach::find_hearers;
+use crate::waiting::{Next, Own, Queue};
+use its_model::laws::every_schedule;
+use its_scenario::Air;
+use its_simulation::{EventSink, do_event};
+use its_world::{Config, Entry, Event, World};
+use std::alloc::Global;
+
+/// Runs the events of a file in an air, in which each frame that a station gives is heard by those
+/// in reach, and hands each event to a sink as it is done. Gives the world that the last one left.
+///
+/// Events wait in the order of their moments, those of one moment in the order in which they were
+/// put: first those of the file, then, with beacons, a tick of each station at a jitter. A frame
+/// that a station gives is heard by each other station in reach, in order, unless a draw loses it,
+/// and is delivered to it after the delay. After a tick of the air's own that wasn't refused, the
+/// station's next one is put at the event's moment or, where that is later, when its beacon is due
+/// by the next jitter. The run ends where nothing waits up to the last moment.
+///
+/// There is a list of events of which the world stands at the end, by the written rules: of that
+/// very end hold the laws over every schedule; the sink took just these events and their entries;
+/// and those of the file, up to the last moment, are among them, in their order.
+///
+/// The numbers of each config have to be in their ranges, of no two the MIDs the same, of at most
+/// 65535, and the speed of each `MoveTo` has to be in its range. Where an allocation or the sink
+/// failed, the sink has the events before.
+pub fn run_air<S: EventSink>(
+    alloc: Global,
+    configs: &[Config],
+    events: &[Event],
+    air: &Air,
+    sink: &mut S,
+) -> Result<World, AirFault>
+    requires configs { All IsConfig configs.now }
+    requires count { length configs.now ≤ 65535 }
+    requires apart { AreApart configs.now }
+    requires events { All (λ event. IsInRange event.what) events.now }
+    requires moments { All (λ event. event.moment < 2 ^ 63) events.now }
+    ensures { S.Took sink.old [] [] → IfOk result (λ world.
+        IsAirRun (map config_of configs.now) (map event_of events.now)
+        (end_of air.now.until events.now) world (S.Took sink.new)) }
+{
+    // A law, for the proof alone.
+    every_schedule();
+    let mut run = Run::begin(alloc, configs, events, air)?;
+    for number in 0..usize::MAX {
+        if !run.go_on(number, sink)? {
+            return Ok(run.world);
+        }
+    }
+    Err(AirFault::TooManyEvents)
+}
+
+/// A run that is under way.
+#[derive(Drop)]
+struct Run<'a> {
+    air: Air,
+    world: World,
+    queue: Queue<'a>,
+    draws: Draws,
+    /// Who hears the last frame that was given.
+    hearers: Vec<usize>,
+}
+
+impl<'a> Run<'a> {
+    /// A run of which nothing is done yet.
+    fn begin(
+        alloc: Global,
+        configs: &[Config],
+        events: &'a [Event],
+        air: &Air,
+    ) -> Result<Run<'a>, AirFault>
+        requires configs { All IsConfig configs.now }
+        requires count { length configs.now ≤ 65535 }
+        requires apart { AreApart configs.now }
+        requires events { All (λ event. IsInRange event.what) events.now }
+        requires moments { All (λ event. event.moment < 2 ^ 63) events.now }
+        ensures world { IfOk result (λ run.
+            RepresentsWorld run.world (opening (map config_of configs.now))) }
+        ensures due { IfOk result (λ run.
+            AreDue (map event_of events.now) (end_of air.now.until events.now)
+            (happenings_due run.queue)) }
+        ensures start { IfOk result (λ run. run.queue.taken ≡ 0) }
+        ensures ranges { IfOk result (λ run.
+            All (λ event. IsInRange event.now.what) run.queue.due.items) }
+    {
+        let mut draws = Draws::of_seed(air.seed);
+        let mut queue = Queue::of_file(alloc, events, air.end(events))?;
+        let ticking = if air.beacons { configs.len() } else { 0 };
+        put_first_ticks(&mut queue, &mut draws, ticking)?;
+        Ok(Run {
+            air: *air,
+            world: World::of_apart(alloc, configs)?,
+            queue,
+            draws,
+            hearers: Vec::new(alloc),
+        })
+    }
+
+    /// Does the first event that waits, if one does.
+    fn go_on<S: EventSink>(&mut self, number: usize, sink: &mut S) -> Result<bool, AirFault>
+        requires { All (λ event. IsInRange event.now.what) self.old.queue.due.items }
+        ensures due { self.new.queue.due ≡ self.old.queue.due }
+        ensures ended { IfOk result (λ more.
+            more ≡ false → length self.new.queue.due.items ≤ self.new.queue.taken) }
+        ensures run { (configs : List Beginning) (events : List Happening) →
+            IsUnderWay configs events self.old (S.Took sink.old) → OnOk result (
+            (more : List Happening) × IsUnderWay configs more self.new (S.Took sink.new)) }
+    {
+        match self.queue.take() {
+            None => Ok(false),
+            Some(Next::OfFile(event)) => {
+                self.do_event(number, event, sink)?;
+                Ok(true)
+            }
+            Some(Next::Own(waiting)) => {
+                let event = waiting.event();
+                let entry = self.do_event(number, &event, sink)?;
+                if matches!(waiting.own, Own::Tick(_)) {
+                    self.put_next_tick(&event, &entry)?;
+                }
+                Ok(true)
+            }
+        }
+    }
+
+    /// Does an event, hands it to the sink, and puts the deliveries of the frame that it gave.
+    fn do_event<S: EventSink>(
+        &mut self,
+        number: usize,
+        event: &Event,
+        sink: &mut S,
+    ) -> Result<Entry, AirFault>
+        requires range { IsInRange event.now.what }
+        requires moment { event.now.moment ≤ 2 ^ 63 + 10000 }
+        ensures file { SameFile self.old.queue self.new.queue }
+        ensures run { (configs : List Beginning) (events : List Happening) →
+            IsSimulated configs events self.old.world (S.Took sink.old) → OnOk result (
+            IsSimulated configs (events ++ event_of event.now ∷ []) self.new.world
+            (S.Took sink.new)) }
+    {
+        let entry = do_event(&mut self.world, number, event, sink)?;
+        if let Some(frame) = entry.frame() {
+            self.spread(event, frame)?;
+        }
+        Ok(entry)
+    }
+
+    /// Puts a delivery of a frame to each station that hears it and doesn't lose it.
+    fn spread(&mut self, event: &Event, frame: usize) -> Result<(), AirFault>
+        requires { event.now.moment ≤ 2 ^ 63 + 10000 }
+        ensures world { self.new.world ≡ self.old.world }
+        ensures file { SameFile self.old.queue self.new.queue }
+    {
+        let stations = self.world.stations();
+        let Some(giver) = stations.get(event.station) else {
+            return Ok(());
+        };
+        find_hearers(
+            self.air.range,
+            stations,
+            event.station,
+            giver.vector().place(),
+            &mut self.hearers,
+        )?;
+        let moment = event.moment + u64::from(self.air.delay);
+        let hearers = self.hearers.as_slice();
+        put_deliveries(
+            &mut self.queue,
+            &mut self.draws,
+            self.air.loss,
+            moment,
+            frame,
+            hearers,
+        )
+    }
+
+    /// Puts the next tick of a station after one that wasn't refused.
+    fn put_next_tick(&mut self, tick: &Event, entry: &Entry) -> Result<(), AirFault>
+        ensures world { self.new.world ≡ self.old.world }
+        ensures file { SameFile self.old.queue self.new.queue }
+    {
+        if matches!(entry, Entry::Refused(_)) {
+            return Ok(());
+        }
+        let Some(station) = self.world.station(tick.station) else {
+            return Ok(());
+        };
+        put_tick(
+            &mut self.queue,
+            &mut self.draws,
+            tick.station,
+            tick.moment,
+            station.beacon_from(),
+        )
+    }
+}
+
+/// Puts the first tick of each of so many stations: at its jitter.
+fn put_first_ticks(queue: &mut Queue<'_>, draws: &mut Draws, count: usize) -> Result<(), AirFault>
+    ensures { SameFile queue.old queue.new }
+{
+    for station in 0..count {
+        put_tick(queue, draws, station, 0, 0)?;
+    }
+    Ok(())
+}
+
+/// Puts a delivery of a frame at this moment to each of these stations that doesn't lose it.
+fn put_deliveries(
+    queue: &mut Queue<'_>,
+    draws: &mut Draws,
+    loss: u8,
+    moment: u64,
+    frame: usize,
+    hearers: &[usize],
+) -> Result<(), AirFault>
+    ensures { SameFile queue.old queue.new }
+{
+    for station in hearers {
+        if !draws.is_lost(loss) {
+            queue.put(moment, *station, Own::Deliver(frame))?;
+        }
+    }
+    Ok(())
+}
+
+/// Puts a tick of a station with the next jitter: at this moment, or, where that is later, when its
+/// beacon is due by that jitter.
+fn put_tick(
+    queue: &mut Queue<'_>,
+    draws: &mut Draws,
+    station: usize,
+    moment: u64,
+    beacon_from: u64,
+) -> Result<(), AirFault>
+    ensures { SameFile queue.old queue.new }
+{
+    let jitter = draws.jitter();
+    let due = beacon_from.saturating_add(u64::from(jitter));
+    queue.put(moment.max(due), station, Own::Tick(jitter))
+}

@@ -1,0 +1,197 @@
+//! Counting what came of the packets for an area, beside the world.
+
+use crate::summary::{SendKind, SendSummary, Totals};
+use its_geometry::contains;
+use its_gnvalue::NoMemory;
+use its_simulation::{EventRecord, EventSink, SimulationFault};
+use its_station::{OwnedGbcRequest, Why};
+use its_world::{Entry, What, World};
+use std::alloc::Global;
+use std::collections::HashSet;
+
+/// The packet for an area that a frame carries.
+#[derive(Clone, Copy, Debug)]
+struct Carried {
+    /// The send, by its place among the sends.
+    send: usize,
+    /// How many relays came before this frame.
+    depth: usize,
+}
+
+/// A sink that counts: what came of each packet for an area, and the totals. It keeps a few octets
+/// for each frame, and for each station at which a packet was delivered.
+#[derive(Drop)]
+pub struct Tally {
+    sends: Vec<SendSummary>,
+    /// What each frame carries, at its number.
+    carried: Vec<Option<Carried>>,
+    /// The sends and the stations at which they were delivered.
+    delivered: HashSet<(usize, usize)>,
+    totals: Totals,
+}
+
+impl Tally {
+    /// A tally in which nothing is counted yet.
+    pub fn new(alloc: Global) -> Tally {
+        Tally {
+            sends: Vec::new(alloc),
+            carried: Vec::new(alloc),
+            delivered: HashSet::new(alloc),
+            totals: Totals::default(),
+        }
+    }
+
+    /// What came of each packet for an area, in the order in which they were sent.
+    pub fn sends(&self) -> &[SendSummary] {
+        self.sends.as_slice()
+    }
+
+    /// The counts of all events.
+    pub fn totals(&self) -> Totals {
+        self.totals
+    }
+
+    /// Counts an event.
+    fn count(&mut self, world: &World, done: &EventRecord<'_>) -> Result<(), NoMemory> {
+        count_one(&mut self.totals.events);
+        match done.entry {
+            Entry::Sent(_) => self.count_send(world, done),
+            Entry::Accepted { handed, sent } => {
+                self.count_accepted(done, handed.is_some(), sent.is_some())
+            }
+            Entry::Ignored(Why::Duplicate) => {
+                count_one(&mut self.totals.duplicates);
+                Ok(())
+            }
+            Entry::Ignored(_) => {
+                count_one(&mut self.totals.ignored);
+                Ok(())
+            }
+            Entry::Refused(_) => {
+                count_one(&mut self.totals.refused);
+                Ok(())
+            }
+            Entry::Moved | Entry::Opened | Entry::Closed | Entry::Restarted | Entry::Quiet => {
+                Ok(())
+            }
+        }
+    }
+
+    /// Counts a frame of a station's own, and its packet where that is for an area.
+    fn count_send(&mut self, world: &World, done: &EventRecord<'_>) -> Result<(), NoMemory> {
+        let (kind, request) = match done.what {
+            What::SendGeobroadcast(request) => (SendKind::Gbc, request),
+            What::SendGeoanycast(request) => (SendKind::Gac, request),
+            _ => return self.count_frame(None),
+        };
+        let send = self.sends.len();
+        self.sends.push(SendSummary {
+            send: done.number,
+            moment: done.moment,
+            station: done.station,
+            kind,
+            port: request.port,
+            inside: count_inside(world, done.station, request),
+            delivered: 0,
+            frames: 1,
+            hops: 0,
+            last: 0,
+        })?;
+        self.count_frame(Some(Carried { send, depth: 0 }))
+    }
+
+    /// Counts a frame and what it carries.
+    fn count_frame(&mut self, carried: Option<Carried>) -> Result<(), NoMemory> {
+        self.carried.push(carried)?;
+        count_one(&mut self.totals.frames);
+        Ok(())
+    }
+
+    /// Counts a frame that was accepted, whether or not it was delivered and relayed.
+    fn count_accepted(
+        &mut self,
+        done: &EventRecord<'_>,
+        handed: bool,
+        relayed: bool,
+    ) -> Result<(), NoMemory> {
+        let carried = self.carried_by(done.what);
+        if handed {
+            count_one(&mut self.totals.deliveries);
+            self.count_delivery(done, carried)?;
+        }
+        if relayed {
+            let further = self.relayed(carried);
+            self.count_frame(further)?;
+        }
+        Ok(())
+    }
+
+    /// What the frame carries that an action delivers.
+    fn carried_by(&self, action: &What) -> Option<Carried> {
+        let What::Deliver(frame) = action else {
+            return None;
+        };
+        match self.carried.as_slice().get(*frame) {
+            Some(carried) => *carried,
+            None => None,
+        }
+    }
+
+    /// Counts a delivery of a packet for an area to a port.
+    fn count_delivery(
+        &mut self,
+        done: &EventRecord<'_>,
+        carried: Option<Carried>,
+    ) -> Result<(), NoMemory> {
+        let Some(carried) = carried else {
+            return Ok(());
+        };
+        let first = self.delivered.insert((carried.send, done.station))?;
+        if let Some(send) = self.sends.as_mut_slice().get_mut(carried.send) {
+            send.hops = send.hops.max(carried.depth.saturating_add(1));
+            if first {
+                count_one(&mut send.delivered);
+                send.last = send.last.max(done.moment.saturating_sub(send.moment));
+            }
+        }
+        Ok(())
+    }
+
+    /// What a relay of this carries. It is a frame more of the send.
+    fn relayed(&mut self, carried: Option<Carried>) -> Option<Carried> {
+        let carried = carried?;
+        if let Some(send) = self.sends.as_mut_slice().get_mut(carried.send) {
+            count_one(&mut send.frames);
+        }
+        Some(Carried {
+            send: carried.send,
+            depth: carried.depth.saturating_add(1),
+        })
+    }
+}
+
+impl EventSink for Tally {
+    // What is counted isn't said by contracts.
+    ghost Took = { λ _ _ _. Unit {0} };
+
+    fn put(&mut self, world: &World, done: &EventRecord<'_>) -> Result<(), SimulationFault> {
+        Ok(self.count(world, done)?)
+    }
+}
+
+/// One more.
+fn count_one(count: &mut usize) {
+    *count = count.saturating_add(1);
+}
+
+/// How many stations but the sender stand in the area of a request, with its port open.
+fn count_inside(world: &World, sender: usize, request: &OwnedGbcRequest) -> usize {
+    let mut inside = 0;
+    for (number, station) in world.stations().iter().enumerate() {
+        let within = contains(&request.area, station.vector().place());
+        if number != sender && within && station.is_open(request.port) {
+            count_one(&mut inside);
+        }
+    }
+    inside
+}

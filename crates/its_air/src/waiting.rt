@@ -1,0 +1,242 @@
+//! What waits in an air: the events of the file, and the ticks and deliveries of the air's own.
+
+ghost use Rattle.std.specs.Prelude.{◌≡◌, ◌≤◌, ◌<◌, ◌+◌, ◌^◌, ◌∷◌, All, map, length, slice_get};
+ghost use Rattle.std.specs.Prelude.{Some, IfOk, IfSome, IfNone, OnOk, nat_eq};
+ghost use Rattle.std.specs.BinaryHeap.{IsHeap, IsUpperBound, HeapUnchanged, heap_items};
+ghost use Rattle.std.specs.Cmp.{partial_order_from_own_ties};
+ghost use Rattle.std.specs.Cmp.Rules.{comparing};
+ghost use Rattle.std.specs.List.Sorted.{IsPermutation};
+ghost use Rattle.std.specs.Ordering.{nat_cmp, on, flip_args, then_cmp, as_partial_cmp, eq_of_both};
+ghost use Rattle.std.proofs.Common.{rules};
+ghost use Rattle.std.proofs.Props.{props};
+ghost use denote.Ref.{Bor};
+ghost use Rattle.its_world.specs.declared.event.Event.{Event};
+ghost use Rattle.its_world.specs.Events.{event_of, IsInRange};
+ghost use Rattle.its_air.specs.AirRun.{AreDue};
+ghost use Rattle.its_air.specs.Queues.{ComesFirst, IsFileFirst, IsTaken, waiting_cmp};
+ghost use Rattle.its_air.specs.Queues.{happening_of, happenings_in, moment_of};
+
+use crate::fault::AirFault;
+use its_world::{Event, What};
+use std::alloc::{AllocError, Global};
+use std::cmp::Ordering;
+use std::collections::BinaryHeap;
+
+/// What an air does by itself.
+#[derive(Clone, Copy, Debug)]
+pub(crate) enum Own {
+    /// A tick with this jitter.
+    Tick(u16),
+    /// The delivery of the frame of this number.
+    Deliver(usize),
+}
+
+/// An event of the air's own. The one that comes first is the greatest: of two the one of the lesser
+/// moment, of one moment the one that was put first.
+#[derive(Clone, Copy, Debug)]
+pub(crate) struct Waiting {
+    /// The moment, in milliseconds.
+    pub(crate) moment: u64,
+    /// How many were put before it.
+    place: u64,
+    /// The station.
+    pub(crate) station: usize,
+    /// What it does.
+    pub(crate) own: Own,
+}
+
+impl PartialEq for Waiting {
+    ghost eq = { eq_of_both (on (λ w. w.moment) nat_eq) (on (λ w. w.place) nat_eq) };
+
+    ghost laws = { Prim.search (comparing, rules) };
+
+    fn eq(&self, other: &Waiting) -> bool {
+        self.moment == other.moment && self.place == other.place
+    }
+}
+
+impl Eq for Waiting {
+    ghost laws = { Prim.search (comparing, rules) };
+}
+
+impl Ord for Waiting {
+    ghost cmp = { then_cmp (flip_args (on (λ w. w.moment) nat_cmp))
+        (flip_args (on (λ w. w.place) nat_cmp)) };
+
+    ghost total = { Prim.search (comparing, rules) };
+
+    ghost matches_partial_cmp = { Prim.search (comparing, rules) };
+
+    ghost matches_eq = { Prim.search (comparing, rules) };
+
+    fn cmp(&self, other: &Waiting) -> Ordering {
+        other
+            .moment
+            .cmp(&self.moment)
+            .then(other.place.cmp(&self.place))
+    }
+}
+
+impl PartialOrd for Waiting {
+    ghost partial_cmp = { as_partial_cmp (then_cmp (flip_args (on (λ w. w.moment) nat_cmp))
+        (flip_args (on (λ w. w.place) nat_cmp))) };
+
+    ghost laws = { partial_order_from_own_ties (Prim.search (comparing, rules))
+        (Prim.search (comparing, rules)) };
+
+    fn partial_cmp(&self, other: &Waiting) -> Option<Ordering> {
+        Some(self.cmp(other))
+    }
+}
+
+impl Waiting {
+    /// The event of the world.
+    pub(crate) fn event(self) -> Event
+        ensures event { event_of result ≡ happening_of self }
+        ensures range { IsInRange result.what }
+    {
+        Event {
+            station: self.station,
+            moment: self.moment,
+            what: match self.own {
+                Own::Tick(jitter) => What::Tick(jitter),
+                Own::Deliver(frame) => What::Deliver(frame),
+            },
+        }
+    }
+}
+
+/// What is taken.
+#[derive(Debug)]
+pub(crate) enum Next<'a> {
+    OfFile(&'a Event),
+    Own(Waiting),
+}
+
+/// All that waits. The events of the file were put before all others, so of one moment they come
+/// first.
+#[derive(Debug, Drop)]
+pub(crate) struct Queue<'a> {
+    /// The events of the file up to the last moment, in the order in which they are run.
+    due: Vec<&'a Event>,
+    /// How many of these were taken.
+    taken: usize,
+    own: BinaryHeap<Waiting>,
+    /// How many of the air's own were put.
+    put: u64,
+    until: u64,
+    ghost within: { All (λ event. event.now.moment ≤ until) due.items },
+    ghost last: { until ≤ 2 ^ 63 + 10000 },
+    ghost ordered: { IsHeap (then_cmp (flip_args (on (λ w. w.moment) nat_cmp))
+        (flip_args (on (λ w. w.place) nat_cmp))) (heap_items own) } by { Prim.hlevel props },
+}
+
+impl<'a> Queue<'a> {
+    /// The events of a file up to a moment.
+    pub(crate) fn of_file(
+        alloc: Global,
+        events: &'a [Event],
+        until: u64,
+    ) -> Result<Queue<'a>, AllocError>
+        requires last { until ≤ 2 ^ 63 + 10000 }
+        requires ranges { All (λ event. IsInRange event.what) events.now }
+        ensures due { IfOk result (λ queue.
+            AreDue (map event_of events.now) until (happenings_in queue.due.items)) }
+        ensures start { IfOk result (λ queue. queue.taken ≡ 0) }
+        ensures ranges { IfOk result (λ queue.
+            All (λ event. IsInRange event.now.what) queue.due.items) }
+    {
+        let mut due = Vec::new(alloc);
+        for event in events {
+            if event.moment <= until {
+                due.push(event)?;
+            }
+        }
+        due.sort_by_key(|event| event.moment)?;
+        Ok(Queue {
+            due,
+            taken: 0,
+            own: BinaryHeap::new(alloc),
+            put: 0,
+            until,
+        })
+    }
+
+    /// Puts an event of the air's own.
+    pub(crate) fn put(&mut self, moment: u64, station: usize, own: Own) -> Result<(), AirFault>
+        ensures due { self.new.due ≡ self.old.due }
+        ensures taken { self.new.taken ≡ self.old.taken }
+        ensures until { self.new.until ≡ self.old.until }
+        ensures put { OnOk result (IsPermutation (record {
+          moment = moment;
+          place = self.old.put;
+          station = station;
+          own = own;
+        } ∷ heap_items self.old.own) (heap_items self.new.own)) }
+        ensures count { OnOk result (self.new.put ≡ self.old.put + 1) }
+    {
+        let Some(put) = self.put.checked_add(1) else {
+            return Err(AirFault::TooManyEvents);
+        };
+        self.own.push(Waiting {
+            moment,
+            place: self.put,
+            station,
+            own,
+        })?;
+        self.put = put;
+        Ok(())
+    }
+
+    /// Takes the first that waits, unless its moment is past the last.
+    pub(crate) fn take(&mut self) -> Option<Next<'a>>
+        ensures due { self.new.due ≡ self.old.due }
+        ensures until { self.new.until ≡ self.old.until }
+        ensures taken { IfSome result (λ next.
+            IsTaken self.old.due.items next self.old.taken self.new.taken) }
+        ensures none { IfNone result ((length self.old.due.items ≤ self.old.taken)
+            × (self.new.taken ≡ self.old.taken)) }
+        ensures moment { IfSome result (λ next. moment_of next ≤ self.old.until) }
+        ensures first { IfSome result (λ next. ComesFirst next (heap_items self.new.own)) }
+        ensures file_first { (e : Bor Event) →
+            slice_get self.old.due.items self.old.taken ≡ Some e →
+            IfSome result (IsFileFirst e.now.moment) }
+    {
+        match self.due.as_slice().get(self.taken) {
+            Some(event) => {
+                let event = *event;
+                match self.take_before(event.moment) {
+                    Some(own) => Some(Next::Own(own)),
+                    None => {
+                        self.taken += 1;
+                        Some(Next::OfFile(event))
+                    }
+                }
+            }
+            None => match self.take_before(self.until + 1) {
+                Some(own) => Some(Next::Own(own)),
+                None => None,
+            },
+        }
+    }
+
+    /// Takes the first of the air's own, if its moment lies before this one.
+    fn take_before(&mut self, moment: u64) -> Option<Waiting>
+        ensures due { self.new.due ≡ self.old.due }
+        ensures taken { self.new.taken ≡ self.old.taken }
+        ensures until { self.new.until ≡ self.old.until }
+        ensures before { IfSome result (λ waiting. waiting.moment < moment) }
+        ensures first { IfSome result (λ waiting.
+            IsUpperBound waiting_cmp waiting (heap_items self.new.own)) }
+        ensures left { IfSome result (λ waiting.
+            IsPermutation (heap_items self.old.own) (waiting ∷ heap_items self.new.own)) }
+        ensures none { IfNone result (HeapUnchanged self.old.own self.new.own) }
+        ensures late { IfNone result (All (λ waiting. moment ≤ waiting.moment)
+            (heap_items self.old.own)) }
+    {
+        match self.own.peek() {
+            Some(first) if first.moment < moment => self.own.pop(),
+            _ => None,
+        }
+    }
+}
