@@ -2,13 +2,16 @@
 
 mod captures;
 mod devices;
+mod explained;
 mod files;
+mod foreign;
 mod imports;
 mod large;
 mod lines;
 pub(crate) mod memory;
+mod objects;
 
-use its_commands::{Status, check, read_lines, show, write_records};
+use its_commands::{Lines, Status, check, read_lines, show, write_records};
 use std::alloc::{AllocError, Global};
 use std::io::Read;
 use std::process::Abort;
@@ -98,14 +101,22 @@ impl Left {
 }
 
 fn show_of<R: Read + Drop>(alloc: Global, reader: R) -> Left {
+    show_with(alloc, Lines::default(), reader)
+}
+
+fn show_with<R: Read + Drop>(alloc: Global, lines: Lines, reader: R) -> Left {
     let (mut out, mut err) = (Vec::new(alloc), Vec::new(alloc));
-    let status = show(alloc, "a.cap", reader, &mut out, &mut err);
+    let status = show(alloc, "a.cap", reader, None, lines, &mut out, &mut err);
     Left { status, out, err }
 }
 
 fn check_of<R: Read + Drop>(alloc: Global, reader: R) -> Left {
+    check_with(alloc, Lines::default(), reader)
+}
+
+fn check_with<R: Read + Drop>(alloc: Global, lines: Lines, reader: R) -> Left {
     let (mut out, mut err) = (Vec::new(alloc), Vec::new(alloc));
-    let status = check(alloc, "a.cap", reader, &mut out, &mut err);
+    let status = check(alloc, "a.cap", reader, None, lines, &mut out, &mut err);
     Left { status, out, err }
 }
 
@@ -120,7 +131,7 @@ fn joined(alloc: Global, parts: &[&str]) -> Result<String, AllocError> {
 /// What `import` makes of lines: the capture, and what it left.
 fn import_of(alloc: Global, text: &[u8]) -> Left {
     let (mut out, mut err) = (Vec::new(alloc), Vec::new(alloc));
-    let status = match read_lines(alloc, "a.txt", text, &mut err) {
+    let status = match read_lines(alloc, "a.txt", text, Lines::default(), &mut err) {
         Ok(records) => write_records("a.cap", records.as_slice(), &mut out, &mut err),
         Err(status) => status,
     };

@@ -4,13 +4,16 @@ ghost use Rattle.std.specs.Prelude.{◌≡◌, MatchResult};
 ghost use Rattle.its_commands.specs.Statuses.{fault_status};
 
 use crate::importing::LineFault;
+use crate::options::Lines;
 use crate::status::Status;
+use its_air::AirFault;
 use its_gnvalue::NoMemory;
+use its_json::JsonFault;
 use its_scenario::ScenarioFault;
-use its_simulation::SimulationFault;
+use its_simulation::{Explanation, SimulationFault};
 use std::alloc::AllocError;
-use std::io;
 use std::io::Write;
+use std::{fmt, io};
 use thiserror::Error;
 
 /// Why a command ended before it was done. Its text is the line on standard error.
@@ -83,10 +86,47 @@ impl Fault<'_> {
     pub fn report<E: Write>(self, err: &mut E) -> Status
         ensures { result ≡ fault_status self.entry }
     {
+        self.report_as(Lines::default(), err)
+    }
+
+    /// The same, and with `explain` the line goes on with its sentence in parentheses, where it has
+    /// one.
+    pub fn report_as<E: Write>(self, lines: Lines, err: &mut E) -> Status
+        ensures { result ≡ fault_status self.entry }
+    {
         if !matches!(&self, Fault::NoOutput(_)) {
-            let _ = writeln!(err, "{self}");
+            let reason = if lines.explain { self.reason() } else { None };
+            let _ = writeln!(err, "{self}{}", Explanation(reason));
         }
         self.status()
+    }
+
+    /// What was wrong, where the line tells it by a word: of a line that is no record, and of a text
+    /// that is no scenario.
+    fn reason(&self) -> Option<Reason> {
+        match self {
+            Fault::Line(_, fault) => Some(Reason::Line(*fault)),
+            Fault::Scenario(fault) => Some(Reason::Scenario(*fault)),
+            _ => None,
+        }
+    }
+}
+
+/// What was wrong, as a sentence.
+#[derive(Clone, Copy)]
+enum Reason {
+    /// With a line that is no record.
+    Line(LineFault),
+    /// With a text that is no scenario.
+    Scenario(ScenarioFault),
+}
+
+impl fmt::Display for Reason {
+    fn fmt<W: fmt::Write>(&self, f: &mut fmt::Formatter<W>) -> fmt::Result {
+        match self {
+            Reason::Line(fault) => f.write_str(fault.sentence()),
+            Reason::Scenario(fault) => write!(f, "{}", its_scenario::Reason(fault)),
+        }
     }
 }
 
@@ -114,14 +154,35 @@ impl From<SimulationFault> for Fault<'_> {
     }
 }
 
+impl From<JsonFault> for Fault<'_> {
+    fn from(fault: JsonFault) -> Self {
+        Fault::from(SimulationFault::from(fault))
+    }
+}
+
+impl From<AirFault> for Fault<'_> {
+    fn from(fault: AirFault) -> Self {
+        match fault {
+            AirFault::OutOfMemory(error) => Fault::OutOfMemory(error),
+            AirFault::Output(error) => Fault::NoOutput(error),
+            // No memory has the counts of so many.
+            AirFault::TooManyEvents => Fault::OutOfMemory(AllocError),
+        }
+    }
+}
+
 /// The exit status of a command that ended so, once a fault is reported.
-pub(crate) fn status_of<E: Write>(ended: Result<Status, Fault<'_>>, err: &mut E) -> Status
+pub(crate) fn status_of<E: Write>(
+    ended: Result<Status, Fault<'_>>,
+    lines: Lines,
+    err: &mut E,
+) -> Status
     ensures { MatchResult ended.entry
         (λ status. result ≡ status)
         (λ fault. result ≡ fault_status fault) }
 {
     match ended {
         Ok(status) => status,
-        Err(fault) => fault.report(err),
+        Err(fault) => fault.report_as(lines, err),
     }
 }

@@ -4,11 +4,14 @@ ghost use Rattle.std.specs.Prelude.{◌≡◌, IfOk, IfErr};
 ghost use Rattle.its_commands.specs.Statuses.{IsCommandStatus, IsStopped, IsWriterStatus};
 
 use crate::checking::check;
+use crate::converting::{Conversion, convert};
 use crate::fault::Fault;
 use crate::importing::{read_lines, write_records};
+use crate::options::{Lines, RunOptions};
 use crate::showing::show;
-use crate::simulating::simulate;
+use crate::simulating::{MOST_STATIONS, read_scenario, simulate, simulate_with_frames};
 use crate::status::Status;
+use its_pcap::Format;
 use std::alloc::AllocError;
 use std::io::{BufReader, BufWriter, Read, Write};
 use std::rt::Files;
@@ -35,14 +38,17 @@ impl<F: Read, I: Read> Read for Opened<F, I> {
     }
 }
 
-/// Prints a line for each record of the capture in the file. `input` is standard input.
+/// Prints a line for each record of the file. `input` is standard input. The first four octets tell
+/// the format, unless one is given.
 ///
-/// `Refused` where a frame or the capture was refused, `Failed` where the file could not be read or
+/// `Refused` where a record or the file was refused, `Failed` where the file could not be read or
 /// standard output not written, or memory ran out.
 pub fn show_file<R: Files + AllocGlobal, I: Read + Drop, W: Write, E: Write>(
     rt: &R,
     file: &str,
     input: I,
+    format: Option<Format>,
+    lines: Lines,
     out: &mut W,
     err: &mut E,
 ) -> Status
@@ -51,20 +57,22 @@ where
     ensures { IsCommandStatus result }
 {
     match open(rt, file, input, err) {
-        Ok(reader) => show(rt.alloc(), file, reader, out, err),
+        Ok(reader) => show(rt.alloc(), file, reader, format, lines, out, err),
         Err(status) => status,
     }
 }
 
-/// Prints a line for each refused record of the capture in the file, and how many records there
-/// were. `input` is standard input.
+/// Prints a line for each refused record of the file, and how many records there were. `input` is
+/// standard input. The first four octets tell the format, unless one is given.
 ///
-/// `Refused` where a frame or the capture was refused, `Failed` where the file could not be read or
+/// `Refused` where a record or the file was refused, `Failed` where the file could not be read or
 /// standard output not written, or memory ran out.
 pub fn check_file<R: Files + AllocGlobal, I: Read + Drop, W: Write, E: Write>(
     rt: &R,
     file: &str,
     input: I,
+    format: Option<Format>,
+    lines: Lines,
     out: &mut W,
     err: &mut E,
 ) -> Status
@@ -73,34 +81,69 @@ where
     ensures { IsCommandStatus result }
 {
     match open(rt, file, input, err) {
-        Ok(reader) => check(rt.alloc(), file, reader, out, err),
+        Ok(reader) => check(rt.alloc(), file, reader, format, lines, out, err),
         Err(status) => status,
     }
 }
 
-/// Runs the scenario in the file and prints a line for each event. `input` is standard input.
+/// Runs the scenario in the file and prints a line for each event. `input` is standard input. With
+/// `frames` each frame that a station gives is also written to the file of that name, which is
+/// created once the scenario is read.
 ///
-/// `Refused` for a text that is no scenario, `Failed` where the file could not be read or standard
-/// output not written, or memory ran out.
+/// `Refused` for a text that is no scenario, where a frame has no place in its file, and, with
+/// `strict`, where an event was refused; `Failed` where a file could not be read, created or written
+/// or standard output not written, or memory ran out.
 pub fn simulate_file<R: Files + AllocGlobal, I: Read + Drop, W: Write, E: Write>(
     rt: &R,
     file: &str,
     input: I,
+    frames: Option<&str>,
+    options: RunOptions,
     out: &mut W,
     err: &mut E,
 ) -> Status
 where
-    R::File: Read + Drop,
+    R::File: Read + Write + Drop,
     ensures { IsCommandStatus result }
 {
-    match open(rt, file, input, err) {
-        Ok(reader) => simulate(rt.alloc(), file, reader, out, err),
+    let ended = match (open(rt, file, input, err), frames) {
+        (Ok(reader), Some(target)) => simulate_to(rt, file, reader, target, options, out, err),
+        (Ok(reader), None) => Ok(simulate(rt.alloc(), file, reader, options, out, err)),
+        (Err(status), _) => Err(status),
+    };
+    match ended {
+        Ok(status) => status,
         Err(status) => status,
     }
 }
 
+/// Reads the scenario, and only then creates the file of frames. An `Err` is the status of what
+/// stopped it before the first event.
+fn simulate_to<R: Files + AllocGlobal, I: Read + Drop, W: Write, E: Write>(
+    rt: &R,
+    file: &str,
+    reader: I,
+    target: &str,
+    options: RunOptions,
+    out: &mut W,
+    err: &mut E,
+) -> Result<Status, Status>
+where
+    R::File: Write + Drop,
+    ensures done { IfOk result IsCommandStatus }
+    ensures stopped { IfErr result IsCommandStatus }
+{
+    let alloc = rt.alloc();
+    let scenario = match read_scenario(alloc, file, reader, MOST_STATIONS) {
+        Ok(scenario) => scenario,
+        Err(fault) => return Err(fault.report_as(options.lines, err)),
+    };
+    let created = create(rt, target, err)?;
+    Ok(simulate_with_frames(alloc, &scenario, target, created, options, out, err))
+}
+
 /// Makes the capture `target` of the lines in the file. All lines are read before it is created.
-/// `input` is standard input.
+/// `input` is standard input. Of `lines` only `explain` counts.
 ///
 /// `Refused` for a bad line, `Failed` where a file could not be read, created or written, or memory
 /// ran out.
@@ -109,13 +152,14 @@ pub fn import_file<R: Files + AllocGlobal, I: Read + Drop, E: Write>(
     file: &str,
     input: I,
     target: &str,
+    lines: Lines,
     err: &mut E,
 ) -> Status
 where
     R::File: Read + Write + Drop,
     ensures { IsCommandStatus result }
 {
-    match import_lines(rt, file, input, target, err) {
+    match import_lines(rt, file, input, target, lines, err) {
         Ok(status) => status,
         Err(status) => status,
     }
@@ -128,6 +172,7 @@ fn import_lines<R: Files + AllocGlobal, I: Read + Drop, E: Write>(
     file: &str,
     input: I,
     target: &str,
+    lines: Lines,
     err: &mut E,
 ) -> Result<Status, Status>
 where
@@ -136,9 +181,57 @@ where
     ensures stopped { IfErr result IsStopped }
 {
     let reader = open(rt, file, input, err)?;
-    let records = read_lines(rt.alloc(), file, reader, err)?;
+    let records = read_lines(rt.alloc(), file, reader, lines, err)?;
     let created = create(rt, target, err)?;
     Ok(write_records(target, records.as_slice(), created, err))
+}
+
+/// Writes the records of the file to `target`, in the format that the name of `target` says.
+/// `target` is created once the file is open. `input` is standard input. The first four octets tell
+/// the format of the file, unless one is given. Of `lines` only `explain` counts.
+///
+/// `Refused` where a record was left out or the file was refused, `Failed` where a file could not
+/// be read, created or written, or memory ran out.
+pub fn convert_file<R: Files + AllocGlobal, I: Read + Drop, E: Write>(
+    rt: &R,
+    file: &str,
+    input: I,
+    target: &str,
+    format: Option<Format>,
+    lines: Lines,
+    err: &mut E,
+) -> Status
+where
+    R::File: Read + Write + Drop,
+    ensures { IsCommandStatus result }
+{
+    let conversion = Conversion {
+        file,
+        format,
+        target,
+        lines,
+    };
+    match convert_opened(rt, conversion, input, err) {
+        Ok(status) => status,
+        Err(status) => status,
+    }
+}
+
+/// Opens the file, and only then creates the target. An `Err` is the status of what failed at that.
+fn convert_opened<R: Files + AllocGlobal, I: Read + Drop, E: Write>(
+    rt: &R,
+    conversion: Conversion<'_>,
+    input: I,
+    err: &mut E,
+) -> Result<Status, Status>
+where
+    R::File: Read + Write + Drop,
+    ensures converted { IfOk result IsCommandStatus }
+    ensures stopped { IfErr result (λ status. status ≡ Status.Failed) }
+{
+    let reader = open(rt, conversion.file, input, err)?;
+    let created = create(rt, conversion.target, err)?;
+    Ok(convert(rt.alloc(), conversion, reader, created, err))
 }
 
 /// Opens a file for reading, with a buffer, or reports that it cannot be read or memory ran out.

@@ -7,8 +7,9 @@ ghost use Rattle.its_linkframe.specs.Captures.{IsFrameLength};
 ghost use Rattle.its_commands.specs.Lines.{HasFrame};
 ghost use Rattle.its_commands.specs.Statuses.{IsStopped, IsWriterStatus};
 
-use crate::fault::{Fault, status_of};
+use crate::fault::Fault;
 use crate::lines::{LONGEST_MOMENT, Line, Passed, are_digits};
+use crate::options::Lines;
 use crate::status::Status;
 use its_linkframe::{CaptureWriter, Counted, LONGEST_FRAME, Record};
 use std::alloc::{AllocError, Global};
@@ -28,6 +29,19 @@ pub enum LineFault {
     /// The digits are those of no octet, or of more than 1468.
     #[error("length")]
     Length,
+}
+
+impl LineFault {
+    /// What was wrong, as a sentence.
+    pub(crate) fn sentence(self) -> &'static str {
+        match self {
+            LineFault::Moment => {
+                "no moment of 1 to 20 decimal digits below 2^64 with a space after it"
+            }
+            LineFault::Hex => "the frame is no even number of hexadecimal digits",
+            LineFault::Length => "the frame is of no octet or of more than 1468",
+        }
+    }
 }
 
 /// Why a line was not read.
@@ -122,6 +136,7 @@ pub fn read_lines<R: BufRead + Drop, E: Write>(
     alloc: Global,
     file: &str,
     reader: R,
+    lines: Lines,
     err: &mut E,
 ) -> Result<Vec<Record>, Status>
     ensures frames { IfOk result (λ records. All HasFrame records.items) }
@@ -129,7 +144,7 @@ pub fn read_lines<R: BufRead + Drop, E: Write>(
 {
     match records_of(alloc, file, reader) {
         Ok(records) => Ok(records),
-        Err(fault) => Err(fault.report(err)),
+        Err(fault) => Err(fault.report_as(lines, err)),
     }
 }
 

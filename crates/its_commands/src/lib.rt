@@ -1,23 +1,37 @@
-//! The commands of the program: `show`, `check`, `import` and `sim`, each a function that gives
-//! the exit status, over a reader and writers or over named files.
+//! The commands of the program: `show`, `check`, `convert`, `import` and `sim`, each a function
+//! that gives the exit status, over a reader and writers or over named files.
 #![tactic(auto)]
 
 mod checking;
+mod converting;
 mod fault;
 mod files;
+mod frame_line;
+mod frames;
 mod importing;
-mod line;
 mod lines;
+mod options;
+mod output;
+mod refusal;
 mod showing;
 mod simulating;
 mod status;
+mod summary;
 mod text;
+mod told;
 mod walk;
+mod watched;
 
 pub use checking::check;
+pub use converting::{Conversion, convert, format_named};
 pub use fault::Fault;
-pub use files::{Opened, check_file, create, import_file, open, show_file, simulate_file};
+pub use files::{
+    Opened, check_file, convert_file, create, import_file, open, show_file, simulate_file,
+};
+pub use frames::FrameFile;
 pub use importing::{LineFault, read_lines, write_records};
+pub use options::{Lines, RunOptions};
 pub use showing::show;
-pub use simulating::{read_scenario, simulate};
+pub use simulating::{read_scenario, read_scenario_without_air, simulate};
 pub use status::Status;
+pub use watched::is_done;

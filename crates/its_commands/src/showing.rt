@@ -4,68 +4,68 @@ ghost use Rattle.std.specs.Prelude.{IfOk};
 ghost use Rattle.its_commands.specs.Statuses.{IsCommandStatus};
 
 use crate::fault::{Fault, status_of};
-use crate::line::frame_line;
+use crate::frame_line::FrameLine;
+use crate::options::Lines;
+use crate::output::Output;
+use crate::refusal::RecordFault;
 use crate::status::Status;
-use crate::text::Text;
+use crate::told::RefusedAt;
 use crate::walk::{RecordLines, each_record};
-use its_linkframe::{FrameFault, FrameView};
+use its_linkframe::FrameView;
+use its_pcap::Format;
 use std::alloc::Global;
 use std::io::{Read, Write};
 
 /// A line for each record.
 #[derive(Drop)]
-struct AllRecords {
-    text: Text,
-}
+struct AllRecords;
 
 impl RecordLines for AllRecords {
     fn print<'f, W: Write>(
-        &mut self,
         _place: u64,
         moment: u64,
-        frame: Result<FrameView<'_>, FrameFault>,
+        frame: Result<FrameView<'_>, RecordFault>,
+        output: &mut Output,
         out: &mut W,
     ) -> Result<(), Fault<'f>> {
         match frame {
-            Ok(frame) => {
-                self.text.clear();
-                frame_line(&mut self.text, moment, &frame)?;
-                out.write_all(self.text.as_bytes())?;
-            }
-            Err(fault) => writeln!(out, "{moment} refused {}", fault.code())?,
+            Ok(frame) => output.frame(&FrameLine::of(moment, &frame), out),
+            Err(fault) => output.line(&RefusedAt::new(moment, fault, output.explain), out),
         }
-        Ok(())
     }
 }
 
-/// Prints a line for each record of the capture that the reader gives. `file` is its name.
+/// Prints a line for each record of the file that the reader gives. `file` is its name; its first
+/// four octets tell its format, unless one is given.
 ///
-/// `Refused` where a frame or the capture was refused, `Failed` where a read or a write failed or
+/// `Refused` where a record or the file was refused, `Failed` where a read or a write failed or
 /// memory ran out.
 pub fn show<R: Read + Drop, W: Write, E: Write>(
     alloc: Global,
     file: &str,
     reader: R,
+    format: Option<Format>,
+    lines: Lines,
     out: &mut W,
     err: &mut E,
 ) -> Status
     ensures { IsCommandStatus result }
 {
-    let ended = show_capture(alloc, file, reader, out);
-    status_of(ended, err)
+    let ended = show_capture(alloc, file, reader, format, lines, out);
+    status_of(ended, lines, err)
 }
 
 fn show_capture<'a, R: Read + Drop, W: Write>(
     alloc: Global,
     file: &'a str,
     reader: R,
+    format: Option<Format>,
+    lines: Lines,
     out: &mut W,
 ) -> Result<Status, Fault<'a>>
     ensures { IfOk result IsCommandStatus }
 {
-    let mut lines = AllRecords {
-        text: Text::new(alloc)?,
-    };
-    let walked = each_record(alloc, file, reader, &mut lines, out)?;
+    let mut output = Output::new(alloc, lines)?;
+    let walked = each_record::<_, AllRecords, _>(alloc, file, reader, format, &mut output, out)?;
     Ok(walked.status())
 }

@@ -1,12 +1,13 @@
 //! The command `mesh`.
 
-ghost use Rattle.std.specs.Prelude.{IfOk};
-ghost use Rattle.its_commands.specs.Statuses.{IsCommandStatus, IsWriterStatus};
+ghost use Rattle.std.specs.Prelude.{IfOk, IfErr};
+ghost use Rattle.its_commands.specs.Statuses.{IsCommandStatus};
+ghost use Rattle.its_mesh.specs.Statuses.{IsMeshStatus};
 
 use crate::mesh::Mesh;
 use crate::sockets::Sockets;
 use crate::udp::UdpSockets;
-use its_commands::{Fault, Status, open, read_scenario};
+use its_commands::{Fault, FrameFile, Lines, Status, create, open, read_scenario_without_air};
 use its_scenario::Scenario;
 use std::alloc::Global;
 use std::io::{Read, Write};
@@ -16,32 +17,93 @@ use std::rt::Files;
 /// The most stations of a scenario.
 const MOST_STATIONS: usize = 64;
 
+/// How a mesh is run.
+#[derive(Clone, Copy, Debug, Default, PartialEq, Eq)]
+pub struct MeshOptions {
+    /// Whether each line that ends in a code or a word of a fault goes on with its sentence in
+    /// parentheses.
+    pub explain: bool,
+    /// Whether a call that is refused makes the status `Refused`, where it would be `Done`.
+    pub strict: bool,
+}
+
+impl MeshOptions {
+    /// How its lines are printed.
+    fn lines(self) -> Lines {
+        Lines {
+            json: false,
+            explain: self.explain,
+        }
+    }
+}
+
 /// Runs the scenario in the file, of at most 64 stations, each with a UDP socket on 127.0.0.1 at a
 /// port that the system picks. Prints a line for each event but `deliver`, and for each datagram
 /// that comes: its moment, its station and what is told of it. `input` is standard input, which is
-/// read where the file is `-`.
+/// read where the file is `-`. With `frames` each frame that a station gives is also written to the
+/// file of that name, at the moment of its line; it is created once the scenario is read.
 ///
-/// `Refused` for a text that is no scenario. `Failed` where the file could not be read, a socket
-/// not be made or standard output not written, or memory ran out: then it ends there. `Failed` too
-/// where a send or a receive failed: that is told, and it goes on.
+/// `Refused` for a text that is no scenario, where a frame has no place in its file and, with
+/// `strict`, where a call was refused and nothing failed. `Failed` where a file could not be read,
+/// created or written, a socket not be made or standard output not written, or memory ran out: then
+/// it ends there. `Failed` too where a send or a receive failed: that is told, and it goes on.
 pub fn mesh_file<R: Files + Net + AllocGlobal, I: Read + Drop, W: Write, E: Write>(
     rt: &R,
     file: &str,
     input: I,
+    frames: Option<&str>,
+    options: MeshOptions,
     out: &mut W,
     err: &mut E,
 ) -> Status
 where
-    R::File: Read + Drop,
+    R::File: Read + Write + Drop,
     ensures { IsCommandStatus result }
 {
-    match open(rt, file, input, err) {
-        Ok(reader) => {
+    let ended = match (open(rt, file, input, err), frames) {
+        (Ok(reader), Some(target)) => mesh_to(rt, file, reader, target, options, out, err),
+        (Ok(reader), None) => {
             let mut sockets = UdpSockets::new(rt, rt.alloc());
-            mesh(rt.alloc(), file, reader, &mut sockets, out, err)
+            Ok(mesh(rt.alloc(), file, reader, options, &mut sockets, out, err))
         }
+        (Err(status), _) => Err(status),
+    };
+    match ended {
+        Ok(status) => status,
         Err(status) => status,
     }
+}
+
+/// Reads the scenario, and only then creates the file of frames. An `Err` is the status of what
+/// stopped it before a socket was made.
+fn mesh_to<R: Files + Net + AllocGlobal, I: Read + Drop, W: Write, E: Write>(
+    rt: &R,
+    file: &str,
+    reader: I,
+    target: &str,
+    options: MeshOptions,
+    out: &mut W,
+    err: &mut E,
+) -> Result<Status, Status>
+where
+    R::File: Write + Drop,
+    ensures done { IfOk result IsCommandStatus }
+    ensures stopped { IfErr result IsCommandStatus }
+{
+    let scenario = match read_scenario_without_air(rt.alloc(), file, reader, MOST_STATIONS) {
+        Ok(scenario) => scenario,
+        Err(fault) => return Err(fault.report_as(options.lines(), err)),
+    };
+    let created = create(rt, target, err)?;
+    let mut sockets = UdpSockets::new(rt, rt.alloc());
+    let begun = FrameFile::start(rt.alloc(), created, target, scenario.stations.len());
+    let ended = match begun {
+        Ok(file) => {
+            mesh_with_frames(rt.alloc(), scenario, file, options, &mut sockets, out, err)
+        }
+        Err(fault) => Err(fault),
+    };
+    ended.map_err(|fault| fault.report(err))
 }
 
 /// The command over a reader, and over the sockets of the stations, of which there is none yet.
@@ -50,32 +112,76 @@ pub(crate) fn mesh<R: Read + Drop, S: Sockets, W: Write, E: Write>(
     alloc: Global,
     file: &str,
     reader: R,
+    options: MeshOptions,
     sockets: &mut S,
     out: &mut W,
     err: &mut E,
 ) -> Status
     ensures { IsCommandStatus result }
 {
-    let scenario = match read_scenario(alloc, file, reader, MOST_STATIONS) {
+    let scenario = match read_scenario_without_air(alloc, file, reader, MOST_STATIONS) {
         Ok(scenario) => scenario,
-        Err(fault) => return fault.report(err),
+        Err(fault) => return fault.report_as(options.lines(), err),
     };
-    match run_mesh(alloc, scenario, sockets, out, err) {
+    match run_mesh(alloc, scenario, options, sockets, out, err) {
         Ok(status) => status,
         Err(fault) => fault.report(err),
+    }
+}
+
+/// Runs a scenario, and writes the frames of its stations to the file.
+pub(crate) fn mesh_with_frames<'t, F: Write + Drop, S: Sockets, W: Write, E: Write>(
+    alloc: Global,
+    scenario: Scenario,
+    file: FrameFile<'t, F>,
+    options: MeshOptions,
+    sockets: &mut S,
+    out: &mut W,
+    err: &mut E,
+) -> Result<Status, Fault<'t>>
+    ensures { IfOk result IsCommandStatus }
+{
+    let Scenario {
+        stations,
+        events,
+        ..
+    } = scenario;
+    let stations = stations.as_slice();
+    let mut mesh = match Mesh::new(alloc, stations, options.explain, sockets, out, err) {
+        Ok(mesh) => mesh,
+        Err(fault) => return file.end(Err(fault)),
+    };
+    mesh.file = Some(file);
+    let ran = mesh.run(events, options.strict);
+    match mesh.file.take() {
+        Some(file) => file.end(ran),
+        None => ran,
     }
 }
 
 fn run_mesh<'f, S: Sockets, W: Write, E: Write>(
     alloc: Global,
     scenario: Scenario,
+    options: MeshOptions,
     sockets: &mut S,
     out: &mut W,
     err: &mut E,
 ) -> Result<Status, Fault<'f>>
-    ensures { IfOk result IsWriterStatus }
+    ensures { IfOk result (IsMeshStatus options.strict) }
 {
-    let Scenario { stations, events } = scenario;
-    let mut mesh = Mesh::new(alloc, stations.as_slice(), sockets, out, err)?;
-    mesh.run(events)
+    let Scenario {
+        stations,
+        events,
+        ..
+    } = scenario;
+    let stations = stations.as_slice();
+    let mut mesh: Mesh<'_, '_, S, W, E, Vec<u8>> = Mesh::new(
+        alloc,
+        stations,
+        options.explain,
+        sockets,
+        out,
+        err,
+    )?;
+    mesh.run(events, options.strict)
 }

@@ -13,4 +13,4 @@ mod sockets;
 mod tests;
 mod udp;
 
-pub use command::mesh_file;
+pub use command::{MeshOptions, mesh_file};

@@ -1,7 +1,7 @@
 //! Stations that talk by sockets, and what is printed of them.
 
-ghost use Rattle.std.specs.Prelude.{◌≡◌, ℕ, All, IfOk, OnOk, List, map, slice_get};
-ghost use Rattle.its_commands.specs.Statuses.{IsWriterStatus};
+ghost use Rattle.std.specs.Prelude.{◌≡◌, ◌&&◌, ◌||◌, not, ℕ, All, IfOk, OnOk, List, map, slice_get};
+ghost use Rattle.its_commands.specs.Runs.{was_done};
 ghost use Rattle.its_model.specs.Station.{StationModel};
 ghost use Rattle.its_model.specs.World.{opening};
 ghost use Rattle.its_station.specs.Runs.{IsInRange};
@@ -9,10 +9,11 @@ ghost use Rattle.its_world.specs.Events as happenings;
 ghost use Rattle.its_world.specs.Events.{IsConfig, config_of};
 ghost use Rattle.its_world.specs.State.{RepresentStations};
 ghost use Rattle.its_mesh.specs.Stations.{AreStations, IsCalled};
+ghost use Rattle.its_mesh.specs.Statuses.{mesh_status};
 
 use crate::answers::{CallOutcome, answer, call_of, done_entry, no_station, outcome_of};
 use crate::sockets::{Sent, Sockets};
-use its_commands::{Fault, Status};
+use its_commands::{Fault, FrameFile, Lines, Status, is_done};
 use its_gnvalue::NoMemory;
 use its_loctable::SortedTable;
 use its_simulation::EntryText;
@@ -24,29 +25,36 @@ use std::io::{ErrorKind, Write};
 
 /// Stations with a socket each, and where their lines go.
 #[derive(Drop)]
-pub(crate) struct Mesh<'a, S, W, E> {
+pub(crate) struct Mesh<'a, 't, S, W, E, F: Write + Drop> {
     pub(crate) alloc: Global,
     pub(crate) stations: Vec<Station<SortedTable>>,
     pub(crate) sockets: &'a mut S,
     out: &'a mut W,
     err: &'a mut E,
+    /// Where frames are written, if they are.
+    pub(crate) file: Option<FrameFile<'t, F>>,
+    /// Whether a refusal's line goes on with its sentence.
+    explain: bool,
     /// The greatest moment of the events so far: that of all that comes by a socket.
     pub(crate) moment: u64,
     /// How many frames were sent so far.
     frames: usize,
     /// Whether a send or a receive failed.
     failed: bool,
+    /// Whether a call was refused.
+    refused: bool,
 }
 
-impl<'a, S: Sockets, W: Write, E: Write> Mesh<'a, S, W, E> {
-    /// New stations of these configs, each with a socket.
+impl<'a, 't, S: Sockets, W: Write, E: Write, F: Write + Drop> Mesh<'a, 't, S, W, E, F> {
+    /// New stations of these configs, each with a socket, and no file of frames.
     pub(crate) fn new<'f>(
         alloc: Global,
         configs: &[Config],
+        explain: bool,
         sockets: &'a mut S,
         out: &'a mut W,
         err: &'a mut E,
-    ) -> Result<Mesh<'a, S, W, E>, Fault<'f>>
+    ) -> Result<Mesh<'a, 't, S, W, E, F>, Fault<'f>>
         requires { All IsConfig configs.now }
         ensures { IfOk result (λ mesh. RepresentStations mesh.stations.items
             (opening (map config_of configs.now)).stations) }
@@ -61,17 +69,22 @@ impl<'a, S: Sockets, W: Write, E: Write> Mesh<'a, S, W, E> {
             sockets,
             out,
             err,
+            file: None,
+            explain,
             moment: 0,
             frames: 0,
             failed: false,
+            refused: false,
         })
     }
 
     /// Runs the events, and rounds after each. An event that delivers a frame is passed over, since
-    /// the sockets do that.
-    pub(crate) fn run<'f>(&mut self, events: Vec<Event>) -> Result<Status, Fault<'f>>
+    /// the sockets do that. With `strict` a call that was refused makes the status `Refused`, where
+    /// it would be `Done`.
+    pub(crate) fn run<'f>(&mut self, events: Vec<Event>, strict: bool) -> Result<Status, Fault<'f>>
         requires ranges { All (λ event. happenings.IsInRange event.what) events.items }
-        ensures status { IfOk result IsWriterStatus }
+        ensures status { IfOk result (λ status. status
+            ≡ mesh_status self.new.failed (strict && self.new.refused)) }
         ensures stations { AreStations self.old.stations.items
             → OnOk result (AreStations self.new.stations.items) }
     {
@@ -84,6 +97,8 @@ impl<'a, S: Sockets, W: Write, E: Write> Mesh<'a, S, W, E> {
         }
         Ok(if self.failed {
             Status::Failed
+        } else if strict && self.refused {
+            Status::Refused
         } else {
             Status::Done
         })
@@ -110,9 +125,25 @@ impl<'a, S: Sockets, W: Write, E: Write> Mesh<'a, S, W, E> {
         if let Some(frame) = frame {
             // No run sends as many frames as there are numbers.
             self.frames = self.frames.saturating_add(1);
+            self.record(moment, station, frame.as_slice())?;
             self.send(station, frame.as_slice());
         }
         Ok(())
+    }
+
+    /// Writes a frame that a station gave to the file of frames, if there is one.
+    fn record(&mut self, moment: u64, station: usize, frame: &[u8]) -> io::Result<()>
+        ensures stations { self.new.stations ≡ self.old.stations }
+        ensures sockets { self.new.sockets.now ≡ self.old.sockets.now }
+    {
+        let lines = Lines {
+            json: false,
+            explain: self.explain,
+        };
+        match &mut self.file {
+            Some(file) => file.put(station, moment, frame, lines, self.err),
+            None => Ok(()),
+        }
     }
 
     /// Makes a call of a station, and tells what comes of it.
@@ -137,11 +168,16 @@ impl<'a, S: Sockets, W: Write, E: Write> Mesh<'a, S, W, E> {
         Ok(outcome_of(done, reply, self.frames))
     }
 
+    /// Prints the line of a call, and notes whether it was refused.
     fn print(&mut self, moment: u64, station: usize, entry: &Entry) -> io::Result<()>
+        ensures refused { self.new.refused ≡ (self.old.refused || not (was_done entry.now)) }
         ensures stations { self.new.stations ≡ self.old.stations }
         ensures sockets { self.new.sockets.now ≡ self.old.sockets.now }
     {
-        writeln!(self.out, "{moment} {station} {}", EntryText(entry))
+        self.refused |= !is_done(entry);
+        let explain = self.explain;
+        let text = EntryText { entry, explain };
+        writeln!(self.out, "{moment} {station} {text}")
     }
 
     /// Sends a frame to each other station. A send that fails or would block is told and passed

@@ -20,7 +20,7 @@ const QUIET: u32 = 4;
 /// what is too long for a frame stays so.
 const LONGEST_READ: usize = LONGEST_FRAME + 1;
 
-impl<'a, S: Sockets, W: Write, E: Write> Mesh<'a, S, W, E> {
+impl<'a, 't, S: Sockets, W: Write, E: Write, F: Write + Drop> Mesh<'a, 't, S, W, E, F> {
     /// Holds rounds until nothing came in four in a row, 64 at most.
     pub(crate) fn rounds<'f>(&mut self) -> Result<(), Fault<'f>>
         ensures { AreStations self.old.stations.items

@@ -3,9 +3,10 @@
 mod datagrams;
 mod failures;
 mod loopback;
+mod options;
 mod scenarios;
 
-use crate::command::mesh;
+use crate::command::{MeshOptions, mesh};
 use crate::scripted::Scripted;
 use crate::sockets::Sockets;
 use its_commands::Status;
@@ -55,7 +56,10 @@ struct Left {
 
 fn left_of<R: Read + Drop, S: Sockets>(alloc: Global, reader: R, sockets: &mut S) -> Left {
     let (mut out, mut err) = (Vec::new(alloc), Vec::new(alloc));
-    let status = mesh(alloc, "a.toml", reader, sockets, &mut out, &mut err);
+    let options = MeshOptions::default();
+    let status = mesh(
+        alloc, "a.toml", reader, options, sockets, &mut out, &mut err,
+    );
     Left { status, out, err }
 }
 

@@ -1,7 +1,7 @@
 //! Readers and writers that fail.
 
 use super::{BEACON, BEACON_LINE, EMPTY, SHORT, check_of, joined, show_of};
-use its_commands::{Status, check, read_lines, show, write_records};
+use its_commands::{Lines, Status, check, read_lines, show, write_records};
 use its_linkframe::Record;
 use std::alloc::Global;
 use std::io;
@@ -67,7 +67,7 @@ fn an_import_ends_at_the_read_that_fails(rt: HostRuntime) -> Result<(), Fail> {
         };
         let mut err = Vec::new(alloc);
         let reader = BufReader::new(alloc, Failing { octets, fails_at })?;
-        let read = read_lines(alloc, "a.txt", reader, &mut err).err();
+        let read = read_lines(alloc, "a.txt", reader, Lines::default(), &mut err).err();
         let status = if is_read { None } else { Some(Status::Failed) };
         assert_eq!(rt; read, status, "{fails_at}");
         assert_eq!(rt; err.as_slice(), said.as_bytes(), "{fails_at}");
@@ -140,7 +140,15 @@ fn show_ends_at_the_write_that_fails(rt: HostRuntime) -> Result<(), Fail> {
     )?;
     for room in 0..whole.len() {
         let (mut out, mut err) = (Full::with_room(alloc, room), Vec::new(alloc));
-        let status = show(alloc, "a.cap", capture.as_slice(), &mut out, &mut err);
+        let status = show(
+            alloc,
+            "a.cap",
+            capture.as_slice(),
+            None,
+            Lines::default(),
+            &mut out,
+            &mut err,
+        );
         expect_cut(&rt, status, &out.taken, whole.as_bytes(), room);
         assert!(rt; err.is_empty(), "{room}");
     }
@@ -156,7 +164,15 @@ fn check_ends_at_the_write_that_fails(rt: HostRuntime) -> Result<(), Fail> {
     let whole = "record 1: L1\ncapture: C2 at record 2\n2 records, 1 refused\n";
     for room in 0..whole.len() {
         let (mut out, mut err) = (Full::with_room(alloc, room), Vec::new(alloc));
-        let status = check(alloc, "a.cap", capture.as_slice(), &mut out, &mut err);
+        let status = check(
+            alloc,
+            "a.cap",
+            capture.as_slice(),
+            None,
+            Lines::default(),
+            &mut out,
+            &mut err,
+        );
         expect_cut(&rt, status, &out.taken, whole.as_bytes(), room);
         assert!(rt; err.is_empty(), "{room}");
     }
@@ -168,7 +184,7 @@ fn check_ends_at_the_write_that_fails(rt: HostRuntime) -> Result<(), Fail> {
 fn two_records(alloc: Global) -> Result<(Vec<Record>, Vec<u8>), Fail> {
     let lines = b"7 00ff\n8 aabbcc\n".as_slice();
     let mut err: Vec<u8> = Vec::new(alloc);
-    let Ok(records) = read_lines(alloc, "a.txt", lines, &mut err) else {
+    let Ok(records) = read_lines(alloc, "a.txt", lines, Lines::default(), &mut err) else {
         return Err("refused")?;
     };
     let capture = hex::decode(alloc, "0000000000000007000200ff00000000000000080003aabbcc")?;

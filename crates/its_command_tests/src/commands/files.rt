@@ -1,7 +1,7 @@
 //! The commands over files in a temporary folder.
 
 use super::{BEACON, BEACON_LINE, GBC, GBC_LINE, Left, NOTHING, joined};
-use its_commands::{Status, check_file, import_file, show_file};
+use its_commands::{Lines, Status, check_file, import_file, show_file};
 use std::test::Fail;
 use std::{env, fs};
 
@@ -12,19 +12,35 @@ static BEACON_TEXT: &str =
 
 fn show_named(rt: &HostRuntime, file: &str) -> Left {
     let (mut out, mut err) = (Vec::new(rt.alloc()), Vec::new(rt.alloc()));
-    let status = show_file(rt, file, NOTHING, &mut out, &mut err);
+    let status = show_file(
+        rt,
+        file,
+        NOTHING,
+        None,
+        Lines::default(),
+        &mut out,
+        &mut err,
+    );
     Left { status, out, err }
 }
 
 fn check_named(rt: &HostRuntime, file: &str) -> Left {
     let (mut out, mut err) = (Vec::new(rt.alloc()), Vec::new(rt.alloc()));
-    let status = check_file(rt, file, NOTHING, &mut out, &mut err);
+    let status = check_file(
+        rt,
+        file,
+        NOTHING,
+        None,
+        Lines::default(),
+        &mut out,
+        &mut err,
+    );
     Left { status, out, err }
 }
 
 fn import_named(rt: &HostRuntime, from: &str, to: &str) -> Left {
     let (out, mut err) = (Vec::new(rt.alloc()), Vec::new(rt.alloc()));
-    let status = import_file(rt, from, NOTHING, to, &mut err);
+    let status = import_file(rt, from, NOTHING, to, Lines::default(), &mut err);
     Left { status, out, err }
 }
 

@@ -1,7 +1,7 @@
 //! A capture of a million records.
 
 use super::SHORT;
-use its_commands::{Status, check, show};
+use its_commands::{Lines, Status, check, show};
 use its_shortage::{MOST, Shortage};
 use std::io;
 use std::io::{Read, Write};
@@ -32,11 +32,11 @@ impl Read for Repeated<'_> {
 
 /// A writer that counts lines, and keeps nothing.
 #[derive(Drop)]
-struct Lines {
+struct LineCount {
     count: u32,
 }
 
-impl Write for Lines {
+impl Write for LineCount {
     fn write(&mut self, buf: &[u8]) -> io::Result<usize> {
         for octet in buf {
             if *octet == b'\n' {
@@ -57,7 +57,7 @@ fn memory_does_not_grow_with_a_capture(rt: HostRuntime) -> Result<(), Fail> {
     let alloc = rt.alloc();
     let record = hex::decode(alloc, SHORT)?;
     let octets = record.as_slice();
-    let (mut shown, mut checked) = (Lines { count: 0 }, Lines { count: 0 });
+    let (mut shown, mut checked) = (LineCount { count: 0 }, LineCount { count: 0 });
     let mut said = [0u8; 64];
     let mut err = said.as_mut_slice();
     let mut shortage = Shortage::new(alloc)?;
@@ -67,14 +67,30 @@ fn memory_does_not_grow_with_a_capture(rt: HostRuntime) -> Result<(), Fail> {
         left: b"",
         times: RECORDS,
     };
-    let status = show(alloc, "a.cap", capture, &mut shown, &mut err);
+    let status = show(
+        alloc,
+        "a.cap",
+        capture,
+        None,
+        Lines::default(),
+        &mut shown,
+        &mut err,
+    );
     assert_eq!(rt; (status, shown.count), (Status::Refused, RECORDS));
     let capture = Repeated {
         octets,
         left: b"",
         times: RECORDS,
     };
-    let status = check(alloc, "a.cap", capture, &mut checked, &mut err);
+    let status = check(
+        alloc,
+        "a.cap",
+        capture,
+        None,
+        Lines::default(),
+        &mut checked,
+        &mut err,
+    );
     assert_eq!(rt; (status, checked.count), (Status::Refused, RECORDS + 1));
     assert_eq!(rt; said, [0u8; 64]);
     Ok(())

@@ -1,7 +1,9 @@
 //! Each command with every budget of memory from none to enough.
 
 use super::{BEACON, BEACON_LINE, GBC, GBC_LINE, NOTHING, joined};
-use its_commands::{Status, check, check_file, create, import_file, read_lines, show, show_file};
+use its_commands::{
+    Lines, Status, check, check_file, create, import_file, read_lines, show, show_file,
+};
 use its_shortage::{MOST, STEP, Shortage, written};
 use std::process::Abort;
 use std::test::Fail;
@@ -62,7 +64,15 @@ fn shows_short_of_memory(rt: HostRuntime) -> Result<(), Fail> {
         assert!(rt; shortage.leave(step * STEP));
         let (mut printed, mut said) = ([0u8; 400], [0u8; 64]);
         let (mut out, mut err) = (printed.as_mut_slice(), said.as_mut_slice());
-        let status = show(alloc, "a.cap", capture.as_slice(), &mut out, &mut err);
+        let status = show(
+            alloc,
+            "a.cap",
+            capture.as_slice(),
+            None,
+            Lines::default(),
+            &mut out,
+            &mut err,
+        );
         if budgets.count(&rt, status, &said) {
             assert_eq!(rt; written(&printed), whole.as_bytes());
         }
@@ -82,7 +92,15 @@ fn checks_short_of_memory(rt: HostRuntime) -> Result<(), Fail> {
         assert!(rt; shortage.leave(step * STEP));
         let (mut printed, mut said) = ([0u8; 64], [0u8; 64]);
         let (mut out, mut err) = (printed.as_mut_slice(), said.as_mut_slice());
-        let status = check(alloc, "a.cap", capture.as_slice(), &mut out, &mut err);
+        let status = check(
+            alloc,
+            "a.cap",
+            capture.as_slice(),
+            None,
+            Lines::default(),
+            &mut out,
+            &mut err,
+        );
         let is_done = budgets.count(&rt, status, &said);
         let want = if is_done { COUNTED } else { "" };
         assert_eq!(rt; written(&printed), want.as_bytes());
@@ -101,7 +119,7 @@ fn imports_short_of_memory(rt: HostRuntime) -> Result<(), Fail> {
         assert!(rt; shortage.leave(step * STEP));
         let mut said = [0u8; 64];
         let mut err = said.as_mut_slice();
-        let read = read_lines(alloc, "a.txt", lines.as_slice(), &mut err);
+        let read = read_lines(alloc, "a.txt", lines.as_slice(), Lines::default(), &mut err);
         let count = read.as_ref().map_or(0, |records| records.len());
         let status = read.err().unwrap_or(Status::Done);
         let is_done = budgets.count(&rt, status, &said);
@@ -126,8 +144,24 @@ fn shows_and_checks_a_file_short_of_memory(rt: HostRuntime) -> Result<(), Fail> 
         let (mut printed, mut said) = ([0u8; 400], [0u8; 64]);
         let (mut out, mut err) = (printed.as_mut_slice(), said.as_mut_slice());
         let status = match step % 2 {
-            0 => show_file(&rt, made.as_str(), NOTHING, &mut out, &mut err),
-            _ => check_file(&rt, made.as_str(), NOTHING, &mut out, &mut err),
+            0 => show_file(
+                &rt,
+                made.as_str(),
+                NOTHING,
+                None,
+                Lines::default(),
+                &mut out,
+                &mut err,
+            ),
+            _ => check_file(
+                &rt,
+                made.as_str(),
+                NOTHING,
+                None,
+                Lines::default(),
+                &mut out,
+                &mut err,
+            ),
         };
         let want = match (budgets.count(&rt, status, &said), step % 2) {
             (false, _) => "",
@@ -157,7 +191,7 @@ fn imports_a_file_short_of_memory(rt: HostRuntime) -> Result<(), Fail> {
         let _ = fs::remove_file(&rt, to);
         let mut said = [0u8; 64];
         let mut err = said.as_mut_slice();
-        let status = import_file(&rt, from, NOTHING, to, &mut err);
+        let status = import_file(&rt, from, NOTHING, to, Lines::default(), &mut err);
         let size = fs::metadata(&rt, to).ok().map(|made| made.len());
         if budgets.count(&rt, status, &said) {
             assert_eq!(rt; size, Some(25));

@@ -1,7 +1,7 @@
 //! Sockets and an output that fail, and every budget of memory from none to enough.
 
 use super::{BEFORE, DELIVER, LINES, OPEN, SEND, STATIONS, left_of, scenario};
-use crate::command::mesh;
+use crate::command::{MeshOptions, mesh};
 use crate::scripted::{Scripted, Trouble};
 use crate::sockets::{Received, Sent, Sockets};
 use its_commands::Status;
@@ -85,6 +85,7 @@ fn an_output_that_fails(rt: HostRuntime) -> Result<(), Fail> {
             alloc,
             "a",
             text.as_bytes(),
+            MeshOptions::default(),
             &mut sockets,
             &mut out,
             &mut err,
@@ -162,6 +163,7 @@ fn it_runs_short_of_memory(rt: HostRuntime) -> Result<(), Fail> {
             alloc,
             "a",
             text.as_bytes(),
+            MeshOptions::default(),
             &mut sockets,
             &mut out,
             &mut err,

@@ -1,0 +1,37 @@
+-- Runs of which less is said.
+use Rattle.std.proofs.Common.{List}
+use Rattle.std.specs.Prelude.{Option, Some, None}
+use Rattle.its_model.specs.World.{Event}
+use Rattle.its_world.specs.declared.entry.Entry.{Entry}
+use Rattle.its_world.specs.State.{WorldState}
+use Rattle.its_scenario.specs.declared.air.Air.{Air}
+use Rattle.its_scenario.specs.declared.scenario.Scenario.{Scenario}
+use Rattle.its_air.specs.Scenarios.{IsRunIn}
+
+-- what follows of all that was taken may be said in its place
+pub run_follows : (air : Option Air) (s : Scenario) (world : WorldState)
+    (Before After : List Event → List Entry → Type 0)
+    → ((events : List Event) (log : List Entry) → Before events log → After events log)
+    → IsRunIn air s world Before → IsRunIn air s world After
+run_follows None s world Before After follows run =
+    record {
+      stands = run.stands;
+      laws = run.laws;
+      log = run.log;
+      told = run.told;
+      took = follows _ run.log run.took;
+    }
+run_follows (Some air) s world Before After follows run =
+    record {
+      events = run.events;
+      run = record {
+        stands = run.run.stands;
+        laws = run.run.laws;
+        log = run.run.log;
+        told = run.run.told;
+        took = follows run.events run.run.log run.run.took;
+      };
+      due = run.due;
+      is_due = run.is_due;
+      among = run.among;
+    }

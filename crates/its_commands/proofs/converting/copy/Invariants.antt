@@ -1,0 +1,7 @@
+use Rattle.std.proofs.Common.{◌≤◌}
+use Rattle.its_commands.specs.Statuses.{IsCommandStatus}
+use Rattle.its_commands.proofs.converting.copy.Given as goal
+
+-- no more records than steps were gone
+abbrev pub invariant-loop-step : goal.invariant-loop-step
+invariant-loop-step g l = (l.records ≤ l.step) × IsCommandStatus l.status

@@ -1,0 +1,167 @@
+//! The frames of a run, written to a file as they are given.
+
+ghost use Rattle.std.specs.Prelude.{IfOk};
+ghost use Rattle.its_commands.specs.Statuses.{IsCommandStatus};
+
+use crate::converting::{LeftOut, format_named};
+use crate::fault::Fault;
+use crate::options::Lines;
+use crate::status::Status;
+use its_linkframe::Counted;
+use its_pcap::{AnySink, PutFault, RecordSink, SinkFault};
+use its_simulation::{EventRecord, EventSink, SimulationFault};
+use its_world::World;
+use std::alloc::Global;
+use std::io;
+use std::io::Write;
+
+/// A file of the frames that the stations of a run give, one by one.
+#[derive(Drop)]
+pub struct FrameFile<'a, W: Write + Drop> {
+    sink: AnySink<Counted<W>>,
+    target: &'a str,
+    /// How many frames were given so far.
+    frames: u64,
+    /// Whether one of them was left out.
+    left_out: bool,
+    /// Whether the file could not be written.
+    failed: bool,
+}
+
+impl<'a, W: Write + Drop> FrameFile<'a, W> {
+    /// Begins the file `target`, in the format that its name says. One of pcapng has an interface for
+    /// each of so many stations, `station 0` and on.
+    pub fn start(
+        alloc: Global,
+        writer: W,
+        target: &'a str,
+        stations: usize,
+    ) -> Result<FrameFile<'a, W>, Fault<'a>> {
+        let mut sink = AnySink::new(Counted::new(writer), format_named(target));
+        if sink.start().is_err() {
+            return Err(Fault::CannotWrite(target));
+        }
+        for station in 0..stations {
+            let name = format!(in alloc; "station {station}")?;
+            if sink.add_interface(name.as_str()).is_err() {
+                return Err(Fault::CannotWrite(target));
+            }
+        }
+        Ok(FrameFile {
+            sink,
+            target,
+            frames: 0,
+            left_out: false,
+            failed: false,
+        })
+    }
+
+    /// Writes the next frame, which a station gave at this moment. A frame whose moment has no place
+    /// in the format is told on standard error, and left out.
+    ///
+    /// An error says that the file failed, which `end` tells then.
+    pub fn put<E: Write>(
+        &mut self,
+        station: usize,
+        moment: u64,
+        frame: &[u8],
+        lines: Lines,
+        err: &mut E,
+    ) -> io::Result<()> {
+        let number = self.frames;
+        // No run gives as many frames as there are numbers.
+        self.frames = number.saturating_add(1);
+        // A scenario has fewer stations than there are interfaces.
+        let interface = u32::try_from(station).unwrap_or(u32::MAX);
+        match self.sink.put_frame(interface, moment, frame) {
+            Ok(()) => Ok(()),
+            Err(PutFault::Moment) => {
+                self.left_out = true;
+                let fault = SinkFault::Put(PutFault::Moment);
+                let _ = writeln!(err, "{}", LeftOut::new("frame", number, fault, lines));
+                Ok(())
+            }
+            Err(_) => {
+                self.failed = true;
+                Err(io::Error::from(io::ErrorKind::Other))
+            }
+        }
+    }
+
+    /// Ends the file after a run that ended so. `Refused` where a frame was left out of a run that is
+    /// done; `CannotWrite` where the file failed.
+    pub fn end(self, ran: Result<Status, Fault<'a>>) -> Result<Status, Fault<'a>>
+        requires { IfOk ran IsCommandStatus }
+        ensures { IfOk result IsCommandStatus }
+    {
+        let FrameFile {
+            sink,
+            target,
+            left_out,
+            failed,
+            ..
+        } = self;
+        let flushed = sink.into_inner().into_inner().flush();
+        if failed {
+            return Err(Fault::CannotWrite(target));
+        }
+        let status = ran?;
+        match flushed {
+            Ok(()) if left_out && status == Status::Done => Ok(Status::Refused),
+            Ok(()) => Ok(status),
+            Err(_) => Err(Fault::CannotWrite(target)),
+        }
+    }
+}
+
+/// Takes the frames of a run for a file.
+#[derive(Drop)]
+pub(crate) struct Frames<'a, 'b, W: Write + Drop, E> {
+    pub(crate) file: &'b mut FrameFile<'a, W>,
+    pub(crate) lines: Lines,
+    pub(crate) err: &'b mut E,
+}
+
+impl<W: Write + Drop, E: Write> EventSink for Frames<'_, '_, W, E> {
+    // What the file holds isn't said by contracts.
+    ghost Took = { λ _ _ _. Unit {0} };
+
+    fn put(&mut self, _world: &World, done: &EventRecord<'_>) -> Result<(), SimulationFault> {
+        let Some(frame) = done.octets else {
+            return Ok(());
+        };
+        let put = self
+            .file
+            .put(done.station, done.moment, frame, self.lines, self.err);
+        // The file remembers that it failed.
+        put.map_err(|_| SimulationFault::Output(io::Error::from(io::ErrorKind::Other)))
+    }
+}
+
+/// Takes the frames of a run that has no file for them.
+#[derive(Clone, Copy, Drop)]
+pub(crate) struct NoFrames;
+
+impl EventSink for NoFrames {
+    ghost Took = { λ _ _ _. Unit {0} };
+
+    fn put(&mut self, _world: &World, _done: &EventRecord<'_>) -> Result<(), SimulationFault> {
+        Ok(())
+    }
+}
+
+/// Two sinks that take each event, one after the other.
+#[derive(Drop)]
+pub(crate) struct Both<L, F> {
+    pub(crate) lines: L,
+    pub(crate) frames: F,
+}
+
+impl<L: EventSink, F: EventSink> EventSink for Both<L, F> {
+    ghost Took = { λ _ _ _. Unit {0} };
+
+    fn put(&mut self, world: &World, done: &EventRecord<'_>) -> Result<(), SimulationFault> {
+        self.lines.put(world, done)?;
+        self.frames.put(world, done)
+    }
+}

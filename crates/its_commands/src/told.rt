@@ -1,0 +1,109 @@
+//! What `show` and `check` tell beside frames: refused records, a refused capture, and a count.
+//! Each prints as its line of words, and is an object in JSON of the same values.
+
+use crate::refusal::{FileFault, RecordCode, RecordFault};
+use its_json::Printed;
+use its_simulation::Explanation;
+use serde::Serialize;
+use std::fmt;
+
+/// What `show` tells of a record that is refused.
+#[derive(Clone, Copy, Serialize)]
+pub(crate) struct RefusedAt {
+    moment: u64,
+    refused: Printed<RecordCode>,
+    reason: Printed<RecordFault>,
+    #[serde(skip)]
+    explain: bool,
+}
+
+impl RefusedAt {
+    pub(crate) fn new(moment: u64, fault: RecordFault, explain: bool) -> RefusedAt {
+        RefusedAt {
+            moment,
+            refused: Printed(fault.code()),
+            reason: Printed(fault),
+            explain,
+        }
+    }
+}
+
+impl fmt::Display for RefusedAt {
+    fn fmt<W: fmt::Write>(&self, f: &mut fmt::Formatter<W>) -> fmt::Result {
+        let (code, reason) = (self.refused.0, self.explain.then_some(self.reason.0));
+        write!(f, "{} refused {code}{}", self.moment, Explanation(reason))
+    }
+}
+
+/// What `check` tells of a record that is refused.
+#[derive(Clone, Copy, Serialize)]
+pub(crate) struct RefusedRecord {
+    record: u64,
+    refused: Printed<RecordCode>,
+    reason: Printed<RecordFault>,
+    #[serde(skip)]
+    explain: bool,
+}
+
+impl RefusedRecord {
+    pub(crate) fn new(record: u64, fault: RecordFault, explain: bool) -> RefusedRecord {
+        RefusedRecord {
+            record,
+            refused: Printed(fault.code()),
+            reason: Printed(fault),
+            explain,
+        }
+    }
+}
+
+impl fmt::Display for RefusedRecord {
+    fn fmt<W: fmt::Write>(&self, f: &mut fmt::Formatter<W>) -> fmt::Result {
+        let (code, reason) = (self.refused.0, self.explain.then_some(self.reason.0));
+        write!(f, "record {}: {code}{}", self.record, Explanation(reason))
+    }
+}
+
+/// What is told of a file that is refused after so many records.
+#[derive(Clone, Copy, Serialize)]
+pub(crate) struct RefusedCapture {
+    capture: &'static str,
+    record: u64,
+    #[serde(skip)]
+    reason: Option<FileFault>,
+}
+
+impl RefusedCapture {
+    pub(crate) fn new(records: u64, fault: FileFault, explain: bool) -> RefusedCapture {
+        RefusedCapture {
+            capture: fault.code(),
+            record: records,
+            reason: explain.then_some(fault),
+        }
+    }
+}
+
+impl fmt::Display for RefusedCapture {
+    fn fmt<W: fmt::Write>(&self, f: &mut fmt::Formatter<W>) -> fmt::Result {
+        let (code, reason) = (self.capture, Explanation(self.reason));
+        write!(f, "capture: {code} at record {}{reason}", self.record)
+    }
+}
+
+/// What `check` counted.
+#[derive(Clone, Copy, Serialize)]
+pub(crate) struct Count {
+    records: u64,
+    refused: u64,
+}
+
+impl Count {
+    pub(crate) fn new(records: u64, refused: u64) -> Count {
+        Count { records, refused }
+    }
+}
+
+impl fmt::Display for Count {
+    fn fmt<W: fmt::Write>(&self, f: &mut fmt::Formatter<W>) -> fmt::Result {
+        write!(f, "{} records, {} refused", self.records, self.refused)
+    }
+}

@@ -1,0 +1,14 @@
+-- How a mesh ends.
+use Rattle.std.specs.Prelude.{◌≡◌, ◌≢◌, Bool, IsTrue, if◌then◌else◌}
+use Rattle.its_commands.specs.declared.status.Status.{Status}
+use Rattle.its_commands.specs.declared.status.Status.TheVariants.{Done, Refused, Failed}
+use Rattle.its_commands.specs.declared.status.Status.TheVariants.{BadArguments}
+
+-- failed where a socket failed; else refused where a refusal counts; else done
+abbrev pub mesh_status : Bool → Bool → Status
+mesh_status failed refused = if failed then Failed else (if refused then Refused else Done)
+
+-- the command has its arguments already, and without strict no call's refusal is the status
+pub record IsMeshStatus (strict : Bool) (status : Status) : Type 0 where
+  pub command : status ≢ BadArguments
+  pub lenient : status ≡ Refused → IsTrue strict

@@ -1,0 +1,69 @@
+//! Refusals that are explained, or count.
+
+use super::{Left, OPEN, STATIONS, scenario};
+use crate::command::{MeshOptions, mesh};
+use crate::scripted::{Scripted, Trouble};
+use its_commands::Status;
+use std::alloc::Global;
+use std::test::Fail;
+
+/// Station 1 closes a port that isn't open.
+static REFUSED: &str = "station = 1, at = 0, do = \"close\", port = 7";
+
+/// What the mesh of two stations leaves of these events.
+fn left_by(
+    alloc: Global,
+    options: MeshOptions,
+    events: &[&str],
+    trouble: Option<(u32, Trouble)>,
+) -> Result<Left, Fail> {
+    let text = scenario(alloc, STATIONS, events)?;
+    let mut sockets = Scripted::new(alloc, &[], trouble);
+    let (mut out, mut err) = (Vec::new(alloc), Vec::new(alloc));
+    let reader = text.as_bytes();
+    let status = mesh(
+        alloc,
+        "a.toml",
+        reader,
+        options,
+        &mut sockets,
+        &mut out,
+        &mut err,
+    );
+    Ok(Left { status, out, err })
+}
+
+#[test]
+fn refusals_are_explained(rt: HostRuntime) -> Result<(), Fail> {
+    let options = MeshOptions {
+        explain: true,
+        strict: false,
+    };
+    let left = left_by(rt.alloc(), options, &[OPEN, REFUSED], None)?;
+    let want = "0 1 opened\n0 1 refused S8 B4 (the port isn't open)\n";
+    assert_eq!(rt; left.out.as_slice(), want.as_bytes());
+    assert_eq!(rt; left.status, Status::Done);
+    assert!(rt; left.err.is_empty());
+    Ok(())
+}
+
+/// A refusal counts where the mesh is strict, and less than a socket that failed.
+#[test]
+fn refusals_count_where_the_mesh_is_strict(rt: HostRuntime) -> Result<(), Fail> {
+    let strict = MeshOptions {
+        explain: false,
+        strict: true,
+    };
+    let failed = Some((2, Trouble::Failed));
+    let cases: [(MeshOptions, &[&str], Option<(u32, Trouble)>, Status); 4] = [
+        (MeshOptions::default(), &[OPEN, REFUSED], None, Status::Done),
+        (strict, &[OPEN], None, Status::Done),
+        (strict, &[REFUSED, OPEN], None, Status::Refused),
+        (strict, &[REFUSED, OPEN], failed, Status::Failed),
+    ];
+    for (options, events, trouble, status) in cases {
+        let left = left_by(rt.alloc(), options, events, trouble)?;
+        assert_eq!(rt; left.status, status);
+    }
+    Ok(())
+}
