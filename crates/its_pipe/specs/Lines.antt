@@ -1,0 +1,17 @@
+-- The lines of the input.
+use Rattle.std.specs.Prelude.{◌≡◌, ◌⊎◌, ℕ, List, Bool, All}
+use Rattle.its_pipe.specs.declared.line.Line.{Line}
+
+-- A line, without its line feed: its octets, the first 65536 of a longer one, and whether there are
+-- more.
+pub record LineText : Type 0 where
+  pub octets : List ℕ
+  pub longer : Bool
+
+-- the line that was read
+abbrev pub text_of : Line → LineText
+text_of line = record { octets = line.start.items; longer = line.longer }
+
+-- nothing but spaces, tabs and carriage returns
+abbrev pub IsBlank : List ℕ → Type 0
+IsBlank octets = All (λ octet. (octet ≡ 32) ⊎ (octet ≡ 9) ⊎ (octet ≡ 13)) octets

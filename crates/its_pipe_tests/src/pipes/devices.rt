@@ -1,0 +1,200 @@
+//! Readers and writers that fail.
+
+use super::{BEACON, OPEN, OPENED, config, first};
+use its_pipe::{Ended, run_station};
+use its_vectors::FIRST;
+use std::alloc::{AllocError, Global};
+use std::io::{Read, Write};
+use std::test::Fail;
+use std::{io, str};
+
+static CANNOT_READ: &str = "geostation: cannot read -\n";
+
+/// A reader that gives one octet a call, and fails at the call `fails_at`, counted from 1. Each
+/// other call is interrupted where it is `halting`.
+#[derive(Drop)]
+struct Failing<'a> {
+    octets: &'a [u8],
+    fails_at: u64,
+    kind: io::ErrorKind,
+    halting: bool,
+    halts: bool,
+}
+
+impl<'a> Failing<'a> {
+    fn at(octets: &'a [u8], fails_at: u64, kind: io::ErrorKind) -> Failing<'a> {
+        Failing {
+            octets,
+            fails_at,
+            kind,
+            halting: false,
+            halts: false,
+        }
+    }
+}
+
+impl Read for Failing<'_> {
+    fn read(&mut self, buf: &mut [u8]) -> io::Result<usize> {
+        self.halts = self.halting && !self.halts;
+        if self.halts {
+            return Err(io::Error::from(io::ErrorKind::Interrupted));
+        }
+        if self.fails_at <= 1 {
+            return Err(io::Error::from(self.kind));
+        }
+        self.fails_at -= 1;
+        if buf.is_empty() {
+            return Ok(0);
+        }
+        match self.octets.split_first() {
+            Some((octet, rest)) => {
+                self.octets = rest;
+                buf[0] = *octet;
+                Ok(1)
+            }
+            None => Ok(0),
+        }
+    }
+}
+
+/// The answers of the lines that were whole before the read that fails, and no other: a line that
+/// was cut by it is none.
+#[test]
+fn each_read_fails_in_turn(rt: HostRuntime) -> Result<(), Fail> {
+    let alloc = rt.alloc();
+    let lines = format!(in alloc; "{OPEN}x\n")?;
+    let error = format!(in alloc; "{OPENED}{}", "{\"line\":2,\"error\":\"not JSON\"}\n")?;
+    let size = lines.len() as u64;
+    for fails_at in 1..=size + 1 {
+        let input = Failing::at(lines.as_bytes(), fails_at, io::ErrorKind::Other);
+        let want = if fails_at == size + 1 {
+            error.as_str()
+        } else if fails_at > OPEN.len() as u64 {
+            OPENED
+        } else {
+            ""
+        };
+        first(alloc, input)?.expect(&rt, Ended::Failed, want, CANNOT_READ);
+    }
+    let input = Failing::at(lines.as_bytes(), size + 2, io::ErrorKind::Other);
+    first(alloc, input)?.expect(&rt, Ended::Refused, error.as_str(), "");
+    Ok(())
+}
+
+/// A read for which there is no memory is told apart, and one that was interrupted is made again.
+#[test]
+fn reads_of_other_kinds(rt: HostRuntime) -> Result<(), Fail> {
+    let alloc = rt.alloc();
+    let input = Failing::at(OPEN.as_bytes(), 5, io::ErrorKind::OutOfMemory);
+    first(alloc, input)?.expect(&rt, Ended::Failed, "", "geostation: out of memory\n");
+    let mut input = Failing::at(OPEN.as_bytes(), 500, io::ErrorKind::Other);
+    input.halting = true;
+    first(alloc, input)?.expect(&rt, Ended::Done, OPENED, "");
+    Ok(())
+}
+
+/// A writer that takes so many octets and then fails, as a pipe that nobody reads any more, or that
+/// fails at a flush.
+#[derive(Drop)]
+struct Full {
+    taken: Vec<u8>,
+    room: usize,
+    flushes: u64,
+}
+
+impl Write for Full {
+    fn write(&mut self, buf: &[u8]) -> io::Result<usize> {
+        if self.room == 0 && !buf.is_empty() {
+            return Err(io::Error::from(io::ErrorKind::BrokenPipe));
+        }
+        let count = self.room.min(buf.len());
+        self.taken.extend_from_slice(&buf[..count])?;
+        self.room -= count;
+        Ok(count)
+    }
+
+    fn flush(&mut self) -> io::Result<()> {
+        if self.flushes == 0 {
+            return Err(io::Error::from(io::ErrorKind::Other));
+        }
+        self.flushes -= 1;
+        Ok(())
+    }
+}
+
+/// What is written before the output fails, and the status, beside what is said of it.
+fn run_to_full(
+    alloc: Global,
+    lines: &str,
+    room: usize,
+    flushes: u64,
+) -> Result<(Vec<u8>, Ended, Vec<u8>), Fail> {
+    let mut out = Full {
+        taken: Vec::new(alloc),
+        room,
+        flushes,
+    };
+    let mut err = Vec::new(alloc);
+    let status = run_station(
+        alloc,
+        &config(FIRST, 0, 1)?,
+        lines.as_bytes(),
+        &mut out,
+        &mut err,
+    );
+    Ok((out.taken, status, err))
+}
+
+/// Lines with an answer each, and their answers.
+fn conversation(alloc: Global) -> Result<(String, String), AllocError> {
+    let lines = format!(in alloc;
+        "{OPEN}x\n{}{BEACON}\"}}\n",
+        "{\"at\":1,\"do\":\"receive\",\"frame\":\""
+    )?;
+    let answers = format!(in alloc;
+        "{OPENED}{}{}",
+        "{\"line\":2,\"error\":\"not JSON\"}\n", "{\"at\":1,\"result\":\"accepted\"}\n"
+    )?;
+    Ok((lines, answers))
+}
+
+/// An output with room for less than all answers holds a prefix of them, and no line is said.
+#[test]
+fn each_write_fails_in_turn(rt: HostRuntime) -> Result<(), Fail> {
+    let alloc = rt.alloc();
+    let (lines, answers) = conversation(alloc)?;
+    for room in 0..=answers.len() {
+        let (taken, status, err) = run_to_full(alloc, lines.as_str(), room, 100)?;
+        assert_eq!(rt; Some(taken.as_slice()), answers.as_bytes().get(..room));
+        let want = if room == answers.len() {
+            Ended::Refused
+        } else {
+            Ended::Failed
+        };
+        assert_eq!(rt; status, want, "{room}");
+        assert!(rt; err.is_empty(), "{room}");
+    }
+    Ok(())
+}
+
+/// Each answer is flushed, and a flush that fails ends it.
+#[test]
+fn each_flush_fails_in_turn(rt: HostRuntime) -> Result<(), Fail> {
+    let alloc = rt.alloc();
+    let (lines, answers) = conversation(alloc)?;
+    for flushes in 0..=3u64 {
+        let (taken, status, err) = run_to_full(alloc, lines.as_str(), usize::MAX, flushes)?;
+        let written = str::from_utf8(taken.as_slice())?;
+        let want = if flushes == 3 {
+            Ended::Refused
+        } else {
+            Ended::Failed
+        };
+        assert_eq!(rt; status, want, "{flushes}");
+        assert!(rt; answers.starts_with(written), "{flushes}");
+        let count = written.lines().count() as u64;
+        assert_eq!(rt; count, (flushes + 1).min(3), "{flushes}");
+        assert!(rt; err.is_empty(), "{flushes}");
+    }
+    Ok(())
+}
