@@ -1,9 +1,12 @@
-//! The program `geostation`: it shows, checks and makes captures of GeoNetworking frames,
-//! and runs scenarios.
+//! The program `geostation`: it shows, checks and makes captures of GeoNetworking frames, runs
+//! scenarios, and is a station on a pipe.
 #![tactic(auto)]
 
 mod arguments;
+mod forms;
 mod program;
+mod station;
+mod subcommand;
 #[cfg(test)]
 mod tests;
 

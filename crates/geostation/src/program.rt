@@ -1,10 +1,15 @@
 //! The program over the runtime: arguments are read, and their command is run.
 
 use crate::arguments;
-use crate::arguments::Subcommand;
-use its_commands::{Fault, Status, check_file, import_file, show_file, simulate_file};
+use crate::station::StationWords;
+use crate::subcommand::Subcommand;
+use its_commands::{
+    Fault, Status, check_file, convert_file, import_file, show_file, simulate_file,
+};
 use its_mesh::mesh_file;
-use std::alloc::AllocError;
+use its_pipe::{Ended, run_station};
+use its_scenario::{KeyFault, WrongOf, read_station};
+use std::alloc::{AllocError, Global};
 use std::env::Args;
 use std::io;
 use std::io::{BufWriter, ErrorKind, Read, Write};
@@ -82,12 +87,74 @@ where
     R::File: Read + Write + Drop,
 {
     match arguments::read(rt.alloc(), arguments) {
-        Ok(Subcommand::Show { file }) => show_file(rt, file, input, out, err),
-        Ok(Subcommand::Check { file }) => check_file(rt, file, input, out, err),
-        Ok(Subcommand::Import { file, out: target }) => import_file(rt, file, input, target, err),
-        Ok(Subcommand::Sim { file }) => simulate_file(rt, file, input, out, err),
-        Ok(Subcommand::Mesh { file }) => mesh_file(rt, file, input, out, err),
+        Ok(
+            Subcommand::Show {
+                file,
+                format,
+                lines,
+            },
+        ) => show_file(rt, file, input, format, lines, out, err),
+        Ok(
+            Subcommand::Check {
+                file,
+                format,
+                lines,
+            },
+        ) => check_file(rt, file, input, format, lines, out, err),
+        Ok(
+            Subcommand::Convert {
+                file,
+                out: target,
+                format,
+                lines,
+            },
+        ) => convert_file(rt, file, input, target, format, lines, err),
+        Ok(
+            Subcommand::Import {
+                file,
+                out: target,
+                lines,
+            },
+        ) => import_file(rt, file, input, target, lines, err),
+        Ok(
+            Subcommand::Sim {
+                file,
+                frames,
+                options,
+            },
+        ) => simulate_file(rt, file, input, frames, options, out, err),
+        Ok(
+            Subcommand::Mesh {
+                file,
+                frames,
+                options,
+            },
+        ) => mesh_file(rt, file, input, frames, options, out, err),
+        Ok(Subcommand::Station(words)) => serve(rt.alloc(), &words, input, out, err),
         Err(error) => explain(&error, out, err),
+    }
+}
+
+/// Is the station that these words describe, driven by the lines of standard input. Words that
+/// describe none are bad arguments, and told with what was wrong.
+fn serve<I: Read + Drop, W: Write, E: Write>(
+    alloc: Global,
+    words: &StationWords<'_>,
+    input: I,
+    out: &mut W,
+    err: &mut E,
+) -> Status {
+    match read_station(words) {
+        Ok(config) => match run_station(alloc, &config, input, out, err) {
+            Ended::Done => Status::Done,
+            Ended::Refused => Status::Refused,
+            Ended::Failed => Status::Failed,
+        },
+        Err(KeyFault::Refused(key, wrong)) => {
+            let _ = writeln!(err, "error: {key}: {}", WrongOf(key, wrong));
+            Status::BadArguments
+        }
+        Err(KeyFault::OutOfMemory) => Fault::OutOfMemory(AllocError).report(err),
     }
 }
 

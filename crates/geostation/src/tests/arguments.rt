@@ -11,12 +11,14 @@ Shows, checks and makes captures of GeoNetworking frames, and runs scenarios
 Usage: geostation <COMMAND>
 
 Commands:
-  show    Prints a line for each record of a capture
-  check   Prints a line for each refused record of a capture, and a count
-  import  Makes a capture of lines of a moment and hexadecimal digits
-  sim     Runs a scenario and prints a line for each event
-  mesh    Runs a scenario over UDP sockets on the loopback
-  help    Print this message or the help of the given subcommand(s)
+  show     Prints a line for each record of a capture
+  check    Prints a line for each refused record of a capture, and a count
+  convert  Writes the records of a capture in the format of another file's name
+  import   Makes a capture of lines of a moment and hexadecimal digits
+  sim      Runs a scenario and prints a line for each event
+  mesh     Runs a scenario over UDP sockets on the loopback
+  station  Is one station, driven by JSON lines on standard input
+  help     Print this message or the help of the given subcommand(s)
 
 Options:
   -h, --help     Print help
@@ -26,13 +28,16 @@ Options:
 static SHOW_HELP: &str = "\
 Prints a line for each record of a capture
 
-Usage: geostation show <FILE>
+Usage: geostation show [OPTIONS] <FILE>
 
 Arguments:
   <FILE>  The capture, or - for standard input
 
 Options:
-  -h, --help  Print help
+      --format <FORMAT>  The format that is read, in place of what the first octets say [possible values: capture, pcap, pcapng]
+      --json             Prints each line as a JSON object
+      --explain          Says in words what each code means
+  -h, --help             Print help
 
 Example:
   geostation show first.cap
@@ -41,13 +46,16 @@ Example:
 static CHECK_HELP: &str = "\
 Prints a line for each refused record of a capture, and a count
 
-Usage: geostation check <FILE>
+Usage: geostation check [OPTIONS] <FILE>
 
 Arguments:
   <FILE>  The capture, or - for standard input
 
 Options:
-  -h, --help  Print help
+      --format <FORMAT>  The format that is read, in place of what the first octets say [possible values: capture, pcap, pcapng]
+      --json             Prints each line as a JSON object
+      --explain          Says in words what each code means
+  -h, --help             Print help
 
 Example:
   geostation check first.cap
@@ -56,14 +64,15 @@ Example:
 static IMPORT_HELP: &str = "\
 Makes a capture of lines of a moment and hexadecimal digits
 
-Usage: geostation import <FILE> <OUT>
+Usage: geostation import [OPTIONS] <FILE> <OUT>
 
 Arguments:
   <FILE>  The lines, or - for standard input
   <OUT>   The capture that is made
 
 Options:
-  -h, --help  Print help
+      --explain  Says in words what each code means
+  -h, --help     Print help
 
 Example, of a line with a frame of one octet at moment 5:
   echo '5 00' | geostation import - short.cap
@@ -72,13 +81,18 @@ Example, of a line with a frame of one octet at moment 5:
 static SIM_HELP: &str = "\
 Runs a scenario and prints a line for each event
 
-Usage: geostation sim <SCENARIO>
+Usage: geostation sim [OPTIONS] <SCENARIO>
 
 Arguments:
   <SCENARIO>  The scenario, or - for standard input
 
 Options:
-  -h, --help  Print help
+      --summary       Prints what came of each send in place of the events
+      --frames <OUT>  Also writes the frames to this file: .pcap, .pcapng, or a capture
+      --json          Prints each line as a JSON object
+      --explain       Says in words what each code means
+      --strict        Ends with status 1 where an event was refused
+  -h, --help          Print help
 
 Example:
   geostation sim warning.toml
@@ -87,21 +101,61 @@ Example:
 static MESH_HELP: &str = "\
 Runs a scenario over UDP sockets on the loopback
 
-Usage: geostation mesh <SCENARIO>
+Usage: geostation mesh [OPTIONS] <SCENARIO>
 
 Arguments:
   <SCENARIO>  The scenario, or - for standard input
 
 Options:
-  -h, --help  Print help
+      --frames <OUT>  Also writes the frames to this file: .pcap, .pcapng, or a capture
+      --explain       Says in words what each code means
+      --strict        Ends with status 1 where an event was refused
+  -h, --help          Print help
 
 Example:
   geostation mesh warning.toml
 ";
 
+static CONVERT_HELP: &str = "\
+Writes the records of a capture in the format of another file's name
+
+Usage: geostation convert [OPTIONS] <IN> <OUT>
+
+Arguments:
+  <IN>   The capture, or - for standard input
+  <OUT>  The file that is made: .pcap, .pcapng, or a capture
+
+Options:
+      --format <FORMAT>  The format that is read, in place of what the first octets say [possible values: capture, pcap, pcapng]
+      --explain          Says in words what each code means
+  -h, --help             Print help
+
+Example:
+  geostation convert first.cap first.pcapng
+";
+
+static STATION_HELP: &str = "\
+Is one station, driven by JSON lines on standard input
+
+Usage: geostation station [OPTIONS] <ADDRESS> <LAT> <LON>
+
+Arguments:
+  <ADDRESS>  The station's address, 16 hexadecimal digits
+  <LAT>      Its latitude in tenths of a microdegree
+  <LON>      Its longitude in tenths of a microdegree
+
+Options:
+      --capacity <N>  How many sources it knows: 1 to 4096, else 64
+      --remember <N>  How many numbers it remembers of each: 1 to 64, else 8
+  -h, --help          Print help
+
+Example:
+  echo '{\"at\":3000,\"do\":\"tick\",\"jitter\":0}' | geostation station 1400020000000001 0 0
+";
+
 static NO_COMMAND: &str = "\
 error: 'geostation' requires a subcommand but one was not provided
-  [subcommands: show, check, import, sim, mesh, help]
+  [subcommands: show, check, convert, import, sim, mesh, station, help]
 
 Usage: geostation <COMMAND>
 
@@ -137,7 +191,7 @@ For more information, try '--help'.
 static ONE_TOO_MANY: &str = "\
 error: unexpected argument 'b' found
 
-Usage: geostation show <FILE>
+Usage: geostation show [OPTIONS] <FILE>
 
 For more information, try '--help'.
 ";
@@ -157,9 +211,11 @@ fn help_and_the_version_are_output(rt: HostRuntime) -> Result<(), Fail> {
         ("geostation help", HELP),
         ("geostation show --help", SHOW_HELP),
         ("geostation check --help", CHECK_HELP),
+        ("geostation convert --help", CONVERT_HELP),
         ("geostation import --help", IMPORT_HELP),
         ("geostation sim --help", SIM_HELP),
         ("geostation mesh --help", MESH_HELP),
+        ("geostation station --help", STATION_HELP),
         ("geostation --version", "geostation 0.1.0\n"),
         ("geostation -V", "geostation 0.1.0\n"),
     ];
@@ -269,5 +325,92 @@ fn lines_come_from_standard_input(rt: HostRuntime) -> Result<(), Fail> {
     fs::remove_file(&rt, made.as_str())?;
     assert_eq!(rt; left.status, Status::Done);
     assert_eq!(rt; capture.as_slice(), SHORT);
+    Ok(())
+}
+
+/// Options stand before or after the arguments, in any order.
+#[test]
+fn options_stand_anywhere(rt: HostRuntime) -> Result<(), Fail> {
+    let explained = "5 refused L1 (a frame of fewer than 14 octets)\n";
+    let object = "{\"moment\":5,\"refused\":\"L1\",\
+        \"reason\":\"a frame of fewer than 14 octets\"}\n";
+    let cases = [
+        ("geostation show --explain -", explained),
+        ("geostation show - --format capture --explain", explained),
+        ("geostation show --json -", object),
+        ("geostation show --explain - --json", object),
+        (
+            "geostation show --format pcap -",
+            "capture: P2 at record 0\n",
+        ),
+    ];
+    for (line, printed) in cases {
+        let left = left_by_input(&rt, line.as_bytes(), SHORT);
+        assert_eq!(rt; left.out.as_slice(), printed.as_bytes(), "{line}");
+        assert_eq!(rt; left.status, Status::Refused, "{line}");
+    }
+    Ok(())
+}
+
+/// An event that was refused is a refusal of the whole run where that is asked for.
+#[test]
+fn strict_runs(rt: HostRuntime) -> Result<(), Fail> {
+    let refused = "event = [{station = 0, at = 7, do = \"open\", port = 2002}]\n";
+    let cases = [
+        ("geostation sim -", Status::Done),
+        ("geostation sim --strict -", Status::Refused),
+        ("geostation sim --summary --strict -", Status::Refused),
+        ("geostation mesh - --strict", Status::Refused),
+    ];
+    for (line, status) in cases {
+        let left = left_by_input(&rt, line.as_bytes(), refused.as_bytes());
+        assert_eq!(rt; left.status, status, "{line}");
+    }
+    Ok(())
+}
+
+/// A station on a pipe, whose place may be south and west.
+#[test]
+fn a_station_on_a_pipe(rt: HostRuntime) -> Result<(), Fail> {
+    let line = "geostation station 1400020000000001 -5 -7 --capacity 4096 --remember 64";
+    let asked = b"{\"at\":0,\"do\":\"open\",\"port\":2002}\n{}\n";
+    let left = left_by_input(&rt, line.as_bytes(), asked);
+    let told = b"{\"at\":0,\"result\":\"opened\"}\n{\"line\":2,\"error\":\"at\"}\n";
+    assert_eq!(rt; left.out.as_slice(), told.as_slice());
+    assert_eq!(rt; left.status, Status::Refused);
+    for (line, said) in [
+        (
+            "geostation station 1400020000000001 0 1800000001",
+            "error: lon: not in -1800000000..=1800000000\n",
+        ),
+        (
+            "geostation station 1400020000000001 0 0 --capacity 0",
+            "error: capacity: not in 1..=4096\n",
+        ),
+        (
+            "geostation station 1400020000000001 0 0 --remember x",
+            "error: remember: not a whole number\n",
+        ),
+    ] {
+        let left = left_by(&rt, line.as_bytes());
+        assert_eq!(rt; left.err.as_slice(), said.as_bytes());
+        assert_eq!(rt; left.status, Status::BadArguments);
+    }
+    Ok(())
+}
+
+/// Records go to another format and back.
+#[test]
+fn records_are_converted(rt: HostRuntime) -> Result<(), Fail> {
+    let folder = env::temp_dir(&rt)?;
+    let made = folder.join(rt.alloc(), "geostation-convert.pcapng")?;
+    let line = format!(in rt.alloc(); "geostation convert - {}", made.as_str())?;
+    let left = left_by_input(&rt, line.as_bytes(), SHORT);
+    let show = format!(in rt.alloc(); "geostation show {}", made.as_str())?;
+    let shown = left_by(&rt, show.as_bytes());
+    fs::remove_file(&rt, made.as_str())?;
+    assert_eq!(rt; left.status, Status::Done);
+    assert!(rt; left.out.is_empty() && left.err.is_empty());
+    assert_eq!(rt; shown.out.as_slice(), b"5 refused L1\n".as_slice());
     Ok(())
 }

@@ -4,13 +4,16 @@ use super::Given;
 use super::arguments::HELP;
 use crate::program;
 use its_commands::Status;
-use its_shortage::{MOST, STEP, Shortage, written};
+use its_shortage::{STEP, Shortage, written};
 use std::alloc::AllocError;
 use std::io::Write;
 use std::test::Fail;
 use std::{env, fs, io};
 
 static NO_MEMORY: &[u8] = b"geostation: out of memory\n";
+
+/// The largest budget, in octets: the table of all commands takes some 200,000.
+const MOST: usize = 256_000;
 
 /// The budgets are `STEP` octets apart, from none to the most.
 const BUDGETS: usize = MOST / STEP + 1;
@@ -71,7 +74,7 @@ type Run<'a> = (&'a [u8], &'a [u8]);
 /// ends with the status and the line of out of memory. Whether it was done, where it did one of
 /// these.
 fn done_under_budget(rt: &HostRuntime, (line, whole): Run<'_>) -> Option<bool> {
-    let (mut printed, mut said) = ([0u8; 700], [0u8; 64]);
+    let (mut printed, mut said) = ([0u8; 1000], [0u8; 64]);
     let (mut out, mut err) = (printed.as_mut_slice(), said.as_mut_slice());
     let arguments = env::args(&Given { rt, line });
     let status = program::run(rt, arguments, b"".as_slice(), &mut out, &mut err);
@@ -88,7 +91,7 @@ fn done_under_budget(rt: &HostRuntime, (line, whole): Run<'_>) -> Option<bool> {
 /// Runs the program under each budget: all runs are refused under the first, done under the last,
 /// and each is one of these under all others.
 fn runs_short_of_memory(rt: &HostRuntime, runs: &[Run<'_>]) -> Result<bool, AllocError> {
-    let mut shortage = Shortage::new(rt.alloc())?;
+    let mut shortage = Shortage::with_most(rt.alloc(), MOST)?;
     for step in 0..BUDGETS {
         for run in runs {
             if !shortage.leave(step * STEP) {
