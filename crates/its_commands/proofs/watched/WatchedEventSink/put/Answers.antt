@@ -1,8 +1,7 @@
-use Rattle.std.proofs.Common.{rules, ◌≡◌, ◌∷◌, ◌++◌, [], List, Bool, sym, ap, ◌∙◌}
-use Rattle.std.specs.Prelude.{◌&&◌, true, false}
+use Rattle.std.proofs.Common.{rules, ◌≡◌, ◌∷◌, ◌++◌, []}
+use Rattle.std.specs.Prelude.{◌&&◌}
 use Rattle.std.specs.List.{list_all}
 use Rattle.std.proofs.lemmas.List.Folds.{list_all-append}
-use Rattle.its_world.specs.declared.entry.Entry.{Entry}
 use Rattle.its_commands.specs.Runs.{was_done}
 use Rattle.its_commands.proofs.watched.WatchedEventSink.put.Goals as goal
 
