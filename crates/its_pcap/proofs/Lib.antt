@@ -8,3 +8,4 @@ pub mod Parts
 pub mod PcapHeaders
 pub mod PcapRecords
 pub mod Puts
+pub mod Steps

@@ -12,6 +12,7 @@ pub record IsPadded (w : List ℕ) (n : ℕ) : Type 0 where
   pub frame : IsFrameEnd w n
   pub zeros : All (λ b. b ≡ 0) (drop n w)
 
--- the frame without what fills it up, or all octets
+-- the frame without what fills it up; all octets where they are no such frame
 abbrev pub IsUnpadded : List ℕ → List ℕ → Type 0
-IsUnpadded w r = ((n : ℕ) × IsPadded w n × (r ≡ take n w)) ⊎ (r ≡ w)
+IsUnpadded w r =
+    ((n : ℕ) × IsPadded w n × (r ≡ take n w)) ⊎ (((n : ℕ) → ¬ IsPadded w n) × (r ≡ w))

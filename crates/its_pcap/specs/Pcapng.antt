@@ -1,16 +1,34 @@
--- A reader of a pcapng file: how far it is, and what becomes of a block that it read.
-use Rattle.std.specs.Prelude.{◌≡◌, Bool, true, false, List, [], ◌∷◌, ◌++◌, Result, Ok, Err}
+-- A reader of a pcapng file: how far it is, which block it reads next, and what becomes of it.
+use Rattle.std.specs.Prelude.{◌≡◌, ◌⊎◌, ℕ, Bool, true, false, List, [], ◌∷◌, ◌++◌}
+use Rattle.std.specs.Prelude.{Option, Some, None, Result, Ok, Err}
 use Rattle.its_linkframe.specs.declared.record.CaptureFault.TheVariants as captures
+use Rattle.its_pcap.specs.Blocks.{block_of, kind_of_block}
+use Rattle.its_pcap.specs.Layouts.{Layout, Reads, IsFaultOf, behind, field}
+use Rattle.its_pcap.specs.Octets.{number_in}
+use Rattle.its_pcap.specs.Reading.{MeetsEnd}
 use Rattle.its_pcap.specs.declared.blocks.Block.{Block}
 use Rattle.its_pcap.specs.declared.blocks.Block.TheVariants as blocks
+use Rattle.its_pcap.specs.declared.blocks.Kind.{Kind}
+use Rattle.its_pcap.specs.declared.blocks.Kind.TheVariants as kinds
 use Rattle.its_pcap.specs.declared.fault.SourceFault.{SourceFault}
 use Rattle.its_pcap.specs.declared.fault.SourceFault.TheVariants as faults
 use Rattle.its_pcap.specs.declared.interface.Interface.{Interface}
-use Rattle.its_pcap.specs.declared.pcapng.Next.{Next}
-use Rattle.its_pcap.specs.declared.pcapng.Next.TheVariants as nexts
+use Rattle.its_pcap.specs.declared.octets.Order.{Order}
+use Rattle.its_pcap.specs.declared.octets.Order.TheVariants as orders
 use Rattle.its_pcap.specs.declared.pcapng.Stage.{Stage}
 use Rattle.its_pcap.specs.declared.pcapng.Stage.TheVariants as stages
+use Rattle.its_pcap.specs.declared.record.Step.{Step}
 use Rattle.its_pcap.specs.declared.record.Step.TheVariants as steps
+
+-- A reader: its stage, the interfaces of the section that it is in, how many octets of a frame it
+-- keeps at most, the octets that its source has left, where they are known, and how many calls of
+-- the source failed.
+pub record PcapngReading : Type 0 where
+  pub stage : Stage
+  pub interfaces : List Interface
+  pub keep : ℕ
+  pub rest : Option (List ℕ)
+  pub failures : ℕ
 
 abbrev pub is_failed : Stage → Bool
 is_failed stages.Start = false
@@ -18,19 +36,76 @@ is_failed (stages.Blocks _) = false
 is_failed stages.Ended = false
 is_failed stages.Failed = true
 
-abbrev pub is_ended : Stage → Bool
-is_ended stages.Start = false
-is_ended (stages.Blocks _) = false
-is_ended stages.Ended = true
-is_ended stages.Failed = false
+-- the order of octets that a block is read in: in no section any, as a section header says its own
+abbrev pub order_in : Option Order → Order
+order_in None = orders.High
+order_in (Some o) = o
 
--- What a block gives, and what it makes of the interfaces: a section has none at its beginning.
--- Only an interface takes memory, and then C4 may come.
-abbrev pub IsTaken : Block → List Interface → List Interface → Result Next SourceFault → Type 0
-IsTaken (blocks.Section o) old new answer = (answer ≡ Ok (nexts.Section o)) × (new ≡ [])
-IsTaken (blocks.Interface i) old new (Ok next) =
-    (next ≡ nexts.Step steps.Passed) × (new ≡ old ++ i ∷ [])
-IsTaken (blocks.Interface i) old new (Err f) = f ≡ faults.Capture captures.NoMemory
-IsTaken (blocks.Record h) old new answer =
-    (answer ≡ Ok (nexts.Step (steps.Record h))) × (new ≡ old)
-IsTaken blocks.Other old new answer = (answer ≡ Ok (nexts.Step steps.Passed)) × (new ≡ old)
+-- what the four octets of a block's type say
+abbrev pub kind_in : Option Order → List ℕ → Kind
+kind_in o w = kind_of_block (number_in (order_in o) 4 w)
+
+-- outside of a section only a section header may stand
+abbrev pub MayStand : Option Order → Kind → Type 0
+MayStand None k = k ≡ kinds.Section
+MayStand (Some o) k = Unit {0}
+
+-- the type of a block
+abbrev pub kind_of_next : Option Order → Layout Kind
+kind_of_next o =
+    field 4 (λ k w. (kind_in o w ≡ k) × MayStand o k) (λ w. ¬ MayStand o (kind_in o w))
+
+-- a block, in a section of this order, if in one, with these interfaces
+unfoldable pub next_block : Option Order → List Interface → ℕ → List ℕ → Layout Block
+next_block o is keep kept =
+    behind (kind_of_next o) (λ k. block_of (order_in o) is keep kept k)
+
+-- What a block gives, and what it makes of the stage and of the interfaces: a section has none at
+-- its beginning. Only an interface takes memory, and then C4 may come.
+abbrev pub IsTaken : Block → Stage → Stage → List Interface → List Interface
+    → Result Step SourceFault → Type 0
+IsTaken (blocks.Section o) was now old new answer =
+    (answer ≡ Ok steps.Passed) × (now ≡ stages.Blocks o) × (new ≡ [])
+IsTaken (blocks.Interface i) was now old new (Ok step) =
+    (step ≡ steps.Passed) × (now ≡ was) × (new ≡ old ++ i ∷ [])
+IsTaken (blocks.Interface i) was now old new (Err f) =
+    (f ≡ faults.Capture captures.NoMemory) × (now ≡ stages.Failed)
+IsTaken (blocks.Record h) was now old new answer =
+    (answer ≡ Ok (steps.Record h)) × (now ≡ was) × (new ≡ old)
+IsTaken blocks.Other was now old new answer =
+    (answer ≡ Ok steps.Passed) × (now ≡ was) × (new ≡ old)
+
+-- The block that stands next was read, and this came of it.
+pub record IsBlockRead (o : Option Order) (was now : PcapngReading) (frame : List ℕ)
+    (answer : Result Step SourceFault) : Type 0 where
+  pub block : Block
+  pub reads : Reads ((next_block o was.interfaces was.keep frame).Is block) was.rest now.rest
+  pub taken : IsTaken block was.stage now.stage was.interfaces now.interfaces answer
+
+-- What an answer says where blocks are read: a record is that of the next block; `Passed` is a block
+-- without one, which may begin a section or add an interface; a fault is the first of that block, or
+-- that the list of interfaces could not grow.
+abbrev pub IsNext : Option Order → PcapngReading → PcapngReading → List ℕ
+    → Result Step SourceFault → Type 0
+IsNext o was now frame (Ok steps.End) =
+    (now.stage ≡ stages.Ended) × MeetsEnd was.rest now.rest
+IsNext o was now frame (Ok steps.Passed) = IsBlockRead o was now frame (Ok steps.Passed)
+IsNext o was now frame (Ok (steps.Record h)) = IsBlockRead o was now frame (Ok (steps.Record h))
+IsNext o was now frame (Err f) =
+    (now.stage ≡ stages.Failed)
+    × (IsFaultOf (next_block o was.interfaces was.keep frame) was.rest now.rest f
+    ⊎ ((f ≡ faults.Capture captures.NoMemory) × (i : Interface)
+    × Reads ((next_block o was.interfaces was.keep frame).Is (blocks.Interface i)) was.rest now.rest))
+
+-- What an answer says, by the stage: after the end the end is answered, and after a fault C5, and
+-- nothing is read.
+abbrev pub IsAnswerAt : Stage → PcapngReading → PcapngReading → List ℕ → Result Step SourceFault
+    → Type 0
+IsAnswerAt stages.Start was now frame answer = IsNext None was now frame answer
+IsAnswerAt (stages.Blocks o) was now frame answer = IsNext (Some o) was now frame answer
+IsAnswerAt stages.Ended was now frame answer = (answer ≡ Ok steps.End) × (now ≡ was)
+IsAnswerAt stages.Failed was now frame answer =
+    (answer ≡ Err (faults.Capture captures.Failed)) × (now ≡ was)
+
+abbrev pub IsAnswer : PcapngReading → PcapngReading → List ℕ → Result Step SourceFault → Type 0
+IsAnswer was now frame answer = IsAnswerAt was.stage was now frame answer

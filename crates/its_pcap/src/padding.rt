@@ -1,6 +1,6 @@
 //! Frames that Ethernet filled up.
 
-ghost use Rattle.std.specs.Prelude.{◌≡◌, true, All, IfSome};
+ghost use Rattle.std.specs.Prelude.{◌≡◌, ◌↔◌, ℕ, All, IfSome, IsTrue, Some};
 ghost use Rattle.its_linkframe.specs.Frames.{IsFrame};
 ghost use Rattle.its_pcap.specs.Padding.{IsFrameEnd, IsUnpadded};
 
@@ -30,14 +30,15 @@ pub fn without_padding(octets: &[u8]) -> &[u8]
 
 /// Whether the octets are all 0.
 fn are_zero(octets: &[u8]) -> bool
-    ensures { result ≡ true → All (λ b. b ≡ 0) octets.now }
+    ensures { IsTrue result ↔ All (λ b. b ≡ 0) octets.now }
 {
     octets.iter().all(|octet| *octet == 0)
 }
 
 /// How many of the octets are a frame, where they begin with one.
 fn frame_end(octets: &[u8]) -> Option<usize>
-    ensures { IfSome result (IsFrameEnd octets.now) }
+    ensures found { IfSome result (IsFrameEnd octets.now) }
+    ensures only { (n : ℕ) → IsFrameEnd octets.now n → result ≡ Some n }
 {
     if octets.len() < PACKET {
         return None;
@@ -49,9 +50,8 @@ fn frame_end(octets: &[u8]) -> Option<usize>
 }
 
 /// Whether the octets are a frame.
-#[tactic(auto, using(crate::proofs::Frames::frame_read))]
 fn is_frame(octets: &[u8]) -> bool
-    ensures { result ≡ true → IsFrame octets.now }
+    ensures { IsTrue result ↔ IsFrame octets.now }
 {
     match read_frame(octets) {
         Ok(_) => true,

@@ -1,12 +1,10 @@
 //! Reading a pcapng file.
 
-ghost use Rattle.std.specs.Prelude.{◌≡◌, ◌-◌, ◌+◌, ◌^◌, ◌<◌, ◌↔◌, ◌||◌, Ok, Err, IsTrue, is_err};
-ghost use Rattle.std.specs.Prelude.{if◌then◌else◌, false};
-ghost use Rattle.its_linkframe.specs.declared.record.CaptureFault.TheVariants as captures;
-ghost use Rattle.its_pcap.specs.Pcapng.{is_failed, is_ended, IsTaken};
+ghost use Rattle.std.specs.Prelude.{◌≡◌, ◌-◌, ◌+◌, ◌^◌, ◌<◌, [], if◌then◌else◌};
+ghost use Rattle.its_pcap.specs.Layouts.{IsAnswerOrEnd};
+ghost use Rattle.its_pcap.specs.Pcapng.{kind_of_next, next_block, IsAnswer, IsTaken};
 ghost use Rattle.its_pcap.specs.Reading.{is_io};
-ghost use Rattle.its_pcap.specs.declared.fault.SourceFault.TheVariants as faults;
-ghost use Rattle.its_pcap.specs.declared.record.Step.TheVariants as steps;
+ghost use Rattle.its_pcap.specs.declared.pcapng.Stage.TheVariants as stages;
 
 use crate::blocks::{Block, Kind, kind_of, read_block};
 use crate::fault::SourceFault;
@@ -17,6 +15,9 @@ use crate::transfer::fill;
 use its_linkframe::{CaptureFault, Source};
 use std::alloc::Global;
 use std::marker::Model;
+
+/// The octets of a block's type.
+const TYPE: usize = 4;
 
 /// How far a reader is.
 #[derive(Clone, Copy, Debug, PartialEq, Eq)]
@@ -43,14 +44,14 @@ pub struct PcapngReader<R: Source> {
 
 impl<R: Source> Model for PcapngReader<R> {
     ghost use Rattle.std.specs.Prelude.{◌≡◌, ◌-◌, ◌^◌, ◌<◌, false};
-    ghost use Rattle.its_linkframe.specs.Reading.{Reading};
-    ghost use Rattle.its_pcap.specs.Pcapng.{is_failed, is_ended};
+    ghost use Rattle.its_pcap.specs.Pcapng.{PcapngReading, is_failed};
 
-    ghost Value = { Reading };
+    ghost Value = { PcapngReading };
 
     ghost view = { λ r. record {
-      failed = is_failed r.stage;
-      ended = is_ended r.stage;
+      stage = r.stage;
+      interfaces = r.interfaces.items;
+      keep = r.keep;
       rest = R.remaining r.source;
       failures = R.failed r.source;
     } };
@@ -64,8 +65,9 @@ impl<R: Source> PcapngReader<R> {
     pub fn new(alloc: Global, source: R, keep: usize) -> PcapngReader<R>
         requires { R.failed source < 2 ^ 64 - 1 }
         ensures { result ≡ record {
-          failed = false;
-          ended = false;
+          stage = stages.Start;
+          interfaces = [];
+          keep = keep;
           rest = R.remaining source;
           failures = R.failed source;
         } }
@@ -83,13 +85,9 @@ impl<R: Source> PcapngReader<R> {
     ///
     /// A field is checked before any octet behind it is read. After a fault each call answers C5.
     pub fn next_into(&mut self, frame: &mut Vec<u8>) -> Result<Step, SourceFault>
+        ensures answer { IsAnswer self.old self.new frame.new.items result }
         ensures counts { self.new.failures ≡ self.old.failures + (if is_io result then 1 else 0) }
-        ensures failed { IsTrue self.old.failed
-            → result ≡ Err (faults.Capture captures.Failed) }
-        ensures breaks { self.new.failed ≡ is_err result }
-        ensures ended { IsTrue self.old.ended → result ≡ Ok steps.End }
-        ensures ends { (result ≡ Ok steps.End) ↔ IsTrue self.new.ended }
-        ensures idle { IsTrue (self.old.failed || self.old.ended) → self.new ≡ self.old }
+        ensures keep { self.new.keep ≡ self.old.keep }
     {
         let order = match self.stage {
             Stage::Start => None,
@@ -100,19 +98,15 @@ impl<R: Source> PcapngReader<R> {
         match read_next(
             &mut self.source,
             order,
-            &mut self.interfaces,
+            self.interfaces.as_slice(),
             self.keep,
             frame,
         ) {
-            Ok(Next::Section(order)) => {
-                self.stage = Stage::Blocks(order);
-                Ok(Step::Passed)
-            }
-            Ok(Next::Step(Step::End)) => {
+            Ok(Some(block)) => take(block, &mut self.stage, &mut self.interfaces),
+            Ok(None) => {
                 self.stage = Stage::Ended;
                 Ok(Step::End)
             }
-            Ok(Next::Step(step)) => Ok(step),
             Err(fault) => {
                 self.stage = Stage::Failed;
                 Err(fault)
@@ -129,63 +123,73 @@ impl<R: Source> PcapngReader<R> {
     }
 }
 
-/// What a call meets.
-#[derive(Clone, Copy, Debug, PartialEq, Eq)]
-enum Next {
-    /// A section begins, with this order of octets.
-    Section(Order),
-    /// A record, or none, or the end.
-    Step(Step),
-}
-
-/// The next block, in a section of this order; the first block of a file is in none. P2 where that
-/// is no section header.
+/// The next block, in a section of this order with these interfaces; `None` at the end of the file.
+/// The first block of a file is in no section.
 fn read_next<S: Source>(
     source: &mut S,
     order: Option<Order>,
-    interfaces: &mut Vec<Interface>,
+    interfaces: &[Interface],
     keep: usize,
     frame: &mut Vec<u8>,
-) -> Result<Next, SourceFault>
+) -> Result<Option<Block>, SourceFault>
     requires { S.failed source.old < 2 ^ 64 - 1 }
+    ensures answer { IsAnswerOrEnd (next_block order interfaces.now keep frame.new.items)
+        (S.remaining source.old) (S.remaining source.new) result }
     ensures counts { S.failed source.new ≡ S.failed source.old + (if is_io result then 1 else 0) }
 {
-    let mut octets = [0; 4];
-    let Some(n) = fill(source, &mut octets) else {
-        return Err(SourceFault::Capture(CaptureFault::Io));
+    let Some(kind) = read_kind(source, order)? else {
+        return Ok(None);
     };
-    if n == 0 {
-        return Ok(Next::Step(Step::End));
-    }
-    if n < octets.len() {
-        return Err(SourceFault::CutFile);
-    }
     let in_order = order.unwrap_or(Order::High);
-    let kind = kind_of(word_at(in_order, &octets, 0));
+    let block = read_block(source, kind, in_order, interfaces, keep, frame)?;
+    Ok(Some(block))
+}
+
+/// What the next block is, by its type; `None` at the end of the file. P2 where the first block of
+/// a file is no section header.
+fn read_kind<S: Source>(source: &mut S, order: Option<Order>) -> Result<Option<Kind>, SourceFault>
+    requires { S.failed source.old < 2 ^ 64 - 1 }
+    ensures answer { IsAnswerOrEnd (kind_of_next order) (S.remaining source.old)
+        (S.remaining source.new) result }
+    ensures counts { S.failed source.new ≡ S.failed source.old + (if is_io result then 1 else 0) }
+{
+    let mut octets = [0; TYPE];
+    match fill(source, &mut octets) {
+        None => return Err(SourceFault::Capture(CaptureFault::Io)),
+        Some(0) => return Ok(None),
+        Some(n) if n < TYPE => return Err(SourceFault::CutFile),
+        Some(_) => {}
+    }
+    let kind = kind_of(word_at(order.unwrap_or(Order::High), &octets, 0));
     if order.is_none() && kind != Kind::Section {
         return Err(SourceFault::Malformed);
     }
-    let block = read_block(source, kind, in_order, interfaces.as_slice(), keep, frame)?;
-    take(block, interfaces)
+    Ok(Some(kind))
 }
 
-/// What a block gives, and makes of the interfaces of its section. C4 where their list can't grow.
-fn take(block: Block, interfaces: &mut Vec<Interface>) -> Result<Next, SourceFault>
-    ensures taken { IsTaken block interfaces.old.items interfaces.new.items result }
-    ensures counts { is_io result ≡ false }
+/// What a block gives, and makes of the stage and of the interfaces of its section. C4 where their
+/// list can't grow.
+fn take(
+    block: Block,
+    stage: &mut Stage,
+    interfaces: &mut Vec<Interface>,
+) -> Result<Step, SourceFault>
+    ensures { IsTaken block stage.old stage.new interfaces.old.items interfaces.new.items result }
 {
     match block {
         Block::Section(order) => {
             interfaces.clear();
-            Ok(Next::Section(order))
+            *stage = Stage::Blocks(order);
+            Ok(Step::Passed)
         }
-        Block::Interface(interface) => {
-            if interfaces.push(interface).is_err() {
-                return Err(SourceFault::Capture(CaptureFault::NoMemory));
+        Block::Interface(interface) => match interfaces.push(interface) {
+            Ok(()) => Ok(Step::Passed),
+            Err(_) => {
+                *stage = Stage::Failed;
+                Err(SourceFault::Capture(CaptureFault::NoMemory))
             }
-            Ok(Next::Step(Step::Passed))
-        }
-        Block::Record(head) => Ok(Next::Step(Step::Record(head))),
-        Block::Other => Ok(Next::Step(Step::Passed)),
+        },
+        Block::Record(head) => Ok(Step::Record(head)),
+        Block::Other => Ok(Step::Passed),
     }
 }

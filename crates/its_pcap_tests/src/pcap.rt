@@ -1,9 +1,8 @@
 //! Classic pcap: headers and records in either order of octets, each fault, and files as written.
 
+use crate::devices::Dripping;
 use its_linkframe::{CaptureFault, Counted};
 use its_pcap::{Head, PcapReader, PcapWriter, PutFault, SourceFault, Step};
-use std::io;
-use std::io::Read;
 use std::test::Fail;
 
 /// Millionths, the highest octet first: version 2.4, snap length 65535, Ethernet.
@@ -146,24 +145,6 @@ fn the_longest_frame_is_read(rt: HostRuntime) -> Result<(), Fail> {
     Ok(())
 }
 
-/// A reader that gives these octets, and then fails.
-#[derive(Drop)]
-struct Failing<'a> {
-    octets: &'a [u8],
-}
-
-impl Read for Failing<'_> {
-    fn read(&mut self, buf: &mut [u8]) -> io::Result<usize> {
-        if self.octets.is_empty() {
-            return Err(io::Error::from(io::ErrorKind::Other));
-        }
-        let count = self.octets.len().min(buf.len()).min(1);
-        buf[..count].copy_from_slice(&self.octets[..count]);
-        self.octets = &self.octets[count..];
-        Ok(count)
-    }
-}
-
 /// A device that gives one octet at a time, and then fails: C3, and C5 from then on.
 #[test]
 fn a_failing_device_is_told(rt: HostRuntime) -> Result<(), Fail> {
@@ -172,8 +153,9 @@ fn a_failing_device_is_told(rt: HostRuntime) -> Result<(), Fail> {
     let io = Err(SourceFault::Capture(CaptureFault::Io));
     for (at, _) in file.iter().enumerate() {
         let mut reader = PcapReader::new(
-            Counted::new(Failing {
+            Counted::new(Dripping {
                 octets: &file[..at],
+                fails: true,
             }),
             9,
         );

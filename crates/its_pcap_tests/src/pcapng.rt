@@ -5,33 +5,33 @@ use its_pcap::{Head, PcapngReader, SourceFault, Step};
 use std::test::Fail;
 
 /// A section header, the lowest octet first: 28 octets, version 1.0, of no known length.
-const SECTION: &[u8; 28] = b"\x0a\x0d\x0d\x0a\x1c\0\0\0\x4d\x3c\x2b\x1a\x01\0\0\0\
+pub(crate) const SECTION: &[u8; 28] = b"\x0a\x0d\x0d\x0a\x1c\0\0\0\x4d\x3c\x2b\x1a\x01\0\0\0\
     \xff\xff\xff\xff\xff\xff\xff\xff\x1c\0\0\0";
 
 /// The same, the highest octet first.
-const OTHER_SECTION: &[u8; 28] = b"\x0a\x0d\x0d\x0a\0\0\0\x1c\x1a\x2b\x3c\x4d\0\x01\0\0\
+pub(crate) const OTHER_SECTION: &[u8; 28] = b"\x0a\x0d\x0d\x0a\0\0\0\x1c\x1a\x2b\x3c\x4d\0\x01\0\0\
     \xff\xff\xff\xff\xff\xff\xff\xff\0\0\0\x1c";
 
 /// An interface of Ethernet with no option, snap length 4, the highest octet first.
-const OTHER_INTERFACE: &[u8; 20] = b"\0\0\0\x01\0\0\0\x14\0\x01\0\0\0\0\0\x04\0\0\0\x14";
+pub(crate) const OTHER_INTERFACE: &[u8; 20] = b"\0\0\0\x01\0\0\0\x14\0\x01\0\0\0\0\0\x04\0\0\0\x14";
 
 /// A simple packet of 6 octets on the wire, of which there are 4, the highest octet first.
-const OTHER_SIMPLE: &[u8; 20] = b"\0\0\0\x03\0\0\0\x14\0\0\0\x06wxyz\0\0\0\x14";
+pub(crate) const OTHER_SIMPLE: &[u8; 20] = b"\0\0\0\x03\0\0\0\x14\0\0\0\x06wxyz\0\0\0\x14";
 
 /// An interface of Ethernet with thousandths (3) and an offset of one second taken, and the end of
 /// options.
-const INTERFACE: &[u8; 44] = b"\x01\0\0\0\x2c\0\0\0\x01\0\0\0\0\0\0\0\
+pub(crate) const INTERFACE: &[u8; 44] = b"\x01\0\0\0\x2c\0\0\0\x01\0\0\0\0\0\0\0\
     \x09\0\x01\0\x03\0\0\0\x0e\0\x08\0\xff\xff\xff\xff\xff\xff\xff\xff\0\0\0\0\x2c\0\0\0";
 
 /// An enhanced packet of the first interface at tick 1001, with 3 octets of 3.
-const PACKET: &[u8; 36] = b"\x06\0\0\0\x24\0\0\0\0\0\0\0\0\0\0\0\xe9\x03\0\0\
+pub(crate) const PACKET: &[u8; 36] = b"\x06\0\0\0\x24\0\0\0\0\0\0\0\0\0\0\0\xe9\x03\0\0\
     \x03\0\0\0\x03\0\0\0abc\0\x24\0\0\0";
 
 /// A block of another kind, with 4 octets.
 const UNKNOWN: &[u8; 16] = b"\x05\0\0\0\x10\0\0\0....\x10\0\0\0";
 
 /// The pieces, one behind the other.
-fn joined(rt: &HostRuntime, pieces: &[&[u8]]) -> Result<Vec<u8>, Fail> {
+pub(crate) fn joined(rt: &HostRuntime, pieces: &[&[u8]]) -> Result<Vec<u8>, Fail> {
     let mut whole = Vec::new(rt.alloc());
     for piece in pieces {
         whole.extend_from_slice(piece)?;
@@ -100,26 +100,6 @@ fn sections_of_both_orders_are_read(rt: HostRuntime) -> Result<(), Fail> {
         Ok(Step::End),
     ];
     assert_eq!(rt; given.as_slice(), wanted.as_slice());
-    Ok(())
-}
-
-/// A cut anywhere but between two blocks is P1.
-#[test]
-fn each_cut_is_told(rt: HostRuntime) -> Result<(), Fail> {
-    let file = joined(
-        &rt,
-        &[SECTION.as_slice(), INTERFACE.as_slice(), PACKET.as_slice()],
-    )?;
-    for (at, _) in file.iter().enumerate() {
-        let given = answers(&rt, &file[..at])?;
-        let whole = at == 0 || at == 28 || at == 72;
-        let wanted = if whole {
-            Ok(Step::End)
-        } else {
-            Err(SourceFault::CutFile)
-        };
-        assert_eq!(rt; given.last().copied(), Some(wanted), "{at}");
-    }
     Ok(())
 }
 

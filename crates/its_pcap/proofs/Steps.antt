@@ -1,0 +1,46 @@
+-- What becomes of a block that was read.
+use Rattle.std.proofs.Common.{◌≡◌, List, ℕ, Option, None, Some, Result, Ok, Err, refl, sym, subst}
+use Rattle.std.proofs.Common.{inl, inr}
+use Rattle.std.specs.Prelude.{◌⊎◌}
+use Rattle.its_pcap.specs.Layouts.{Reads}
+use Rattle.its_pcap.specs.Pcapng.{PcapngReading, IsTaken, IsNext, IsAnswer, IsAnswerAt, next_block}
+use Rattle.its_pcap.specs.declared.blocks.Block.{Block}
+use Rattle.its_pcap.specs.declared.blocks.Block.TheVariants as blocks
+use Rattle.its_pcap.specs.declared.fault.SourceFault.{SourceFault}
+use Rattle.its_pcap.specs.declared.octets.Order.{Order}
+use Rattle.its_pcap.specs.declared.pcapng.Stage.{Stage}
+use Rattle.its_pcap.specs.declared.pcapng.Stage.TheVariants as stages
+use Rattle.its_pcap.specs.declared.record.Step.{Step}
+
+-- a block was read and taken
+pub taken : (o : Option Order) (was now : PcapngReading) (frame : List ℕ) (b : Block)
+    (answer : Result Step SourceFault)
+    → Reads ((next_block o was.interfaces was.keep frame).Is b) was.rest now.rest
+    → IsTaken b was.stage now.stage was.interfaces now.interfaces answer
+    → IsNext o was now frame answer
+taken o was now frame (blocks.Section s) answer reads t =
+    subst (IsNext o was now frame) (sym t.0)
+    (record { block = blocks.Section s; reads = reads; taken = (refl, t.1, t.2) })
+taken o was now frame (blocks.Interface i) (Ok step) reads t =
+    subst (λ (s : Step). IsNext o was now frame (Ok s)) (sym t.0)
+    (record { block = blocks.Interface i; reads = reads; taken = (refl, t.1, t.2) })
+taken o was now frame (blocks.Interface i) (Err f) reads t = (t.1, inr (t.0, i, reads))
+taken o was now frame (blocks.Record h) answer reads t =
+    subst (IsNext o was now frame) (sym t.0)
+    (record { block = blocks.Record h; reads = reads; taken = (refl, t.1, t.2) })
+taken o was now frame blocks.Other answer reads t =
+    subst (IsNext o was now frame) (sym t.0)
+    (record { block = blocks.Other; reads = reads; taken = (refl, t.1, t.2) })
+
+-- what is next is the answer where blocks are read
+pub at_stage : (stage : Stage) (o : Option Order) (was now : PcapngReading) (frame : List ℕ)
+    (answer : Result Step SourceFault)
+    → ((stage ≡ stages.Start) × (o ≡ None))
+    ⊎ ((order : Order) × (stage ≡ stages.Blocks order) × (o ≡ Some order))
+    → IsNext o was now frame answer → IsAnswerAt stage was now frame answer
+at_stage stage o was now frame answer (inl p) next =
+    subst (λ (s : Stage). IsAnswerAt s was now frame answer) (sym p.0)
+    (subst (λ (x : Option Order). IsNext x was now frame answer) p.1 next)
+at_stage stage o was now frame answer (inr p) next =
+    subst (λ (s : Stage). IsAnswerAt s was now frame answer) (sym p.1)
+    (subst (λ (x : Option Order). IsNext x was now frame answer) p.2 next)
