@@ -16,7 +16,15 @@
 
 uint64_t bench_receive(uint64_t address, const uint8_t *frames, size_t length, size_t stride,
                        uint32_t rounds);
-uint64_t bench_send(uint64_t address, const uint8_t *payload, size_t length, uint32_t rounds);
+struct asked {
+    uint16_t port, info;
+    uint8_t traffic_class, lifetime, max_hops;
+    int32_t latitude, longitude;
+    uint16_t radius;
+};
+
+uint64_t bench_send(uint64_t address, const struct asked *asked, const uint8_t *payload,
+                    size_t length, uint32_t rounds);
 
 static uint8_t frames[MANY * 100], relay[GEOSTATION_FRAME_MAX], payload[20];
 static size_t frames_length, stride;
@@ -70,7 +78,12 @@ static uint64_t send_from_c(uint32_t rounds) {
 }
 
 static uint64_t send_in_rust(uint32_t rounds) {
-    return bench_send(OTHER, payload, sizeof payload, rounds * MANY);
+    const struct asked asked = {
+        .port = AREA.port, .info = AREA.info, .traffic_class = AREA.traffic_class,
+        .lifetime = AREA.lifetime, .max_hops = AREA.max_hops, .latitude = AREA.latitude,
+        .longitude = AREA.longitude, .radius = AREA.a,
+    };
+    return bench_send(OTHER, &asked, payload, sizeof payload, rounds * MANY);
 }
 
 static double processor_ns(void) {

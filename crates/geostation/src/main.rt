@@ -11,10 +11,20 @@ mod subcommand;
 mod tests;
 
 use std::env;
+use std::io::IsTerminal;
 use std::process::ExitCode;
 
 fn main(rt: HostRuntime) -> ExitCode {
     let arguments = env::args(&rt);
-    let status = program::run(&rt, arguments, rt.stdin(), rt.stdout(), &mut rt.stderr());
+    let mut err = rt.stderr();
+    let is_watched = err.is_terminal();
+    let status = program::run(
+        &rt,
+        arguments,
+        rt.stdin(),
+        rt.stdout(),
+        &mut err,
+        is_watched,
+    );
     ExitCode::from(status.code())
 }

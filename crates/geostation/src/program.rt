@@ -4,7 +4,7 @@ use crate::arguments;
 use crate::station::StationWords;
 use crate::subcommand::Subcommand;
 use its_commands::{
-    Fault, Status, check_file, convert_file, import_file, show_file, simulate_file,
+    Fault, RunOptions, Status, check_file, convert_file, import_file, show_file, simulate_file,
 };
 use its_mesh::mesh_file;
 use its_pipe::{Ended, run_station};
@@ -18,7 +18,7 @@ use std::rt::Files;
 
 /// Runs the command that the arguments name, the program's own name being the first of them, and
 /// writes out all that it prints. `input` is standard input, which is read where a file is `-`.
-/// Gives the exit status.
+/// `is_watched` says whether someone looks at what `err` takes. Gives the exit status.
 ///
 /// Arguments that could not be taken are refused where one is not UTF-8; else memory ran out.
 pub fn run<R: Files + Net + AllocGlobal, I: Read + Drop, W: Write + Drop, E: Write>(
@@ -27,12 +27,13 @@ pub fn run<R: Files + Net + AllocGlobal, I: Read + Drop, W: Write + Drop, E: Wri
     input: I,
     out: W,
     err: &mut E,
+    is_watched: bool,
 ) -> Status
 where
     R::File: Read + Write + Drop,
 {
     match collected(rt, arguments, err) {
-        Ok(arguments) => run_buffered(rt, arguments.as_slice(), input, out, err),
+        Ok(arguments) => { run_buffered(rt, arguments.as_slice(), input, out, err, is_watched) }
         Err(status) => status,
     }
 }
@@ -62,6 +63,7 @@ fn run_buffered<R: Files + Net + AllocGlobal, I: Read + Drop, W: Write + Drop, E
     input: I,
     out: W,
     err: &mut E,
+    is_watched: bool,
 ) -> Status
 where
     R::File: Read + Write + Drop,
@@ -69,7 +71,7 @@ where
     let Ok(mut out) = BufWriter::new(rt.alloc(), out) else {
         return Fault::OutOfMemory(AllocError).report(err);
     };
-    let status = dispatch(rt, arguments, input, &mut out, err);
+    let status = dispatch(rt, arguments, input, &mut out, err, is_watched);
     match out.flush() {
         Ok(()) => status,
         Err(_) => Status::Failed,
@@ -82,6 +84,7 @@ fn dispatch<R: Files + Net + AllocGlobal, I: Read + Drop, W: Write, E: Write>(
     input: I,
     out: &mut W,
     err: &mut E,
+    is_watched: bool,
 ) -> Status
 where
     R::File: Read + Write + Drop,
@@ -122,7 +125,13 @@ where
                 frames,
                 options,
             },
-        ) => simulate_file(rt, file, input, frames, options, out, err),
+        ) => {
+            let options = RunOptions {
+                progress: is_watched,
+                ..options
+            };
+            simulate_file(rt, file, input, frames, options, out, err)
+        }
         Ok(
             Subcommand::Mesh {
                 file,

@@ -93,6 +93,8 @@ pub(crate) fn subcommand_of<'a>(matches: &ArgMatches<'a>) -> Option<Subcommand<'
             options: RunOptions {
                 lines,
                 summary: inner.get_flag("summary"),
+                // Whoever looks is known where the command is run.
+                progress: false,
                 strict,
             },
         }),

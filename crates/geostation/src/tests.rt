@@ -62,6 +62,6 @@ fn left_by(rt: &HostRuntime, line: &[u8]) -> Left {
 fn left_by_input(rt: &HostRuntime, line: &[u8], input: &[u8]) -> Left {
     let (mut out, mut err) = (Vec::new(rt.alloc()), Vec::new(rt.alloc()));
     let arguments = env::args(&Given { rt, line });
-    let status = program::run(rt, arguments, input, &mut out, &mut err);
+    let status = program::run(rt, arguments, input, &mut out, &mut err, false);
     Left { status, out, err }
 }

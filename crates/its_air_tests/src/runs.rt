@@ -121,9 +121,31 @@ fn what_came_of_a_warning(rt: HostRuntime) -> Result<(), Fail> {
                 explain: false,
             },
             summary: true,
+            progress: false,
             strict: false,
         };
         expect_of(&rt, options, text.as_str(), want);
+    }
+    Ok(())
+}
+
+/// The line of a run that is watched is written at its first event, and taken away at its end.
+#[test]
+fn how_far_a_run_is(rt: HostRuntime) -> Result<(), Fail> {
+    let text = format!(in rt.alloc(); "{ROW}[air]\nrange = 500\nuntil = 5000\n")?;
+    let shown = "0 of 5000 ms: events 1 deliveries 0\x1b[K\r\x1b[K";
+    for (summary, lines, want) in [(true, SUMMARY, shown), (false, HOPS, "")] {
+        let (mut out, mut err) = (Vec::new(rt.alloc()), Vec::new(rt.alloc()));
+        let options = RunOptions {
+            summary,
+            progress: true,
+            ..RunOptions::default()
+        };
+        let input = text.as_bytes();
+        let status = simulate(rt.alloc(), "a.toml", input, options, &mut out, &mut err);
+        assert_eq!(rt; status, Status::Done);
+        assert_eq!(rt; out.as_slice(), lines.as_bytes());
+        assert_eq!(rt; err.as_slice(), want.as_bytes());
     }
     Ok(())
 }

@@ -6,6 +6,7 @@ ghost use Rattle.its_commands.specs.Statuses.{IsCommandStatus};
 use crate::converting::{LeftOut, format_named};
 use crate::fault::Fault;
 use crate::options::Lines;
+use crate::progress::Progress;
 use crate::status::Status;
 use its_linkframe::Counted;
 use its_pcap::{AnySink, PutFault, RecordSink, SinkFault};
@@ -114,11 +115,12 @@ impl<'a, W: Write + Drop> FrameFile<'a, W> {
     }
 }
 
-/// Takes the frames of a run for a file.
+/// Takes the frames of a run for a file, and shows how far it is.
 #[derive(Drop)]
 pub(crate) struct Frames<'a, 'b, W: Write + Drop, E> {
     pub(crate) file: &'b mut FrameFile<'a, W>,
     pub(crate) lines: Lines,
+    pub(crate) progress: &'b mut Progress,
     pub(crate) err: &'b mut E,
 }
 
@@ -127,6 +129,7 @@ impl<W: Write + Drop, E: Write> EventSink for Frames<'_, '_, W, E> {
     ghost Took = { λ _ _ _. Unit {0} };
 
     fn put(&mut self, _world: &World, done: &EventRecord<'_>) -> Result<(), SimulationFault> {
+        self.progress.note(done, self.err);
         let Some(frame) = done.octets else {
             return Ok(());
         };
@@ -138,14 +141,18 @@ impl<W: Write + Drop, E: Write> EventSink for Frames<'_, '_, W, E> {
     }
 }
 
-/// Takes the frames of a run that has no file for them.
-#[derive(Clone, Copy, Drop)]
-pub(crate) struct NoFrames;
+/// Takes the frames of a run that has no file for them, and shows how far it is.
+#[derive(Drop)]
+pub(crate) struct NoFrames<'b, E> {
+    pub(crate) progress: &'b mut Progress,
+    pub(crate) err: &'b mut E,
+}
 
-impl EventSink for NoFrames {
+impl<E: Write> EventSink for NoFrames<'_, E> {
     ghost Took = { λ _ _ _. Unit {0} };
 
-    fn put(&mut self, _world: &World, _done: &EventRecord<'_>) -> Result<(), SimulationFault> {
+    fn put(&mut self, _world: &World, done: &EventRecord<'_>) -> Result<(), SimulationFault> {
+        self.progress.note(done, self.err);
         Ok(())
     }
 }

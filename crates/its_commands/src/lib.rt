@@ -12,6 +12,7 @@ mod importing;
 mod lines;
 mod options;
 mod output;
+mod progress;
 mod refusal;
 mod showing;
 mod simulating;

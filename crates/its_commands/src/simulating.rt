@@ -7,6 +7,7 @@ ghost use Rattle.its_commands.specs.Statuses.{IsCommandStatus};
 use crate::fault::{Fault, status_of};
 use crate::frames::{Both, FrameFile, Frames, NoFrames};
 use crate::options::RunOptions;
+use crate::progress::Progress;
 use crate::status::Status;
 use crate::summary::print_summary;
 use crate::watched::Watched;
@@ -36,10 +37,30 @@ pub fn simulate<R: Read + Drop, W: Write, E: Write>(
     ensures { IsCommandStatus result }
 {
     let ended = match read_scenario(alloc, file, reader, MOST_STATIONS) {
-        Ok(scenario) => run(alloc, &scenario, options, NoFrames, out),
+        Ok(scenario) => run_without_frames(alloc, &scenario, options, out, err),
         Err(fault) => Err(fault),
     };
     status_of(ended, options.lines, err)
+}
+
+fn run_without_frames<'a, W: Write, E: Write>(
+    alloc: Global,
+    scenario: &Scenario,
+    options: RunOptions,
+    out: &mut W,
+    err: &mut E,
+) -> Result<Status, Fault<'a>>
+    requires { vec_len scenario.now.stations ≤ 65535 }
+    ensures { IfOk result IsCommandStatus }
+{
+    let mut progress = Progress::of(scenario, options);
+    let frames = NoFrames {
+        progress: &mut progress,
+        err: &mut *err,
+    };
+    let ran = run(alloc, scenario, options, frames, out);
+    progress.end(err);
+    ran
 }
 
 /// Runs a scenario, and also writes each frame that a station gives to the file `target`.
@@ -78,12 +99,15 @@ fn run_with_frames<'a, F: Write + Drop, W: Write, E: Write>(
     ensures { IfOk result IsCommandStatus }
 {
     let mut file = file;
+    let mut progress = Progress::of(scenario, options);
     let frames = Frames {
         file: &mut file,
         lines: options.lines,
-        err,
+        progress: &mut progress,
+        err: &mut *err,
     };
     let ran = run(alloc, scenario, options, frames, out);
+    progress.end(err);
     file.end(ran)
 }
 

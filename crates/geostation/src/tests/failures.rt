@@ -60,6 +60,7 @@ fn the_program_fails_where_its_output_does(rt: HostRuntime) -> Result<(), Fail> 
             b"".as_slice(),
             Failing { room, flushes },
             &mut err,
+            false,
         );
         assert_eq!(rt; status, Status::Failed, "{room}");
         assert!(rt; err.is_empty(), "{room}");
@@ -77,7 +78,7 @@ fn done_under_budget(rt: &HostRuntime, (line, whole): Run<'_>) -> Option<bool> {
     let (mut printed, mut said) = ([0u8; 1000], [0u8; 64]);
     let (mut out, mut err) = (printed.as_mut_slice(), said.as_mut_slice());
     let arguments = env::args(&Given { rt, line });
-    let status = program::run(rt, arguments, b"".as_slice(), &mut out, &mut err);
+    let status = program::run(rt, arguments, b"".as_slice(), &mut out, &mut err, false);
     let (printed, said) = (written(&printed), written(&said));
     let is_done = status == Status::Done && printed == whole && said.is_empty();
     let is_refused = status == Status::Failed && printed.is_empty() && said == NO_MEMORY;

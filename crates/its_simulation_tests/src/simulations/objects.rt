@@ -14,6 +14,7 @@ static OBJECTS: RunOptions = RunOptions {
         explain: false,
     },
     summary: false,
+    progress: false,
     strict: false,
 };
 

@@ -14,6 +14,7 @@ fn options(explain: bool, strict: bool) -> RunOptions {
             explain,
         },
         summary: false,
+        progress: false,
         strict,
     }
 }

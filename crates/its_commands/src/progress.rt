@@ -1,0 +1,65 @@
+//! How far a run is, on a line of a terminal.
+
+use crate::options::RunOptions;
+use its_scenario::Scenario;
+use its_simulation::EventRecord;
+use its_world::What;
+use std::io::Write;
+
+/// How many events are done from one time that the line is written to the next.
+const EVENTS: usize = 65536;
+
+/// A line on standard error that is written over itself, and taken away at the end of the run.
+#[derive(Clone, Copy, Debug)]
+pub(crate) struct Progress {
+    /// Whether the line is shown.
+    is_shown: bool,
+    /// The moment at which the run ends.
+    end: u64,
+    /// How many of the events so far were deliveries.
+    deliveries: u64,
+}
+
+impl Progress {
+    /// Before the first event of a run. The line is shown where a summary is to be printed and
+    /// someone looks.
+    pub(crate) fn of(scenario: &Scenario, options: RunOptions) -> Progress {
+        let events = scenario.events.as_slice();
+        Progress {
+            is_shown: options.summary && options.progress,
+            end: match &scenario.air {
+                Some(air) => air.end(events),
+                None => events.last().map_or(0, |event| event.moment),
+            },
+            deliveries: 0,
+        }
+    }
+
+    /// Notes an event that was done, and writes the line after the first one and after each 65536.
+    /// A line that can't be written is no fault of the run.
+    pub(crate) fn note<E: Write>(&mut self, done: &EventRecord<'_>, err: &mut E) {
+        if !self.is_shown {
+            return;
+        }
+        if matches!(done.what, What::Deliver(_)) {
+            self.deliveries = self.deliveries.saturating_add(1);
+        }
+        if done.number % EVENTS == 0 {
+            let _ = write!(
+                err,
+                "{} of {} ms: events {} deliveries {}\x1b[K\r",
+                done.moment,
+                self.end,
+                done.number as u64 + 1,
+                self.deliveries
+            );
+        }
+    }
+
+    /// Takes the line away.
+    pub(crate) fn end<E: Write>(&self, err: &mut E) {
+        if self.is_shown {
+            let _ = write!(err, "\x1b[K");
+        }
+    }
+}
