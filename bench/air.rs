@@ -52,8 +52,12 @@ impl Draws {
     }
 }
 
-/// Ten kilometres of road along the equator, at equal distances.
+/// Ten kilometres of road along the equator, at equal distances. Where ROAD is `north`, a road to the
+/// north, ten metres from one station to the next.
 fn place(number: usize, stations: usize) -> Place {
+    if std::env::var_os("ROAD").is_some_and(|road| road == "north") {
+        return Place { lat: (number * 898) as i32, lon: 0 };
+    }
     Place { lat: 0, lon: (number * 898_315 / stations) as i32 }
 }
 

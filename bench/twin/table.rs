@@ -1,7 +1,6 @@
 //! The location table in ascending order of addresses, and the choice of a next hop over it.
 use crate::geometry::{Area, Place, contains, offset, scale};
 use crate::packets::LongPv;
-use std::collections::VecDeque;
 
 const ENTRY_LIFE: u64 = 20_000;
 const MID: u64 = 0xffff_ffff_ffff;
@@ -19,11 +18,14 @@ pub enum Verdict {
     Full,
 }
 
+/// What is kept of a source: in a row that doesn't move while the source has it.
+#[derive(Clone, Copy)]
 pub struct Slot {
     pub vector: LongPv,
-    pub neighbour: bool,
     pub until: u64,
-    numbers: VecDeque<u16>,
+    pub neighbour: bool,
+    count: u8,
+    next: u8,
 }
 
 fn newer(a: u32, b: u32) -> bool {
@@ -31,80 +33,90 @@ fn newer(a: u32, b: u32) -> bool {
 }
 
 impl Slot {
-    pub fn holds(&self, number: u16) -> bool {
-        self.numbers.iter().any(|n| *n == number)
-    }
-
-    fn note(&mut self, number: u16) {
-        if self.numbers.len() == self.numbers.capacity() {
-            self.numbers.pop_front();
+    fn first(now: u64, heard: &Heard) -> Slot {
+        Slot {
+            vector: heard.vector,
+            until: now + ENTRY_LIFE,
+            neighbour: heard.number.is_none(),
+            count: 0,
+            next: 0,
         }
-        self.numbers.push_back(number);
-    }
-
-    fn renew(&mut self, now: u64, heard: &Heard) {
-        if now < self.until {
-            if newer(heard.vector.tst, self.vector.tst) {
-                self.vector = heard.vector;
-            }
-            self.neighbour |= heard.number.is_none();
-        } else {
-            self.vector = heard.vector;
-            self.neighbour = heard.number.is_none();
-            self.numbers.clear();
-        }
-        if let Some(number) = heard.number {
-            self.note(number);
-        }
-        self.until = now + ENTRY_LIFE;
     }
 }
 
-/// All memory is taken when it is made: the lists of numbers of slots to come are kept beside.
+/// The addresses stand in ascending order in a column of their own, beside each the row of its
+/// source. The numbers of all sources are one flat vector. All memory is taken when it is made.
 pub struct Table {
+    addresses: Vec<u64>,
+    rows: Vec<u16>,
     slots: Vec<Slot>,
-    spare: Vec<VecDeque<u16>>,
+    numbers: Vec<u16>,
+    free: Vec<u16>,
+    remembered: usize,
     first_end: u64,
 }
 
 impl Table {
     pub fn new(capacity: usize, remembered: usize) -> Table {
         Table {
+            addresses: Vec::with_capacity(capacity),
+            rows: Vec::with_capacity(capacity),
             slots: Vec::with_capacity(capacity),
-            spare: (0..capacity).map(|_| VecDeque::with_capacity(remembered)).collect(),
+            numbers: vec![0; capacity * remembered],
+            free: Vec::with_capacity(capacity),
+            remembered,
             first_end: u64::MAX,
         }
     }
 
     pub fn clear(&mut self) {
-        for slot in self.slots.drain(..) {
-            let mut numbers = slot.numbers;
-            numbers.clear();
-            self.spare.push(numbers);
-        }
+        self.addresses.clear();
+        self.rows.clear();
+        self.slots.clear();
+        self.free.clear();
         self.first_end = u64::MAX;
     }
 
     pub fn find(&self, address: u64) -> Result<usize, usize> {
-        self.slots.binary_search_by_key(&address, |slot| slot.vector.address)
+        self.addresses.binary_search(&address)
+    }
+
+    fn slot_at(&self, place: usize) -> &Slot {
+        &self.slots[self.rows[place] as usize]
+    }
+
+    fn holds(&self, place: usize, number: u16) -> bool {
+        let row = self.rows[place] as usize;
+        let start = row * self.remembered;
+        self.numbers[start..start + self.slots[row].count as usize].contains(&number)
+    }
+
+    fn note(&mut self, row: usize, number: u16) {
+        let slot = &mut self.slots[row];
+        let next = slot.next as usize;
+        self.numbers[row * self.remembered + next] = number;
+        slot.next = if next + 1 == self.remembered { 0 } else { slot.next + 1 };
+        if (slot.count as usize) < self.remembered {
+            slot.count += 1;
+        }
     }
 
     pub fn lookup(&self, now: u64, address: u64) -> Option<&Slot> {
-        self.find(address).ok().map(|i| &self.slots[i]).filter(|slot| now < slot.until)
+        self.find(address).ok().map(|i| self.slot_at(i)).filter(|slot| now < slot.until)
     }
 
     pub fn remembers(&self, now: u64, address: u64, number: u16) -> bool {
-        self.lookup(now, address).is_some_and(|slot| slot.holds(number))
+        self.remembers_at(now, self.find(address), number)
     }
 
     pub fn remembers_at(&self, now: u64, found: Result<usize, usize>, number: u16) -> bool {
-        found.is_ok_and(|i| now < self.slots[i].until && self.slots[i].holds(number))
+        found.is_ok_and(|i| now < self.slot_at(i).until && self.holds(i, number))
     }
 
     pub fn has_room_at(&self, now: u64, found: Result<usize, usize>) -> bool {
-        found.is_ok_and(|i| now < self.slots[i].until)
-            || !self.spare.is_empty()
-            || self.first_end <= now && self.slots.iter().any(|slot| slot.until <= now)
+        found.is_ok_and(|i| now < self.slot_at(i).until)
+            || self.addresses.len() < self.addresses.capacity()
+            || self.first_end <= now && self.rows.iter().any(|r| self.slots[*r as usize].until <= now)
     }
 
     fn sweep_if_due(&mut self, now: u64) {
@@ -112,18 +124,23 @@ impl Table {
             return;
         }
         let mut end = u64::MAX;
-        let spare = &mut self.spare;
-        self.slots.retain_mut(|slot| {
-            let live = now < slot.until;
-            if live {
-                end = end.min(slot.until);
+        let mut kept = 0;
+        for i in 0..self.addresses.len() {
+            let row = self.rows[i];
+            let until = self.slots[row as usize].until;
+            if now < until {
+                end = end.min(until);
+                if kept != i {
+                    self.addresses[kept] = self.addresses[i];
+                    self.rows[kept] = row;
+                }
+                kept += 1;
             } else {
-                let mut numbers = std::mem::take(&mut slot.numbers);
-                numbers.clear();
-                spare.push(numbers);
+                self.free.push(row);
             }
-            live
-        });
+        }
+        self.addresses.truncate(kept);
+        self.rows.truncate(kept);
         self.first_end = end;
     }
 
@@ -133,46 +150,68 @@ impl Table {
 
     pub fn accept_at(&mut self, now: u64, found: Result<usize, usize>, heard: &Heard) -> Verdict {
         match found {
-            Ok(i) => {
-                let slot = &mut self.slots[i];
-                if heard.number.is_some_and(|n| now < slot.until && slot.holds(n)) {
-                    return Verdict::Duplicate;
-                }
-                slot.renew(now, heard);
-                self.first_end = self.first_end.min(slot.until);
-                self.sweep_if_due(now);
-            }
-            Err(gap) => {
-                let mut gap = gap;
-                if self.first_end <= now {
-                    self.sweep_if_due(now);
-                    gap = self.find(heard.vector.address).unwrap_or_else(|i| i);
-                }
-                let Some(numbers) = self.spare.pop() else {
-                    return Verdict::Full;
-                };
-                let mut slot = Slot {
-                    vector: heard.vector,
-                    neighbour: heard.number.is_none(),
-                    until: now + ENTRY_LIFE,
-                    numbers,
-                };
-                if let Some(number) = heard.number {
-                    slot.note(number);
-                }
-                self.first_end = self.first_end.min(slot.until);
-                self.slots.insert(gap, slot);
-            }
+            Ok(i) => self.hear_again(now, i, heard),
+            Err(gap) => self.hear_first(now, gap, heard),
         }
+    }
+
+    fn hear_again(&mut self, now: u64, place: usize, heard: &Heard) -> Verdict {
+        let row = self.rows[place] as usize;
+        let live = now < self.slots[row].until;
+        if live && heard.number.is_some_and(|n| self.holds(place, n)) {
+            return Verdict::Duplicate;
+        }
+        let slot = &mut self.slots[row];
+        if live {
+            if newer(heard.vector.tst, slot.vector.tst) {
+                slot.vector = heard.vector;
+            }
+            slot.neighbour |= heard.number.is_none();
+            slot.until = now + ENTRY_LIFE;
+        } else {
+            *slot = Slot::first(now, heard);
+        }
+        if let Some(number) = heard.number {
+            self.note(row, number);
+        }
+        self.first_end = self.first_end.min(now + ENTRY_LIFE);
+        self.sweep_if_due(now);
+        Verdict::Accepted
+    }
+
+    fn hear_first(&mut self, now: u64, gap: usize, heard: &Heard) -> Verdict {
+        let mut gap = gap;
+        if self.first_end <= now {
+            self.sweep_if_due(now);
+            gap = self.find(heard.vector.address).unwrap_or_else(|i| i);
+        }
+        let slot = Slot::first(now, heard);
+        let row = if let Some(row) = self.free.pop() {
+            self.slots[row as usize] = slot;
+            row
+        } else if self.slots.len() < self.slots.capacity() {
+            self.slots.push(slot);
+            (self.slots.len() - 1) as u16
+        } else {
+            return Verdict::Full;
+        };
+        if let Some(number) = heard.number {
+            self.note(row as usize, number);
+        }
+        self.first_end = self.first_end.min(now + ENTRY_LIFE);
+        self.addresses.insert(gap, heard.vector.address);
+        self.rows.insert(gap, row);
         Verdict::Accepted
     }
 
     pub fn neighbours(&self, now: u64) -> impl Iterator<Item = &Slot> {
-        self.slots.iter().filter(move |slot| now < slot.until && slot.neighbour)
+        let slots = self.rows.iter().map(|row| &self.slots[*row as usize]);
+        slots.filter(move |slot| now < slot.until && slot.neighbour)
     }
 
     pub fn by_mid(&self, now: u64, mid: u64) -> Option<&Slot> {
-        self.slots.iter().find(|slot| now < slot.until && slot.vector.address & MID == mid)
+        let found = (0..self.addresses.len()).filter(|i| self.addresses[*i] & MID == mid);
+        found.map(|i| self.slot_at(i)).find(|slot| now < slot.until)
     }
 }
 

@@ -1,6 +1,6 @@
 /* A call from C beside the same call in Rust: the loops of loops.rt.txt and the same loops over
  * geostation.h, in turns. Prints for each the least nanoseconds of processor time a call, and their
- * ratio. */
+ * ratio. A beacon is due at one in a thousand calls of `tick`. */
 #define _POSIX_C_SOURCE 200809L
 #include "geostation.h"
 #include <inttypes.h>
@@ -14,8 +14,14 @@
 #define MANY 1000
 #define TURNS 40
 
-uint64_t bench_receive(uint64_t address, const uint8_t *frames, size_t length, size_t stride,
-                       uint32_t rounds);
+struct noted {
+    uint32_t ignored, delivered;
+    uint16_t port, info;
+    size_t payload_start, payload_length, relay_length;
+    uint32_t fault;
+    size_t fault_at;
+};
+
 struct asked {
     uint16_t port, info;
     uint8_t traffic_class, lifetime, max_hops;
@@ -23,16 +29,37 @@ struct asked {
     uint16_t radius;
 };
 
-uint64_t bench_send(uint64_t address, const struct asked *asked, const uint8_t *payload,
-                    size_t length, uint32_t rounds);
+uint64_t bench_receive(uint64_t address, const uint8_t *frames, size_t length, size_t stride,
+                       uint32_t rounds, struct noted *noted, uint8_t *relay, size_t room);
+uint64_t bench_send(uint64_t address, uint8_t kind, const struct asked *asked, size_t many,
+                    const uint8_t *payload, size_t length, uint32_t rounds, uint8_t *frame,
+                    size_t room);
 
 static uint8_t frames[MANY * 100], relay[GEOSTATION_FRAME_MAX], payload[20];
 static size_t frames_length, stride;
 
-static const struct geostation_area_request AREA = {
-    .port = 2002, .info = 7, .traffic_class = 2, .lifetime = 0x1a, .max_hops = 5,
-    .shape = GEOSTATION_CIRCLE, .latitude = 449, .longitude = 0, .a = 200,
-};
+/* The same requests for the loops in C and in Rust, each a circle round another place. */
+static struct geostation_shb_request shbs[MANY];
+static struct geostation_area_request areas[MANY];
+static struct asked asked[MANY];
+
+static void make_requests(void) {
+    for (uint16_t k = 0; k < MANY; k++) {
+        struct asked r = {
+            .port = 2002, .info = k, .traffic_class = 2, .lifetime = 0x1a, .max_hops = 5,
+            .latitude = 449 + k, .longitude = k, .radius = (uint16_t)(200 + k),
+        };
+        asked[k] = r;
+        shbs[k] = (struct geostation_shb_request){
+            .port = r.port, .info = r.info, .traffic_class = r.traffic_class,
+        };
+        areas[k] = (struct geostation_area_request){
+            .port = r.port, .info = r.info, .traffic_class = r.traffic_class,
+            .lifetime = r.lifetime, .max_hops = r.max_hops, .shape = GEOSTATION_CIRCLE,
+            .latitude = r.latitude, .longitude = r.longitude, .a = r.radius,
+        };
+    }
+}
 
 static struct geostation *station(uint64_t address, int32_t longitude) {
     struct geostation *s;
@@ -60,17 +87,38 @@ static uint64_t receive_from_c(uint32_t rounds) {
 }
 
 static uint64_t receive_in_rust(uint32_t rounds) {
-    return bench_receive(OTHER, frames, frames_length, stride, rounds);
+    struct noted noted;
+    return bench_receive(OTHER, frames, frames_length, stride, rounds, &noted, relay,
+                         sizeof relay);
 }
+
+static int send_once(struct geostation *s, int kind, uint32_t round, size_t k, size_t *n) {
+    switch (kind) {
+    case GEOSTATION_BEACON:
+        return geostation_tick(s, 3000 * (uint64_t)round, 0, relay, sizeof relay, n);
+    case GEOSTATION_SHB:
+        return geostation_send_shb(s, 5, &shbs[k], payload, sizeof payload, relay, sizeof relay, n);
+    case GEOSTATION_GBC:
+        return geostation_send_gbc(s, 5, &areas[k], payload, sizeof payload, relay, sizeof relay,
+                                   n);
+    default:
+        return geostation_send_gac(s, 5, &areas[k], payload, sizeof payload, relay, sizeof relay,
+                                   n);
+    }
+}
+
+static int sent_kind;
 
 static uint64_t send_from_c(uint32_t rounds) {
     struct geostation *s = station(OTHER, 900);
+    const int kind = sent_kind;
     uint64_t sum = 0;
     size_t n;
-    for (uint32_t k = 0; k < rounds * MANY; k++) {
-        if (geostation_send_gbc(s, 5, &AREA, payload, sizeof payload, relay, sizeof relay, &n)
-            == GEOSTATION_OK) {
-            sum += n;
+    for (uint32_t round = 0; round < rounds; round++) {
+        for (size_t k = 0; k < MANY; k++) {
+            if (send_once(s, kind, round, k, &n) == GEOSTATION_OK) {
+                sum += n;
+            }
         }
     }
     geostation_free(s);
@@ -78,12 +126,8 @@ static uint64_t send_from_c(uint32_t rounds) {
 }
 
 static uint64_t send_in_rust(uint32_t rounds) {
-    const struct asked asked = {
-        .port = AREA.port, .info = AREA.info, .traffic_class = AREA.traffic_class,
-        .lifetime = AREA.lifetime, .max_hops = AREA.max_hops, .latitude = AREA.latitude,
-        .longitude = AREA.longitude, .radius = AREA.a,
-    };
-    return bench_send(OTHER, &asked, payload, sizeof payload, rounds * MANY);
+    return bench_send(OTHER, (uint8_t)sent_kind, asked, MANY, payload, sizeof payload, rounds,
+                      relay, sizeof relay);
 }
 
 static double processor_ns(void) {
@@ -116,27 +160,25 @@ static void row(const char *what, uint64_t (*c)(uint32_t), uint64_t (*rust)(uint
 
 /* So many frames of this kind, one after the other. */
 static void fill(int kind) {
-    const struct geostation_shb_request shb = { .port = 2002, .info = 0, .traffic_class = 0 };
     struct geostation *s = station(ADDRESS, 0);
     size_t n = 0;
-    for (frames_length = 0; frames_length < MANY * stride; frames_length += stride) {
-        uint8_t *to = relay;
-        if (kind == GEOSTATION_BEACON) {
-            (void)geostation_tick(s, 3000 * (frames_length / stride), 0, to, sizeof relay, &n);
-        } else if (kind == GEOSTATION_SHB) {
-            (void)geostation_send_shb(s, 5, &shb, payload, sizeof payload, to, sizeof relay, &n);
-        } else {
-            (void)geostation_send_gbc(s, 5, &AREA, payload, sizeof payload, to, sizeof relay, &n);
-        }
-        if (n != stride) {
+    for (uint32_t k = 0; k < MANY; k++) {
+        if (send_once(s, kind, k, 0, &n) != GEOSTATION_OK || n != stride) {
             exit(1);
         }
-        memcpy(frames + frames_length, to, n);
+        memcpy(frames + k * stride, relay, n);
     }
+    frames_length = MANY * stride;
     geostation_free(s);
 }
 
+static void row_of_sends(const char *what, int kind) {
+    sent_kind = kind;
+    row(what, send_from_c, send_in_rust);
+}
+
 int main(void) {
+    make_requests();
     stride = 50, fill(GEOSTATION_BEACON);
     row("receive a BEACON", receive_from_c, receive_in_rust);
     stride = 78, fill(GEOSTATION_SHB);
@@ -149,6 +191,9 @@ int main(void) {
     row("receive a duplicate", receive_from_c, receive_in_rust);
     memset(frames, 0, frames_length);
     row("receive junk", receive_from_c, receive_in_rust);
-    row("send a GBC", send_from_c, send_in_rust);
+    row_of_sends("tick, no beacon due", GEOSTATION_BEACON);
+    row_of_sends("send an SHB", GEOSTATION_SHB);
+    row_of_sends("send a GBC", GEOSTATION_GBC);
+    row_of_sends("send a GAC", GEOSTATION_GAC);
     return 0;
 }

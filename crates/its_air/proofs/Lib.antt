@@ -2,3 +2,5 @@ pub mod Files
 pub mod Hearing
 pub mod Among
 pub mod Under
+pub mod Bands
+pub mod Counts

@@ -4,6 +4,7 @@ use Rattle.std.specs.Prelude.{nat_le}
 use Rattle.its_gnvalue.specs.Values.{Position}
 use Rattle.its_geometry.specs.Offsets.{squared_distance}
 use Rattle.its_station.specs.State.{StationState}
+use Rattle.its_air.specs.declared.standing.Standing.{Standing}
 
 -- this place is at most so many metres from the giver's: distances are in centimetres
 abbrev pub is_within : ℕ → Position → Position → Bool
@@ -24,3 +25,7 @@ numbers_from passes n (st ∷ stations) =
 -- the stations that hear what this one gives at this place, in order
 abbrev pub hearers : ℕ → List StationState → ℕ → Position → List ℕ
 hearers range stations giver place = numbers_from (hears range giver place) 0 stations
+
+-- the station that stands there hears what another gives at this place
+abbrev pub hears_there : ℕ → ℕ → Position → Standing → Bool
+hears_there range giver place s = not (s.number == giver) && is_within range place s.place

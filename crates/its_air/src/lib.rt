@@ -7,6 +7,7 @@ mod fault;
 mod reach;
 mod run;
 mod scenario;
+mod standing;
 mod summary;
 mod tally;
 mod waiting;

@@ -2,9 +2,12 @@
 
 ghost use Rattle.std.specs.Prelude.{◌≡◌, ◌≤◌, ◌<◌, ◌^◌, ◌++◌, ◌∷◌, [], List, All, map, length};
 ghost use Rattle.std.specs.Prelude.{ℕ, ◌+◌};
-ghost use Rattle.std.specs.Prelude.{false, IfOk, OnOk};
+ghost use Rattle.std.specs.Prelude.{false, Some, IfOk, OnOk, IsTrue, slice_get};
+ghost use Rattle.std.specs.Option.{option_map};
 ghost use Rattle.its_model.specs.World.{Config as Beginning, Event as Happening, opening};
+ghost use Rattle.its_station.specs.State.{StationState};
 ghost use Rattle.its_world.specs.State.{RepresentsWorld};
+ghost use Rattle.its_world.specs.Steps.{AreSameBut};
 ghost use Rattle.its_world.specs.Events.{IsConfig, IsInRange, config_of, event_of};
 ghost use Rattle.its_world.specs.Mids.{AreApart};
 ghost use Rattle.its_scenario.specs.Airs.{end_of};
@@ -12,11 +15,13 @@ ghost use Rattle.its_simulation.specs.Simulated.{IsSimulated};
 ghost use Rattle.its_air.specs.AirRun.{AreDue, IsAirRun};
 ghost use Rattle.its_air.specs.Files.{SameFile, happenings_due};
 ghost use Rattle.its_air.specs.Runs.{IsUnderWay};
+ghost use Rattle.its_air.specs.Standings.{AreStandingsOf};
 
 use crate::draws::Draws;
 use crate::fault::AirFault;
-use crate::reach::find_hearers;
+use crate::standing::Standings;
 use crate::waiting::{Next, Own, Queue};
+use its_gnvalue::Place;
 use its_model::laws::every_schedule;
 use its_scenario::Air;
 use its_simulation::{EventSink, do_event};
@@ -74,6 +79,8 @@ struct Run<'a> {
     world: World,
     queue: Queue<'a>,
     draws: Draws,
+    /// Where the stations of the world stand.
+    standings: Standings,
     /// Who hears the last frame that was given.
     hearers: Vec<usize>,
 }
@@ -97,6 +104,8 @@ impl<'a> Run<'a> {
             AreDue (map event_of events.now) (end_of air.now.until events.now)
             (happenings_due run.queue)) }
         ensures start { IfOk result (λ run. run.queue.taken ≡ 0) }
+        ensures standings { IfOk result (λ run.
+            AreStandingsOf run.world.stations run.standings.order.items) }
         ensures ranges { IfOk result (λ run.
             All (λ event. IsInRange event.now.what) run.queue.due.items) }
     {
@@ -104,18 +113,24 @@ impl<'a> Run<'a> {
         let mut queue = Queue::of_file(alloc, events, air.end(events))?;
         let ticking = if air.beacons { configs.len() } else { 0 };
         put_first_ticks(&mut queue, &mut draws, ticking)?;
+        let world = World::of_apart(alloc, configs)?;
+        let standings = Standings::of(alloc, world.stations())?;
         Ok(Run {
             air: *air,
-            world: World::of_apart(alloc, configs)?,
+            world,
             queue,
             draws,
+            standings,
             hearers: Vec::new(alloc),
         })
     }
 
     /// Does the first event that waits, if one does.
     fn go_on<S: EventSink>(&mut self, number: usize, sink: &mut S) -> Result<bool, AirFault>
-        requires { All (λ event. IsInRange event.now.what) self.old.queue.due.items }
+        requires ranges { All (λ event. IsInRange event.now.what) self.old.queue.due.items }
+        requires standings { AreStandingsOf self.old.world.stations self.old.standings.order.items }
+        ensures standings { OnOk result
+            (AreStandingsOf self.new.world.stations self.new.standings.order.items) }
         ensures due { self.new.queue.due ≡ self.old.queue.due }
         ensures ended { IfOk result (λ more.
             more ≡ false → length self.new.queue.due.items ≤ self.new.queue.taken) }
@@ -140,7 +155,8 @@ impl<'a> Run<'a> {
         }
     }
 
-    /// Does an event, hands it to the sink, and puts the deliveries of the frame that it gave.
+    /// Does an event, hands it to the sink, and puts the deliveries of the frame that it gave. Where
+    /// its station has moved, it stands there from now on.
     fn do_event<S: EventSink>(
         &mut self,
         number: usize,
@@ -149,30 +165,56 @@ impl<'a> Run<'a> {
     ) -> Result<Entry, AirFault>
         requires range { IsInRange event.now.what }
         requires moment { event.now.moment ≤ 2 ^ 63 + 10000 }
+        requires standings { AreStandingsOf self.old.world.stations self.old.standings.order.items }
         ensures file { SameFile self.old.queue self.new.queue }
+        ensures standings { OnOk result
+            (AreStandingsOf self.new.world.stations self.new.standings.order.items) }
         ensures run { (configs : List Beginning) (events : List Happening) →
             IsSimulated configs events self.old.world (S.Took sink.old) → OnOk result (
             IsSimulated configs (events ++ event_of event.now ∷ []) self.new.world
             (S.Took sink.new)) }
     {
+        let stood = place_of(&self.world, event.station);
         let entry = do_event(&mut self.world, number, event, sink)?;
+        self.follow(event.station, stood)?;
         if let Some(frame) = entry.frame() {
             self.spread(event, frame)?;
         }
         Ok(entry)
     }
 
+    /// A station may have moved from where it stood: it stands where the world has it.
+    fn follow(&mut self, number: usize, stood: Option<Place>) -> Result<(), AirFault>
+        ensures world { self.new.world ≡ self.old.world }
+        ensures file { SameFile self.old.queue self.new.queue }
+        ensures standings { (before : List StationState) →
+            AreStandingsOf before self.old.standings.order.items →
+            AreSameBut number before self.old.world.stations →
+            stood ≡ option_map (λ st. st.vector.place) (slice_get before number) →
+            OnOk result (AreStandingsOf self.new.world.stations self.new.standings.order.items) }
+    {
+        let Some(place) = place_of(&self.world, number) else {
+            return Ok(());
+        };
+        if !stood_at(stood, place) {
+            self.standings.move_station(number, place)?;
+        }
+        Ok(())
+    }
+
     /// Puts a delivery of a frame to each station that hears it and doesn't lose it.
     fn spread(&mut self, event: &Event, frame: usize) -> Result<(), AirFault>
-        requires { event.now.moment ≤ 2 ^ 63 + 10000 }
+        requires moment { event.now.moment ≤ 2 ^ 63 + 10000 }
+        requires standings { AreStandingsOf self.old.world.stations self.old.standings.order.items }
         ensures world { self.new.world ≡ self.old.world }
+        ensures standings { self.new.standings ≡ self.old.standings }
         ensures file { SameFile self.old.queue self.new.queue }
     {
         let stations = self.world.stations();
         let Some(giver) = stations.get(event.station) else {
             return Ok(());
         };
-        find_hearers(
+        self.standings.find_hearers(
             self.air.range,
             stations,
             event.station,
@@ -194,6 +236,7 @@ impl<'a> Run<'a> {
     /// Puts the next tick of a station after one that wasn't refused.
     fn put_next_tick(&mut self, tick: &Event, entry: &Entry) -> Result<(), AirFault>
         ensures world { self.new.world ≡ self.old.world }
+        ensures standings { self.new.standings ≡ self.old.standings }
         ensures file { SameFile self.old.queue self.new.queue }
     {
         if matches!(entry, Entry::Refused(_)) {
@@ -209,6 +252,26 @@ impl<'a> Run<'a> {
             tick.moment,
             station.beacon_from(),
         )
+    }
+}
+
+/// Where a station stands, by its number.
+fn place_of(world: &World, number: usize) -> Option<Place>
+    ensures { result ≡ option_map (λ st. st.vector.place) (slice_get world.now.stations number) }
+{
+    match world.station(number) {
+        Some(station) => Some(station.vector().place()),
+        None => None,
+    }
+}
+
+/// Whether a station stood at this place.
+fn stood_at(stood: Option<Place>, place: Place) -> bool
+    ensures { IsTrue result → stood ≡ Some place }
+{
+    match stood {
+        Some(stood) => stood == place,
+        None => false,
     }
 }
 

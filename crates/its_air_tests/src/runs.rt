@@ -257,6 +257,52 @@ fn places_are_as_last_handed_in(rt: HostRuntime) -> Result<(), Fail> {
     )
 }
 
+/// Forty stations in a line to the north, each some 501 m from the next, with these events.
+fn line_of_forty(alloc: Global, events: &str) -> Result<String, Fail> {
+    let mut text = String::from_str(alloc, "station = [\n")?;
+    for number in 10..50u32 {
+        let lat = 45_000 * (number - 10);
+        let station = format!(in alloc;
+            "{{address = \"14000200000000{number}\", lat = {lat}, lon = 0}},\n"
+        )?;
+        text.push_str(station.as_str())?;
+    }
+    Ok(format!(in alloc; "{text}]\nevent = [{events}]\n")?)
+}
+
+/// Of many stations those near in latitude hear, in the order of their numbers, where each stands by
+/// then.
+#[test]
+fn the_neighbours_of_many_hear(rt: HostRuntime) -> Result<(), Fail> {
+    let send = "do = \"shb\", port = 1, info = 0, tc = 0, payload = \"\"";
+    let between = "lat = 922500, lon = 0, pai = true, speed = 0, heading = 0";
+    let events = format!(in rt.alloc();
+        "{{station = 20, at = 10, {send}}},\n\
+        {{station = 0, at = 20, do = \"move\", {between}}},\n\
+        {{station = 20, at = 30, {send}}},\n\
+        {{station = 0, at = 40, {send}}},\n"
+    )?;
+    let lines = "\
+0 10 20 shb sent 0
+1 11 19 deliver 0 accepted
+2 11 21 deliver 0 accepted
+3 20 0 move moved
+4 30 20 shb sent 1
+5 31 0 deliver 1 accepted
+6 31 19 deliver 1 accepted
+7 31 21 deliver 1 accepted
+8 40 0 shb sent 2
+9 41 20 deliver 2 accepted
+10 41 21 deliver 2 accepted
+";
+    expect(
+        &rt,
+        line_of_forty(rt.alloc(), events.as_str())?.as_str(),
+        "range = 550\n",
+        lines,
+    )
+}
+
 /// Without stations nothing ticks, and the events of the file are refused.
 #[test]
 fn an_air_without_stations(rt: HostRuntime) -> Result<(), Fail> {

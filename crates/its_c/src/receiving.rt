@@ -42,8 +42,8 @@ pub extern "C" fn geostation_receive(
         (verdict m now t ≡ station.Verdict.Accept) × TakesMemory m now t }
     ensures junk { result ≡ pos 5 → IsFrame frame.now }
 {
-    *reception = Reception::NOTHING;
     if relay.len() < LONGEST_FRAME {
+        *reception = Reception::NOTHING;
         return NO_ROOM;
     }
     let mut station = s.held.take(alloc);

@@ -110,7 +110,8 @@ pub extern "C" fn geostation_send_gac(
     )
 }
 
-/// What both calls for an area do.
+/// What both calls for an area do: inlined, so that their arguments aren't passed a second time.
+#[inline(always)]
 fn send_to_area(
     alloc: Global,
     s: &mut Geostation,

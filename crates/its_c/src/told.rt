@@ -74,7 +74,6 @@ pub(crate) fn told_outcome(
     reception: &mut Reception,
     relay: &mut [u8],
 ) -> i32
-    requires nothing { reception.old ≡ nothing_received }
     requires end { IfOk said (DeliversEndOf frame.now) }
     requires room { 1468 ≤ length relay.old }
     requires short { IfOk said (SendsAtMost 1468) }
@@ -84,10 +83,11 @@ pub(crate) fn told_outcome(
 {
     match said {
         Ok(Outcome::Ignored(why)) => {
-            reception.ignored = number_of(why);
+            *reception = ignored_reception(why);
             OK
         }
         Ok(Outcome::Accepted { handed, sent }) => {
+            *reception = Reception::NOTHING;
             tell_handed(handed, frame, reception);
             if let Some(sent) = sent {
                 reception.relay_length = hand_out(sent.as_slice(), relay);
@@ -98,6 +98,16 @@ pub(crate) fn told_outcome(
             *reception = refused_reception(refused);
             status_of(refused)
         }
+    }
+}
+
+/// The reception of a frame that is ignored.
+fn ignored_reception(why: Why) -> Reception
+    ensures { result ≡ record nothing_received { ignored = number_of why } }
+{
+    Reception {
+        ignored: number_of(why),
+        ..Reception::NOTHING
     }
 }
 

@@ -20,6 +20,9 @@ use std::{fs, io};
 /// The name that stands for standard input. A file of that name is `./-`.
 const STANDARD_INPUT: &str = "-";
 
+/// How many octets of a file are read or written at a time.
+const FILE_BUFFER: usize = 32 * 1024;
+
 /// What a command reads.
 #[derive(Drop)]
 pub enum Opened<F, I> {
@@ -248,9 +251,8 @@ where
 {
     match named(rt, file, input) {
         Ok(opened) => {
-            BufReader::new(rt.alloc(), opened).map_err(|_| Fault::OutOfMemory(AllocError).report(
-                err,
-            ))
+            BufReader::with_capacity(rt.alloc(), FILE_BUFFER, opened)
+                .map_err(|_| Fault::OutOfMemory(AllocError).report(err))
         }
         Err(error) => Err(Fault::of_read(&error, file).report(err)),
     }
@@ -279,9 +281,8 @@ where
 {
     match fs::create(rt, file) {
         Ok(created) => {
-            BufWriter::new(rt.alloc(), created).map_err(|_| Fault::OutOfMemory(AllocError).report(
-                err,
-            ))
+            BufWriter::with_capacity(rt.alloc(), FILE_BUFFER, created)
+                .map_err(|_| Fault::OutOfMemory(AllocError).report(err))
         }
         Err(error) => Err(Fault::of_write(&error, file).report(err)),
     }

@@ -6,46 +6,45 @@ use Rattle.std.proofs.Common.{take, drop, set, get_or, length, append_assoc, ari
 use Rattle.std.proofs.lemmas.Bool.{cond-true, cond-false}
 use Rattle.std.proofs.lemmas.List.{take_more_set}
 use Rattle.std.proofs.lemmas.List.Elements.{All-nil, All-cons, All-map, All-take}
-use Rattle.its_loctable.specs.declared.slot.Slot.{Slot}
+use Rattle.its_loctable.specs.declared.sorted.slot.SortedSlot.{SortedSlot}
 use Rattle.its_model.specs.History.{Reception, Known}
 use Rattle.its_model.specs.Stations.{stations_at, is_above, is_next_neighbour}
 use Rattle.its_loctable.specs.Content.{Represents}
-use Rattle.its_loctable.specs.Slots.{slot_known}
-use Rattle.its_loctable.specs.Sorted.{held, IsStartAbove}
+use Rattle.its_loctable.specs.Sorted.{known_by, bare_known, held, bare, IsStartAbove}
 use Rattle.its_loctable.specs.Pieces.{neighbours_above, first_piece, AreAllAbove}
 use Rattle.its_loctable.proofs.ContentLemmas.{ordered-stations_at}
 use Rattle.its_loctable.proofs.EagerLemmas.{IsRising, apart-rising}
 use Rattle.its_loctable.proofs.ListLemmas.{drop_here, drop_past}
-use Rattle.its_loctable.proofs.SortedLemmas.{ordered-held, start_from}
+use Rattle.its_loctable.proofs.SortedLemmas.{ordered-held, rising_by, start_from}
 
 -- the live neighbours among slots from a place on
-abbrev pub left : ℕ → List Slot → ℕ → List Known
+abbrev pub left : ℕ → List SortedSlot → ℕ → List Known
 left now slots i =
-    map slot_known (filter (λ (s : Slot). ltb now s.until && s.neighbour) (drop i slots))
+    map bare_known (filter (λ (s : SortedSlot). ltb now s.until && s.neighbour) (drop i slots))
 
-pub left-live : (now : ℕ) (slots : List Slot) (i : ℕ) (s : Slot) → i < length slots
+pub left-live : (now : ℕ) (slots : List SortedSlot) (i : ℕ) (s : SortedSlot) → i < length slots
     → s ≡ get_or slots i s → (ltb now s.until && s.neighbour) ≡ true
-    → left now slots i ≡ slot_known s ∷ left now slots (i + 1)
+    → left now slots i ≡ bare_known s ∷ left now slots (i + 1)
 left-live now slots i s lt is passes =
-    ap (λ l. map slot_known (filter (λ (s : Slot). ltb now s.until && s.neighbour) l))
+    ap (λ l. map bare_known (filter (λ (s : SortedSlot). ltb now s.until && s.neighbour) l))
     (drop_here slots i s lt is)
-    ∙ ap (map slot_known)
+    ∙ ap (map bare_known)
     (cond-true (ltb now s.until && s.neighbour)
-    (s ∷ filter (λ (s : Slot). ltb now s.until && s.neighbour) (drop (i + 1) slots)) _ passes)
+    (s ∷ filter (λ (s : SortedSlot). ltb now s.until && s.neighbour) (drop (i + 1) slots)) _ passes)
 
-pub left-other : (now : ℕ) (slots : List Slot) (i : ℕ) (s : Slot) → i < length slots
+pub left-other : (now : ℕ) (slots : List SortedSlot) (i : ℕ) (s : SortedSlot) → i < length slots
     → s ≡ get_or slots i s → (ltb now s.until && s.neighbour) ≡ false
     → left now slots i ≡ left now slots (i + 1)
 left-other now slots i s lt is fails =
-    ap (λ l. map slot_known (filter (λ (s : Slot). ltb now s.until && s.neighbour) l))
+    ap (λ l. map bare_known (filter (λ (s : SortedSlot). ltb now s.until && s.neighbour) l))
     (drop_here slots i s lt is)
-    ∙ ap (map slot_known)
+    ∙ ap (map bare_known)
     (cond-false (ltb now s.until && s.neighbour)
-    (s ∷ filter (λ (s : Slot). ltb now s.until && s.neighbour) (drop (i + 1) slots)) _ fails)
+    (s ∷ filter (λ (s : SortedSlot). ltb now s.until && s.neighbour) (drop (i + 1) slots)) _ fails)
 
-pub left-past : (now : ℕ) (slots : List Slot) (i : ℕ) → length slots ≤ i → left now slots i ≡ []
+pub left-past : (now : ℕ) (slots : List SortedSlot) (i : ℕ) → length slots ≤ i → left now slots i ≡ []
 left-past now slots i le =
-    ap (λ l. map slot_known (filter (λ (s : Slot). ltb now s.until && s.neighbour) l))
+    ap (λ l. map bare_known (filter (λ (s : SortedSlot). ltb now s.until && s.neighbour) l))
     (drop_past slots i le)
 
 -- one more goes into a column of a piece
@@ -87,28 +86,28 @@ whole-end f xs n ks none =
     nothing (suc m) = refl
 
 -- ---- the neighbours above an address are those of the slots above it
-filter-live : (p : Known → Bool) (t : ℕ) (xs : List Slot)
-    → map slot_known (filter (λ (s : Slot). ltb t s.until && p (slot_known s)) xs)
-    ≡ filter p (map slot_known (filter (λ (s : Slot). ltb t s.until) xs))
-filter-live p t [] = refl
-filter-live p t (x ∷ xs) = by (ltb t x.until) (p (slot_known x)) refl (filter-live p t xs)
+filter-live : (of : SortedSlot → List ℕ) (p : Known → Bool) (t : ℕ) (xs : List SortedSlot)
+    → map (known_by of) (filter (λ (s : SortedSlot). ltb t s.until && p (known_by of s)) xs)
+    ≡ filter p (map (known_by of) (filter (λ (s : SortedSlot). ltb t s.until) xs))
+filter-live of p t [] = refl
+filter-live of p t (x ∷ xs) = by (ltb t x.until) (p (known_by of x)) refl (filter-live of p t xs)
   where
-    by : (a b : Bool) → p (slot_known x) ≡ b
-        → map slot_known (filter (λ (s : Slot). ltb t s.until && p (slot_known s)) xs)
-        ≡ filter p (map slot_known (filter (λ (s : Slot). ltb t s.until) xs))
-        → map slot_known
-        (cond (a && b) (x ∷ filter (λ (s : Slot). ltb t s.until && p (slot_known s)) xs)
-        (filter (λ (s : Slot). ltb t s.until && p (slot_known s)) xs))
-        ≡ filter p (map slot_known
-        (cond a (x ∷ filter (λ (s : Slot). ltb t s.until) xs)
-        (filter (λ (s : Slot). ltb t s.until) xs)))
+    by : (a b : Bool) → p (known_by of x) ≡ b
+        → map (known_by of) (filter (λ (s : SortedSlot). ltb t s.until && p (known_by of s)) xs)
+        ≡ filter p (map (known_by of) (filter (λ (s : SortedSlot). ltb t s.until) xs))
+        → map (known_by of)
+        (cond (a && b) (x ∷ filter (λ (s : SortedSlot). ltb t s.until && p (known_by of s)) xs)
+        (filter (λ (s : SortedSlot). ltb t s.until && p (known_by of s)) xs))
+        ≡ filter p (map (known_by of)
+        (cond a (x ∷ filter (λ (s : SortedSlot). ltb t s.until) xs)
+        (filter (λ (s : SortedSlot). ltb t s.until) xs)))
     by true true e rest =
-        ap (λ l. slot_known x ∷ l) rest ∙ sym (cond-true (p (slot_known x)) (slot_known x ∷ _) _ e)
-    by true false e rest = rest ∙ sym (cond-false (p (slot_known x)) (slot_known x ∷ _) _ e)
+        ap (λ l. known_by of x ∷ l) rest ∙ sym (cond-true (p (known_by of x)) (known_by of x ∷ _) _ e)
+    by true false e rest = rest ∙ sym (cond-false (p (known_by of x)) (known_by of x ∷ _) _ e)
     by false b e rest = rest
 
 -- filtering for what each of these is, or none is
-above_all : (now : ℕ) (after : Option ℕ) (x : Slot) (rest rest' : List Slot) (c : Bool)
+above_all : (now : ℕ) (after : Option ℕ) (x : SortedSlot) (rest rest' : List SortedSlot) (c : Bool)
     → is_above after x.vector.address ≡ c → rest ≡ rest'
     → cond (ltb now x.until && (x.neighbour && is_above after x.vector.address)) (x ∷ rest') rest'
     ≡ cond (c && (ltb now x.until && x.neighbour)) (x ∷ rest) rest
@@ -125,65 +124,84 @@ above_all now after x rest rest' c e same =
     turned false b true = refl
     turned false b false = refl
 
-pub filter-start : (now : ℕ) (after : Option ℕ) (xs : List Slot) (i : ℕ) → IsRising (held xs)
+pub filter-start : (now : ℕ) (after : Option ℕ) (xs : List SortedSlot) (i : ℕ) → IsRising (bare xs)
     → IsStartAbove xs after i
-    → filter (λ (s : Slot). ltb now s.until && is_next_neighbour after (slot_known s)) xs
-    ≡ filter (λ (s : Slot). ltb now s.until && s.neighbour) (drop i xs)
+    → filter (λ (s : SortedSlot). ltb now s.until && is_next_neighbour after (bare_known s)) xs
+    ≡ filter (λ (s : SortedSlot). ltb now s.until && s.neighbour) (drop i xs)
 filter-start now after [] zero h g = refl
 filter-start now after [] (suc i) h g = absurd g
 filter-start now after (x ∷ xs) zero h g =
-    above_all now after x (filter (λ (s : Slot). ltb now s.until && s.neighbour) xs)
-    (filter (λ (s : Slot). ltb now s.until && is_next_neighbour after (slot_known s)) xs) true g
+    above_all now after x (filter (λ (s : SortedSlot). ltb now s.until && s.neighbour) xs)
+    (filter (λ (s : SortedSlot). ltb now s.until && is_next_neighbour after (bare_known s)) xs) true g
     (sym (filter-start now after xs 0 h.1 (start_from after x xs h.0 g)))
 filter-start now after (x ∷ xs) (suc i) h g =
     above_all now after x
-    (filter (λ (s : Slot). ltb now s.until && is_next_neighbour after (slot_known s)) xs)
-    (filter (λ (s : Slot). ltb now s.until && is_next_neighbour after (slot_known s)) xs) false g.0
+    (filter (λ (s : SortedSlot). ltb now s.until && is_next_neighbour after (bare_known s)) xs)
+    (filter (λ (s : SortedSlot). ltb now s.until && is_next_neighbour after (bare_known s)) xs) false g.0
     refl
     ∙ filter-start now after xs i h.1 g.1
 
+-- addresses and places are the same whatever the numbers are
+column : {X : Type 0} (f : Known → X) (of : SortedSlot → List ℕ) (n : ℕ) (xs : List SortedSlot)
+    → ((s : SortedSlot) → f (bare_known s) ≡ f (known_by of s))
+    → map f (take n (map bare_known xs)) ≡ map f (take n (map (known_by of) xs))
+column f of zero [] same = refl
+column f of zero (x ∷ xs) same = refl
+column f of (suc n) [] same = refl
+column f of (suc n) (x ∷ xs) same = λ i. same x i ∷ column f of n xs same i
+
+pub piece_by : (of : SortedSlot → List ℕ) (xs : List SortedSlot)
+    → first_piece (map bare_known xs) ≡ first_piece (map (known_by of) xs)
+piece_by of xs = λ i. record {
+  addresses = column (λ (k : Known). k.vector.address) of 32 xs (λ s. refl) i;
+  places = column (λ (k : Known). k.vector.place) of 32 xs (λ s. refl) i;
+}
+
 -- so a walk that begins there finds them
-pub left-neighbours : (remember : ℕ) (after : Option ℕ) (xs : List Slot) (history : List Reception)
-    (now i : ℕ) → now ≤ 2 ^ 62 → IsRising (held xs) → Represents remember (held xs) history now
-    → IsStartAbove xs after i
-    → left now xs i ≡ neighbours_above after (stations_at remember now history)
-left-neighbours remember after xs history now i small rising rep start =
-    ap (map slot_known) (sym (filter-start now after xs i rising start))
-    ∙ filter-live (is_next_neighbour after) now xs
+pub left-neighbours : (of : SortedSlot → List ℕ) (remember : ℕ) (after : Option ℕ)
+    (xs : List SortedSlot) (history : List Reception) (now i : ℕ) → now ≤ 2 ^ 62
+    → IsRising (bare xs) → Represents remember (held of xs) history now
+    → IsStartAbove xs after i → first_piece (left now xs i)
+    ≡ first_piece (neighbours_above after (stations_at remember now history))
+left-neighbours of remember after xs history now i small rising rep start =
+    piece_by of (filter (λ (s : SortedSlot). ltb now s.until && s.neighbour) (drop i xs))
+    ∙ ap first_piece (ap (map (known_by of)) (sym (filter-start now after xs i rising start))
+    ∙ filter-live of (is_next_neighbour after) now xs
     ∙ ap (filter (is_next_neighbour after))
-    (sym (ordered-held now xs rising) ∙ ordered-stations_at remember (held xs) history now small
-    (apart-rising (held xs) rising) rep)
+    (sym (ordered-held of now xs rising)
+    ∙ ordered-stations_at remember (held of xs) history now small
+    (apart-rising (held of xs) (rising_by of xs rising)) rep))
 
 -- and each of them lies above the address
-all_pass : (now : ℕ) (after : Option ℕ) (xs : List Slot)
+all_pass : (now : ℕ) (after : Option ℕ) (xs : List SortedSlot)
     → All (λ (k : Known). is_above after k.vector.address ≡ true)
-    (map slot_known
-    (filter (λ (s : Slot). ltb now s.until && is_next_neighbour after (slot_known s)) xs))
+    (map bare_known
+    (filter (λ (s : SortedSlot). ltb now s.until && is_next_neighbour after (bare_known s)) xs))
 all_pass now after [] = All-nil (λ (k : Known). is_above after k.vector.address ≡ true)
 all_pass now after (x ∷ xs) =
     by (ltb now x.until) x.neighbour (is_above after x.vector.address) refl (all_pass now after xs)
   where
     by : (a b d : Bool) → is_above after x.vector.address ≡ d
         → All (λ (k : Known). is_above after k.vector.address ≡ true)
-        (map slot_known
-        (filter (λ (s : Slot). ltb now s.until && is_next_neighbour after (slot_known s)) xs))
+        (map bare_known
+        (filter (λ (s : SortedSlot). ltb now s.until && is_next_neighbour after (bare_known s)) xs))
         → All (λ (k : Known). is_above after k.vector.address ≡ true)
-        (map slot_known (cond (a && (b && d))
-        (x ∷ filter (λ (s : Slot). ltb now s.until && is_next_neighbour after (slot_known s)) xs)
-        (filter (λ (s : Slot). ltb now s.until && is_next_neighbour after (slot_known s)) xs)))
+        (map bare_known (cond (a && (b && d))
+        (x ∷ filter (λ (s : SortedSlot). ltb now s.until && is_next_neighbour after (bare_known s)) xs)
+        (filter (λ (s : SortedSlot). ltb now s.until && is_next_neighbour after (bare_known s)) xs)))
     by true true true e rest =
-        All-cons (λ (k : Known). is_above after k.vector.address ≡ true) (slot_known x)
-        (map slot_known
-        (filter (λ (s : Slot). ltb now s.until && is_next_neighbour after (slot_known s)) xs))
+        All-cons (λ (k : Known). is_above after k.vector.address ≡ true) (bare_known x)
+        (map bare_known
+        (filter (λ (s : SortedSlot). ltb now s.until && is_next_neighbour after (bare_known s)) xs))
         e rest
     by true true false e rest = rest
     by true false d e rest = rest
     by false b d e rest = rest
 
-pub left-above : (after : Option ℕ) (xs : List Slot) (now i : ℕ) → IsRising (held xs)
+pub left-above : (after : Option ℕ) (xs : List SortedSlot) (now i : ℕ) → IsRising (bare xs)
     → IsStartAbove xs after i → AreAllAbove after (first_piece (left now xs i)).addresses
 left-above after xs now i rising start =
-    subst (λ l. AreAllAbove after (first_piece (map slot_known l)).addresses)
+    subst (λ l. AreAllAbove after (first_piece (map bare_known l)).addresses)
     (filter-start now after xs i rising start)
     (All-map (λ n. is_above after n ≡ true) (λ (k : Known). k.vector.address) _
     (All-take (λ (k : Known). is_above after k.vector.address ≡ true) 32 _

@@ -5,9 +5,9 @@ ghost use Rattle.std.specs.Prelude.{◌≡◌, ◌<◌, ◌∷◌, ◌++◌, [],
 ghost use Rattle.std.specs.Prelude.{slice_get, Some};
 ghost use Rattle.std.specs.Prelude.{map, take, drop, filter, nat_lt, ◌&&◌, ◌≤◌};
 ghost use Rattle.its_loctable.specs.Pieces.{IsLast, first_piece};
-ghost use Rattle.its_loctable.specs.Slots.{slot_known};
+ghost use Rattle.its_loctable.specs.Sorted.{bare_known};
 
-use crate::slot::Slot;
+use crate::sorted::SortedSlot;
 use its_gnvalue::{GnAddress, Place};
 use std::marker::Model;
 
@@ -95,9 +95,9 @@ impl Piece {
 
     /// Holds the first live neighbours among slots from a place on, and nothing else: 32, or as
     /// many as there are. Returns where the last of them stands, and `start` where there is none.
-    pub(crate) fn fill(&mut self, slots: &[Slot], now: u64, start: usize) -> usize
+    pub(crate) fn fill(&mut self, slots: &[SortedSlot], now: u64, start: usize) -> usize
         ensures { self.new
-            ≡ first_piece (map slot_known
+            ≡ first_piece (map bare_known
             (filter (λ s. nat_lt now s.until && s.neighbour) (drop start slots.now))) }
     {
         let filled = gather(&mut self.addresses, &mut self.places, slots, now, start);
@@ -118,16 +118,16 @@ struct Filled {
 fn gather(
     addresses: &mut [GnAddress; 32],
     places: &mut [Place; 32],
-    slots: &[Slot],
+    slots: &[SortedSlot],
     now: u64,
     start: usize,
 ) -> Filled
     ensures addresses { let found = filter (λ s. nat_lt now s.until && s.neighbour)
         (drop start slots.now) in
-        take result.count addresses.new ≡ (first_piece (map slot_known found)).addresses }
+        take result.count addresses.new ≡ (first_piece (map bare_known found)).addresses }
     ensures places { let found = filter (λ s. nat_lt now s.until && s.neighbour)
         (drop start slots.now) in
-        take result.count places.new ≡ (first_piece (map slot_known found)).places }
+        take result.count places.new ≡ (first_piece (map bare_known found)).places }
     ensures few { result.count ≤ 32 }
     ensures sizes { length addresses.new ≡ length places.new }
 {

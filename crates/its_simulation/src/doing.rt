@@ -3,6 +3,7 @@
 ghost use Rattle.std.specs.Prelude.{◌++◌, ◌∷◌, [], List, OnOk};
 ghost use Rattle.its_model.specs.World.{Config, Event as Happening};
 ghost use Rattle.its_world.specs.Events.{IsInRange, event_of};
+ghost use Rattle.its_world.specs.Steps.{AreSameBut};
 ghost use Rattle.its_simulation.specs.Simulated.{IsSimulated};
 
 use crate::fault::SimulationFault;
@@ -12,7 +13,8 @@ use its_model::laws::{every_schedule, runs_go_on};
 use its_world::{Entry, Event, World};
 
 /// Does an event, which is the one of this number, and hands it to a sink: a world and a sink that
-/// stand after some events stand after one more. The speed of a `MoveTo` has to be in its range.
+/// stand after some events stand after one more. No station but the event's is touched. The speed of
+/// a `MoveTo` has to be in its range.
 ///
 /// `OutOfMemory` where an allocation failed; else the sink failed.
 pub fn do_event<S: EventSink>(
@@ -22,9 +24,10 @@ pub fn do_event<S: EventSink>(
     sink: &mut S,
 ) -> Result<Entry, SimulationFault>
     requires { IsInRange event.now.what }
-    ensures { (configs : List Config) (events : List Happening) →
+    ensures run { (configs : List Config) (events : List Happening) →
         IsSimulated configs events world.old (S.Took sink.old) → OnOk result (
         IsSimulated configs (events ++ event_of event.now ∷ []) world.new (S.Took sink.new)) }
+    ensures others { AreSameBut event.now.station world.old.stations world.new.stations }
 {
     // Laws, for the proof alone.
     every_schedule();

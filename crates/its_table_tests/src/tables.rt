@@ -13,6 +13,7 @@ mod memory;
 mod plain;
 mod recent;
 mod refusals;
+mod reused;
 mod rows;
 
 const FIRST: u64 = 0x1400_0200_0000_0001;

@@ -1,11 +1,12 @@
 -- What an event asks of its station.
-use Rattle.std.specs.Prelude.{◌≡◌, ℕ, List, Option, IsSome, Vec, slice_get}
+use Rattle.std.specs.Prelude.{◌≡◌, ◌≢◌, ℕ, List, Option, IsSome, Vec, slice_get, length}
 use Rattle.std.specs.Option.{option_map}
 use Rattle.std.specs.declared.alloc.Global.{Global}
 use Rattle.its_model.specs.Calls as model
 use Rattle.its_model.specs.Calls.{Call}
 use Rattle.its_model.specs.World.{What}
 use Rattle.its_model.specs.World.What.{Calls, Deliver}
+use Rattle.its_station.specs.State.{StationState}
 use Rattle.its_station.specs.Receiving.{IsFrameCall}
 
 -- a call of its own, or the frame that these octets are
@@ -18,3 +19,8 @@ abbrev pub IsDelivered : List (Vec ℕ Global) → What → Option (List ℕ) �
 IsDelivered frames (Calls call) octets = IsSome octets
 IsDelivered frames (Deliver k) octets =
     octets ≡ option_map (λ (w : Vec ℕ Global). w.items) (slice_get frames k)
+
+-- the same stations, but perhaps that of this number
+abbrev pub AreSameBut : ℕ → List StationState → List StationState → Type 0
+AreSameBut number old new = (length new ≡ length old)
+    × ((n : ℕ) → n ≢ number → slice_get new n ≡ slice_get old n)

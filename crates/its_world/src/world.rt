@@ -12,7 +12,7 @@ ghost use Rattle.its_world.specs.State.{RepresentsWorld};
 ghost use Rattle.its_world.specs.Events.{IsConfig, IsInRange, config_of, event_of, what_of};
 ghost use Rattle.its_world.specs.Entries.{TellsEntry, IsGivenBy};
 ghost use Rattle.its_world.specs.Mids.{AreApart, IsMidFault};
-ghost use Rattle.its_world.specs.Steps.{IsAskedBy, IsDelivered};
+ghost use Rattle.its_world.specs.Steps.{IsAskedBy, IsDelivered, AreSameBut};
 
 use crate::config::{Config, WorldFault};
 use crate::entry::{Entry, EntryFault};
@@ -105,14 +105,16 @@ impl World {
     }
 
     /// Does one event, whose speed has to be in its range where it is a `MoveTo`: the world goes one
-    /// step of the written rules, and the entry is what they log of it. Where an allocation failed
-    /// nothing changed, and the event may be done again. `run` does many, and says what holds then.
+    /// step of the written rules, and the entry is what they log of it. No other station is touched.
+    /// Where an allocation failed nothing changed, and the event may be done again. `run` does many,
+    /// and says what holds then.
     pub fn step(&mut self, event: &Event) -> Result<Entry, NoMemory>
         requires { IsInRange event.now.what }
         ensures step { IfOk result (λ entry. (w : WorldModel) → RepresentsWorld self.old w →
             RepresentsWorld self.new (world_step w (event_of event.now))
             × (answer : Answer ℕ) × TellsEntry entry answer
             × (entries (world_step w (event_of event.now)).log ≡ entries w.log ++ answer ∷ [])) }
+        ensures others { AreSameBut event.now.station self.old.stations self.new.stations }
         ensures unchanged { OnErr result (self.new ≡ self.old) }
     {
         if event.station >= self.stations.len() {

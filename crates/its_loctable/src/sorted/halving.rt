@@ -1,10 +1,10 @@
 //! Search by halving, in slots that stand in ascending order of their addresses.
 
 ghost use Rattle.std.specs.Prelude.{◌≡◌, ◌<◌, ◌≤◌, ◌+◌, ◌*◌, length, IsTrue, IfOk, IfErr};
-ghost use Rattle.its_loctable.specs.Sorted.{held, IsFoundAt, IsGapFor, IsUpTo, AreAbove};
+ghost use Rattle.its_loctable.specs.Sorted.{bare, IsFoundAt, IsGapFor, IsUpTo, AreAbove};
 ghost use Rattle.its_loctable.specs.Eager.{is_rising};
 
-use crate::slot::Slot;
+use super::slot::SortedSlot;
 use its_gnvalue::GnAddress;
 use std::hint::select_unpredictable;
 
@@ -14,8 +14,8 @@ const MOST_SLOTS: usize = 4096;
 /// Where the slot of an address is, or else where it would go. It is no part of its callers, which
 /// stay short where they find a slot without it.
 #[inline(never)]
-pub fn search(slots: &[Slot], address: GnAddress) -> Result<usize, usize>
-    requires { IsTrue (is_rising (held slots.now)) }
+pub fn search(slots: &[SortedSlot], address: GnAddress) -> Result<usize, usize>
+    requires { IsTrue (is_rising (bare slots.now)) }
     ensures found { IfOk result (λ i. IsFoundAt slots.now address i × (i < length slots.now)) }
     ensures absent { IfErr result (λ i. IsGapFor slots.now address i × (i ≤ length slots.now)) }
 {
@@ -38,8 +38,8 @@ pub fn search(slots: &[Slot], address: GnAddress) -> Result<usize, usize>
 
 /// The last slot that doesn't come after an address; 0 where all do. Halvings with no loop become
 /// conditional moves, where those of a loop are branches that are predicted half of the time.
-fn last_up_to(slots: &[Slot], address: GnAddress) -> usize
-    requires rising { IsTrue (is_rising (held slots.now)) }
+fn last_up_to(slots: &[SortedSlot], address: GnAddress) -> usize
+    requires rising { IsTrue (is_rising (bare slots.now)) }
     requires few { length slots.now ≤ 4096 }
     ensures up_to { IsUpTo slots.now address result }
     ensures above { AreAbove slots.now address (result + 1) }
@@ -56,8 +56,8 @@ fn last_up_to(slots: &[Slot], address: GnAddress) -> usize
 
 /// Where those sixty-four slots begin among which the last is that doesn't come after an address: a
 /// small table has no more.
-fn sixty_four(slots: &[Slot], address: GnAddress) -> usize
-    requires rising { IsTrue (is_rising (held slots.now)) }
+fn sixty_four(slots: &[SortedSlot], address: GnAddress) -> usize
+    requires rising { IsTrue (is_rising (bare slots.now)) }
     requires few { length slots.now ≤ 4096 }
     ensures up_to { IsUpTo slots.now address result }
     ensures above { AreAbove slots.now address (result + 64) }
@@ -76,8 +76,8 @@ fn sixty_four(slots: &[Slot], address: GnAddress) -> usize
 
 /// One halving: the later of two places that are so far apart, where its slot doesn't come after
 /// the address.
-fn halve(slots: &[Slot], last: usize, half: usize, address: GnAddress) -> usize
-    requires rising { IsTrue (is_rising (held slots.now)) }
+fn halve(slots: &[SortedSlot], last: usize, half: usize, address: GnAddress) -> usize
+    requires rising { IsTrue (is_rising (bare slots.now)) }
     requires up_to { IsUpTo slots.now address last }
     requires above { AreAbove slots.now address (last + 2 * half) }
     requires small { last + 2 * half ≤ 4096 }

@@ -1,78 +1,58 @@
-//! Removing the slots that have expired. Their lists of numbers are kept for slots to come.
+//! Removing slots. Their rows are free for slots to come.
 
-ghost use Rattle.std.specs.Prelude.{◌≡◌, ◌≤◌, ◌+◌, ℕ, All, filter, take, nat_lt};
-ghost use Rattle.std.specs.Prelude.{vec_len, vec_capacity};
-ghost use Rattle.its_loctable.specs.Spare.{HasLimit, IsSpare};
+ghost use Rattle.std.specs.Prelude.{◌≡◌, ◌≤◌, ◌+◌, ℕ, [], All, filter, nat_lt, vec_len, vec_capacity};
+ghost use Rattle.its_loctable.specs.Rows.{HasRow, IsRow, AreOwned};
 
-use crate::slot::Slot;
-use its_duplicates::Recent;
+use super::slot::SortedSlot;
 
-/// A moment before which no slot expires.
-pub fn first_end(slots: &[Slot]) -> u64
-    ensures { All (λ s. result ≤ s.until) slots.now }
+/// Removes the slots that have expired, and returns a moment before which none of the others does.
+pub fn sweep(slots: &mut Vec<SortedSlot>, free: &mut Vec<u16>, now: u64) -> u64
+    requires room { vec_len slots.old + vec_len free.old ≤ vec_capacity free.old }
+    ensures items { slots.new.items ≡ filter (λ s. nat_lt now s.until) slots.old.items }
+    ensures ends { All (λ s. result ≤ s.until) slots.new.items }
+    ensures total { vec_len slots.new + vec_len free.new ≡ vec_len slots.old + vec_len free.old }
+    ensures capacity { vec_capacity slots.new ≡ vec_capacity slots.old }
+    ensures free_capacity { vec_capacity free.new ≡ vec_capacity free.old }
+    ensures rows { (n len : ℕ) → All (HasRow n len) slots.old.items →
+        All (IsRow n len) free.old.items →
+        All (IsRow n len) free.new.items }
+    ensures owned { AreOwned slots.old.items free.old.items →
+        AreOwned slots.new.items free.new.items }
 {
+    let mut kept = 0;
     let mut end = u64::MAX;
-    for slot in slots {
-        end = end.min(slot.until);
+    for i in 0..slots.len() {
+        let slot = slots[i];
+        let until = slot.until;
+        let row = slot.row;
+        if now < until {
+            slots[kept] = slot;
+            kept += 1;
+            end = end.min(until);
+        } else {
+            free.push_reserved(row);
+        }
     }
+    slots.truncate(kept);
     end
 }
 
-/// Removes the slots that have expired.
-pub fn sweep(slots: &mut Vec<Slot>, spare: &mut Vec<Recent>, now: u64)
-    requires room { vec_len slots.old + vec_len spare.old ≤ vec_capacity spare.old }
-    ensures items { slots.new.items ≡ filter (λ s. nat_lt now s.until) slots.old.items }
-    ensures total { vec_len slots.new + vec_len spare.new ≡ vec_len slots.old + vec_len spare.old }
+/// Removes all slots.
+pub fn remove_all(slots: &mut Vec<SortedSlot>, free: &mut Vec<u16>)
+    requires room { vec_len slots.old + vec_len free.old ≤ vec_capacity free.old }
+    ensures items { slots.new.items ≡ [] }
+    ensures total { vec_len slots.new + vec_len free.new ≡ vec_len slots.old + vec_len free.old }
     ensures capacity { vec_capacity slots.new ≡ vec_capacity slots.old }
-    ensures spare_capacity { vec_capacity spare.new ≡ vec_capacity spare.old }
-    ensures empty { (limit : ℕ) → All (HasLimit limit) slots.old.items →
-        All (IsSpare limit) spare.old.items →
-        All (IsSpare limit) spare.new.items }
+    ensures free_capacity { vec_capacity free.new ≡ vec_capacity free.old }
+    ensures rows { (n len : ℕ) → All (HasRow n len) slots.old.items →
+        All (IsRow n len) free.old.items →
+        All (IsRow n len) free.new.items }
+    ensures owned { AreOwned slots.old.items free.old.items →
+        AreOwned slots.new.items free.new.items }
 {
-    let kept = pack(slots, now);
-    retire(slots, spare, kept);
-}
-
-/// Moves the live slots to the front in their order, and returns how many they are.
-fn pack(slots: &mut Vec<Slot>, now: u64) -> usize
-    ensures packed { take result slots.new.items
-        ≡ filter (λ s. nat_lt now s.until) slots.old.items }
-    ensures bound { result ≤ vec_len slots.new }
-    ensures len { vec_len slots.new ≡ vec_len slots.old }
-    ensures capacity { vec_capacity slots.new ≡ vec_capacity slots.old }
-    ensures limits { (limit : ℕ) → All (HasLimit limit) slots.old.items →
-        All (HasLimit limit) slots.new.items }
-{
-    let mut kept = 0;
-    for i in 0..slots.len() {
-        if now < slots[i].until {
-            // A slot that stands in its place already is not copied.
-            if kept < i {
-                slots.swap(kept, i);
-            }
-            kept += 1;
-        }
-    }
-    kept
-}
-
-/// Removes the slots behind the first ones, and keeps their lists of numbers as spare ones.
-pub fn retire(slots: &mut Vec<Slot>, spare: &mut Vec<Recent>, kept: usize)
-    requires within { kept ≤ vec_len slots.old }
-    requires room { vec_len slots.old + vec_len spare.old ≤ vec_capacity spare.old }
-    ensures items { slots.new.items ≡ take kept slots.old.items }
-    ensures total { vec_len slots.new + vec_len spare.new ≡ vec_len slots.old + vec_len spare.old }
-    ensures capacity { vec_capacity slots.new ≡ vec_capacity slots.old }
-    ensures spare_capacity { vec_capacity spare.new ≡ vec_capacity spare.old }
-    ensures empty { (limit : ℕ) → All (HasLimit limit) slots.old.items →
-        All (IsSpare limit) spare.old.items →
-        All (IsSpare limit) spare.new.items }
-{
-    while slots.len() > kept {
+    while slots.len() > 0 {
         if let Some(slot) = slots.pop() {
-            let mut recent = slot.recent;
-            recent.clear();
-            spare.push_reserved(recent);
+            free.push_reserved(slot.row);
         }
     }
 }

@@ -20,6 +20,12 @@ const MANY: usize = 1000;
 /// More budgets than a list of eight numbers needs, and fewer than the allocation of a map.
 const A_GROWTH: usize = 8;
 
+/// What a source with one number takes: its slot, its number, and its row where that is free.
+const A_SOURCE: usize = 48 + 2 + 2;
+
+/// What an allocation costs at most beside its octets.
+const AN_ALLOCATION: usize = 32;
+
 /// What is looked up of a source.
 fn asked(address: u64) -> Result<Asked, Fail> {
     Ok(Asked {
@@ -168,8 +174,8 @@ fn the_sorted_table_takes_no_memory(rt: HostRuntime) -> Result<(), Fail> {
     Ok(())
 }
 
-/// A table in order of addresses takes all its memory when it is made: for its slots, for its spare
-/// lists and for each list.
+/// A table in order of addresses takes all its memory when it is made: for its slots, for all
+/// numbers and for the rows that are free.
 #[test]
 fn a_sorted_table_is_refused_at_each_allocation(rt: HostRuntime) -> Result<(), Fail> {
     let mut shortage = Shortage::new(rt.alloc())?;
@@ -182,6 +188,17 @@ fn a_sorted_table_is_refused_at_each_allocation(rt: HostRuntime) -> Result<(), F
         refused = step + 1;
     }
     assert!(rt; A_GROWTH < refused && refused < MANY, "{refused}");
+    Ok(())
+}
+
+/// As many allocations do for any capacity: what the slots, rows and numbers of 1000 sources take,
+/// and what six allocations cost beside it, is budget enough.
+#[test]
+fn a_sorted_table_is_made_by_at_most_six_allocations(rt: HostRuntime) -> Result<(), Fail> {
+    let mut shortage = Shortage::new(rt.alloc())?;
+    assert!(rt; shortage.leave(1000 * A_SOURCE + 6 * AN_ALLOCATION));
+    let store = SortedTable::empty(rt.alloc(), 1000, 1)?;
+    assert!(rt; store.capacity() == 1000);
     Ok(())
 }
 

@@ -16,6 +16,7 @@ loop-number-init g c =
     let configs = map config_of c.args.configs.now in
     record {
       due = c.in_ok-run.ensures.due;
+      standings = c.in_ok-run.ensures.standings;
       ranges = c.in_ok-run.ensures.ranges;
       run = λ took. (
         [],
@@ -33,6 +34,7 @@ loop-number-preserved g c =
           subst (λ (d : Vec (Bor Event) Global).
           AreDue (map event_of c.args.events.now) (end_of c.args.air.now.until c.args.events.now) (happenings_in d.items))
           (sym due) c.loop-number.invariant.due;
+      standings = c.in_ok-go_on.ensures.standings;
       ranges =
           subst (λ (d : Vec (Bor Event) Global).
           All (λ (e : Bor Event). IsInRange e.now.what) d.items)

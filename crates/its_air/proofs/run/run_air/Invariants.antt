@@ -6,6 +6,7 @@ use Rattle.its_scenario.specs.Airs.{end_of}
 use Rattle.its_air.specs.AirRun.{AreDue}
 use Rattle.its_air.specs.Files.{happenings_due}
 use Rattle.its_air.specs.Runs.{IsUnderWay}
+use Rattle.its_air.specs.Standings.{AreStandingsOf}
 use Rattle.its_air.proofs.run.run_air.Given as goal
 
 -- the run is under way, and the events of the file are those that wait
@@ -13,6 +14,7 @@ abbrev pub invariant-loop-number : goal.invariant-loop-number
 invariant-loop-number g l =
     record {
       due : AreDue (map event_of l.events) (end_of l.air.until l.events) (happenings_due l.run.queue);
+      standings : AreStandingsOf l.run.world.stations l.run.standings.order.items;
       ranges : All (λ e. IsInRange e.now.what) l.run.queue.due.items;
       run : g.S.EventSink.Took l.fn.sink [] [] → (past : List Event)
           × IsUnderWay (map config_of l.configs) past l.run (g.S.EventSink.Took l.sink);

@@ -2,7 +2,7 @@ use Rattle.std.proofs.Common.{◌≡◌, ◌+◌, ◌-◌, ◌++◌, ◌∷◌, 
 use Rattle.std.proofs.Common.{length, length-set, sym, ap, ◌∙◌, refl, arith}
 use Rattle.std.proofs.lemmas.Bool.{and_from, lt-ltb, le-ltb}
 use Rattle.its_model.specs.History.{Known}
-use Rattle.its_loctable.specs.Slots.{slot_known}
+use Rattle.its_loctable.specs.Sorted.{bare_known}
 use Rattle.its_loctable.proofs.PieceLemmas.{left, left-live, left-other, one_more}
 use Rattle.its_loctable.proofs.piece.gather.Goals as goal
 use Rattle.its_loctable.proofs.piece.gather.Goals.{then-now-slot+then-slot, else-now-slot}
@@ -16,7 +16,7 @@ loop-place-preserved c =
     let i = c.loop-place.place in
     let n = c.loop-place.count in
     let s = c.index-slots-place.result in
-    let k = slot_known s in
+    let k = bare_known s in
     let v = c.loop-place.invariant in
     let rest = left now slots (i + 1) in
     elim c.if-now-slot.branch [

@@ -6,8 +6,8 @@ use Rattle.its_simulation.specs.Records.{happening_in}
 use Rattle.its_simulation.proofs.Told.{told_more}
 use Rattle.its_simulation.proofs.doing.do_event.Goals as goal
 
-pub returns : goal.returns
-returns g c = λ configs events before.
+pub returns-clause-run : goal.returns-clause-run
+returns-clause-run g c = λ configs events before.
     let e = event_of c.args.event.now in
     let entry = c.in_ok-entry.entry in
     told_more configs events e c.args.world.now c.step.new.self entry

@@ -1,21 +1,24 @@
 use Rattle.std.proofs.Common.{sym, ap, ◌∙◌, ltb, is_some}
-use Rattle.its_loctable.specs.Sorted.{held}
+use Rattle.its_loctable.specs.Sorted.{known_by, bare_known, entry_by, held, bare, IsFoundAt, IsGapFor, IsStartAbove}
 use Rattle.its_loctable.proofs.EagerLemmas.{rising-true}
 use Rattle.its_loctable.proofs.SortedLemmas.{found-part, gap-entry_at, is_some-cond}
+use Rattle.its_loctable.specs.Rows.{numbers_at}
 use Rattle.its_loctable.proofs.sorted.SortedTable.is_live.Goals as goal
 
 pub returns-in-Ok : goal.returns-in-Ok
 returns-in-Ok c =
     let table = c.args.self.now in
+    let of = numbers_at table.remembered table.numbers.items in
     let slot = c.index.result.now in
     is_some-cond (ltb c.args.now slot.until) _
     ∙ sym (ap is_some
-    (found-part table.slots.items c.args.address c.in-Ok.place c.args.now slot c.index.ensures
-    (rising-true (held table.slots.items) table.rising) c.in-Ok.ensures.found.0))
+    (found-part of table.slots.items c.args.address c.in-Ok.place c.args.now slot c.index.ensures
+    (rising-true (bare table.slots.items) table.rising) c.in-Ok.ensures.found.0))
 
 pub returns-in-Err : goal.returns-in-Err
 returns-in-Err c =
     let table = c.args.self.now in
+    let of = numbers_at table.remembered table.numbers.items in
     sym (ap is_some
-    (gap-entry_at table.slots.items c.args.address _ c.args.now
-    (rising-true (held table.slots.items) table.rising) c.in-Err.ensures.absent.0))
+    (gap-entry_at of table.slots.items c.args.address _ c.args.now
+    (rising-true (bare table.slots.items) table.rising) c.in-Err.ensures.absent.0))

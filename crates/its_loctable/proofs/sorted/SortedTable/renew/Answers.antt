@@ -1,15 +1,19 @@
-use Rattle.std.proofs.Common.{◌≡◌, ◌≤◌, ◌<◌, subst, sym, ap, ◌∙◌, arith}
+use Rattle.std.proofs.Common.{◌≡◌, ◌≢◌, ℕ, ◌≤◌, ◌<◌, [], All, length, get_or, set, refl, subst}
+use Rattle.std.proofs.Common.{sym, ap, ◌∙◌, arith}
+use Rattle.std.specs.Prelude.{vec_len}
+use Rattle.std.proofs.lemmas.List.{get_or_default}
 use Rattle.std.proofs.lemmas.List.Elements.{All-set, All-weaker}
 use Rattle.its_model.specs.History.{renewed}
-use Rattle.its_loctable.specs.declared.slot.Slot.{Slot}
+use Rattle.its_loctable.specs.declared.sorted.slot.SortedSlot.{SortedSlot}
 use Rattle.its_loctable.specs.Heard.{reception}
 use Rattle.its_loctable.specs.Content.{entry_at}
-use Rattle.its_loctable.specs.Slots.{slot_known, live_slot_part}
-use Rattle.its_loctable.specs.Sorted.{slot_entry, held, IsFoundAt}
-use Rattle.its_loctable.specs.Spare.{HasLimit}
+use Rattle.its_loctable.specs.Rows.{numbers_at, IsRow, HasRow}
+use Rattle.its_loctable.specs.Sorted.{known_by, entry_by, held, bare, IsFoundAt}
 use Rattle.its_loctable.specs.Eager.{swept, upsert, is_rising}
 use Rattle.its_loctable.proofs.EagerLemmas.{rising-true, true-rising, IsRising-upsert, swept-upsert}
+use Rattle.its_loctable.proofs.RowLemmas.{distinct, replaced}
 use Rattle.its_loctable.proofs.SortedLemmas.{key, found-part, found_key, held-set, entry-after}
+use Rattle.its_loctable.proofs.SortedLemmas.{rising_by}
 use Rattle.its_loctable.proofs.sorted.SortedTable.renew.Goals as goal
 
 pub renew-requires-clause-same : goal.renew-requires-clause-same
@@ -18,58 +22,81 @@ renew-requires-clause-same c =
     ∙ found_key c.args.self.now.slots.items c.args.heard.now.vector.address c.args.place
     c.index_mut-slot.result.now c.requires.found
 
+pub renew-requires-clause-row : goal.renew-requires-clause-row
+renew-requires-clause-row c =
+    let table = c.args.self.now in
+    subst (HasRow table.remembered (vec_len table.numbers)) (sym c.index_mut-slot.ensures.value)
+    (table.rows c.args.place c.index_mut-slot.result.now
+    (omega (arith, c.requires.within, table.slots.ok.0)))
+
 pub invariant_of-self : goal.invariant_of-self
 invariant_of-self c =
     let table = c.args.self.now in
     let xs = table.slots.items in
+    let old = c.index_mut-slot.result.now in
     let next = c.renew.new.self in
+    let within : c.args.place < length xs = omega (arith, c.requires.within, table.slots.ok.0) in
     let found = subst (λ a. IsFoundAt xs a c.args.place) (sym c.renew.ensures.address)
     c.requires.found in
-    let rising = rising-true (held xs) table.rising in
-    let here : c.index_mut-slot.result.now.recent.limit ≡ table.remembered =
-    ap (λ (s : Slot). s.recent.limit) c.index_mut-slot.ensures.value
-    ∙ table.limits c.args.place c.index_mut-slot.result.now
-    (omega (arith, c.requires.within, table.slots.ok.0)) in
+    let rising = rising-true (bare xs) table.rising in
+    let here : HasRow table.remembered (vec_len table.numbers) old =
+    subst (HasRow table.remembered (vec_len table.numbers)) (sym c.index_mut-slot.ensures.value)
+    (table.rows c.args.place old within) in
+    let fits : IsRow table.remembered (vec_len table.numbers) next.row =
+    subst (IsRow table.remembered (vec_len table.numbers)) (sym c.renew.ensures.row) here.0 in
     record {
-      rising = ap is_rising (held-set xs next c.args.place rising found)
-          ∙ true-rising (upsert (held xs) (slot_entry next))
-          (IsRising-upsert (held xs) (slot_entry next) rising);
+      rising = ap is_rising (held-set (λ _. []) (λ _. []) xs next c.args.place rising found
+          (λ k d lt other. refl))
+          ∙ true-rising (upsert (bare xs) (entry_by (λ _. []) next))
+          (IsRising-upsert (bare xs) (entry_by (λ _. []) next) rising);
       total = table.total;
       room = table.room;
-      spare_room = table.spare_room;
-      limits = All-set (HasLimit table.remembered) xs c.args.place next
-          (c.renew.ensures.limit ∙ here) table.limits;
-      empty = table.empty;
-      ends = All-set (λ (s : Slot). c.min-self.result ≤ s.until) xs c.args.place next
+      free_room = table.free_room;
+      some = table.some;
+      rows = subst (λ n. All (HasRow table.remembered n) (set xs c.args.place next))
+          (sym c.renew.ensures.len)
+          (All-set (HasRow table.remembered (vec_len table.numbers)) xs c.args.place next
+          (fits, c.renew.ensures.few) table.rows);
+      free_rows = subst (λ n. All (IsRow table.remembered n) table.free.items)
+          (sym c.renew.ensures.len) table.free_rows;
+      owned = replaced xs table.free.items c.args.place next old within c.renew.ensures.row
+          c.index_mut-slot.ensures.value table.owned;
+      ends = All-set (λ (s : SortedSlot). c.min-self.result ≤ s.until) xs c.args.place next
           (omega (arith, c.min-self.ensures))
-          (All-weaker (λ (s : Slot). table.first_end ≤ s.until)
-          (λ (s : Slot). c.min-self.result ≤ s.until)
+          (All-weaker (λ (s : SortedSlot). table.first_end ≤ s.until)
+          (λ (s : SortedSlot). c.min-self.result ≤ s.until)
           (λ s le. omega (arith, c.min-self.ensures)) xs table.ends);
     }
 
 pub returns-clause-content : goal.returns-clause-content
 returns-clause-content c =
     let table = c.args.self.now in
+    let of = numbers_at table.remembered table.numbers.items in
+    let after = numbers_at table.remembered c.renew.new.numbers.items in
     let xs = table.slots.items in
     let next = c.renew.new.self in
     let old = c.index_mut-slot.result.now in
     let r = reception c.args.now c.args.heard.now in
-    let found = subst (λ a. IsFoundAt xs a c.args.place) (sym c.renew.ensures.address)
-    c.requires.found in
-    let rising = rising-true (held xs) table.rising in
+    let place = c.args.place in
+    let within : place < length xs = omega (arith, c.requires.within, table.slots.ok.0) in
+    let found = subst (λ a. IsFoundAt xs a place) (sym c.renew.ensures.address) c.requires.found in
+    let rising = rising-true (bare xs) table.rising in
     let live : c.args.now < next.until = omega (arith, c.renew.ensures.until) in
-    let here : old.recent.limit ≡ table.remembered =
-    ap (λ (s : Slot). s.recent.limit) c.index_mut-slot.ensures.value ∙ table.limits c.args.place old
-    (omega (arith, c.requires.within, table.slots.ok.0)) in
-    let part = found-part xs c.args.heard.now.vector.address c.args.place c.args.now old
+    let same : (k : ℕ) (d : SortedSlot) → k < length xs → k ≢ place
+    → after (get_or xs k d) ≡ of (get_or xs k d) = (λ k d lt other.
+    c.renew.ensures.others (get_or xs k d)
+    (λ e. distinct xs table.free.items place k d table.owned within lt other
+    (e ∙ sym (ap (λ (s : SortedSlot). s.row)
+    (get_or_default xs place d old within ∙ sym c.index_mut-slot.ensures.value))))
+    (table.rows k d lt).1) in
+    let part = found-part of xs c.args.heard.now.vector.address place c.args.now old
     c.index_mut-slot.ensures.value rising c.requires.found in
-    let known : slot_known next
-    ≡ renewed table.remembered (entry_at (held xs) c.args.heard.now.vector.address c.args.now)
+    let known : known_by after next
+    ≡ renewed table.remembered (entry_at (held of xs) c.args.heard.now.vector.address c.args.now)
     r =
-    c.renew.ensures.known ∙ ap (λ n. renewed n (live_slot_part c.args.now old) r) here
-    ∙ ap (λ o. renewed table.remembered o r) (sym part) in
-    ap (swept c.args.now) (held-set xs next c.args.place rising found)
-    ∙ swept-upsert c.args.now (held xs) (slot_entry next) live rising
-    ∙ ap (upsert (swept c.args.now (held xs)))
-    (entry-after table.remembered (held xs) next c.args.now c.args.heard.now
+    c.renew.ensures.known ∙ ap (λ o. renewed table.remembered o r) (sym part) in
+    ap (swept c.args.now) (held-set of after xs next place rising found same)
+    ∙ swept-upsert c.args.now (held of xs) (entry_by after next) live (rising_by of xs rising)
+    ∙ ap (upsert (swept c.args.now (held of xs)))
+    (entry-after after table.remembered (held of xs) next c.args.now c.args.heard.now
     c.renew.ensures.address known c.renew.ensures.until)

@@ -2,8 +2,8 @@ use Rattle.std.proofs.Common.{◌≡◌, ◌+◌, ◌*◌, ◌<◌, ℕ, Bool, t
 use Rattle.std.proofs.Common.{nat_cmp, refl, sym, subst, ◌∙◌, arith}
 use Rattle.std.proofs.lemmas.Bool.{ltb-true}
 use Rattle.std.proofs.lemmas.Bool.Decides.{nat_tests}
-use Rattle.its_loctable.specs.declared.slot.Slot.{Slot}
-use Rattle.its_loctable.specs.Sorted.{held, AreAbove}
+use Rattle.its_loctable.specs.declared.sorted.slot.SortedSlot.{SortedSlot}
+use Rattle.its_loctable.specs.Sorted.{bare, AreAbove}
 use Rattle.its_loctable.proofs.EagerLemmas.{rising-true}
 use Rattle.its_loctable.proofs.SortedLemmas.{key, above_from, above_later}
 use Rattle.its_loctable.proofs.sorted.halving.halve.Goals as goal
@@ -11,7 +11,7 @@ use Rattle.its_loctable.proofs.sorted.halving.halve.Goals as goal
 le-false : (m n : ℕ) → is_le (nat_cmp m n) ≡ false → n < m
 le-false m n e = grind (arith, nat_tests)
 
-chosen : (xs : List Slot) (a last half : ℕ) (b : Bool) → AreAbove xs a (last + 2 * half)
+chosen : (xs : List SortedSlot) (a last half : ℕ) (b : Bool) → AreAbove xs a (last + 2 * half)
     → (b ≡ false → AreAbove xs a (last + half)) → AreAbove xs a (cond b (last + half) last + half)
 chosen xs a last half true above rest =
     above_later xs a (last + 2 * half) (last + half + half) (omega arith) above
@@ -29,5 +29,5 @@ returns-clause-above c =
     in omega (arith, more, c.address.ensures)) in
     subst (λ n. AreAbove xs a (n + c.args.half)) (sym c.select_unpredictable.ensures)
     (chosen xs a c.args.last c.args.half c.le.result c.requires.above
-    (λ e. above_from xs a middle middle slot (rising-true (held xs) c.requires.rising) within
+    (λ e. above_from xs a middle middle slot (rising-true (bare xs) c.requires.rising) within
     c.in-Some.ensures.lookup.1 (after e) (omega arith)))

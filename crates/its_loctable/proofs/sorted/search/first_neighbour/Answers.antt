@@ -1,6 +1,6 @@
 use Rattle.std.proofs.Common.{◌≡◌, ◌&&◌, true, false, Bool, find, ltb, sym, ap, ◌∙◌}
 use Rattle.std.proofs.lemmas.Bool.{and_from, lt-ltb, le-ltb}
-use Rattle.its_loctable.specs.declared.slot.Slot.{Slot}
+use Rattle.its_loctable.specs.declared.sorted.slot.SortedSlot.{SortedSlot}
 use Rattle.its_loctable.proofs.ListLemmas.{drop_past, find_here, find_after}
 use Rattle.its_loctable.proofs.sorted.search.first_neighbour.Goals as goal
 
@@ -14,7 +14,7 @@ loop-place-preserved c =
       | goal.else-now-slot-via-else-now-slot w ↦ ap (λ b. b && slot.neighbour)
           (le-ltb _ _ w.if-now-slot.false)
     ] in
-    sym (find_after (λ (s : Slot). ltb c.args.now s.until && s.neighbour) c.args.slots.now
+    sym (find_after (λ (s : SortedSlot). ltb c.args.now s.until && s.neighbour) c.args.slots.now
     c.loop-place.place slot c.loop-place-test.true c.index-slots-place.is fails)
     ∙ c.loop-place.invariant
   where
@@ -25,12 +25,12 @@ loop-place-preserved c =
 pub returns-then-slot : goal.returns-then-slot
 returns-then-slot c =
     let slot = c.index-slots-place.result in
-    sym (find_here (λ (s : Slot). ltb c.args.now s.until && s.neighbour) c.args.slots.now
+    sym (find_here (λ (s : SortedSlot). ltb c.args.now s.until && s.neighbour) c.args.slots.now
     c.loop-place.place slot c.loop-place-test.true c.index-slots-place.is
     (and_from (ltb c.args.now slot.until) slot.neighbour (lt-ltb _ _ c.if-now-slot.true)
     c.if-slot.true)) ∙ c.loop-place.invariant
 
 pub returns : goal.returns
-returns c = sym (ap (find (λ (s : Slot). ltb c.args.now s.until && s.neighbour))
+returns c = sym (ap (find (λ (s : SortedSlot). ltb c.args.now s.until && s.neighbour))
     (drop_past c.args.slots.now c.loop-place.place c.loop-place-test.false))
     ∙ c.loop-place.invariant

@@ -1,5 +1,5 @@
 use Rattle.std.proofs.Common.{◌≡◌, subst, suc, ◌+◌, Some, arith}
-use Rattle.its_loctable.specs.Sorted.{held, IsStartAbove}
+use Rattle.its_loctable.specs.Sorted.{bare, IsStartAbove}
 use Rattle.its_loctable.proofs.EagerLemmas.{rising-true}
 use Rattle.its_loctable.proofs.SortedLemmas.{start-found, start-gap}
 use Rattle.its_loctable.proofs.sorted.search.start_past.Goals as goal
@@ -9,7 +9,7 @@ returns-in-Ok-clause-start c =
     let next : suc c.in-Ok.place ≡ c.in-Ok.place + 1 = omega arith in
     subst (λ i. IsStartAbove c.args.slots.now (Some c.args.address) i) next
     (start-found c.args.slots.now c.args.address c.in-Ok.place
-    (rising-true (held c.args.slots.now) c.requires)
+    (rising-true (bare c.args.slots.now) c.requires)
     (c.is_slot_of.ensures c.if-is_slot_of.true).0)
 
 pub returns-in-Ok-search-clause-start : goal.returns-in-Ok-search-clause-start
@@ -17,7 +17,7 @@ returns-in-Ok-search-clause-start c =
     let next : suc c.in-Ok-search.i ≡ c.in-Ok-search.i + 1 = omega arith in
     subst (λ i. IsStartAbove c.args.slots.now (Some c.args.address) i) next
     (start-found c.args.slots.now c.args.address c.in-Ok-search.i
-    (rising-true (held c.args.slots.now) c.requires) c.in-Ok-search.ensures.found.0)
+    (rising-true (bare c.args.slots.now) c.requires) c.in-Ok-search.ensures.found.0)
 
 pub returns-in-Err-clause-start : goal.returns-in-Err-clause-start
 returns-in-Err-clause-start c =

@@ -1,5 +1,82 @@
+use Rattle.std.proofs.Common.{◌≡◌, ◌≤◌, ◌<◌, ◌+◌, ◌∷◌, ◌++◌, [], ℕ, List, All, count_by, eqb, ltb}
+use Rattle.std.proofs.Common.{take, drop, set, get_or, length, sym, ap, subst, ◌∙◌, arith}
+use Rattle.std.specs.Prelude.{vec_len}
+use Rattle.std.proofs.lemmas.Bool.{lt-ltb, le-ltb}
+use Rattle.std.proofs.lemmas.List.{take_more_set, drop-set-lt, take_all, drop_all}
+use Rattle.std.proofs.lemmas.List.Elements.{All-push, All-same, All-weaker}
+use Rattle.std.proofs.lemmas.List.Filters.{FiltersInPlace, FiltersInPlace-more_set}
+use Rattle.std.proofs.lemmas.List.Filters.{FiltersInPlace-more_no, FiltersInPlace-all}
+use Rattle.std.proofs.lemmas.List.Sums.{sum_by_push, sum_by-drop_more}
+use Rattle.its_loctable.specs.declared.sorted.slot.SortedSlot.{SortedSlot}
+use Rattle.its_loctable.specs.Rows.{HasRow, IsRow}
+use Rattle.its_loctable.proofs.RowLemmas.{has, one_of, read_row}
 use Rattle.its_loctable.proofs.sorted.sweep.sweep.Goals as goal
+use Rattle.its_loctable.proofs.sorted.sweep.sweep.Goals.{then-now-until, else-now-until}
 
-pub returns-clause-empty : goal.returns-clause-empty
-returns-clause-empty c = λ limit all spares. c.retire.ensures.empty limit
-    (c.pack-kept.ensures.limits limit all) spares
+pub loop-i-preserved : goal.loop-i-preserved
+loop-i-preserved c =
+    let xs = c.loop-i.slots.items in
+    let i = c.loop-i.i in
+    let slot = c.index-slot.result.now in
+    let v = c.loop-i.invariant in
+    let within : i < length xs = omega (arith, c.loop-i-test.true, v.len, c.loop-i.slots.ok.0) in
+    elim c.if-now-until.branch [
+      | then-now-until w ↦ rw (w.slots-is, w.free-is, w.kept-is, w.end-is) (record {
+        filters = FiltersInPlace-more_set v.filters within
+            (lt-ltb _ _ w.if-now-until.true) c.index-slot.ensures;
+        len = v.len;
+        capacity = v.capacity;
+        total = omega (arith, v.total);
+        free_capacity = v.free_capacity;
+        ends = All-same (λ (s : SortedSlot). w.min-end.result ≤ s.until) _ _
+            (take_more_set xs c.loop-i.kept slot (omega (arith, within, v.filters.behind)))
+            (All-push (λ (s : SortedSlot). w.min-end.result ≤ s.until) (take c.loop-i.kept xs) slot
+            (All-weaker (λ (s : SortedSlot). c.loop-i.end ≤ s.until)
+            (λ (s : SortedSlot). w.min-end.result ≤ s.until)
+            (λ s le. omega (arith, w.min-end.ensures)) (take c.loop-i.kept xs) v.ends)
+            (omega (arith, w.min-end.ensures)));
+        rows = v.rows;
+        owned = λ row. omega (
+          arith,
+          v.owned row,
+          ap (count_by (λ (s : SortedSlot). eqb s.row row))
+              (take_more_set xs c.loop-i.kept slot (omega (arith, within, v.filters.behind))),
+          sum_by_push (has row) (take c.loop-i.kept xs) slot,
+          ap (count_by (λ (s : SortedSlot). eqb s.row row))
+              (drop-set-lt (i + 1) xs c.loop-i.kept slot (omega (arith, v.filters.behind))),
+          sum_by-drop_more (has row) xs i slot within,
+          ap (has row) c.index-slot.ensures,
+        );
+      })
+      | else-now-until w ↦ rw (w.slots-is, w.free-is, w.kept-is, w.end-is) (record {
+        filters = FiltersInPlace-more_no v.filters within
+            (le-ltb _ _ w.if-now-until.false) c.index-slot.ensures;
+        len = v.len;
+        capacity = v.capacity;
+        total = omega (arith, v.total, w.push_reserved.ensures.len);
+        free_capacity = w.push_reserved.ensures.capacity ∙ v.free_capacity;
+        ends = v.ends;
+        rows = λ n len all free. All-same (IsRow n len) _ _ w.push_reserved.ensures.items
+            (All-push (IsRow n len) c.loop-i.free.items slot.row (v.rows n len all free)
+            (read_row c.args.slots.now.items xs i n len slot v.filters.rest within
+            v.filters.long c.index-slot.ensures all));
+        owned = λ row. omega (
+          arith,
+          v.owned row,
+          sum_by-drop_more (has row) xs i slot within,
+          ap (has row) c.index-slot.ensures,
+          ap (count_by (λ r. eqb r row)) w.push_reserved.ensures.items,
+          sum_by_push (one_of row) c.loop-i.free.items slot.row,
+        );
+      })
+    ]
+
+pub returns-clause-owned : goal.returns-clause-owned
+returns-clause-owned c = λ owned row.
+    let v = c.loop-i.invariant in
+    omega (
+      arith,
+      owned row,
+      v.owned row,
+      ap (count_by (λ (s : SortedSlot). eqb s.row row)) c.truncate.ensures.items,
+    )

@@ -1,0 +1,9 @@
+use Rattle.std.proofs.Common.{take}
+use Rattle.its_air.specs.Standings.{AreStandingsOf}
+use Rattle.its_air.proofs.standing.Standings.of.Given as goal
+
+-- the first stations stand where they are
+abbrev pub invariant-loop-number : goal.invariant-loop-number
+invariant-loop-number l = record {
+  stand : AreStandingsOf (take l.number l.stations) l.order.items;
+}

@@ -1,0 +1,144 @@
+//! Where the stations of a world stand, in the order of their latitudes: who hears a frame is among
+//! those of a narrow band.
+
+ghost use Rattle.std.specs.Prelude.{◌≡◌, ◌≤◌, OnOk, IfOk, IfSome, List};
+ghost use Rattle.std.specs.Prelude.{◌==◌, filter, map, slice_get};
+ghost use Rattle.std.specs.List.{position};
+ghost use Rattle.std.specs.List.Sorted.{IsNonDecreasingBy};
+ghost use Rattle.its_station.specs.State.{StationState};
+ghost use Rattle.its_world.specs.Steps.{AreSameBut};
+ghost use Rattle.its_air.specs.Reach.{hearers, hears_there};
+ghost use Rattle.its_air.specs.Standings.{northing, AreStandingsOf, is_in_band};
+
+use crate::reach::{find_hearers, is_within};
+use its_geometry::Centre;
+use its_gnvalue::Place;
+use its_loctable::SortedTable;
+use its_station::Station;
+use std::alloc::{AllocError, Global};
+
+/// Where a station stands, by its number.
+#[derive(Clone, Copy)]
+pub struct Standing {
+    pub place: Place,
+    pub number: usize,
+}
+
+/// How far north of the south pole a place is, in tenths of a microdegree: 0 to 1800000000.
+fn northing(place: Place) -> u32
+    ensures value { result ≡ northing place }
+    ensures range { result ≤ 1800000000 }
+{
+    (place.lat() + 900_000_000).unsigned_abs()
+}
+
+/// Where all stations of a world stand, in the order of their latitudes.
+#[derive(Drop)]
+pub struct Standings {
+    order: Vec<Standing>,
+    ghost rising: { IsNonDecreasingBy (λ s. northing s.place) order.items },
+}
+
+impl Standings {
+    /// Where these stations stand, by their numbers. It takes memory for all of them.
+    pub fn of(alloc: Global, stations: &[Station<SortedTable>]) -> Result<Standings, AllocError>
+        ensures { IfOk result (λ standings. AreStandingsOf stations.now standings.order.items) }
+    {
+        let mut order = Vec::with_capacity(alloc, stations.len())?;
+        for (number, station) in stations.iter().enumerate() {
+            let place = station.vector().place();
+            order.push(Standing { place, number })?;
+        }
+        order.sort_unstable_by_key(|standing| northing(standing.place));
+        Ok(Standings { order })
+    }
+
+    /// Those in a band of latitudes, from one northing to another.
+    fn band(&self, low: u32, high: u32) -> &[Standing]
+        ensures { result.now ≡ filter (is_in_band low high) self.now.order.items }
+    {
+        let below = self
+            .order
+            .partition_point(|standing| northing(standing.place) < low);
+        let (_, above) = self.order.split_at(below);
+        let within = above.partition_point(|standing| northing(standing.place) <= high);
+        above.split_at(within).0
+    }
+
+    /// As `find_hearers`, of the stations that stand so: where few are in the band of latitudes that
+    /// is in range, they alone are looked at.
+    pub fn find_hearers(
+        &self,
+        range: u16,
+        stations: &[Station<SortedTable>],
+        giver: usize,
+        place: Place,
+        found: &mut Vec<usize>,
+    ) -> Result<(), AllocError>
+        requires { AreStandingsOf stations.now self.now.order.items }
+        ensures { OnOk result (found.new.items ≡ hearers range stations.now giver place) }
+    {
+        let north = northing(place);
+        let reach = 100 * u32::from(range);
+        let near = self.band(north.saturating_sub(reach), north + reach);
+        if near.len() >= stations.len() / FEW {
+            return find_hearers(range, stations, giver, place, found);
+        }
+        gather(range, near, giver, place, found)?;
+        found.sort_unstable();
+        Ok(())
+    }
+
+    /// The station of this number, which there is, stands at a new place from now on.
+    pub fn move_station(&mut self, number: usize, place: Place) -> Result<(), AllocError>
+        ensures { (stations new : List StationState) →
+            AreStandingsOf stations self.old.order.items →
+            AreSameBut number stations new →
+            IfSome (slice_get new number) (λ st. st.vector.place ≡ place) →
+            OnOk result (AreStandingsOf new self.new.order.items) }
+    {
+        let Some(from) = place_in(&self.order, number) else {
+            return Ok(());
+        };
+        self.order.remove(from);
+        let north = northing(place);
+        let to = self
+            .order
+            .partition_point(|standing| northing(standing.place) <= north);
+        self.order.insert(to, Standing { place, number })?;
+        Ok(())
+    }
+}
+
+/// Where the station of a number stands in these.
+fn place_in(order: &[Standing], number: usize) -> Option<usize>
+    ensures { result ≡ position (λ s. s.number == number) order.now }
+{
+    order.iter().position(|standing| standing.number == number)
+}
+
+/// One station in so many is few: to look at a part and to put it in order costs less than to look
+/// at all.
+const FEW: usize = 8;
+
+/// Those of these standings that hear what a station gives at this place, by their numbers, in the
+/// order in which they stand here.
+fn gather(
+    range: u16,
+    near: &[Standing],
+    giver: usize,
+    place: Place,
+    found: &mut Vec<usize>,
+) -> Result<(), AllocError>
+    ensures { OnOk result (found.new.items
+        ≡ map (λ s. s.number) (filter (hears_there range giver place) near.now)) }
+{
+    let centre = Centre::new(place);
+    found.clear();
+    for standing in near {
+        if standing.number != giver && is_within(range, &centre, standing.place) {
+            found.push(standing.number)?;
+        }
+    }
+    Ok(())
+}
