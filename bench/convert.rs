@@ -6,6 +6,9 @@ use std::env::args;
 use std::fs::File;
 use std::io::{BufReader, BufWriter, ErrorKind, Read, Result, Write};
 
+/// How many octets of a file are read or written at a time, as the program does.
+const FILE_BUFFER: usize = 32 * 1024;
+
 const LONGEST_FRAME: usize = 1468;
 const LONGEST_CAPTURED: u32 = 262_144;
 const PCAPNG_FRONT: [u8; 60] = [
@@ -106,8 +109,8 @@ fn main() -> Result<()> {
     if words[0] == "make" {
         return make(words[1].parse().unwrap(), &mut BufWriter::new(File::create(&words[2])?));
     }
-    let mut source = BufReader::new(File::open(&words[0])?);
-    let mut sink = BufWriter::new(File::create(&words[1])?);
+    let mut source = BufReader::with_capacity(FILE_BUFFER, File::open(&words[0])?);
+    let mut sink = BufWriter::with_capacity(FILE_BUFFER, File::create(&words[1])?);
     if words[0].ends_with(".pcap") {
         pcap_to_capture(&mut source, &mut sink)
     } else {

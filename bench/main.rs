@@ -32,6 +32,7 @@ unsafe extern "C" {
     fn bench_fill(p: *const u64, n: usize, r: u32) -> u64;
     fn bench_lookup(p: *const u64, n: usize, r: u32) -> u64;
     fn bench_remembers(p: *const u64, n: usize, r: u32) -> u64;
+    fn bench_by_mid(p: *const u64, n: usize, q: *const u64, m: usize, r: u32) -> u64;
     fn bench_walk(p: *const u64, n: usize, r: u32) -> u64;
     fn bench_choose(
         p: *const u64,
@@ -561,6 +562,21 @@ fn twin_remembers(addresses: &[u64], rounds: u32) -> u64 {
 }
 
 #[inline(never)]
+fn twin_by_mid(addresses: &[u64], picks: &[u64], rounds: u32) -> u64 {
+    let vectors = vectors_of(addresses);
+    let wanted = vectors_of(picks);
+    let table = filled(&vectors);
+    (0..rounds)
+        .map(|round| {
+            let now = (round % 8) as u64;
+            let found =
+                wanted.iter().filter_map(|v| table.by_mid(now, v.address & 0xffff_ffff_ffff));
+            found.map(|slot| slot.vector.tst as u64 + 1).sum::<u64>()
+        })
+        .sum()
+}
+
+#[inline(never)]
 fn twin_walk(addresses: &[u64], rounds: u32) -> u64 {
     let vectors = vectors_of(addresses);
     let table = filled(&vectors);
@@ -621,6 +637,18 @@ fn table_rows(count: usize) {
         true,
         |r| bench_remembers(p, l, r),
         twin_remembers(&picks, r)
+    );
+    let some = &all[..count.min(256)];
+    let (q, ql) = (some.as_ptr(), some.len());
+    let k = (200_000 / (count * ql)).max(2) as u32;
+    row!(
+        format!("by_mid, {count} sources"),
+        ql * k as usize,
+        20,
+        k,
+        true,
+        |r| bench_by_mid(u, ul, q, ql, r),
+        twin_by_mid(&all, some, r)
     );
     let k = (16384 / count) as u32;
     row!(

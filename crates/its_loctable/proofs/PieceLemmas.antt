@@ -42,7 +42,8 @@ left-other now slots i s lt is fails =
     (cond-false (ltb now s.until && s.neighbour)
     (s ∷ filter (λ (s : SortedSlot). ltb now s.until && s.neighbour) (drop (i + 1) slots)) _ fails)
 
-pub left-past : (now : ℕ) (slots : List SortedSlot) (i : ℕ) → length slots ≤ i → left now slots i ≡ []
+pub left-past : (now : ℕ) (slots : List SortedSlot) (i : ℕ) → length slots ≤ i
+    → left now slots i ≡ []
 left-past now slots i le =
     ap (λ l. map bare_known (filter (λ (s : SortedSlot). ltb now s.until && s.neighbour) l))
     (drop_past slots i le)
@@ -102,7 +103,8 @@ filter-live of p t (x ∷ xs) = by (ltb t x.until) (p (known_by of x)) refl (fil
         (cond a (x ∷ filter (λ (s : SortedSlot). ltb t s.until) xs)
         (filter (λ (s : SortedSlot). ltb t s.until) xs)))
     by true true e rest =
-        ap (λ l. known_by of x ∷ l) rest ∙ sym (cond-true (p (known_by of x)) (known_by of x ∷ _) _ e)
+        ap (λ l. known_by of x ∷ l) rest
+        ∙ sym (cond-true (p (known_by of x)) (known_by of x ∷ _) _ e)
     by true false e rest = rest ∙ sym (cond-false (p (known_by of x)) (known_by of x ∷ _) _ e)
     by false b e rest = rest
 
@@ -132,12 +134,14 @@ filter-start now after [] zero h g = refl
 filter-start now after [] (suc i) h g = absurd g
 filter-start now after (x ∷ xs) zero h g =
     above_all now after x (filter (λ (s : SortedSlot). ltb now s.until && s.neighbour) xs)
-    (filter (λ (s : SortedSlot). ltb now s.until && is_next_neighbour after (bare_known s)) xs) true g
+    (filter (λ (s : SortedSlot). ltb now s.until && is_next_neighbour after (bare_known s)) xs) true
+    g
     (sym (filter-start now after xs 0 h.1 (start_from after x xs h.0 g)))
 filter-start now after (x ∷ xs) (suc i) h g =
     above_all now after x
     (filter (λ (s : SortedSlot). ltb now s.until && is_next_neighbour after (bare_known s)) xs)
-    (filter (λ (s : SortedSlot). ltb now s.until && is_next_neighbour after (bare_known s)) xs) false g.0
+    (filter (λ (s : SortedSlot). ltb now s.until && is_next_neighbour after (bare_known s)) xs)
+    false g.0
     refl
     ∙ filter-start now after xs i h.1 g.1
 
@@ -187,8 +191,10 @@ all_pass now after (x ∷ xs) =
         (filter (λ (s : SortedSlot). ltb now s.until && is_next_neighbour after (bare_known s)) xs))
         → All (λ (k : Known). is_above after k.vector.address ≡ true)
         (map bare_known (cond (a && (b && d))
-        (x ∷ filter (λ (s : SortedSlot). ltb now s.until && is_next_neighbour after (bare_known s)) xs)
-        (filter (λ (s : SortedSlot). ltb now s.until && is_next_neighbour after (bare_known s)) xs)))
+        (x ∷ filter (λ (s : SortedSlot). ltb now s.until && is_next_neighbour after (bare_known s))
+        xs)
+        (filter (λ (s : SortedSlot). ltb now s.until && is_next_neighbour after (bare_known s))
+        xs)))
     by true true true e rest =
         All-cons (λ (k : Known). is_above after k.vector.address ≡ true) (bare_known x)
         (map bare_known

@@ -3,17 +3,17 @@
 use Rattle.std.proofs.Common.{◌≡◌, ◌≢◌, ℕ, suc, zero, ◌+◌, ◌-◌, ◌*◌, ◌<◌, ◌≤◌, Bool, true, false}
 use Rattle.std.proofs.Common.{cond, List, [], ◌∷◌, ◌++◌, All, refl, sym, ap, subst, ◌∙◌, eqb, take}
 use Rattle.std.proofs.Common.{drop, set, get_or, length, length-take, length-drop, ⊎_elim, arith}
-use Rattle.std.proofs.Common.{count_by, append_assoc, inl, inr, ◌⊎◌, Some}
+use Rattle.std.proofs.Common.{count_by, append_assoc, inl, inr, ◌⊎◌}
 use Rattle.std.specs.Prelude.{insert}
 use Rattle.std.specs.List.{copy_within}
 use Rattle.std.proofs.lemmas.Bool.{cases_lt, cases_eq, eq-eqb, ne_eqb, cond-true}
 use Rattle.std.proofs.lemmas.Bool.{cond-false}
-use Rattle.std.proofs.lemmas.List.{take_all, take_at, drop_at, take-take, take-append-drop, take_more}
+use Rattle.std.proofs.lemmas.List.{take_all, take_at, drop_at, take-take, take-append-drop}
+use Rattle.std.proofs.lemmas.List.{take_more}
 use Rattle.std.proofs.lemmas.List.{take-append-le, drop-append-le, drop-drop, set_at, length-append}
 use Rattle.std.proofs.lemmas.List.{get_or-drop}
 use Rattle.std.proofs.lemmas.List.Sums.{sum_by-cons, get_or-le-sum_by, sum_by_push}
-use Rattle.std.proofs.lemmas.List.Sums.{sum_by-insert, sum_by-set, sum_by-drop_more}
-use Rattle.its_model.specs.History.{with_number}
+use Rattle.std.proofs.lemmas.List.Sums.{sum_by-insert, sum_by-set}
 use Rattle.its_loctable.specs.declared.sorted.slot.SortedSlot.{SortedSlot}
 use Rattle.its_loctable.specs.Rows.{numbers_at, IsRow, HasRow, AreOthersKept, AreOwned, put_before}
 
@@ -30,7 +30,8 @@ put_is flat start kept n lt =
     (take_more flat start n (omega arith))
     ∙ ap (λ l. set l start n) (append_assoc (take start flat) (y ∷ [])
     (take kept (drop start flat) ++ drop (start + 1 + kept) flat))
-    ∙ set_at (take start flat) y (take kept (drop start flat) ++ drop (start + 1 + kept) flat) n start
+    ∙ set_at (take start flat) y (take kept (drop start flat) ++ drop (start + 1 + kept) flat) n
+    start
     (length_taken start flat (omega arith))
     ∙ ap (λ m. take start flat ++ n ∷ (take kept (drop start flat) ++ drop m flat)) same
   where
@@ -43,7 +44,8 @@ pub put_moved : (flat : List ℕ) (start kept : ℕ)
 put_moved flat start kept =
     append_assoc (take (start + 1) flat) (take (start + kept - start) (drop start flat))
     (drop (start + 1 + (start + kept - start)) flat)
-    ∙ ap (λ n. take (start + 1) flat ++ (take n (drop start flat) ++ drop (start + 1 + n) flat)) same
+    ∙ ap (λ n. take (start + 1) flat ++ (take n (drop start flat) ++ drop (start + 1 + n) flat))
+    same
   where
     same : start + kept - start ≡ kept
     same = omega arith
@@ -79,7 +81,8 @@ noted flat start count kept remember n fits le some few fewer whole full =
 
     same : take (remember - 1) (take count (drop start flat)) ≡ take kept (drop start flat)
     same = ⊎_elim
-        (λ (e : count ≡ remember). take-take (remember - 1) count (drop start flat) (omega (arith, e))
+        (λ (e : count ≡ remember). take-take (remember - 1) count (drop start flat)
+        (omega (arith, e))
         ∙ ap (λ m. take m (drop start flat)) (omega (arith, e, full (omega (arith, e)))))
         (λ (e : count ≢ remember). take_all (remember - 1) (take count (drop start flat))
         (omega (arith, e, length_taken count (drop start flat) (omega (arith, long))))

@@ -1,6 +1,7 @@
 -- The sequence numbers of many sources in one flat list: a row for each source, and in a row the
 -- newest number first.
-use Rattle.std.specs.Prelude.{◌≡◌, ◌≢◌, ℕ, ◌+◌, ◌*◌, ◌≤◌, ◌==◌, List, ◌∷◌, ◌++◌, take, drop, count_by}
+use Rattle.std.specs.Prelude.{◌≡◌, ◌≢◌, ℕ, ◌+◌, ◌*◌, ◌≤◌, ◌==◌}
+use Rattle.std.specs.Prelude.{List, ◌∷◌, ◌++◌, take, drop, count_by}
 use Rattle.its_loctable.specs.declared.sorted.slot.SortedSlot.{SortedSlot}
 
 -- the numbers of a slot, of rows of a length

@@ -56,5 +56,5 @@ IsUpTo slots address i = (i ≡ 0) ⊎ ((i < length slots)
 
 -- the slots from a place on come after the address
 abbrev pub AreAbove : List SortedSlot → ℕ → ℕ → Type 0
-AreAbove slots address n =
-    (i : ℕ) (d : SortedSlot) → n ≤ i → i < length slots → address < (get_or slots i d).vector.address
+AreAbove slots address n = (i : ℕ) (d : SortedSlot) → n ≤ i → i < length slots
+    → address < (get_or slots i d).vector.address

@@ -153,7 +153,8 @@ impl SortedSlot {
     pub fn remembers(&self, numbers: &Vec<u16>, remembered: u8, number: u16) -> bool
         requires { HasRow remembered (vec_len numbers.now) self.now }
         ensures { result
-            ≡ has_number (Some (known_by (numbers_at remembered numbers.now.items) self.now)) number }
+            ≡ has_number (Some (known_by (numbers_at remembered numbers.now.items) self.now))
+            number }
     {
         let start = start_of(self.row, remembered);
         numbers[start..start + self.count as usize]

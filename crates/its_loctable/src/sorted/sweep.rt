@@ -1,6 +1,7 @@
 //! Removing slots. Their rows are free for slots to come.
 
-ghost use Rattle.std.specs.Prelude.{◌≡◌, ◌≤◌, ◌+◌, ℕ, [], All, filter, nat_lt, vec_len, vec_capacity};
+ghost use Rattle.std.specs.Prelude.{◌≡◌, ◌≤◌, ◌+◌, ℕ, [], All, filter, nat_lt};
+ghost use Rattle.std.specs.Prelude.{vec_len, vec_capacity};
 ghost use Rattle.its_loctable.specs.Rows.{HasRow, IsRow, AreOwned};
 
 use super::slot::SortedSlot;
@@ -26,7 +27,10 @@ pub fn sweep(slots: &mut Vec<SortedSlot>, free: &mut Vec<u16>, now: u64) -> u64
         let until = slot.until;
         let row = slot.row;
         if now < until {
-            slots[kept] = slot;
+            // A slot that stands in its place already is not copied.
+            if kept < i {
+                slots[kept] = slot;
+            }
             kept += 1;
             end = end.min(until);
         } else {

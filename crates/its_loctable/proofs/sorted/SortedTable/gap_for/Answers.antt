@@ -1,5 +1,4 @@
 use Rattle.its_loctable.proofs.SortedLemmas.{absent-found}
-use Rattle.its_loctable.specs.Rows.{numbers_at}
 use Rattle.its_loctable.proofs.sorted.SortedTable.gap_for.Goals as goal
 
 pub returns-in-Ok-clause-gap : goal.returns-in-Ok-clause-gap

@@ -5,13 +5,13 @@ use Rattle.std.proofs.lemmas.List.Sums.{length-filter}
 use Rattle.its_loctable.specs.declared.sorted.slot.SortedSlot.{SortedSlot}
 use Rattle.its_loctable.proofs.ListLemmas.{has_place}
 use Rattle.its_loctable.proofs.SortedLemmas.{filter-lasting}
-use Rattle.its_loctable.specs.Rows.{numbers_at}
+use Rattle.its_loctable.specs.Kept.{numbers_of}
 use Rattle.its_loctable.proofs.sorted.SortedTable.has_place.Goals as goal
 
 pub returns-then-self-now-clause-place : goal.returns-then-self-now-clause-place
 returns-then-self-now-clause-place c =
     let table = c.args.self.now in
-    let of = numbers_at table.remembered table.numbers.items in
+    let of = numbers_of table in
     let xs = table.slots.items in
     let none = eqb-true _ _ (sym c.is_empty.ensures ∙ c.if-not-is_empty.false) in
     let many : table.capacity ≤ length xs = omega (arith, none, table.total, table.slots.ok.0) in
@@ -25,7 +25,7 @@ returns-then-self-now-clause-place c =
 pub returns-else-self-now-clause-place : goal.returns-else-self-now-clause-place
 returns-else-self-now-clause-place c =
     let table = c.args.self.now in
-    let of = numbers_at table.remembered table.numbers.items in
+    let of = numbers_of table in
     let xs = table.slots.items in
     let none = eqb-true _ _ (sym c.is_empty.ensures ∙ c.if-not-is_empty.false) in
     let all : length xs ≡ count_by (λ (s : SortedSlot). ltb c.args.now s.until) xs =

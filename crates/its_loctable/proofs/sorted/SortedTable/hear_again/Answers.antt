@@ -1,16 +1,16 @@
 use Rattle.std.proofs.Common.{◌<◌, ◌≤◌, length, true, false, refl, ap, sym, ◌∙◌, arith}
 use Rattle.its_loctable.specs.Heard.{is_noted}
-use Rattle.its_loctable.specs.Sorted.{known_by, bare_known, entry_by, held, bare, IsFoundAt, IsGapFor, IsStartAbove}
+use Rattle.its_loctable.specs.Sorted.{held, bare}
 use Rattle.its_loctable.proofs.EagerLemmas.{rising-true}
 use Rattle.its_loctable.proofs.SortedLemmas.{found-part, found-room}
 use Rattle.its_loctable.proofs.VerdictLemmas.{eager_verdict-by}
-use Rattle.its_loctable.specs.Rows.{numbers_at}
+use Rattle.its_loctable.specs.Kept.{numbers_of}
 use Rattle.its_loctable.proofs.sorted.SortedTable.hear_again.Goals as goal
 
 pub returns-then-repeats-clause-answer : goal.returns-then-repeats-clause-answer
 returns-then-repeats-clause-answer c =
     let table = c.args.self.now in
-    let of = numbers_at table.remembered table.numbers.items in
+    let of = numbers_of table in
     let xs = table.slots.items in
     let part = found-part of xs c.args.heard.now.vector.address c.args.place c.args.now
     c.index.result.now c.index.ensures (rising-true (bare xs) table.rising) c.requires.found in
@@ -21,7 +21,7 @@ returns-then-repeats-clause-answer c =
 pub returns-clause-answer : goal.returns-clause-answer
 returns-clause-answer c =
     let table = c.args.self.now in
-    let of = numbers_at table.remembered table.numbers.items in
+    let of = numbers_of table in
     let xs = table.slots.items in
     let a = c.args.heard.now.vector.address in
     let rising = rising-true (bare xs) table.rising in

@@ -8,6 +8,7 @@ use Rattle.its_model.specs.History.{renewed}
 use Rattle.its_loctable.specs.declared.sorted.slot.SortedSlot.{SortedSlot}
 use Rattle.its_loctable.specs.Heard.{reception}
 use Rattle.its_loctable.specs.Content.{entry_at}
+use Rattle.its_loctable.specs.Kept.{numbers_of}
 use Rattle.its_loctable.specs.Rows.{numbers_at, IsRow, HasRow, AreOwned}
 use Rattle.its_loctable.specs.Sorted.{known_by, entry_by, held, bare, IsGapFor}
 use Rattle.its_loctable.specs.Eager.{swept, upsert, is_rising}
@@ -25,8 +26,8 @@ gap_for-place-requires c =
     let after = c.sweep_if_due.new.self in
     subst (λ a. All (λ (s : SortedSlot). key s ≢ a) after.slots.items)
     (sym c.address.ensures)
-    (absent-swept (numbers_at table.remembered table.numbers.items)
-    (numbers_at after.remembered after.numbers.items) c.args.now table.slots.items
+    (absent-swept (numbers_of table)
+    (numbers_of after) c.args.now table.slots.items
     after.slots.items c.args.heard.now.vector.address c.sweep_if_due.ensures.content
     c.requires.absent)
 
@@ -64,7 +65,8 @@ invariant_of-self c =
     record {
       rising = ap is_rising (ap bare put ∙ held-insert (λ _. []) xs slot place gap)
           ∙ true-rising (upsert (bare xs) (entry_by (λ _. []) slot))
-          (IsRising-upsert (bare xs) (entry_by (λ _. []) slot) (rising-true (bare xs) table.rising));
+          (IsRising-upsert (bare xs) (entry_by (λ _. []) slot)
+          (rising-true (bare xs) table.rising));
       total = omega (arith, grown, fewer, table.total);
       room = omega (arith, c.insert.ensures.capacity, table.room);
       free_room = omega (arith, some.capacity, table.free_room);
@@ -103,7 +105,8 @@ invariant_of-self-in-None c =
       free_room = omega (arith, none.capacity, table.free_room);
       some = table.some;
       rows = table.rows;
-      free_rows = All-same (IsRow table.remembered (vec_len table.numbers)) _ _ free table.free_rows;
+      free_rows = All-same (IsRow table.remembered (vec_len table.numbers)) _ _ free
+          table.free_rows;
       owned = subst (λ l. AreOwned table.slots.items l) (sym free) table.owned;
       ends = table.ends;
     }
@@ -116,11 +119,11 @@ lengths of after now xs ys is = ap length (sym is) ∙ length-held after ys
 pub returns-in-Some-clause-answer : goal.returns-in-Some-clause-answer
 returns-in-Some-clause-answer c =
     let table = c.args.self.now in
-    let of = numbers_at table.remembered table.numbers.items in
+    let of = numbers_of table in
     let xs = table.slots.items in
     let a = c.args.heard.now.vector.address in
     let after = c.sweep_if_due.new.self in
-    let count = lengths of (numbers_at after.remembered after.numbers.items) c.args.now xs
+    let count = lengths of (numbers_of after) c.args.now xs
     after.slots.items c.sweep_if_due.ensures.content in
     let few : length (swept c.args.now (held of xs)) < table.capacity =
     omega (
@@ -138,12 +141,12 @@ returns-in-Some-clause-answer c =
 pub returns-in-Some-clause-accepted : goal.returns-in-Some-clause-accepted
 returns-in-Some-clause-accepted c = λ _.
     let table = c.args.self.now in
-    let of = numbers_at table.remembered table.numbers.items in
+    let of = numbers_of table in
     let es = held of table.slots.items in
     let a = c.args.heard.now.vector.address in
     let r = reception c.args.now c.args.heard.now in
     let after = c.sweep_if_due.new.self in
-    let swept_of = numbers_at after.remembered after.numbers.items in
+    let swept_of = numbers_of after in
     let new_of = numbers_at after.remembered c.first-slot.new.numbers.items in
     let xs = after.slots.items in
     let slot = c.first-slot.result in
@@ -175,11 +178,11 @@ returns-in-Some-clause-accepted c = λ _.
 pub returns-in-None-clause-answer : goal.returns-in-None-clause-answer
 returns-in-None-clause-answer c =
     let table = c.args.self.now in
-    let of = numbers_at table.remembered table.numbers.items in
+    let of = numbers_of table in
     let xs = table.slots.items in
     let a = c.args.heard.now.vector.address in
     let after = c.sweep_if_due.new.self in
-    let count = lengths of (numbers_at after.remembered after.numbers.items) c.args.now xs
+    let count = lengths of (numbers_of after) c.args.now xs
     after.slots.items c.sweep_if_due.ensures.content in
     let many : table.capacity ≤ length (swept c.args.now (held of xs)) =
     omega (
@@ -197,10 +200,10 @@ returns-in-None-clause-answer c =
 pub returns-in-None-clause-unchanged : goal.returns-in-None-clause-unchanged
 returns-in-None-clause-unchanged c = λ _.
     let table = c.args.self.now in
-    let of = numbers_at table.remembered table.numbers.items in
+    let of = numbers_of table in
     let xs = table.slots.items in
     let after = c.sweep_if_due.new.self in
-    let count = lengths of (numbers_at after.remembered after.numbers.items) c.args.now xs
+    let count = lengths of (numbers_of after) c.args.now xs
     after.slots.items c.sweep_if_due.ensures.content in
     let le : length (held of xs) ≤ length (swept c.args.now (held of xs)) =
     omega (

@@ -7,6 +7,7 @@ use Rattle.its_model.specs.History.{renewed}
 use Rattle.its_loctable.specs.declared.sorted.slot.SortedSlot.{SortedSlot}
 use Rattle.its_loctable.specs.Heard.{reception}
 use Rattle.its_loctable.specs.Content.{entry_at}
+use Rattle.its_loctable.specs.Kept.{numbers_of}
 use Rattle.its_loctable.specs.Rows.{numbers_at, IsRow, HasRow}
 use Rattle.its_loctable.specs.Sorted.{known_by, entry_by, held, bare, IsFoundAt}
 use Rattle.its_loctable.specs.Eager.{swept, upsert, is_rising}
@@ -71,7 +72,7 @@ invariant_of-self c =
 pub returns-clause-content : goal.returns-clause-content
 returns-clause-content c =
     let table = c.args.self.now in
-    let of = numbers_at table.remembered table.numbers.items in
+    let of = numbers_of table in
     let after = numbers_at table.remembered c.renew.new.numbers.items in
     let xs = table.slots.items in
     let next = c.renew.new.self in

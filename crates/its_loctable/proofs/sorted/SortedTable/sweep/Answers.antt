@@ -1,8 +1,9 @@
-use Rattle.std.proofs.Common.{◌≤◌, [], All, ltb, ap, ◌∙◌, arith}
+use Rattle.std.proofs.Common.{[], ltb, ap, ◌∙◌, arith}
 use Rattle.std.specs.Prelude.{vec_len}
 use Rattle.std.proofs.lemmas.List.Elements.{All-filter, All-same}
 use Rattle.its_loctable.specs.declared.sorted.slot.SortedSlot.{SortedSlot}
-use Rattle.its_loctable.specs.Rows.{numbers_at, HasRow}
+use Rattle.its_loctable.specs.Kept.{numbers_of}
+use Rattle.its_loctable.specs.Rows.{HasRow}
 use Rattle.its_loctable.specs.Sorted.{held, bare}
 use Rattle.its_loctable.specs.Eager.{swept, is_rising}
 use Rattle.its_loctable.proofs.EagerLemmas.{rising-true, true-rising, IsRising-swept}
@@ -33,5 +34,5 @@ invariant_of-self c =
 pub returns-clause-content : goal.returns-clause-content
 returns-clause-content c =
     let table = c.args.self.now in
-    let of = numbers_at table.remembered table.numbers.items in
+    let of = numbers_of table in
     ap (held of) c.sweep-self.ensures.items ∙ held-filter of c.args.now table.slots.items

@@ -3,16 +3,16 @@ use Rattle.std.specs.Option.{option_map, option_copied}
 use Rattle.its_loctable.specs.declared.sorted.slot.SortedSlot.{SortedSlot}
 use Rattle.its_loctable.specs.Heard.{shown}
 use Rattle.its_model.specs.Stations.{has_mid}
-use Rattle.its_loctable.specs.Sorted.{known_by, bare_known, entry_by, held, bare, IsFoundAt, IsGapFor, IsStartAbove}
+use Rattle.its_loctable.specs.Sorted.{known_by, bare_known, bare}
 use Rattle.its_loctable.proofs.EagerLemmas.{rising-true}
 use Rattle.its_loctable.proofs.SortedLemmas.{find-stations_at}
-use Rattle.its_loctable.specs.Rows.{numbers_at}
+use Rattle.its_loctable.specs.Kept.{numbers_of}
 use Rattle.its_loctable.proofs.sorted.SortedTableLocationStore.by_mid.Goals as goal
 
 pub returns : goal.returns
 returns c = λ history rep.
     let table = c.args.self.now in
-    let of = numbers_at table.remembered table.numbers.items in
+    let of = numbers_of table in
     let xs = c.args.self.now.slots.items in
     let p = λ (s : SortedSlot). ltb c.args.now s.until && has_mid c.args.mid (bare_known s) in
     let is : c.map.result

@@ -3,7 +3,8 @@ use Rattle.std.specs.Prelude.{vec_len}
 use Rattle.std.proofs.lemmas.List.Elements.{All-same, All-nil}
 use Rattle.its_loctable.specs.declared.sorted.slot.SortedSlot.{SortedSlot}
 use Rattle.its_loctable.specs.Content.{Represents}
-use Rattle.its_loctable.specs.Rows.{numbers_at, HasRow}
+use Rattle.its_loctable.specs.Kept.{numbers_of}
+use Rattle.its_loctable.specs.Rows.{HasRow}
 use Rattle.its_loctable.specs.Sorted.{held, bare}
 use Rattle.its_loctable.specs.Eager.{is_rising}
 use Rattle.its_loctable.proofs.ContentLemmas.{Represents-empty}
@@ -31,5 +32,5 @@ pub returns-clause-represents : goal.returns-clause-represents
 returns-clause-represents c =
     let table = c.args.self.now in
     subst (λ xs. Represents table.remembered
-    (held (numbers_at table.remembered table.numbers.items) xs) [] 0)
+    (held (numbers_of table) xs) [] 0)
     (sym c.remove_all.ensures.items) (Represents-empty table.remembered)

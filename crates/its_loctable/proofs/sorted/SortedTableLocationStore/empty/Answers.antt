@@ -1,4 +1,4 @@
-use Rattle.std.proofs.Common.{◌≡◌, ℕ, ◌*◌, ◌<◌, ◌≤◌, All, count_by, eqb, List, ◌+◌, subst, sym, [], ap, arith}
+use Rattle.std.proofs.Common.{◌*◌, ◌<◌, ◌≤◌, All, subst, sym, [], ap, arith}
 use Rattle.std.specs.Prelude.{vec_len}
 use Rattle.its_loctable.specs.Content.{Represents}
 use Rattle.its_loctable.specs.Rows.{numbers_at, HasRow, IsRow, AreOwned}

@@ -1,4 +1,4 @@
-use Rattle.std.proofs.Common.{◌≡◌, ◌+◌, ◌-◌, ◌<◌, ◌++◌, take, drop, set, length, ap, ◌∙◌, arith}
+use Rattle.std.proofs.Common.{set, ap, ◌∙◌, arith}
 use Rattle.its_loctable.proofs.RowLemmas.{put_is, put_moved}
 use Rattle.its_loctable.proofs.sorted.rows.put_first.Goals as goal
 

@@ -1,4 +1,4 @@
-use Rattle.std.proofs.Common.{◌≡◌, ◌≤◌, ◌+◌, ℕ, All, count_by, eqb}
+use Rattle.std.proofs.Common.{◌≡◌, ◌+◌, ℕ, All, count_by, eqb}
 use Rattle.std.specs.Prelude.{vec_len, vec_capacity}
 use Rattle.its_loctable.specs.declared.sorted.slot.SortedSlot.{SortedSlot}
 use Rattle.its_loctable.specs.Rows.{HasRow, IsRow}

@@ -1,17 +1,18 @@
-use Rattle.std.proofs.Common.{◌≡◌, ◌≤◌, ◌<◌, ◌+◌, ◌∷◌, ◌++◌, [], ℕ, List, All, count_by, eqb, ltb}
-use Rattle.std.proofs.Common.{take, drop, set, get_or, length, sym, ap, subst, ◌∙◌, arith}
-use Rattle.std.specs.Prelude.{vec_len}
+use Rattle.std.proofs.Common.{◌≤◌, ◌<◌, ◌+◌, count_by, eqb, ltb, List}
+use Rattle.std.proofs.Common.{◌≡◌, take, drop, set, length, ap, sym, subst, ◌∙◌, arith}
+use Rattle.std.specs.Prelude.{vec_len, vec_capacity}
 use Rattle.std.proofs.lemmas.Bool.{lt-ltb, le-ltb}
-use Rattle.std.proofs.lemmas.List.{take_more_set, drop-set-lt, take_all, drop_all}
+use Rattle.std.proofs.lemmas.List.{take_more_set, drop-set-lt, set-get_or}
 use Rattle.std.proofs.lemmas.List.Elements.{All-push, All-same, All-weaker}
 use Rattle.std.proofs.lemmas.List.Filters.{FiltersInPlace, FiltersInPlace-more_set}
-use Rattle.std.proofs.lemmas.List.Filters.{FiltersInPlace-more_no, FiltersInPlace-all}
+use Rattle.std.proofs.lemmas.List.Filters.{FiltersInPlace-more_no}
 use Rattle.std.proofs.lemmas.List.Sums.{sum_by_push, sum_by-drop_more}
 use Rattle.its_loctable.specs.declared.sorted.slot.SortedSlot.{SortedSlot}
-use Rattle.its_loctable.specs.Rows.{HasRow, IsRow}
+use Rattle.its_loctable.specs.Rows.{IsRow}
 use Rattle.its_loctable.proofs.RowLemmas.{has, one_of, read_row}
 use Rattle.its_loctable.proofs.sorted.sweep.sweep.Goals as goal
 use Rattle.its_loctable.proofs.sorted.sweep.sweep.Goals.{then-now-until, else-now-until}
+use Rattle.its_loctable.proofs.sorted.sweep.sweep.Goals.{then-kept-i, else-kept-i}
 
 pub loop-i-preserved : goal.loop-i-preserved
 loop-i-preserved c =
@@ -21,33 +22,57 @@ loop-i-preserved c =
     let v = c.loop-i.invariant in
     let within : i < length xs = omega (arith, c.loop-i-test.true, v.len, c.loop-i.slots.ok.0) in
     elim c.if-now-until.branch [
-      | then-now-until w ↦ rw (w.slots-is, w.free-is, w.kept-is, w.end-is) (record {
-        filters = FiltersInPlace-more_set v.filters within
-            (lt-ltb _ _ w.if-now-until.true) c.index-slot.ensures;
-        len = v.len;
-        capacity = v.capacity;
-        total = omega (arith, v.total);
-        free_capacity = v.free_capacity;
-        ends = All-same (λ (s : SortedSlot). w.min-end.result ≤ s.until) _ _
-            (take_more_set xs c.loop-i.kept slot (omega (arith, within, v.filters.behind)))
-            (All-push (λ (s : SortedSlot). w.min-end.result ≤ s.until) (take c.loop-i.kept xs) slot
-            (All-weaker (λ (s : SortedSlot). c.loop-i.end ≤ s.until)
-            (λ (s : SortedSlot). w.min-end.result ≤ s.until)
-            (λ s le. omega (arith, w.min-end.ensures)) (take c.loop-i.kept xs) v.ends)
-            (omega (arith, w.min-end.ensures)));
-        rows = v.rows;
-        owned = λ row. omega (
-          arith,
-          v.owned row,
-          ap (count_by (λ (s : SortedSlot). eqb s.row row))
-              (take_more_set xs c.loop-i.kept slot (omega (arith, within, v.filters.behind))),
-          sum_by_push (has row) (take c.loop-i.kept xs) slot,
-          ap (count_by (λ (s : SortedSlot). eqb s.row row))
-              (drop-set-lt (i + 1) xs c.loop-i.kept slot (omega (arith, v.filters.behind))),
-          sum_by-drop_more (has row) xs i slot within,
-          ap (has row) c.index-slot.ensures,
-        );
-      })
+      | then-now-until w ↦ rw (w.slots-is, w.free-is, w.kept-is, w.end-is) (
+          let now_slots = w.if-kept-i.slots in
+          let same : (now_slots.items ≡ set xs c.loop-i.kept slot)
+          × ((vec_len now_slots ≡ vec_len c.loop-i.slots)
+          × (vec_capacity now_slots ≡ vec_capacity c.loop-i.slots)) =
+          elim w.if-kept-i.branch [
+            | then-kept-i u ↦ (
+              (λ j. (u.slots-is j).items),
+              ((λ j. vec_len (u.slots-is j)), (λ j. vec_capacity (u.slots-is j))),
+            )
+            | else-kept-i u ↦ (
+              (λ j. (u.slots-is j).items) ∙ sym (
+                  ap (λ k. set xs k slot) (omega (arith, v.filters.behind, u.if-kept-i.false))
+                  ∙ ap (λ s. set xs i s) c.index-slot.ensures ∙ set-get_or xs i slot),
+              ((λ j. vec_len (u.slots-is j)), (λ j. vec_capacity (u.slots-is j))),
+            )
+          ] in
+          record {
+            filters = subst (λ (l : List SortedSlot). FiltersInPlace
+                (λ (s : SortedSlot). ltb c.args.now s.until) c.args.slots.now.items l
+                (c.loop-i.kept + 1) (i + 1)) (sym same.0)
+                (FiltersInPlace-more_set v.filters within (lt-ltb _ _ w.if-now-until.true)
+                c.index-slot.ensures);
+            len = same.1.0 ∙ v.len;
+            capacity = same.1.1 ∙ v.capacity;
+            total = omega (arith, v.total);
+            free_capacity = v.free_capacity;
+            ends = All-same (λ (s : SortedSlot). w.min-end.result ≤ s.until) _ _
+                (ap (take (c.loop-i.kept + 1)) same.0
+                ∙ take_more_set xs c.loop-i.kept slot (omega (arith, within, v.filters.behind)))
+                (All-push (λ (s : SortedSlot). w.min-end.result ≤ s.until) (take c.loop-i.kept xs)
+                slot
+                (All-weaker (λ (s : SortedSlot). c.loop-i.end ≤ s.until)
+                (λ (s : SortedSlot). w.min-end.result ≤ s.until)
+                (λ s le. omega (arith, w.min-end.ensures)) (take c.loop-i.kept xs) v.ends)
+                (omega (arith, w.min-end.ensures)));
+            rows = v.rows;
+            owned = λ row. omega (
+              arith,
+              v.owned row,
+              ap (count_by (λ (s : SortedSlot). eqb s.row row))
+                  (ap (take (c.loop-i.kept + 1)) same.0
+                  ∙ take_more_set xs c.loop-i.kept slot (omega (arith, within, v.filters.behind))),
+              sum_by_push (has row) (take c.loop-i.kept xs) slot,
+              ap (count_by (λ (s : SortedSlot). eqb s.row row))
+                  (ap (drop (i + 1)) same.0
+                  ∙ drop-set-lt (i + 1) xs c.loop-i.kept slot (omega (arith, v.filters.behind))),
+              sum_by-drop_more (has row) xs i slot within,
+              ap (has row) c.index-slot.ensures,
+            );
+          })
       | else-now-until w ↦ rw (w.slots-is, w.free-is, w.kept-is, w.end-is) (record {
         filters = FiltersInPlace-more_no v.filters within
             (le-ltb _ _ w.if-now-until.false) c.index-slot.ensures;

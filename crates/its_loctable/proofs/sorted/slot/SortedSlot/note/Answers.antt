@@ -1,7 +1,7 @@
-use Rattle.std.proofs.Common.{◌≡◌, ◌+◌, ◌-◌, ◌*◌, ◌<◌, ◌≤◌, ℕ, List, length, take, drop, ap, sym, ◌∙◌}
+use Rattle.std.proofs.Common.{◌+◌, ◌*◌, ℕ, List, length, take, drop, ap, sym, ◌∙◌}
 use Rattle.std.proofs.Common.{arith}
 use Rattle.its_model.specs.History.{with_number}
-use Rattle.its_loctable.specs.Rows.{numbers_at, IsRow, AreOthersKept, put_before}
+use Rattle.its_loctable.specs.Rows.{numbers_at, IsRow, put_before}
 use Rattle.its_loctable.proofs.RowLemmas.{noted, others_kept}
 use Rattle.its_loctable.proofs.sorted.slot.SortedSlot.note.Goals as goal
 
