@@ -251,8 +251,9 @@ where
 {
     match named(rt, file, input) {
         Ok(opened) => {
-            BufReader::with_capacity(rt.alloc(), FILE_BUFFER, opened)
-                .map_err(|_| Fault::OutOfMemory(AllocError).report(err))
+            BufReader::with_capacity(rt.alloc(), FILE_BUFFER, opened).map_err(
+                |_| Fault::OutOfMemory(AllocError).report(err),
+            )
         }
         Err(error) => Err(Fault::of_read(&error, file).report(err)),
     }
@@ -281,8 +282,9 @@ where
 {
     match fs::create(rt, file) {
         Ok(created) => {
-            BufWriter::with_capacity(rt.alloc(), FILE_BUFFER, created)
-                .map_err(|_| Fault::OutOfMemory(AllocError).report(err))
+            BufWriter::with_capacity(rt.alloc(), FILE_BUFFER, created).map_err(
+                |_| Fault::OutOfMemory(AllocError).report(err),
+            )
         }
         Err(error) => Err(Fault::of_write(&error, file).report(err)),
     }

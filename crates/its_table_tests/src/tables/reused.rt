@@ -76,13 +76,22 @@ fn wraps_round<S: LocationStore>(rt: &impl Abort, mut store: S, remembered: u16)
 {
     for number in 0..2 * remembered {
         expect(rt, &mut store, 1, &heard(FIRST, Some(number))?, ACCEPTED);
-        expect(rt, &mut store, 1, &heard(FIRST + 1, Some(number + 1000))?, ACCEPTED);
+        expect(
+            rt,
+            &mut store,
+            1,
+            &heard(FIRST + 1, Some(number + 1000))?,
+            ACCEPTED,
+        );
     }
     let (first, second) = (GnAddress::from_u64(FIRST)?, GnAddress::from_u64(FIRST + 1)?);
     for number in 0..2 * remembered {
         let is_last = number >= remembered;
         assert!(rt; store.remembers(2, first, number) == is_last, "{number}");
-        assert!(rt; store.remembers(2, second, number + 1000) == is_last, "{number}");
+        assert!(rt;
+            store.remembers(2, second, number + 1000) == is_last,
+            "{number}"
+        );
         assert!(rt; !store.remembers(2, first, number + 1000), "{number}");
     }
     Ok(())
