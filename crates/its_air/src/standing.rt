@@ -117,8 +117,7 @@ fn place_in(order: &[Standing], number: usize) -> Option<usize>
     order.iter().position(|standing| standing.number == number)
 }
 
-/// One station in so many is few: to look at a part and to put it in order costs less than to look
-/// at all.
+/// One station in so many is few, and worth putting in order.
 const FEW: usize = 8;
 
 /// Those of these standings that hear what a station gives at this place, by their numbers, in the
