@@ -19,6 +19,9 @@ const MANY: usize = 1 << 20;
 /// More octets than are kept of a line and of its text, and far less than a long line has.
 const BOUND: usize = 16_000;
 
+/// More octets than an import of two short lines takes, with a buffer before a file.
+const IMPORTED: usize = 48_000;
+
 /// A text: zeros between what stands first and what stands last.
 fn text(alloc: Global, first: &str, zeros: usize, last: &str) -> Result<String, AllocError> {
     let zeros = "0".repeat(alloc, zeros)?;
@@ -185,7 +188,7 @@ fn creates_no_capture_before_all_lines_are_read(rt: HostRuntime) -> Result<(), F
     fs::write(&rt, from, "7 00ff\n8 aabbcc\n")?;
     let mut shortage = Shortage::new(alloc)?;
     let mut budgets = Budgets::new();
-    for step in 0..BOUND / STEP {
+    for step in 0..IMPORTED / STEP {
         assert!(rt; shortage.leave(step * STEP));
         let mut said = [0u8; 64];
         let mut err = said.as_mut_slice();
