@@ -21,4 +21,5 @@ pub use reader::CaptureReader;
 pub use record::{CaptureFault, LONGEST_FRAME, Record};
 pub use sink::Sink;
 pub use source::Source;
+pub use transfer::{fill, store};
 pub use writer::CaptureWriter;

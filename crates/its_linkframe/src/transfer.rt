@@ -1,4 +1,4 @@
-//! Whole buffers, in as many calls as the device needs.
+//! Whole buffers, in as many calls of a source or a sink as it needs.
 
 ghost use Rattle.std.specs.Prelude.{◌≡◌, ◌-◌, ◌^◌, ◌<◌, ◌≤◌, length, take};
 ghost use Rattle.std.specs.Prelude.{IfSome, IfNone, MatchOption};
@@ -8,9 +8,10 @@ ghost use Rattle.its_linkframe.specs.Devices.{counted, ConsumesPrefix, AppendsPr
 use crate::sink::Sink;
 use crate::source::Source;
 
-/// Reads until the buffer is full or the input ends, and says how many octets came. `None` is a
-/// failed call, after which no other is made.
-pub(crate) fn fill<S: Source>(source: &mut S, buf: &mut [u8]) -> Option<usize>
+/// Reads until the buffer is full or the input ends, and returns how many octets came. `None` is a
+/// failed call, after which no other is made. The count of the source's failed calls has to be below
+/// 2^64 - 1.
+pub fn fill<S: Source>(source: &mut S, buf: &mut [u8]) -> Option<usize>
     requires { S.failed source.old < 2 ^ 64 - 1 }
     ensures bound { IfSome result (λ n. n ≤ length buf.new) }
     ensures counts { S.failed source.new ≡ counted (S.failed source.old) result }
@@ -32,8 +33,8 @@ pub(crate) fn fill<S: Source>(source: &mut S, buf: &mut [u8]) -> Option<usize>
 }
 
 /// Writes all octets. `None` is a failed call, after which no other is made: the sink then has a
-/// prefix of the octets.
-pub(crate) fn store<S: Sink>(sink: &mut S, octets: &[u8]) -> Option<()>
+/// prefix of the octets. The count of the sink's failed calls has to be below 2^64 - 1.
+pub fn store<S: Sink>(sink: &mut S, octets: &[u8]) -> Option<()>
     requires { S.failed sink.old < 2 ^ 64 - 1 }
     ensures counts { S.failed sink.new ≡ counted (S.failed sink.old) result }
     ensures bytes { MatchOption result

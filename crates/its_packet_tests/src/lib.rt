@@ -1,4 +1,4 @@
-//! Tests of packets, frames and captures through their public calls.
+//! Tests of packets through their public calls.
 #![tactic(auto)]
 
 #[cfg(test)]

@@ -1,15 +1,10 @@
-//! Packets, frames and captures: shared vectors and checks; the tests stand in a file for each
-//! header and subject.
+//! Packets: shared vectors and checks; the tests stand in a file for each header and subject.
 
 mod area;
 mod basic_header;
-mod captures;
 mod common_header;
-mod devices;
 mod faults;
-mod frames;
 mod kinds;
-mod largest;
 mod memory;
 mod payload;
 mod position_vector;
@@ -18,6 +13,7 @@ mod relays;
 use its_geometry::Area;
 use its_gnvalue::{GnAddress, Hops, Lifetime, LongPv, NoRoom, Place, TrafficClass};
 use its_headers::{FaultKind, Header, Kind, Packet, PacketView, decode, encode_into};
+use its_vectors::put;
 use std::alloc::Global;
 use std::process::Abort;
 use std::test::Fail;
@@ -59,13 +55,6 @@ const ENDS: [u8; 63] = [
 
 /// What stands at a place instead, and the fault of the field that begins there.
 type Wrong = (usize, &'static [u8], FaultKind);
-
-/// Puts octets at a place, where they fit.
-fn put(octets: &mut [u8], at: usize, with: &[u8]) {
-    if at <= octets.len() && with.len() <= octets.len() - at {
-        octets[at..at + with.len()].copy_from_slice(with);
-    }
-}
 
 /// The first fault, as place and kind.
 fn fault_of(octets: &[u8]) -> Option<(usize, FaultKind)> {

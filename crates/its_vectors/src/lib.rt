@@ -1,4 +1,4 @@
-//! For tests: addresses, ports, frames and a scenario that tests of several crates share.
+//! For tests: addresses, ports, frames, a scenario and a call that tests of several crates share.
 #![tactic(auto)]
 
 /// The address of the first station: it is at the centre of the areas.
@@ -64,3 +64,10 @@ at = 1010
 do = \"deliver\"
 frame = 0
 ";
+
+/// Puts octets at a place, where they fit.
+pub fn put(octets: &mut [u8], at: usize, with: &[u8]) {
+    if at <= octets.len() && with.len() <= octets.len() - at {
+        octets[at..at + with.len()].copy_from_slice(with);
+    }
+}

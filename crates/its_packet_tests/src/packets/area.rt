@@ -1,7 +1,8 @@
 //! The area of a geobroadcast and of a geoanycast.
 
-use super::{ENDS, GAC, GBC, Wrong, put, refuses, returns};
+use super::{ENDS, GAC, GBC, Wrong, refuses, returns};
 use its_headers::FaultKind;
+use its_vectors::put;
 use std::test::Fail;
 
 /// The area of any shape.

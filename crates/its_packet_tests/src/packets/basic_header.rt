@@ -1,7 +1,8 @@
 //! The Basic Header: version, next header, lifetime, hops left.
 
-use super::{BEACON, GAC, GBC, SHB, Wrong, put, refuses, returns};
+use super::{BEACON, GAC, GBC, SHB, Wrong, refuses, returns};
 use its_headers::FaultKind;
+use its_vectors::put;
 use std::test::Fail;
 
 /// The Basic Header.

@@ -1,8 +1,9 @@
 //! The Common Header: next header, header type and sub-type, traffic class, flags, payload length,
 //! greatest number of hops.
 
-use super::{BEACON, ENDS, GAC, GBC, SHB, Wrong, fault_of, put, refuses, returns};
+use super::{BEACON, ENDS, GAC, GBC, SHB, Wrong, fault_of, refuses, returns};
 use its_headers::{FaultKind, Kind, PacketView};
+use its_vectors::put;
 use std::test::Fail;
 
 /// The next header and the reserved half octet after it.

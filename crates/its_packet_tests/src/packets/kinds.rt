@@ -1,11 +1,12 @@
 //! Each kind of packet, read and written whole.
 
-use super::{BEACON, ENDS, GAC, GBC, HI, SHB, has, header, put, reads, returns, writes};
+use super::{BEACON, ENDS, GAC, GBC, HI, SHB, has, header, reads, returns, writes};
 use its_geometry::Area;
 use its_gnvalue::{GnAddress, Hops, Lifetime, LongPv, Place, TrafficClass};
 use its_headers::{
     AreaPacket, Header, Kind, Packet, PacketView, Payload, SingleHopBroadcast, decode,
 };
+use its_vectors::put;
 use std::test::Fail;
 
 #[test]

@@ -1,7 +1,8 @@
 //! Payloads: their lengths, and where they stand.
 
-use super::{ENDS, GAC, GBC, SHB, fault_of, put, returns};
+use super::{ENDS, GAC, GBC, SHB, fault_of, returns};
 use its_headers::{FaultKind, LONGEST_PAYLOAD, PacketView, Payload, SHORTEST_PAYLOAD};
+use its_vectors::put;
 use std::test::Fail;
 
 #[test]

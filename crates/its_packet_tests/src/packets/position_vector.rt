@@ -1,7 +1,8 @@
 //! Long position vectors: address, timestamp, place, accuracy and speed, heading.
 
-use super::{BEACON, ENDS, GAC, GBC, SHB, Wrong, put, refuses, returns};
+use super::{BEACON, ENDS, GAC, GBC, SHB, Wrong, refuses, returns};
 use its_headers::{FaultKind, PacketView};
+use its_vectors::put;
 use std::test::Fail;
 
 /// The vector, counted from its first octet: a group MID, and places just out of range.

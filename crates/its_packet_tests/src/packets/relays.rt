@@ -1,8 +1,9 @@
 //! Packets that go on, with one hop fewer.
 
-use super::{GAC, GBC, put};
+use super::{GAC, GBC};
 use its_gnvalue::NoRoom;
 use its_headers::{PacketView, relay_into};
+use its_vectors::put;
 use std::test::Fail;
 
 #[test]

@@ -1,6 +1,6 @@
 //! Devices that are slow or fail: at each call the fault is named, and the next call answers C5.
 
-use super::captures::{beacon, capture, geobroadcast, two_records};
+use crate::captures::{beacon, capture, geobroadcast, two_records};
 use its_linkframe::{CaptureFault, CaptureReader, CaptureWriter, Counted, Sink, Source};
 use std::io;
 use std::io::{Read, Write};
@@ -8,7 +8,7 @@ use std::test::Fail;
 
 /// A device that moves at most so many octets a call, and fails once it was called so many times.
 #[derive(Drop)]
-pub(super) struct Slow<'a> {
+pub(crate) struct Slow<'a> {
     pub octets: &'a [u8],
     pub most: usize,
     pub calls: u64,

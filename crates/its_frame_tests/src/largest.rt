@@ -1,11 +1,11 @@
 //! Each call that takes memory, at the greatest size that there is: the longest payload.
 
-use super::captures::geobroadcast;
-use super::put;
+use crate::captures::geobroadcast;
 use its_headers::{LONGEST_PAYLOAD, Packet, PacketView, decode, encode_into};
 use its_linkframe::{
     CaptureReader, CaptureWriter, Counted, LONGEST_FRAME, read_frame, relay_frame, write_frame,
 };
+use its_vectors::put;
 use std::alloc::Global;
 use std::process::Abort;
 use std::test::Fail;

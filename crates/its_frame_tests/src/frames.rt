@@ -1,6 +1,6 @@
 //! Frames: addresses, type and one packet.
 
-use super::captures::{beacon, geobroadcast};
+use crate::captures::{beacon, geobroadcast};
 use its_gnvalue::Mac;
 use its_headers::{Fault, FaultKind, decode};
 use its_linkframe::{FrameFault, LONGEST_FRAME, read_frame, relay_frame, retarget, write_frame};

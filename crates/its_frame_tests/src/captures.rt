@@ -5,7 +5,7 @@ use std::alloc::Global;
 use std::test::Fail;
 
 /// A geobroadcast with the payload `hi` for port 2002, from one station to all.
-pub(super) fn geobroadcast() -> [u8; 76] {
+pub(crate) fn geobroadcast() -> [u8; 76] {
     [
         0xff, 0xff, 0xff, 0xff, 0xff, 0xff, 2, 0, 0, 0, 0, 1, 0x89, 0x47, 0x11, 0, 0x1a, 0x0a,
         0x20, 0x40, 0, 0x80, 0, 6, 0x0a, 0, 0, 0, 0, 0, 0x14, 0, 2, 0, 0, 0, 0, 1, 0, 0, 0, 0, 0,
@@ -15,7 +15,7 @@ pub(super) fn geobroadcast() -> [u8; 76] {
 }
 
 /// A beacon of the same station.
-pub(super) fn beacon() -> [u8; 50] {
+pub(crate) fn beacon() -> [u8; 50] {
     [
         0xff, 0xff, 0xff, 0xff, 0xff, 0xff, 2, 0, 0, 0, 0, 1, 0x89, 0x47, 0x11, 0, 0x1a, 1, 0,
         0x10, 0, 0x80, 0, 0, 1, 0, 0x14, 0, 2, 0, 0, 0, 0, 1, 0, 0, 0, 0, 0, 0, 0, 0, 0, 0, 0, 0,
@@ -30,7 +30,7 @@ const HEAD: [u8; 10] = [0, 0, 0, 0, 0, 0, 0x03, 0xe8, 0, 0x4c];
 const BEACON_HEAD: [u8; 10] = [0, 0, 0, 0, 0, 0, 0, 0, 0, 0x32];
 
 /// The capture of the geobroadcast.
-pub(super) fn capture() -> [u8; 86] {
+pub(crate) fn capture() -> [u8; 86] {
     let mut octets = [0; 86];
     octets[..10].copy_from_slice(&HEAD);
     octets[10..].copy_from_slice(&geobroadcast());
@@ -38,7 +38,7 @@ pub(super) fn capture() -> [u8; 86] {
 }
 
 /// The capture of the geobroadcast and the beacon.
-pub(super) fn two_records(alloc: Global) -> Result<Vec<u8>, Fail> {
+pub(crate) fn two_records(alloc: Global) -> Result<Vec<u8>, Fail> {
     let mut octets = Vec::from_slice(alloc, &capture())?;
     octets.extend_from_slice(&BEACON_HEAD)?;
     octets.extend_from_slice(&beacon())?;
