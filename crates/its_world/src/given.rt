@@ -17,6 +17,8 @@ ghost use Rattle.its_world.specs.Entries.{TellsEntry, TellsGiven, IsToldBy, IsGi
 use crate::entry::{Entry, EntryFault};
 use its_gnvalue::NoMemory;
 use its_station::{Delivery, Outcome, Refused};
+use std::alloc::Global;
+use std::mem;
 
 /// An entry whose frame, if it has one, has no number yet.
 #[derive(Drop)]
@@ -68,14 +70,16 @@ impl Given {
         }
     }
 
-    /// For a frame that came. The room is for the payload of what was delivered.
+    /// For a frame that came. The room is taken for the payload of what was delivered, and stays
+    /// where nothing was.
     pub(crate) fn of_frame(
+        alloc: Global,
         answer: Result<Outcome<'_>, Refused>,
-        room: Vec<u8>,
+        room: &mut Vec<u8>,
     ) -> Result<Given, NoMemory>
-        requires empty { room.items ≡ [] }
-        requires size { vec_len room ≡ 0 }
-        requires room { IfOk answer (Fits (vec_capacity room)) }
+        requires empty { room.old.items ≡ [] }
+        requires size { vec_len room.old ≡ 0 }
+        requires room { IfOk answer (Fits (vec_capacity room.old)) }
         ensures given { (new : StationState) (step : Step) → IsStepOf Tells answer.entry new step →
             IfOk result (λ given. IsGivenBy given new step) }
         ensures memory { OnErr result (answer.entry ≡ Err Refused.NoMemory) }
@@ -84,7 +88,10 @@ impl Given {
             Ok(Outcome::Ignored(why)) => Ok(Given::Told(Entry::Ignored(why))),
             Ok(Outcome::Accepted { handed, sent }) => Ok(Given::Accepted {
                 handed: match handed {
-                    Some(handed) => Some(Delivery::new(handed, room)),
+                    Some(handed) => {
+                        let taken = mem::replace(room, Vec::new(alloc));
+                        Some(Delivery::new(handed, taken))
+                    }
                     None => None,
                 },
                 sent,

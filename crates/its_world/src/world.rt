@@ -35,6 +35,8 @@ pub struct World {
     pub(crate) alloc: Global,
     stations: Vec<Station<SortedTable>>,
     air: Vec<Vec<u8>>,
+    /// Room for the payload of the next delivery: that of the last one, where nothing was delivered.
+    room: Vec<u8>,
 }
 
 impl Model for World {
@@ -72,6 +74,7 @@ impl World {
             alloc,
             stations: stations_of(alloc, configs)?,
             air: Vec::new(alloc),
+            room: Vec::new(alloc),
         })
     }
 
@@ -128,7 +131,8 @@ impl World {
         one_frame();
         one_frame_fault();
         let station = &mut self.stations[event.station];
-        let given = ask(self.alloc, station, event.moment, &event.what, frame)?;
+        let room = &mut self.room;
+        let given = ask(self.alloc, room, station, event.moment, &event.what, frame)?;
         Ok(given.enter(&mut self.air))
     }
 }
@@ -154,9 +158,11 @@ fn delivered<'a>(air: &'a [Vec<u8>], what: &What) -> Option<&'a [u8]>
     }
 }
 
-/// What a station gives for a call or, where it is a delivery, for this frame.
+/// What a station gives for a call or, where it is a delivery, for this frame. The room is for the
+/// payload of what is delivered.
 fn ask(
     alloc: Global,
+    room: &mut Vec<u8>,
     station: &mut Station<SortedTable>,
     moment: u64,
     what: &What,
@@ -191,9 +197,10 @@ fn ask(
         }
         What::SendGeoanycast(r) => Given::of_send(station.send_geoanycast(moment, &r.lend())),
         What::Deliver(_) => {
-            // What is delivered is a part of the frame, so its room is taken before the call.
-            let room = Vec::with_capacity(alloc, frame.len())?;
-            Given::of_frame(station.receive(moment, frame), room)
+            // What is delivered is a part of the frame, so its room is there before the call.
+            room.clear();
+            room.reserve(frame.len())?;
+            Given::of_frame(alloc, station.receive(moment, frame), room)
         }
     }
 }

@@ -109,8 +109,8 @@ returns-in-SendGeoanycast-clause-step c =
     (station_step s c.args.moment (Own (SendGac r)))) c.lend-in-SendGeoanycast.ensures
     (c.send_geoanycast.ensures.step s rep)))
 
-pub returns-in_ok-room-in-Deliver-clause-step : goal.returns-in_ok-room-in-Deliver-clause-step
-returns-in_ok-room-in-Deliver-clause-step c =
+pub returns-in_ok-reserve-in-Deliver-clause-step : goal.returns-in_ok-reserve-in-Deliver-clause-step
+returns-in_ok-reserve-in-Deliver-clause-step c =
     let step = c.receive.ensures.step in
     given_call c.of_frame.result
     (IsAskedBy (what_of c.args.what.now) c.args.frame.now) step.0 c.args.station.now
