@@ -29,6 +29,14 @@ pub find_after : {X : Type 0} (p : X → Bool) (ys : List X) (i : ℕ) (y : X) �
 find_after p ys i y lt is fails = ap (find p) (drop_here ys i y lt is)
     ∙ cond-false (p y) (Some y) _ fails
 
+-- one that fails is passed over, whatever it is
+pub find_past : {X : Type 0} (p : X → Bool) (ys : List X) (i : ℕ)
+    → ((d : X) → p (get_or ys i d) ≡ false) → find p (drop i ys) ≡ find p (drop (suc i) ys)
+find_past p [] zero fails = refl
+find_past p [] (suc i) fails = refl
+find_past p (y ∷ ys) zero fails = cond-false (p y) (Some y) (find p ys) (fails y)
+find_past p (y ∷ ys) (suc i) fails = find_past p ys i fails
+
 -- ---- fewer are live than there is room for, where fewer stand there or one has expired
 module _ {X : Type 0} (end : X → ℕ) (now : ℕ) where
   counted : X → ℕ

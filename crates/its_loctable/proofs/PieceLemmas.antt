@@ -10,7 +10,8 @@ use Rattle.its_loctable.specs.declared.sorted.slot.SortedSlot.{SortedSlot}
 use Rattle.its_model.specs.History.{Reception, Known}
 use Rattle.its_model.specs.Stations.{stations_at, is_above, is_next_neighbour}
 use Rattle.its_loctable.specs.Content.{Represents}
-use Rattle.its_loctable.specs.Sorted.{known_by, bare_known, held, bare, IsStartAbove}
+use Rattle.its_loctable.specs.Sorted.{known_by, bare_known, held, bare, addresses_of}
+use Rattle.its_loctable.specs.Sorted.{IsStartAbove}
 use Rattle.its_loctable.specs.Pieces.{neighbours_above, first_piece, AreAllAbove}
 use Rattle.its_loctable.proofs.ContentLemmas.{ordered-stations_at}
 use Rattle.its_loctable.proofs.EagerLemmas.{IsRising, apart-rising}
@@ -127,7 +128,7 @@ above_all now after x rest rest' c e same =
     turned false b false = refl
 
 pub filter-start : (now : ℕ) (after : Option ℕ) (xs : List SortedSlot) (i : ℕ) → IsRising (bare xs)
-    → IsStartAbove xs after i
+    → IsStartAbove (addresses_of xs) after i
     → filter (λ (s : SortedSlot). ltb now s.until && is_next_neighbour after (bare_known s)) xs
     ≡ filter (λ (s : SortedSlot). ltb now s.until && s.neighbour) (drop i xs)
 filter-start now after [] zero h g = refl
@@ -165,7 +166,7 @@ piece_by of xs = λ i. record {
 pub left-neighbours : (of : SortedSlot → List ℕ) (remember : ℕ) (after : Option ℕ)
     (xs : List SortedSlot) (history : List Reception) (now i : ℕ) → now ≤ 2 ^ 62
     → IsRising (bare xs) → Represents remember (held of xs) history now
-    → IsStartAbove xs after i → first_piece (left now xs i)
+    → IsStartAbove (addresses_of xs) after i → first_piece (left now xs i)
     ≡ first_piece (neighbours_above after (stations_at remember now history))
 left-neighbours of remember after xs history now i small rising rep start =
     piece_by of (filter (λ (s : SortedSlot). ltb now s.until && s.neighbour) (drop i xs))
@@ -205,7 +206,8 @@ all_pass now after (x ∷ xs) =
     by false b d e rest = rest
 
 pub left-above : (after : Option ℕ) (xs : List SortedSlot) (now i : ℕ) → IsRising (bare xs)
-    → IsStartAbove xs after i → AreAllAbove after (first_piece (left now xs i)).addresses
+    → IsStartAbove (addresses_of xs) after i
+    → AreAllAbove after (first_piece (left now xs i)).addresses
 left-above after xs now i rising start =
     subst (λ l. AreAllAbove after (first_piece (map bare_known l)).addresses)
     (filter-start now after xs i rising start)

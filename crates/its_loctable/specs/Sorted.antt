@@ -1,6 +1,6 @@
--- The content of a table in ascending order of addresses, and places in it.
-use Rattle.std.specs.Prelude.{◌≡◌, ℕ, zero, suc, ◌<◌, ◌≤◌, ◌⊎◌, true, false, List, [], ◌∷◌, map}
-use Rattle.std.specs.Prelude.{length, get_or, Option, Some, None, nat_lt, if◌then◌else◌}
+-- The content of a table in ascending order of addresses, and places in its column of addresses.
+use Rattle.std.specs.Prelude.{◌≡◌, ℕ, zero, suc, ◌<◌, ◌≤◌, ◌⊎◌, Bool, true, false, List, [], ◌∷◌}
+use Rattle.std.specs.Prelude.{map, find, length, get_or, Option, Some, None, nat_lt, if◌then◌else◌}
 use Rattle.its_model.specs.History.{Known}
 use Rattle.its_loctable.specs.declared.sorted.slot.SortedSlot.{SortedSlot}
 use Rattle.its_model.specs.Stations.{is_above}
@@ -27,34 +27,57 @@ bare_known s = known_by (λ _. []) s
 abbrev pub bare : List SortedSlot → List Entry
 bare slots = held (λ _. []) slots
 
--- the slot at a place has the address
-abbrev pub IsFoundAt : List SortedSlot → ℕ → ℕ → Type 0
-IsFoundAt [] address i = ⊥
-IsFoundAt (s ∷ slots) address zero = s.vector.address ≡ address
-IsFoundAt (s ∷ slots) address (suc i) = IsFoundAt slots address i
+-- the addresses of slots, in their order
+abbrev pub addresses_of : List SortedSlot → List ℕ
+addresses_of slots = map (λ (s : SortedSlot). s.vector.address) slots
 
--- no slot of a rising list has the address, and it would go at the place: above the slots before
--- it, and below the next
-abbrev pub IsGapFor : List SortedSlot → ℕ → ℕ → Type 0
+-- an address comes before all of these
+abbrev pub IsBelowEach : ℕ → List ℕ → Type 0
+IsBelowEach n [] = Unit {0}
+IsBelowEach n (a ∷ addresses) = (n < a) × IsBelowEach n addresses
+
+-- each address comes before those behind it
+abbrev pub AreRising : List ℕ → Type 0
+AreRising [] = Unit {0}
+AreRising (a ∷ addresses) = IsBelowEach a addresses × AreRising addresses
+
+-- the address stands at the place
+abbrev pub IsFoundAt : List ℕ → ℕ → ℕ → Type 0
+IsFoundAt [] address i = ⊥
+IsFoundAt (a ∷ addresses) address zero = a ≡ address
+IsFoundAt (a ∷ addresses) address (suc i) = IsFoundAt addresses address i
+
+-- the address isn't among rising ones, and it would go to the place: above those before it, and
+-- below the next
+abbrev pub IsGapFor : List ℕ → ℕ → ℕ → Type 0
 IsGapFor [] address zero = Unit {0}
 IsGapFor [] address (suc i) = ⊥
-IsGapFor (s ∷ slots) address zero = address < s.vector.address
-IsGapFor (s ∷ slots) address (suc i) = (s.vector.address < address) × IsGapFor slots address i
+IsGapFor (a ∷ addresses) address zero = address < a
+IsGapFor (a ∷ addresses) address (suc i) = (a < address) × IsGapFor addresses address i
 
--- the slots of a rising list that are above an address begin at the place
-abbrev pub IsStartAbove : List SortedSlot → Option ℕ → ℕ → Type 0
+-- the rising addresses that are above an address begin at the place
+abbrev pub IsStartAbove : List ℕ → Option ℕ → ℕ → Type 0
 IsStartAbove [] after zero = Unit {0}
 IsStartAbove [] after (suc i) = ⊥
-IsStartAbove (s ∷ slots) after zero = is_above after s.vector.address ≡ true
-IsStartAbove (s ∷ slots) after (suc i) =
-    (is_above after s.vector.address ≡ false) × IsStartAbove slots after i
+IsStartAbove (a ∷ addresses) after zero = is_above after a ≡ true
+IsStartAbove (a ∷ addresses) after (suc i) =
+    (is_above after a ≡ false) × IsStartAbove addresses after i
 
--- the slot at a place doesn't come after the address, or the place is the first
-abbrev pub IsUpTo : List SortedSlot → ℕ → ℕ → Type 0
-IsUpTo slots address i = (i ≡ 0) ⊎ ((i < length slots)
-    × ((d : SortedSlot) → (get_or slots i d).vector.address ≤ address))
+-- what stands at a place doesn't come after the address, or the place is the first
+abbrev pub IsUpTo : List ℕ → ℕ → ℕ → Type 0
+IsUpTo addresses address i = (i ≡ 0) ⊎ ((i < length addresses)
+    × ((d : ℕ) → get_or addresses i d ≤ address))
 
--- the slots from a place on come after the address
-abbrev pub AreAbove : List SortedSlot → ℕ → ℕ → Type 0
-AreAbove slots address n = (i : ℕ) (d : SortedSlot) → n ≤ i → i < length slots
-    → address < (get_or slots i d).vector.address
+-- those from a place on come after the address
+abbrev pub AreAbove : List ℕ → ℕ → ℕ → Type 0
+AreAbove addresses address n = (i d : ℕ) → n ≤ i → i < length addresses
+    → address < get_or addresses i d
+
+-- whether the slot at a place is live at a moment
+abbrev pub IsLiveAt : List SortedSlot → ℕ → ℕ → Bool → Type 0
+IsLiveAt slots place now live = (d : SortedSlot) → live ≡ nat_lt now (get_or slots place d).until
+
+-- the place of the first slot that passes, if one does
+abbrev pub IsFirstOf : (SortedSlot → Bool) → List SortedSlot → Option ℕ → Type 0
+IsFirstOf p slots None = find p slots ≡ None
+IsFirstOf p slots (Some place) = (d : SortedSlot) → find p slots ≡ Some (get_or slots place d)

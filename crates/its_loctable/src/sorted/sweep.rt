@@ -3,16 +3,27 @@
 ghost use Rattle.std.specs.Prelude.{◌≡◌, ◌≤◌, ◌+◌, ℕ, [], All, filter, nat_lt};
 ghost use Rattle.std.specs.Prelude.{vec_len, vec_capacity};
 ghost use Rattle.its_loctable.specs.Rows.{HasRow, IsRow, AreOwned};
+ghost use Rattle.its_loctable.specs.Sorted.{addresses_of};
 
 use super::slot::SortedSlot;
+use its_gnvalue::GnAddress;
 
-/// Removes the slots that have expired, and returns a moment before which none of the others does.
-pub fn sweep(slots: &mut Vec<SortedSlot>, free: &mut Vec<u16>, now: u64) -> u64
+/// Removes the slots that have expired, and their addresses from the column of these. Returns a
+/// moment before which none of the other slots expires.
+pub fn sweep(
+    slots: &mut Vec<SortedSlot>,
+    addresses: &mut Vec<GnAddress>,
+    free: &mut Vec<u16>,
+    now: u64,
+) -> u64
     requires room { vec_len slots.old + vec_len free.old ≤ vec_capacity free.old }
+    requires column { addresses.old.items ≡ addresses_of slots.old.items }
     ensures items { slots.new.items ≡ filter (λ s. nat_lt now s.until) slots.old.items }
+    ensures column { addresses.new.items ≡ addresses_of slots.new.items }
     ensures ends { All (λ s. result ≤ s.until) slots.new.items }
     ensures total { vec_len slots.new + vec_len free.new ≡ vec_len slots.old + vec_len free.old }
     ensures capacity { vec_capacity slots.new ≡ vec_capacity slots.old }
+    ensures column_capacity { vec_capacity addresses.new ≡ vec_capacity addresses.old }
     ensures free_capacity { vec_capacity free.new ≡ vec_capacity free.old }
     ensures rows { (n len : ℕ) → All (HasRow n len) slots.old.items →
         All (IsRow n len) free.old.items →
@@ -30,6 +41,7 @@ pub fn sweep(slots: &mut Vec<SortedSlot>, free: &mut Vec<u16>, now: u64) -> u64
             // A slot that stands in its place already is not copied.
             if kept < i {
                 slots[kept] = slot;
+                addresses[kept] = addresses[i];
             }
             kept += 1;
             end = end.min(until);
@@ -38,6 +50,7 @@ pub fn sweep(slots: &mut Vec<SortedSlot>, free: &mut Vec<u16>, now: u64) -> u64
         }
     }
     slots.truncate(kept);
+    addresses.truncate(kept);
     end
 }
 

@@ -20,8 +20,9 @@ const MANY: usize = 1000;
 /// More budgets than a list of eight numbers needs, and fewer than the allocation of a map.
 const A_GROWTH: usize = 8;
 
-/// What a source with one number takes: its slot, its number, and its row where that is free.
-const A_SOURCE: usize = 48 + 2 + 2;
+/// What a source with one number takes: its slot, its address beside it, its number, and its row
+/// where that is free.
+const A_SOURCE: usize = 48 + 8 + 2 + 2;
 
 /// What an allocation costs at most beside its octets.
 const AN_ALLOCATION: usize = 32;

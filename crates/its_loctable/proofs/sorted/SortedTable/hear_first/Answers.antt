@@ -2,7 +2,7 @@ use Rattle.std.proofs.Common.{◌≡◌, ◌≢◌, ℕ, ◌+◌, ◌-◌, ◌�
 use Rattle.std.proofs.Common.{false, length, cond, get_or, subst, sym, ap, ◌∙◌, arith}
 use Rattle.std.specs.Prelude.{insert, vec_len, vec_capacity}
 use Rattle.std.proofs.lemmas.Bool.{lt-ltb, le-ltb}
-use Rattle.std.proofs.lemmas.List.{append-nil}
+use Rattle.std.proofs.lemmas.List.{append-nil, length-map}
 use Rattle.std.proofs.lemmas.List.Elements.{All-pop, All-same, All-take, All-weaker}
 use Rattle.its_model.specs.History.{renewed}
 use Rattle.its_loctable.specs.declared.sorted.slot.SortedSlot.{SortedSlot}
@@ -10,13 +10,14 @@ use Rattle.its_loctable.specs.Heard.{reception}
 use Rattle.its_loctable.specs.Content.{entry_at}
 use Rattle.its_loctable.specs.Kept.{numbers_of}
 use Rattle.its_loctable.specs.Rows.{numbers_at, IsRow, HasRow, AreOwned}
-use Rattle.its_loctable.specs.Sorted.{known_by, entry_by, held, bare, IsGapFor}
+use Rattle.its_loctable.specs.Sorted.{known_by, entry_by, held, bare, addresses_of}
+use Rattle.its_loctable.specs.Sorted.{IsGapFor}
 use Rattle.its_loctable.specs.Eager.{swept, upsert, is_rising}
 use Rattle.its_loctable.proofs.EagerLemmas.{rising-true, true-rising, IsRising-upsert}
 use Rattle.its_loctable.proofs.RowLemmas.{popped, inserted}
 use Rattle.its_loctable.proofs.SortedLemmas.{key, absent-entry_at, absent-swept, absent-room}
 use Rattle.its_loctable.proofs.SortedLemmas.{held-insert, held-same, entry-after, All-insert}
-use Rattle.its_loctable.proofs.SortedLemmas.{swept-all, length-held}
+use Rattle.its_loctable.proofs.SortedLemmas.{swept-all, length-held, column-insert}
 use Rattle.its_loctable.proofs.VerdictLemmas.{eager_verdict-by, is_noted-none}
 use Rattle.its_loctable.proofs.sorted.SortedTable.hear_first.Goals as goal
 
@@ -54,8 +55,26 @@ invariant_of-self c =
     let grown : vec_len c.insert.new.self ≡ vec_len table.slots + 1 = c.insert.ensures.len
     ∙ ap (λ b. cond b (vec_len table.slots + 1) (vec_len table.slots))
     (c.insert.ensures.succeeds room) in
-    let gap : IsGapFor xs (key slot) place =
-    subst (λ a. IsGapFor xs a place)
+    let column = table.addresses.items in
+    let own : c.address-in-Some.result ≡ key slot = c.address-in-Some.ensures
+    ∙ sym c.first-slot.ensures.address in
+    let column_room : vec_len table.addresses < vec_capacity table.addresses =
+    omega (
+      arith,
+      fewer,
+      table.total,
+      table.column_room,
+      table.slots.ok.0,
+      table.addresses.ok.0,
+      ap length table.column,
+      length-map xs key,
+    ) in
+    let grown_column = insert column place c.address-in-Some.result in
+    let added : c.insert-in-Some.new.self.items ≡ grown_column =
+    c.insert-in-Some.ensures.items ∙ ap (λ b. cond b grown_column column)
+    (c.insert-in-Some.ensures.succeeds column_room) in
+    let gap : IsGapFor (addresses_of xs) (key slot) place =
+    subst (λ a. IsGapFor (addresses_of xs) a place)
     (c.address.ensures ∙ sym c.first-slot.ensures.address) c.gap_for-place.ensures.gap in
     let here : IsRow table.remembered len c.in-Some.row =
     (All-pop (IsRow table.remembered len) table.free.items c.pop.new.self.items
@@ -69,6 +88,9 @@ invariant_of-self c =
           (rising-true (bare xs) table.rising));
       total = omega (arith, grown, fewer, table.total);
       room = omega (arith, c.insert.ensures.capacity, table.room);
+      column = added ∙ (λ j. insert (table.column j) place (own j)) ∙ column-insert xs place slot
+          ∙ ap addresses_of (sym put);
+      column_room = omega (arith, c.insert-in-Some.ensures.capacity, table.column_room);
       free_room = omega (arith, some.capacity, table.free_room);
       some = table.some;
       rows = subst (λ n. All (HasRow table.remembered n) c.insert.new.self.items)
@@ -102,6 +124,8 @@ invariant_of-self-in-None c =
       rising = table.rising;
       total = omega (arith, none.cases, table.total);
       room = table.room;
+      column = table.column;
+      column_room = table.column_room;
       free_room = omega (arith, none.capacity, table.free_room);
       some = table.some;
       rows = table.rows;
@@ -157,8 +181,8 @@ returns-in-Some-clause-accepted c = λ _.
     let put : c.insert.new.self.items ≡ insert xs place slot =
     c.insert.ensures.items ∙ ap (λ b. cond b (insert xs place slot) xs)
     (c.insert.ensures.succeeds room) in
-    let gap : IsGapFor xs (key slot) place =
-    subst (λ n. IsGapFor xs n place)
+    let gap : IsGapFor (addresses_of xs) (key slot) place =
+    subst (λ n. IsGapFor (addresses_of xs) n place)
     (c.address.ensures ∙ sym c.first-slot.ensures.address) c.gap_for-place.ensures.gap in
     let others = popped xs after.free.items c.pop.new.self.items c.in-Some.row some.items
     after.owned in

@@ -9,12 +9,13 @@ use Rattle.its_loctable.specs.Heard.{reception}
 use Rattle.its_loctable.specs.Content.{entry_at}
 use Rattle.its_loctable.specs.Kept.{numbers_of}
 use Rattle.its_loctable.specs.Rows.{numbers_at, IsRow, HasRow}
-use Rattle.its_loctable.specs.Sorted.{known_by, entry_by, held, bare, IsFoundAt}
+use Rattle.its_loctable.specs.Sorted.{known_by, entry_by, held, bare, addresses_of}
+use Rattle.its_loctable.specs.Sorted.{IsFoundAt}
 use Rattle.its_loctable.specs.Eager.{swept, upsert, is_rising}
 use Rattle.its_loctable.proofs.EagerLemmas.{rising-true, true-rising, IsRising-upsert, swept-upsert}
 use Rattle.its_loctable.proofs.RowLemmas.{distinct, replaced}
 use Rattle.its_loctable.proofs.SortedLemmas.{key, found-part, found_key, held-set, entry-after}
-use Rattle.its_loctable.proofs.SortedLemmas.{rising_by}
+use Rattle.its_loctable.proofs.SortedLemmas.{rising_by, column-set}
 use Rattle.its_loctable.proofs.sorted.SortedTable.renew.Goals as goal
 
 pub renew-requires-clause-same : goal.renew-requires-clause-same
@@ -37,8 +38,8 @@ invariant_of-self c =
     let old = c.index_mut-slot.result.now in
     let next = c.renew.new.self in
     let within : c.args.place < length xs = omega (arith, c.requires.within, table.slots.ok.0) in
-    let found = subst (λ a. IsFoundAt xs a c.args.place) (sym c.renew.ensures.address)
-    c.requires.found in
+    let found = subst (λ a. IsFoundAt (addresses_of xs) a c.args.place)
+    (sym c.renew.ensures.address) c.requires.found in
     let rising = rising-true (bare xs) table.rising in
     let here : HasRow table.remembered (vec_len table.numbers) old =
     subst (HasRow table.remembered (vec_len table.numbers)) (sym c.index_mut-slot.ensures.value)
@@ -52,6 +53,8 @@ invariant_of-self c =
           (IsRising-upsert (bare xs) (entry_by (λ _. []) next) rising);
       total = table.total;
       room = table.room;
+      column = table.column ∙ sym (column-set xs next c.args.place found);
+      column_room = table.column_room;
       free_room = table.free_room;
       some = table.some;
       rows = subst (λ n. All (HasRow table.remembered n) (set xs c.args.place next))
@@ -80,7 +83,8 @@ returns-clause-content c =
     let r = reception c.args.now c.args.heard.now in
     let place = c.args.place in
     let within : place < length xs = omega (arith, c.requires.within, table.slots.ok.0) in
-    let found = subst (λ a. IsFoundAt xs a place) (sym c.renew.ensures.address) c.requires.found in
+    let found = subst (λ a. IsFoundAt (addresses_of xs) a place) (sym c.renew.ensures.address)
+    c.requires.found in
     let rising = rising-true (bare xs) table.rising in
     let live : c.args.now < next.until = omega (arith, c.renew.ensures.until) in
     let same : (k : ℕ) (d : SortedSlot) → k < length xs → k ≢ place

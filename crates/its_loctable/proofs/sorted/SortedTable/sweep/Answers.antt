@@ -21,6 +21,8 @@ invariant_of-self c =
           (IsRising-swept c.args.now (bare xs) (rising-true (bare xs) table.rising));
       total = rest.total ∙ table.total;
       room = omega (arith, rest.capacity, table.room);
+      column = rest.column;
+      column_room = omega (arith, rest.column_capacity, table.column_room);
       free_room = omega (arith, rest.free_capacity, table.free_room);
       some = table.some;
       rows = All-same (HasRow table.remembered (vec_len table.numbers)) _ _ rest.items

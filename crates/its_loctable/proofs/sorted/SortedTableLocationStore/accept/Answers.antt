@@ -4,7 +4,7 @@ use Rattle.its_loctable.specs.SourceReport.{SourceReport}
 use Rattle.its_loctable.specs.declared.store.Verdict.TheVariants.{Accepted}
 use Rattle.its_loctable.specs.Content.{Entry, Represents, Hears}
 use Rattle.its_loctable.specs.Heard.{reception}
-use Rattle.its_loctable.specs.Sorted.{held, bare, IsGapFor}
+use Rattle.its_loctable.specs.Sorted.{held, bare, addresses_of, IsGapFor}
 use Rattle.its_loctable.specs.Eager.{entry_after, after_accept}
 use Rattle.its_loctable.proofs.Accepted.{Represents-cons}
 use Rattle.its_loctable.proofs.VerdictLemmas.{eager_verdict-verdict}
@@ -73,4 +73,5 @@ hear_first-requires-clause-absent c =
     let of = numbers_of table in
     let xs = table.slots.items in
     gap-absent xs c.args.h.now.vector.address c.in-Err.field-0 (rising-true (bare xs) table.rising)
-    (subst (λ a. IsGapFor xs a c.in-Err.field-0) c.address.ensures c.in-Err.ensures.absent.0)
+    (subst (λ a. IsGapFor (addresses_of xs) a c.in-Err.field-0) c.address.ensures
+    c.in-Err.ensures.absent.0)

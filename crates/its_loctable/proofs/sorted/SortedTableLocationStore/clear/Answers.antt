@@ -5,7 +5,7 @@ use Rattle.its_loctable.specs.declared.sorted.slot.SortedSlot.{SortedSlot}
 use Rattle.its_loctable.specs.Content.{Represents}
 use Rattle.its_loctable.specs.Kept.{numbers_of}
 use Rattle.its_loctable.specs.Rows.{HasRow}
-use Rattle.its_loctable.specs.Sorted.{held, bare}
+use Rattle.its_loctable.specs.Sorted.{held, bare, addresses_of}
 use Rattle.its_loctable.specs.Eager.{is_rising}
 use Rattle.its_loctable.proofs.ContentLemmas.{Represents-empty}
 use Rattle.its_loctable.proofs.sorted.SortedTableLocationStore.clear.Goals as goal
@@ -18,6 +18,8 @@ invariant_of-self c =
       rising = ap (λ xs. is_rising (bare xs)) all.items;
       total = all.total ∙ table.total;
       room = omega (arith, all.capacity, table.room);
+      column = c.clear.ensures.items ∙ ap addresses_of (sym all.items);
+      column_room = omega (arith, c.clear.ensures.capacity, table.column_room);
       free_room = omega (arith, all.free_capacity, table.free_room);
       some = table.some;
       rows = All-same (HasRow table.remembered (vec_len table.numbers)) _ _ all.items

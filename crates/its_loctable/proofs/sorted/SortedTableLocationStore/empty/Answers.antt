@@ -1,8 +1,8 @@
-use Rattle.std.proofs.Common.{◌*◌, ◌<◌, ◌≤◌, All, subst, sym, [], ap, arith}
+use Rattle.std.proofs.Common.{◌*◌, ◌<◌, ◌≤◌, All, subst, sym, ◌∙◌, [], ap, arith}
 use Rattle.std.specs.Prelude.{vec_len}
 use Rattle.its_loctable.specs.Content.{Represents}
 use Rattle.its_loctable.specs.Rows.{numbers_at, HasRow, IsRow, AreOwned}
-use Rattle.its_loctable.specs.Sorted.{held, bare}
+use Rattle.its_loctable.specs.Sorted.{held, bare, addresses_of}
 use Rattle.std.proofs.lemmas.List.Elements.{All-same, All-nil, All-weaker}
 use Rattle.its_loctable.specs.declared.sorted.slot.SortedSlot.{SortedSlot}
 use Rattle.its_loctable.specs.Eager.{is_rising}
@@ -26,6 +26,8 @@ invariant_of-result c =
       rising = ap (λ xs. is_rising (bare xs)) none;
       total = omega (arith, c.in_ok-slots.ensures.len, free.len);
       room = omega (arith, c.in_ok-slots.ensures.exact);
+      column = c.in_ok-addresses.ensures.items ∙ ap addresses_of (sym none);
+      column_room = omega (arith, c.in_ok-addresses.ensures.exact);
       free_room = free.room;
       some = c.requires.remembered.0;
       rows = All-same (HasRow n len) _ _ none (All-nil (HasRow n len));

@@ -1,24 +1,23 @@
 use Rattle.std.proofs.Common.{◌≡◌, subst, suc, ◌+◌, Some, arith}
-use Rattle.its_loctable.specs.Sorted.{bare, IsStartAbove}
-use Rattle.its_loctable.proofs.EagerLemmas.{rising-true}
-use Rattle.its_loctable.proofs.SortedLemmas.{start-found, start-gap}
+use Rattle.its_loctable.specs.Sorted.{IsStartAbove}
+use Rattle.its_loctable.proofs.AddressLemmas.{start-found, start-gap}
 use Rattle.its_loctable.proofs.sorted.search.start_past.Goals as goal
 
 pub returns-in-Ok-clause-start : goal.returns-in-Ok-clause-start
 returns-in-Ok-clause-start c =
     let next : suc c.in-Ok.place ≡ c.in-Ok.place + 1 = omega arith in
-    subst (λ i. IsStartAbove c.args.slots.now (Some c.args.address) i) next
-    (start-found c.args.slots.now c.args.address c.in-Ok.place
-    (rising-true (bare c.args.slots.now) c.requires)
-    (c.is_slot_of.ensures c.if-is_slot_of.true).0)
+    subst (λ i. IsStartAbove c.args.addresses.now (Some c.args.address) i) next
+    (start-found c.args.addresses.now c.args.address c.in-Ok.place
+    c.requires
+    (c.stands_at.ensures c.if-stands_at.true).0)
 
 pub returns-in-Ok-search-clause-start : goal.returns-in-Ok-search-clause-start
 returns-in-Ok-search-clause-start c =
     let next : suc c.in-Ok-search.i ≡ c.in-Ok-search.i + 1 = omega arith in
-    subst (λ i. IsStartAbove c.args.slots.now (Some c.args.address) i) next
-    (start-found c.args.slots.now c.args.address c.in-Ok-search.i
-    (rising-true (bare c.args.slots.now) c.requires) c.in-Ok-search.ensures.found.0)
+    subst (λ i. IsStartAbove c.args.addresses.now (Some c.args.address) i) next
+    (start-found c.args.addresses.now c.args.address c.in-Ok-search.i
+    c.requires c.in-Ok-search.ensures.found.0)
 
 pub returns-in-Err-clause-start : goal.returns-in-Err-clause-start
 returns-in-Err-clause-start c =
-    start-gap c.args.slots.now c.args.address c.in-Err.i c.in-Err.ensures.absent.0
+    start-gap c.args.addresses.now c.args.address c.in-Err.i c.in-Err.ensures.absent.0

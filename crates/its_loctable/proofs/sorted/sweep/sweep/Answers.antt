@@ -1,14 +1,16 @@
-use Rattle.std.proofs.Common.{◌≤◌, ◌<◌, ◌+◌, count_by, eqb, ltb, List}
-use Rattle.std.proofs.Common.{◌≡◌, take, drop, set, length, ap, sym, subst, ◌∙◌, arith}
+use Rattle.std.proofs.Common.{ℕ, ◌≤◌, ◌<◌, ◌+◌, count_by, eqb, ltb, List}
+use Rattle.std.proofs.Common.{◌≡◌, take, drop, set, get_or, length, ap, sym, subst, ◌∙◌, arith}
 use Rattle.std.specs.Prelude.{vec_len, vec_capacity}
 use Rattle.std.proofs.lemmas.Bool.{lt-ltb, le-ltb}
-use Rattle.std.proofs.lemmas.List.{take_more_set, drop-set-lt, set-get_or}
+use Rattle.std.proofs.lemmas.List.{take_more_set, drop-set-lt, set-get_or, map-set, take-map}
 use Rattle.std.proofs.lemmas.List.Elements.{All-push, All-same, All-weaker}
 use Rattle.std.proofs.lemmas.List.Filters.{FiltersInPlace, FiltersInPlace-more_set}
 use Rattle.std.proofs.lemmas.List.Filters.{FiltersInPlace-more_no}
 use Rattle.std.proofs.lemmas.List.Sums.{sum_by_push, sum_by-drop_more}
 use Rattle.its_loctable.specs.declared.sorted.slot.SortedSlot.{SortedSlot}
 use Rattle.its_loctable.specs.Rows.{IsRow}
+use Rattle.its_loctable.specs.Sorted.{addresses_of}
+use Rattle.its_loctable.proofs.SortedLemmas.{key, column-at}
 use Rattle.its_loctable.proofs.RowLemmas.{has, one_of, read_row}
 use Rattle.its_loctable.proofs.sorted.sweep.sweep.Goals as goal
 use Rattle.its_loctable.proofs.sorted.sweep.sweep.Goals.{then-now-until, else-now-until}
@@ -22,8 +24,9 @@ loop-i-preserved c =
     let v = c.loop-i.invariant in
     let within : i < length xs = omega (arith, c.loop-i-test.true, v.len, c.loop-i.slots.ok.0) in
     elim c.if-now-until.branch [
-      | then-now-until w ↦ rw (w.slots-is, w.free-is, w.kept-is, w.end-is) (
+      | then-now-until w ↦ rw (w.slots-is, w.addresses-is, w.free-is, w.kept-is, w.end-is) (
           let now_slots = w.if-kept-i.slots in
+          let now_addresses = w.if-kept-i.addresses in
           let same : (now_slots.items ≡ set xs c.loop-i.kept slot)
           × ((vec_len now_slots ≡ vec_len c.loop-i.slots)
           × (vec_capacity now_slots ≡ vec_capacity c.loop-i.slots)) =
@@ -39,6 +42,25 @@ loop-i-preserved c =
               ((λ j. vec_len (u.slots-is j)), (λ j. vec_capacity (u.slots-is j))),
             )
           ] in
+          let own : (a : ℕ) → a ≡ get_or c.loop-i.addresses.items i a → a ≡ key slot =
+          (λ a is. column-at xs i a slot within (is ∙ ap (λ l. get_or l i a) v.column)
+          ∙ ap key (sym c.index-slot.ensures)) in
+          let column : (now_addresses.items ≡ addresses_of now_slots.items)
+          × (vec_capacity now_addresses ≡ vec_capacity c.loop-i.addresses) =
+          elim w.if-kept-i.branch [
+            | then-kept-i u ↦ (
+              (λ j. (u.addresses-is j).items)
+                  ∙ (λ j. set (v.column j) c.loop-i.kept (own u.index.result.now u.index.ensures j))
+                  ∙ sym (map-set key xs c.loop-i.kept slot)
+                  ∙ ap addresses_of (sym (λ j. (u.slots-is j).items)),
+              (λ j. vec_capacity (u.addresses-is j)),
+            )
+            | else-kept-i u ↦ (
+              (λ j. (u.addresses-is j).items) ∙ v.column
+                  ∙ ap addresses_of (sym (λ j. (u.slots-is j).items)),
+              (λ j. vec_capacity (u.addresses-is j)),
+            )
+          ] in
           record {
             filters = subst (λ (l : List SortedSlot). FiltersInPlace
                 (λ (s : SortedSlot). ltb c.args.now s.until) c.args.slots.now.items l
@@ -47,6 +69,8 @@ loop-i-preserved c =
                 c.index-slot.ensures);
             len = same.1.0 ∙ v.len;
             capacity = same.1.1 ∙ v.capacity;
+            column = column.0;
+            column_capacity = column.1 ∙ v.column_capacity;
             total = omega (arith, v.total);
             free_capacity = v.free_capacity;
             ends = All-same (λ (s : SortedSlot). w.min-end.result ≤ s.until) _ _
@@ -73,11 +97,13 @@ loop-i-preserved c =
               ap (has row) c.index-slot.ensures,
             );
           })
-      | else-now-until w ↦ rw (w.slots-is, w.free-is, w.kept-is, w.end-is) (record {
+      | else-now-until w ↦ rw (w.slots-is, w.addresses-is, w.free-is, w.kept-is, w.end-is) (record {
         filters = FiltersInPlace-more_no v.filters within
             (le-ltb _ _ w.if-now-until.false) c.index-slot.ensures;
         len = v.len;
         capacity = v.capacity;
+        column = v.column;
+        column_capacity = v.column_capacity;
         total = omega (arith, v.total, w.push_reserved.ensures.len);
         free_capacity = w.push_reserved.ensures.capacity ∙ v.free_capacity;
         ends = v.ends;
@@ -95,6 +121,12 @@ loop-i-preserved c =
         );
       })
     ]
+
+pub returns-clause-column : goal.returns-clause-column
+returns-clause-column c =
+    let kept = c.loop-i.kept in
+    c.truncate-2.ensures.items ∙ ap (take kept) c.loop-i.invariant.column
+    ∙ take-map key kept c.loop-i.slots.items ∙ ap addresses_of (sym c.truncate.ensures.items)
 
 pub returns-clause-owned : goal.returns-clause-owned
 returns-clause-owned c = λ owned row.
