@@ -1,6 +1,7 @@
 //! The command `convert`.
 
-ghost use Rattle.std.specs.Prelude.{IfOk};
+ghost use Rattle.std.specs.Prelude.{◌≡◌, IfOk};
+ghost use Rattle.its_commands.specs.FileNames.{format_of_name};
 ghost use Rattle.its_commands.specs.Statuses.{IsCommandStatus};
 
 use crate::fault::{Fault, status_of};
@@ -33,10 +34,13 @@ pub struct Conversion<'a> {
 
 /// The format of a file that is written, by the end of its name: pcapng where that is `.pcapng`,
 /// classic pcap where it is `.pcap`, in lower case, and else a capture.
-pub fn format_named(name: &str) -> Format {
-    if name.ends_with(".pcapng") {
+pub fn format_named(name: &str) -> Format
+    ensures { result ≡ format_of_name name.now }
+{
+    let name = name.as_bytes();
+    if name.ends_with(b".pcapng") {
         Format::Pcapng
-    } else if name.ends_with(".pcap") {
+    } else if name.ends_with(b".pcap") {
         Format::Pcap
     } else {
         Format::Capture

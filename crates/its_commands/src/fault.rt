@@ -101,8 +101,8 @@ impl Fault<'_> {
         self.status()
     }
 
-    /// What was wrong, where the line tells it by a word: of a line that is no record, and of a text
-    /// that is no scenario.
+    /// What was wrong, where the line tells it by a word: of a line that is no record, and of a
+    /// text that is no scenario.
     fn reason(&self) -> Option<Reason> {
         match self {
             Fault::Line(_, fault) => Some(Reason::Line(*fault)),

@@ -94,8 +94,8 @@ where
 /// created once the scenario is read.
 ///
 /// `Refused` for a text that is no scenario, where a frame has no place in its file, and, with
-/// `strict`, where an event was refused; `Failed` where a file could not be read, created or written
-/// or standard output not written, or memory ran out.
+/// `strict`, where an event was refused; `Failed` where a file could not be read, created or
+/// written or standard output not written, or memory ran out.
 pub fn simulate_file<R: Files + AllocGlobal, I: Read + Drop, W: Write, E: Write>(
     rt: &R,
     file: &str,

@@ -1,6 +1,7 @@
 //! The frames of a run, written to a file as they are given.
 
-ghost use Rattle.std.specs.Prelude.{IfOk};
+ghost use Rattle.std.specs.Prelude.{◌≡◌, ◌^◌, ◌<◌, IfOk, is_ok};
+ghost use Rattle.its_commands.specs.FrameFiles.{IsBegun, IsNoted, IsEnded};
 ghost use Rattle.its_commands.specs.Statuses.{IsCommandStatus};
 
 use crate::converting::{LeftOut, format_named};
@@ -15,6 +16,7 @@ use its_world::World;
 use std::alloc::Global;
 use std::io;
 use std::io::Write;
+use std::marker::Model;
 
 /// A file of the frames that the stations of a run give, one by one.
 #[derive(Drop)]
@@ -29,15 +31,33 @@ pub struct FrameFile<'a, W: Write + Drop> {
     failed: bool,
 }
 
+impl<'a, W: Write + Drop> Model for FrameFile<'a, W> {
+    ghost use Rattle.its_pcap.specs.Sinks.{file_of_sink};
+    ghost use Rattle.its_commands.specs.FrameFiles.{RunFile};
+
+    ghost Value = { RunFile };
+
+    ghost view = { λ f. record {
+      file = file_of_sink f.sink;
+      frames = f.frames;
+      left_out = f.left_out;
+      failed = f.failed;
+    } };
+}
+
 impl<'a, W: Write + Drop> FrameFile<'a, W> {
-    /// Begins the file `target`, in the format that its name says. One of pcapng has an interface for
-    /// each of so many stations, `station 0` and on.
+    /// Begins the file `target`, in the format that its name says. One of pcapng has an interface
+    /// for each of so many stations, `station 0` and on; what their names say is printed, and no
+    /// clause speaks of it. `CannotWrite` where the file failed, `OutOfMemory` where there was none
+    /// for a name.
     pub fn start(
         alloc: Global,
         writer: W,
         target: &'a str,
         stations: usize,
-    ) -> Result<FrameFile<'a, W>, Fault<'a>> {
+    ) -> Result<FrameFile<'a, W>, Fault<'a>>
+        ensures { IfOk result (IsBegun target.now (W.contents writer) stations) }
+    {
         let mut sink = AnySink::new(Counted::new(writer), format_named(target));
         if sink.start().is_err() {
             return Err(Fault::CannotWrite(target));
@@ -57,8 +77,9 @@ impl<'a, W: Write + Drop> FrameFile<'a, W> {
         })
     }
 
-    /// Writes the next frame, which a station gave at this moment. A frame whose moment has no place
-    /// in the format is told on standard error, and left out.
+    /// Writes the next frame, which a station gave at this moment, as one of that station's
+    /// interface. A frame whose moment has no place in the format is told on standard error, and
+    /// left out.
     ///
     /// An error says that the file failed, which `end` tells then.
     pub fn put<E: Write>(
@@ -68,7 +89,10 @@ impl<'a, W: Write + Drop> FrameFile<'a, W> {
         frame: &[u8],
         lines: Lines,
         err: &mut E,
-    ) -> io::Result<()> {
+    ) -> io::Result<()>
+        ensures { station < 2 ^ 32 →
+            IsNoted station moment frame.now self.old self.new (is_ok result) }
+    {
         let number = self.frames;
         // No run gives as many frames as there are numbers.
         self.frames = number.saturating_add(1);
@@ -89,11 +113,12 @@ impl<'a, W: Write + Drop> FrameFile<'a, W> {
         }
     }
 
-    /// Ends the file after a run that ended so. `Refused` where a frame was left out of a run that is
-    /// done; `CannotWrite` where the file failed.
+    /// Ends the file after a run that ended so. `Refused` where a frame was left out of a run that
+    /// is done; `CannotWrite` where the file failed.
     pub fn end(self, ran: Result<Status, Fault<'a>>) -> Result<Status, Fault<'a>>
         requires { IfOk ran IsCommandStatus }
-        ensures { IfOk result IsCommandStatus }
+        ensures status { IfOk result IsCommandStatus }
+        ensures ended { IfOk result (IsEnded self.entry ran.entry) }
     {
         let FrameFile {
             sink,

@@ -1,10 +1,12 @@
--- One text written behind another.
-use Rattle.std.proofs.Common.{◌≡◌, ℕ, List, ◌++◌, Option, None, Some, MatchOption, sym, ap, ◌∙◌}
-use Rattle.std.proofs.Common.{append_assoc, subst, take, length}
-use Rattle.its_pcap.specs.PcapngWritten.{padding_size}
+-- Texts written one behind another, and the octets of parts.
+use Rattle.std.proofs.Common.{◌≡◌, ℕ, ◌+◌, ◌<◌, List, [], ◌∷◌, ◌++◌, length, take, drop, get_or}
+use Rattle.std.proofs.Common.{Option, Bor, refl, sym, ap, ◌∙◌, append_assoc}
 use Rattle.std.proofs.KnownBytes.{Appends-trans}
+use Rattle.std.proofs.lemmas.List.{take_more, map-append, append-nil, take-append-drop}
+use Rattle.std.proofs.lemmas.List.Folds.{concat-append}
 use Rattle.std.specs.Io.KnownBytes.{Appends}
 use Rattle.its_linkframe.specs.Devices.{AppendsPrefix}
+use Rattle.its_pcap.specs.Writing.{joined}
 
 pub AppendsPrefix-behind : (a b c : Option (List ℕ)) (p q : List ℕ) → Appends a b p
     → AppendsPrefix b c q → AppendsPrefix a c (p ++ q)
@@ -16,22 +18,20 @@ AppendsPrefix-behind a b c p q put part = record {
   appends = Appends-trans a b c _ _ put part.appends;
 }
 
-pub stored-behind : {T : Type 0} (r : Option T) (a b c : Option (List ℕ)) (p q : List ℕ)
-    → Appends a b p → MatchOption r (AppendsPrefix b c q) (λ _. Appends b c q)
-    → MatchOption r (AppendsPrefix a c (p ++ q)) (λ _. Appends a c (p ++ q))
-stored-behind None a b c p q put more = AppendsPrefix-behind a b c p q put more
-stored-behind (Some x) a b c p q put more = Appends-trans a b c p q put more
+pub joined-append : (ps qs : List (Bor (List ℕ))) → joined (ps ++ qs) ≡ joined ps ++ joined qs
+joined-append ps qs = rw (map-append, concat-append) refl
 
--- the same octets, said otherwise
-pub stored-as : {T : Type 0} (r : Option T) (a b : Option (List ℕ)) (t u : List ℕ) → t ≡ u
-    → MatchOption r (AppendsPrefix a b t) (λ _. Appends a b t)
-    → MatchOption r (AppendsPrefix a b u) (λ _. Appends a b u)
-stored-as r a b t u is put =
-    subst (λ (w : List ℕ). MatchOption r (AppendsPrefix a b w) (λ _. Appends a b w)) is put
+-- those up to a part, and it
+pub joined-more : (ps : List (Bor (List ℕ))) (i : ℕ) (d : Bor (List ℕ)) → i < length ps
+    → joined (take (i + 1) ps) ≡ joined (take i ps) ++ (get_or ps i d).now
+joined-more ps i d lt =
+    rw (take_more ps i d lt, joined-append (take i ps) (get_or ps i d ∷ []))
+    (ap (λ (t : List ℕ). joined (take i ps) ++ t) (append-nil (get_or ps i d).now))
 
--- a head, octets, their padding and an end
-pub padded-is : (head w end : List ℕ) (zeros : List ℕ) (n : ℕ) → n ≡ padding_size (length w)
-    → (head ++ w) ++ (take n zeros ++ end)
-    ≡ (head ++ w) ++ (take (padding_size (length w)) zeros ++ end)
-padded-is head w end zeros n is =
-    ap (λ (k : ℕ). (head ++ w) ++ (take k zeros ++ end)) is
+-- those up to a part, it, and the others
+pub joined-parts : (ps : List (Bor (List ℕ))) (i : ℕ) (d : Bor (List ℕ)) → i < length ps
+    → (joined (take i ps) ++ (get_or ps i d).now) ++ joined (drop (i + 1) ps) ≡ joined ps
+joined-parts ps i d lt =
+    ap (λ (t : List ℕ). t ++ joined (drop (i + 1) ps)) (sym (joined-more ps i d lt))
+    ∙ sym (joined-append (take (i + 1) ps) (drop (i + 1) ps))
+    ∙ ap joined (take-append-drop (i + 1) ps)

@@ -3,7 +3,7 @@ use Rattle.std.proofs.Common.{◌≡◌, List, ℕ, Option, None, Some, Result, 
 use Rattle.std.proofs.Common.{inl, inr}
 use Rattle.std.specs.Prelude.{◌⊎◌}
 use Rattle.its_pcap.specs.Layouts.{Reads}
-use Rattle.its_pcap.specs.Pcapng.{PcapngReading, IsTaken, IsNext, IsAnswer, IsAnswerAt, next_block}
+use Rattle.its_pcap.specs.Pcapng.{PcapngReading, IsTaken, IsNext, IsAnswerAt, next_block}
 use Rattle.its_pcap.specs.declared.blocks.Block.{Block}
 use Rattle.its_pcap.specs.declared.blocks.Block.TheVariants as blocks
 use Rattle.its_pcap.specs.declared.fault.SourceFault.{SourceFault}

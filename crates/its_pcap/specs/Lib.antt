@@ -12,6 +12,9 @@ pub mod PcapWritten
 pub mod Pcapng
 pub mod PcapngWritten
 pub mod Reading
+pub mod RecordFiles
 pub mod Records
+pub mod Sinks
 pub mod Sources
+pub mod Words
 pub mod Writing

@@ -1,6 +1,11 @@
 -- Classic pcap as it is written: numbers with their lowest octet first, millionths of a second.
-use Rattle.std.specs.Prelude.{ℕ, ◌*◌, ◌/◌, ◌%◌, ◌^◌, ◌≤◌, List, [], ◌∷◌, ◌++◌, length}
+use Rattle.std.specs.Prelude.{◌≡◌, ℕ, ◌*◌, ◌/◌, ◌%◌, ◌^◌, ◌<◌, ◌≤◌, List, [], ◌∷◌, ◌++◌, length}
 use Rattle.byteorder.specs.Endian.{little_bytes}
+use Rattle.its_linkframe.specs.Devices.{AppendsPrefix}
+use Rattle.its_pcap.specs.declared.pcap.TheConstants.{LONGEST_CAPTURED}
+use Rattle.its_pcap.specs.declared.put_fault.PutFault.{PutFault}
+use Rattle.its_pcap.specs.declared.put_fault.PutFault.TheVariants as faults
+use Rattle.its_pcap.specs.Writing.{Writing}
 
 -- the mark d4c3b2a1, version 2.4, zone 0, accuracy 0, snap length 262144, Ethernet (1)
 abbrev pub file_header : List ℕ
@@ -11,7 +16,7 @@ file_header =
 
 -- before a frame its moment, in seconds and millionths, and its length twice: captured and on the
 -- wire
-abbrev pub record_head : ℕ → ℕ → List ℕ
+unfoldable pub record_head : ℕ → ℕ → List ℕ
 record_head moment size =
     little_bytes 4 (moment / 1000) ++ little_bytes 4 (moment % 1000 * 1000)
     ++ little_bytes 4 size ++ little_bytes 4 size
@@ -23,3 +28,15 @@ record_of moment frame = record_head moment (length frame) ++ frame
 -- the second of the moment has no place in 32 bits
 abbrev pub IsLate : ℕ → Type 0
 IsLate moment = 2 ^ 32 ≤ moment / 1000
+
+-- what a fault says of a record of a frame at a moment: a frame that is too long comes first
+abbrev pub IsPutFault : ℕ → List ℕ → Writing → Writing → PutFault → Type 0
+IsPutFault moment frame old new faults.Length = (LONGEST_CAPTURED < length frame) × (new ≡ old)
+IsPutFault moment frame old new faults.Moment =
+    (length frame ≤ LONGEST_CAPTURED) × IsLate moment × (new ≡ old)
+IsPutFault moment frame old new faults.Interface = ⊥
+IsPutFault moment frame old new faults.Name = ⊥
+IsPutFault moment frame old new faults.Io =
+    (length frame ≤ LONGEST_CAPTURED) × (moment / 1000 < 2 ^ 32)
+    × AppendsPrefix old.contents new.contents (record_of moment frame)
+IsPutFault moment frame old new faults.Failed = new ≡ old

@@ -82,9 +82,9 @@ pub record IsBlockRead (o : Option Order) (was now : PcapngReading) (frame : Lis
   pub reads : Reads ((next_block o was.interfaces was.keep frame).Is block) was.rest now.rest
   pub taken : IsTaken block was.stage now.stage was.interfaces now.interfaces answer
 
--- What an answer says where blocks are read: a record is that of the next block; `Passed` is a block
--- without one, which may begin a section or add an interface; a fault is the first of that block, or
--- that the list of interfaces could not grow.
+-- What an answer says where blocks are read: a record is that of the next block; `Passed` is a
+-- block without one, which may begin a section or add an interface; a fault is the first of that
+-- block, or that the list of interfaces could not grow.
 abbrev pub IsNext : Option Order → PcapngReading → PcapngReading → List ℕ
     → Result Step SourceFault → Type 0
 IsNext o was now frame (Ok steps.End) =
@@ -95,7 +95,8 @@ IsNext o was now frame (Err f) =
     (now.stage ≡ stages.Failed)
     × (IsFaultOf (next_block o was.interfaces was.keep frame) was.rest now.rest f
     ⊎ ((f ≡ faults.Capture captures.NoMemory) × (i : Interface)
-    × Reads ((next_block o was.interfaces was.keep frame).Is (blocks.Interface i)) was.rest now.rest))
+    × Reads ((next_block o was.interfaces was.keep frame).Is (blocks.Interface i)) was.rest
+    now.rest))
 
 -- What an answer says, by the stage: after the end the end is answered, and after a fault C5, and
 -- nothing is read.

@@ -7,6 +7,7 @@ use Rattle.its_linkframe.specs.Devices.{AppendsPrefix}
 use Rattle.its_pcap.specs.declared.pcap.TheConstants.{LONGEST_CAPTURED}
 use Rattle.its_pcap.specs.declared.put_fault.PutFault.{PutFault}
 use Rattle.its_pcap.specs.declared.put_fault.PutFault.TheVariants as faults
+use Rattle.its_pcap.specs.Writing as outputs
 
 -- how many octets of 0 follow so many octets, and these: up to a multiple of 4
 abbrev pub padding_size : ℕ → ℕ
@@ -80,6 +81,15 @@ pub record Writing : Type 0 where
   pub contents : Option (List ℕ)
   pub failures : ℕ
 
+-- what an output does, of a writer that has written so many interfaces
+abbrev pub numbered : ℕ → outputs.Writing → Writing
+numbered n w = record {
+  failed = w.failed;
+  interfaces = n;
+  contents = w.contents;
+  failures = w.failures;
+}
+
 -- a call of the device failed: a prefix of the octets is written, and not all of them
 abbrev pub IsLost : List ℕ → Writing → Writing → Type 0
 IsLost text old new =
@@ -100,8 +110,10 @@ abbrev pub IsInterfaceFault : List ℕ → Writing → Writing → PutFault → 
 IsInterfaceFault name old new faults.Length = ⊥
 IsInterfaceFault name old new faults.Moment = ⊥
 IsInterfaceFault name old new faults.Interface = (2 ^ 32 - 1 ≤ old.interfaces) × (new ≡ old)
-IsInterfaceFault name old new faults.Name = (65535 < length name) × (new ≡ old)
-IsInterfaceFault name old new faults.Io = IsLost (interface_octets name) old new
+IsInterfaceFault name old new faults.Name =
+    (old.interfaces < 2 ^ 32 - 1) × (65535 < length name) × (new ≡ old)
+IsInterfaceFault name old new faults.Io =
+    (old.interfaces < 2 ^ 32 - 1) × (length name ≤ 65535) × IsLost (interface_octets name) old new
 IsInterfaceFault name old new faults.Failed = new ≡ old
 
 -- what a fault says of a record of an interface: one that was not written comes first
@@ -113,5 +125,6 @@ IsPacketFault interface moment frame old new faults.Interface =
     (old.interfaces ≤ interface) × (new ≡ old)
 IsPacketFault interface moment frame old new faults.Name = ⊥
 IsPacketFault interface moment frame old new faults.Io =
-    IsLost (packet_octets interface moment frame) old new
+    (interface < old.interfaces) × (length frame ≤ LONGEST_CAPTURED)
+    × IsLost (packet_octets interface moment frame) old new
 IsPacketFault interface moment frame old new faults.Failed = new ≡ old

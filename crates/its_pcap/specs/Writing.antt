@@ -1,7 +1,9 @@
 -- What a writer of records does.
-use Rattle.std.specs.Prelude.{◌≡◌, ℕ, ◌<◌, Bool, true, false, List, length, Option, Result, Ok, Err}
+use Rattle.std.specs.Prelude.{◌≡◌, ℕ, Bool, true, false, List, Option, Result, Ok, Err}
+use Rattle.std.specs.Prelude.{map}
+use Rattle.std.specs.Borrow.{Bor}
+use Rattle.std.specs.List.{concat}
 use Rattle.its_linkframe.specs.Devices.{AppendsPrefix}
-use Rattle.its_pcap.specs.declared.pcap.TheConstants.{LONGEST_CAPTURED}
 use Rattle.its_pcap.specs.declared.put_fault.PutFault.{PutFault}
 use Rattle.its_pcap.specs.declared.put_fault.PutFault.TheVariants as faults
 
@@ -11,6 +13,10 @@ pub record Writing : Type 0 where
   pub failed : Bool
   pub contents : Option (List ℕ)
   pub failures : ℕ
+
+-- the octets of the parts, one after the other
+abbrev pub joined : List (Bor (List ℕ)) → List ℕ
+joined parts = concat (map (λ p. p.now) parts)
 
 -- the answer is that a call of the device failed
 abbrev pub is_io_failure : {T : Type 0} → Result T PutFault → Bool
@@ -22,20 +28,8 @@ is_io_failure (Err faults.Name) = false
 is_io_failure (Err faults.Io) = true
 is_io_failure (Err faults.Failed) = false
 
--- What a fault says of octets that were to be written of a frame at a moment, and what it leaves:
--- all as it was, or behind what there was a prefix of the octets, and not all of them.
-abbrev pub IsPutFault : (ℕ → Type 0) → ℕ → List ℕ → List ℕ → Writing → Writing → PutFault
-    → Type 0
-IsPutFault IsLate moment frame text old new faults.Length =
-    (LONGEST_CAPTURED < length frame) × (new ≡ old)
-IsPutFault IsLate moment frame text old new faults.Moment = IsLate moment × (new ≡ old)
-IsPutFault IsLate moment frame text old new faults.Interface = ⊥
-IsPutFault IsLate moment frame text old new faults.Name = ⊥
-IsPutFault IsLate moment frame text old new faults.Io =
-    AppendsPrefix old.contents new.contents text
-IsPutFault IsLate moment frame text old new faults.Failed = new ≡ old
-
--- the same of a header
+-- What a fault says of octets that were to be written, and what it leaves: all as it was, or behind
+-- what there was a prefix of the octets, and not all of them.
 abbrev pub IsStartFault : List ℕ → Writing → Writing → PutFault → Type 0
 IsStartFault text old new faults.Length = ⊥
 IsStartFault text old new faults.Moment = ⊥

@@ -4,8 +4,7 @@ ghost use Rattle.std.specs.Prelude.{◌≡◌, ◌-◌, ◌^◌, ◌<◌, ◌≤
 ghost use Rattle.std.specs.Io.KnownBytes.{Keeps};
 ghost use Rattle.its_pcap.specs.Begun.{left_of};
 
-use crate::transfer::fill;
-use its_linkframe::Source;
+use its_linkframe::{Source, fill};
 use std::io;
 use std::io::Read;
 use std::marker::Model;

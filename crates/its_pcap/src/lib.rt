@@ -9,6 +9,7 @@ mod format;
 mod interface;
 mod octets;
 mod options;
+mod output;
 mod padding;
 mod pcap;
 mod pcap_writer;

@@ -12,9 +12,9 @@ ghost use Rattle.its_pcap.specs.declared.pcap.Stage.TheVariants as stages;
 use crate::fault::SourceFault;
 use crate::octets::{Order, half_at, word_at};
 use crate::record::{Head, Step};
-use crate::transfer::{fill, fill_whole, read_frame};
+use crate::transfer::{fill_whole, read_frame};
 use byteorder::{BigEndian, ByteOrder};
-use its_linkframe::{CaptureFault, Source};
+use its_linkframe::{CaptureFault, Source, fill};
 use std::marker::Model;
 
 /// The octets of a file's mark.

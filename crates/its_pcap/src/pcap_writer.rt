@@ -3,14 +3,13 @@
 ghost use Rattle.std.specs.Prelude.{◌≡◌, ◌-◌, ◌+◌, ◌/◌, ◌^◌, ◌<◌, ◌≤◌, ◌↔◌, ◌||◌, ◌++◌, length};
 ghost use Rattle.std.specs.Prelude.{OnOk, IfErr, Err, IsTrue, if◌then◌else◌, false};
 ghost use Rattle.std.specs.Io.KnownBytes.{Appends};
-ghost use Rattle.byteorder.specs.Endian.{little_bytes};
-ghost use Rattle.its_pcap.specs.PcapWritten.{file_header, record_of, IsLate};
-ghost use Rattle.its_pcap.specs.Writing.{is_io_failure, IsPutFault, IsStartFault};
+ghost use Rattle.its_pcap.specs.PcapWritten.{file_header, record_head, record_of, IsPutFault};
+ghost use Rattle.its_pcap.specs.Writing.{is_io_failure, IsStartFault};
 ghost use Rattle.its_pcap.specs.declared.put_fault.PutFault.TheVariants as put_faults;
 
+use crate::output::Output;
 use crate::pcap::LONGEST_CAPTURED;
 use crate::put_fault::PutFault;
-use crate::transfer::{store, store_both};
 use byteorder::{ByteOrder, LittleEndian};
 use its_linkframe::Sink;
 use std::marker::Model;
@@ -27,23 +26,15 @@ const HEAD: usize = 16;
 /// memory.
 #[derive(Drop)]
 pub struct PcapWriter<W: Sink> {
-    sink: W,
-    failed: bool,
+    output: Output<W>,
 }
 
 impl<W: Sink> Model for PcapWriter<W> {
-    ghost use Rattle.std.specs.Prelude.{◌≡◌, ◌-◌, ◌^◌, ◌<◌, false};
     ghost use Rattle.its_pcap.specs.Writing.{Writing};
 
     ghost Value = { Writing };
 
-    ghost view = { λ w. record {
-      failed = w.failed;
-      contents = W.contents w.sink;
-      failures = W.failed w.sink;
-    } };
-
-    ghost invariant = { λ w. w.failed ≡ false → W.failed w.sink < 2 ^ 64 - 1 };
+    ghost view = { λ w. w.output };
 }
 
 impl<W: Sink> PcapWriter<W> {
@@ -57,8 +48,7 @@ impl<W: Sink> PcapWriter<W> {
         } }
     {
         PcapWriter {
-            sink,
-            failed: false,
+            output: Output::new(sink),
         }
     }
 
@@ -71,16 +61,7 @@ impl<W: Sink> PcapWriter<W> {
         ensures failed { (result ≡ Err put_faults.Failed) ↔ IsTrue self.old.failed }
         ensures breaks { self.new.failed ≡ (self.old.failed || is_io_failure result) }
     {
-        if self.failed {
-            return Err(PutFault::Failed);
-        }
-        match store(&mut self.sink, &FILE_HEADER) {
-            Some(()) => Ok(()),
-            None => {
-                self.failed = true;
-                Err(PutFault::Io)
-            }
-        }
+        self.output.write(&[&FILE_HEADER])
     }
 
     /// Writes a record of a frame of Ethernet, whole: the moment is in milliseconds. A frame of
@@ -90,31 +71,21 @@ impl<W: Sink> PcapWriter<W> {
             (Appends self.old.contents self.new.contents (record_of moment frame.now)) }
         ensures fits { OnOk result ((length frame.now ≤ LONGEST_CAPTURED)
             × (moment / 1000 < 2 ^ 32)) }
-        ensures fault { IfErr result
-            (IsPutFault IsLate moment frame.now (record_of moment frame.now) self.old self.new) }
+        ensures fault { IfErr result (IsPutFault moment frame.now self.old self.new) }
         ensures counts { self.new.failures
             ≡ self.old.failures + (if is_io_failure result then 1 else 0) }
         ensures failed { (result ≡ Err put_faults.Failed) ↔ IsTrue self.old.failed }
         ensures breaks { self.new.failed ≡ (self.old.failed || is_io_failure result) }
     {
-        if self.failed {
-            return Err(PutFault::Failed);
-        }
+        self.output.check()?;
         if frame.len() > LONGEST_CAPTURED as usize {
             return Err(PutFault::Length);
         }
         let Ok(seconds) = u32::try_from(moment / 1000) else {
             return Err(PutFault::Moment);
         };
-        let micros = (moment % 1000) as u32 * 1000;
-        let head = head_for(seconds, micros, frame.len() as u32);
-        match store_both(&mut self.sink, &head, frame) {
-            Some(()) => Ok(()),
-            None => {
-                self.failed = true;
-                Err(PutFault::Io)
-            }
-        }
+        let head = head_for(moment, seconds, frame.len() as u32);
+        self.output.write(&[&head, frame])
     }
 
     /// The sink, with what it has.
@@ -122,15 +93,17 @@ impl<W: Sink> PcapWriter<W> {
         ensures contents { W.contents result ≡ self.contents }
         ensures failures { W.failed result ≡ self.failures }
     {
-        self.sink
+        self.output.into_inner()
     }
 }
 
-/// What goes before a frame.
-fn head_for(seconds: u32, micros: u32, size: u32) -> [u8; HEAD]
-    ensures { result ≡ little_bytes 4 seconds ++ little_bytes 4 micros ++ little_bytes 4 size
-        ++ little_bytes 4 size }
+/// What goes before a frame: these are the whole seconds of the moment.
+#[tactic(auto, unfolding(crate::specs::PcapWritten::record_head))]
+fn head_for(moment: u64, seconds: u32, size: u32) -> [u8; HEAD]
+    requires { seconds ≡ moment / 1000 }
+    ensures { result ≡ record_head moment size }
 {
+    let micros = (moment % 1000) as u32 * 1000;
     let mut head = [0; HEAD];
     LittleEndian::write_u32(&mut head, seconds);
     LittleEndian::write_u32(&mut head[4..], micros);

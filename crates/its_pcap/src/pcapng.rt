@@ -11,8 +11,7 @@ use crate::fault::SourceFault;
 use crate::interface::Interface;
 use crate::octets::{Order, word_at};
 use crate::record::Step;
-use crate::transfer::fill;
-use its_linkframe::{CaptureFault, Source};
+use its_linkframe::{CaptureFault, Source, fill};
 use std::alloc::Global;
 use std::marker::Model;
 

@@ -1,21 +1,19 @@
 //! Writing a pcapng file.
 
 ghost use Rattle.std.specs.Prelude.{◌≡◌, ◌-◌, ◌+◌, ◌/◌, ◌%◌, ◌^◌, ◌<◌, ◌≤◌, ◌↔◌, ◌||◌, ◌++◌};
-ghost use Rattle.std.specs.Prelude.{false, OnOk, IfErr, Err, IsTrue, if◌then◌else◌, MatchOption, length};
+ghost use Rattle.std.specs.Prelude.{false, OnOk, IfErr, Err, IsTrue, if◌then◌else◌, length};
 ghost use Rattle.std.specs.Io.KnownBytes.{Appends};
 ghost use Rattle.byteorder.specs.Endian.{little_bytes};
-ghost use Rattle.its_linkframe.specs.Devices.{counted, AppendsPrefix};
 ghost use Rattle.its_pcap.specs.PcapngWritten.{padding_size, section_octets, interface_front};
-ghost use Rattle.its_pcap.specs.PcapngWritten.{interface_end, name_head};
-ghost use Rattle.its_pcap.specs.PcapngWritten.{named_octets, interface_octets, packet_size, packet_head, padding_of};
-ghost use Rattle.its_pcap.specs.PcapngWritten.{packet_octets, IsSectionFault, IsInterfaceFault};
-ghost use Rattle.its_pcap.specs.PcapngWritten.{IsPacketFault};
-ghost use Rattle.its_pcap.specs.Writing.{is_io_failure};
+ghost use Rattle.its_pcap.specs.PcapngWritten.{interface_end, name_head, interface_octets};
+ghost use Rattle.its_pcap.specs.PcapngWritten.{packet_size, packet_head, packet_octets};
+ghost use Rattle.its_pcap.specs.PcapngWritten.{IsSectionFault, IsInterfaceFault, IsPacketFault};
+ghost use Rattle.its_pcap.specs.Writing.{is_io_failure, IsStartFault};
 ghost use Rattle.its_pcap.specs.declared.put_fault.PutFault.TheVariants as put_faults;
 
+use crate::output::Output;
 use crate::pcap::LONGEST_CAPTURED;
 use crate::put_fault::PutFault;
-use crate::transfer::{store, store_both};
 use byteorder::{ByteOrder, LittleEndian};
 use its_linkframe::Sink;
 use std::marker::Model;
@@ -63,25 +61,16 @@ const PADDING: [u8; 3] = [0; 3];
 /// other. It takes no memory.
 #[derive(Drop)]
 pub struct PcapngWriter<W: Sink> {
-    sink: W,
+    output: Output<W>,
     interfaces: u32,
-    failed: bool,
 }
 
 impl<W: Sink> Model for PcapngWriter<W> {
-    ghost use Rattle.std.specs.Prelude.{◌≡◌, ◌-◌, ◌^◌, ◌<◌, false};
-    ghost use Rattle.its_pcap.specs.PcapngWritten.{Writing};
+    ghost use Rattle.its_pcap.specs.PcapngWritten.{Writing, numbered};
 
     ghost Value = { Writing };
 
-    ghost view = { λ w. record {
-      failed = w.failed;
-      interfaces = w.interfaces;
-      contents = W.contents w.sink;
-      failures = W.failed w.sink;
-    } };
-
-    ghost invariant = { λ w. w.failed ≡ false → W.failed w.sink < 2 ^ 64 - 1 };
+    ghost view = { λ w. numbered w.interfaces w.output };
 }
 
 impl<W: Sink> PcapngWriter<W> {
@@ -96,9 +85,8 @@ impl<W: Sink> PcapngWriter<W> {
         } }
     {
         PcapngWriter {
-            sink,
+            output: Output::new(sink),
             interfaces: 0,
-            failed: false,
         }
     }
 
@@ -112,16 +100,7 @@ impl<W: Sink> PcapngWriter<W> {
         ensures failed { (result ≡ Err put_faults.Failed) ↔ IsTrue self.old.failed }
         ensures breaks { self.new.failed ≡ (self.old.failed || is_io_failure result) }
     {
-        if self.failed {
-            return Err(PutFault::Failed);
-        }
-        match store(&mut self.sink, &SECTION) {
-            Some(()) => Ok(()),
-            None => {
-                self.failed = true;
-                Err(PutFault::Io)
-            }
-        }
+        self.output.write(&[&SECTION])
     }
 
     /// Writes an interface of Ethernet whose ticks are milliseconds, with this name, or with none
@@ -130,6 +109,8 @@ impl<W: Sink> PcapngWriter<W> {
     pub fn add_interface(&mut self, name: &str) -> Result<(), PutFault>
         ensures stored { OnOk result
             (Appends self.old.contents self.new.contents (interface_octets name.now)) }
+        ensures fits { OnOk result ((self.old.interfaces < 2 ^ 32 - 1)
+            × (length name.now ≤ 65535)) }
         ensures added { OnOk result (self.new.interfaces ≡ self.old.interfaces + 1) }
         ensures fault { IfErr result (IsInterfaceFault name.now self.old self.new) }
         ensures counts { self.new.failures
@@ -137,24 +118,19 @@ impl<W: Sink> PcapngWriter<W> {
         ensures failed { (result ≡ Err put_faults.Failed) ↔ IsTrue self.old.failed }
         ensures breaks { self.new.failed ≡ (self.old.failed || is_io_failure result) }
     {
-        if self.failed {
-            return Err(PutFault::Failed);
-        }
+        self.output.check()?;
         if self.interfaces == u32::MAX {
             return Err(PutFault::Interface);
         }
         let Ok(size) = u16::try_from(name.len()) else {
             return Err(PutFault::Name);
         };
-        match store_interface(&mut self.sink, name.as_bytes(), size) {
-            Some(()) => {
+        match write_interface(&mut self.output, name.as_bytes(), size) {
+            Ok(()) => {
                 self.interfaces += 1;
                 Ok(())
             }
-            None => {
-                self.failed = true;
-                Err(PutFault::Io)
-            }
+            Err(fault) => Err(fault),
         }
     }
 
@@ -174,22 +150,19 @@ impl<W: Sink> PcapngWriter<W> {
         ensures failed { (result ≡ Err put_faults.Failed) ↔ IsTrue self.old.failed }
         ensures breaks { self.new.failed ≡ (self.old.failed || is_io_failure result) }
     {
-        if self.failed {
-            return Err(PutFault::Failed);
-        }
+        self.output.check()?;
         if interface >= self.interfaces {
             return Err(PutFault::Interface);
         }
         if frame.len() > LONGEST_CAPTURED as usize {
             return Err(PutFault::Length);
         }
-        match store_packet(&mut self.sink, interface, moment, frame) {
-            Some(()) => Ok(()),
-            None => {
-                self.failed = true;
-                Err(PutFault::Io)
-            }
-        }
+        let size = frame.len() as u32;
+        let padding = padding_after(size);
+        let block = PACKET_SIZE + (size + padding);
+        let head = head_for(interface, moment, block, size);
+        let zeros = &PADDING[..padding as usize];
+        self.output.write(&[&head, frame, zeros, &end_of(block)])
     }
 
     /// The sink, with what it has.
@@ -197,7 +170,7 @@ impl<W: Sink> PcapngWriter<W> {
         ensures contents { W.contents result ≡ self.contents }
         ensures failures { W.failed result ≡ self.failures }
     {
-        self.sink
+        self.output.into_inner()
     }
 }
 
@@ -233,70 +206,38 @@ fn end_for(size: u32) -> [u8; 16]
     end
 }
 
-/// The same with a name's option, up to the name.
-#[tactic(auto, unfolding(crate::specs::PcapngWritten::interface_front, crate::specs::PcapngWritten::name_head))]
-fn named_front(block: u32, size: u16) -> [u8; INTERFACE_FRONT + 4]
-    ensures { result ≡ interface_front block ++ name_head size }
+/// The option of a name, up to the name.
+#[tactic(auto, unfolding(crate::specs::PcapngWritten::name_head))]
+fn name_head_for(size: u16) -> [u8; 4]
+    ensures { result ≡ name_head size }
 {
-    let mut front = [0; INTERFACE_FRONT + 4];
-    LittleEndian::write_u32(&mut front, INTERFACE);
-    LittleEndian::write_u32(&mut front[4..], block);
-    LittleEndian::write_u16(&mut front[8..], ETHERNET);
-    LittleEndian::write_u32(&mut front[12..], LONGEST_CAPTURED);
-    LittleEndian::write_u16(&mut front[16..], NAME);
-    LittleEndian::write_u16(&mut front[18..], size);
-    front
+    let mut head = [0; 4];
+    LittleEndian::write_u16(&mut head, NAME);
+    LittleEndian::write_u16(&mut head[2..], size);
+    head
 }
 
 /// Writes an interface, with the option of a name where that isn't empty.
-fn store_interface<S: Sink>(sink: &mut S, name: &[u8], size: u16) -> Option<()>
-    requires ready { S.failed sink.old < 2 ^ 64 - 1 }
-    requires size { size ≡ length name.now }
-    ensures counts { S.failed sink.new ≡ counted (S.failed sink.old) result }
-    ensures bytes { MatchOption result
-        (AppendsPrefix (S.contents sink.old) (S.contents sink.new) (interface_octets name.now))
-        (λ _. Appends (S.contents sink.old) (S.contents sink.new) (interface_octets name.now)) }
+fn write_interface<W: Sink>(output: &mut Output<W>, name: &[u8], size: u16) -> Result<(), PutFault>
+    requires { size ≡ length name.now }
+    ensures stored { OnOk result
+        (Appends output.old.contents output.new.contents (interface_octets name.now)) }
+    ensures fault { IfErr result
+        (IsStartFault (interface_octets name.now) output.old output.new) }
+    ensures counts { output.new.failures
+        ≡ output.old.failures + (if is_io_failure result then 1 else 0) }
+    ensures failed { (result ≡ Err put_faults.Failed) ↔ IsTrue output.old.failed }
+    ensures breaks { output.new.failed ≡ (output.old.failed || is_io_failure result) }
 {
     if name.is_empty() {
-        return store_both(sink, &front_for(PLAIN_SIZE), &end_for(PLAIN_SIZE));
+        return output.write(&[&front_for(PLAIN_SIZE), &end_for(PLAIN_SIZE)]);
     }
-    store_named(sink, name, size)
-}
-
-/// Writes an interface with this name.
-fn store_named<S: Sink>(sink: &mut S, name: &[u8], size: u16) -> Option<()>
-    requires ready { S.failed sink.old < 2 ^ 64 - 1 }
-    requires size { size ≡ length name.now }
-    ensures counts { S.failed sink.new ≡ counted (S.failed sink.old) result }
-    ensures bytes { MatchOption result
-        (AppendsPrefix (S.contents sink.old) (S.contents sink.new) (named_octets name.now))
-        (λ _. Appends (S.contents sink.old) (S.contents sink.new) (named_octets name.now)) }
-{
     let padding = padding_after(u32::from(size));
     let block = NAMED_SIZE + (u32::from(size) + padding);
-    let head = named_front(block, size);
-    store_parts(sink, &head, name, padding, &end_for(block))
-}
-
-/// Writes the head of a block, octets, so many of padding, and the end of the block.
-fn store_parts<S: Sink>(
-    sink: &mut S,
-    head: &[u8],
-    octets: &[u8],
-    padding: u32,
-    end: &[u8],
-) -> Option<()>
-    requires ready { S.failed sink.old < 2 ^ 64 - 1 }
-    requires padding { padding ≡ padding_size (length octets.now) }
-    ensures counts { S.failed sink.new ≡ counted (S.failed sink.old) result }
-    ensures bytes { MatchOption result
-        (AppendsPrefix (S.contents sink.old) (S.contents sink.new)
-        ((head.now ++ octets.now) ++ (padding_of octets.now ++ end.now)))
-        (λ _. Appends (S.contents sink.old) (S.contents sink.new)
-        ((head.now ++ octets.now) ++ (padding_of octets.now ++ end.now))) }
-{
-    store_both(sink, head, octets)?;
-    store_both(sink, &PADDING[..padding as usize], end)
+    let front = front_for(block);
+    let head = name_head_for(size);
+    let zeros = &PADDING[..padding as usize];
+    output.write(&[&front, &head, name, zeros, &end_for(block)])
 }
 
 /// What goes before a frame.
@@ -314,24 +255,6 @@ fn head_for(interface: u32, moment: u64, block: u32, size: u32) -> [u8; HEAD]
     LittleEndian::write_u32(&mut head[20..], size);
     LittleEndian::write_u32(&mut head[24..], size);
     head
-}
-
-/// Writes a packet.
-fn store_packet<S: Sink>(sink: &mut S, interface: u32, moment: u64, frame: &[u8]) -> Option<()>
-    requires ready { S.failed sink.old < 2 ^ 64 - 1 }
-    requires fits { length frame.now ≤ LONGEST_CAPTURED }
-    ensures counts { S.failed sink.new ≡ counted (S.failed sink.old) result }
-    ensures bytes { MatchOption result
-        (AppendsPrefix (S.contents sink.old) (S.contents sink.new)
-        (packet_octets interface moment frame.now))
-        (λ _. Appends (S.contents sink.old) (S.contents sink.new)
-        (packet_octets interface moment frame.now)) }
-{
-    let size = frame.len() as u32;
-    let padding = padding_after(size);
-    let block = PACKET_SIZE + (size + padding);
-    let head = head_for(interface, moment, block, size);
-    store_parts(sink, &head, frame, padding, &end_of(block))
 }
 
 /// The size of a block, as it stands at its end.

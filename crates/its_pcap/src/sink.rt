@@ -1,6 +1,12 @@
 //! Files with records of any format, written through one call.
 
-ghost use Rattle.std.specs.Prelude.{◌-◌, ◌^◌, ◌<◌};
+ghost use Rattle.std.specs.Prelude.{◌≡◌, ◌-◌, ◌^◌, ◌<◌, false, MatchOption};
+ghost use Rattle.its_pcap.specs.RecordFiles.{RecordFile, capture_file, pcap_file, pcapng_file};
+ghost use Rattle.its_pcap.specs.RecordFiles.{Starts, AddsInterface, PutsFrame, PutsRecord};
+ghost use Rattle.its_pcap.specs.Records.{fault_of};
+ghost use Rattle.its_pcap.specs.Words.{word_of};
+ghost use Rattle.its_pcap.specs.Sinks.{file_of_sink};
+ghost use Rattle.its_pcap.specs.declared.sink.SinkFault.TheVariants as sink_faults;
 
 use crate::format::Format;
 use crate::pcap_writer::PcapWriter;
@@ -23,7 +29,10 @@ pub enum SinkFault {
 impl SinkFault {
     /// What is wrong with the record, in the program's words: `link type`, `cut`, `length` or
     /// `moment`. Nothing where the file failed.
-    pub fn word(&self) -> Option<&'static str> {
+    pub fn word(&self) -> Option<&'static str>
+        ensures { MatchOption result (word_of self.now ≡ None)
+            (λ w. word_of self.now ≡ Some w.now) }
+    {
         match self {
             SinkFault::Record(RecordFault::LinkType) => Some("link type"),
             SinkFault::Record(RecordFault::CutFrame) => Some("cut"),
@@ -35,6 +44,8 @@ impl SinkFault {
 }
 
 impl From<PutFault> for SinkFault {
+    ghost from_gives = { λ f s. s ≡ sink_faults.Put f };
+
     fn from(fault: PutFault) -> SinkFault {
         SinkFault::Put(fault)
     }
@@ -54,20 +65,31 @@ impl Error for SinkFault {}
 /// A file to which records are written, one after the other. A further format is one more
 /// implementation.
 pub trait RecordSink {
+    /// The file: its format, its interfaces, and what its device has.
+    ghost file: { Self → RecordFile };
+
     /// Writes what a file begins with: the first call.
-    fn start(&mut self) -> Result<(), PutFault>;
+    fn start(&mut self) -> Result<(), PutFault>
+        ensures { Starts (file self.old).format (file self.old) (file self.new) result };
 
     /// Writes an interface with this name, or with none where it is empty, if the format has
     /// interfaces. The first is number 0. All of them are written before the first record.
-    fn add_interface(&mut self, name: &str) -> Result<(), PutFault>;
+    fn add_interface(&mut self, name: &str) -> Result<(), PutFault>
+        ensures { AddsInterface (file self.old).format name.now (file self.old) (file self.new)
+            result };
 
     /// Writes a frame of Ethernet of this interface, where the format has any, at a moment in
     /// milliseconds.
-    fn put_frame(&mut self, interface: u32, moment: u64, frame: &[u8]) -> Result<(), PutFault>;
+    fn put_frame(&mut self, interface: u32, moment: u64, frame: &[u8]) -> Result<(), PutFault>
+        ensures { PutsFrame interface moment frame.now (file self.old) (file self.new) result };
 
     /// Writes a record of the first interface: one that is no frame of Ethernet is refused first,
     /// then one that was cut, then its length, then its moment.
-    fn put(&mut self, head: &Head, frame: &[u8]) -> Result<(), SinkFault> {
+    fn put(&mut self, head: &Head, frame: &[u8]) -> Result<(), SinkFault>
+        ensures { PutsRecord (fault_of head.now)
+            (PutsFrame 0 head.now.moment frame.now (file self.old) (file self.new))
+            (file self.old) (file self.new) result }
+    {
         if let Some(fault) = head.fault() {
             return Err(SinkFault::Record(fault));
         }
@@ -77,6 +99,8 @@ pub trait RecordSink {
 }
 
 impl<W: Sink> RecordSink for CaptureWriter<W> {
+    ghost file = { capture_file };
+
     fn start(&mut self) -> Result<(), PutFault> {
         Ok(())
     }
@@ -98,6 +122,8 @@ impl<W: Sink> RecordSink for CaptureWriter<W> {
 }
 
 impl<W: Sink> RecordSink for PcapWriter<W> {
+    ghost file = { pcap_file };
+
     fn start(&mut self) -> Result<(), PutFault> {
         self.start()
     }
@@ -112,6 +138,8 @@ impl<W: Sink> RecordSink for PcapWriter<W> {
 }
 
 impl<W: Sink> RecordSink for PcapngWriter<W> {
+    ghost file = { pcapng_file };
+
     fn start(&mut self) -> Result<(), PutFault> {
         self.start()
     }
@@ -140,6 +168,13 @@ impl<W: Sink> AnySink<W> {
     /// A file of this format behind what the sink has. Nothing is written yet.
     pub fn new(sink: W, format: Format) -> AnySink<W>
         requires { W.failed sink < 2 ^ 64 - 1 }
+        ensures { file_of_sink result ≡ record {
+          format = format;
+          interfaces = 0;
+          failed = false;
+          contents = W.contents sink;
+          failures = W.failed sink;
+        } }
     {
         match format {
             Format::Capture => AnySink::Capture(CaptureWriter::new(sink)),
@@ -149,7 +184,10 @@ impl<W: Sink> AnySink<W> {
     }
 
     /// The sink, with what it has.
-    pub fn into_inner(self) -> W {
+    pub fn into_inner(self) -> W
+        ensures contents { W.contents result ≡ (file_of_sink self).contents }
+        ensures failures { W.failed result ≡ (file_of_sink self).failures }
+    {
         match self {
             AnySink::Capture(writer) => writer.into_inner(),
             AnySink::Pcap(writer) => writer.into_inner(),
@@ -159,6 +197,8 @@ impl<W: Sink> AnySink<W> {
 }
 
 impl<W: Sink> RecordSink for AnySink<W> {
+    ghost file = { file_of_sink };
+
     fn start(&mut self) -> Result<(), PutFault> {
         match self {
             AnySink::Capture(writer) => RecordSink::start(writer),

@@ -1,4 +1,4 @@
-//! Whole buffers and counts of octets, in as many calls as the device needs.
+//! Whole buffers and counts of octets: the file ends in them, or a call of its device fails.
 
 ghost use Rattle.std.specs.Prelude.{◌≡◌, ◌-◌, ◌+◌, ◌^◌, ◌<◌, ◌≤◌, ◌++◌, length, take};
 ghost use Rattle.std.specs.Prelude.{MatchOption, OnOk, IfErr};
@@ -10,33 +10,10 @@ ghost use Rattle.its_pcap.specs.declared.fault.SourceFault.TheVariants as faults
 ghost use Rattle.its_pcap.specs.Reading.{is_io, IsCutShort, Passes, IsFrameFault, GivesFrame};
 
 use crate::fault::SourceFault;
-use its_linkframe::{CaptureFault, Sink, Source};
+use its_linkframe::{CaptureFault, Source, fill};
 
 /// How many octets are passed over at a time.
 const PIECE: usize = 512;
-
-/// Reads until the buffer is full or the input ends, and returns how many octets came. `None` is a
-/// failed call, after which no other is made.
-pub(crate) fn fill<S: Source>(source: &mut S, buf: &mut [u8]) -> Option<usize>
-    requires { S.failed source.old < 2 ^ 64 - 1 }
-    ensures bound { IfSome result (λ n. n ≤ length buf.new) }
-    ensures counts { S.failed source.new ≡ counted (S.failed source.old) result }
-    ensures bytes { IfSome result
-        (λ n. Consumes (S.remaining source.old) (S.remaining source.new) (take n buf.new)) }
-    ensures end { IfSome result (λ n. n < length buf.new → IsAtEnd (S.remaining source.new)) }
-    ensures lost { IfNone result
-        (ConsumesPrefix (S.remaining source.old) (S.remaining source.new)) }
-{
-    let mut at = 0;
-    while at < buf.len() {
-        let n = source.pull(&mut buf[at..])?;
-        if n == 0 {
-            return Some(at);
-        }
-        at += n;
-    }
-    Some(at)
-}
 
 /// Reads octets until the buffer is full. P1 where the input ends before, C3 where a call fails.
 pub(crate) fn fill_whole<S: Source>(source: &mut S, buf: &mut [u8]) -> Result<(), SourceFault>
@@ -56,6 +33,21 @@ pub(crate) fn fill_whole<S: Source>(source: &mut S, buf: &mut [u8]) -> Result<()
 
 /// Passes over that many octets. P1 where the input ends before, C3 where a call fails.
 pub(crate) fn pass_over<S: Source>(source: &mut S, count: usize) -> Result<(), SourceFault>
+    requires { S.failed source.old < 2 ^ 64 - 1 }
+    ensures octets { OnOk result
+        (Passes count (S.remaining source.old) (S.remaining source.new)) }
+    ensures fault { IfErr result
+        (IsCutShort count (S.remaining source.old) (S.remaining source.new)) }
+    ensures counts { S.failed source.new ≡ S.failed source.old + (if is_io result then 1 else 0) }
+{
+    if count == 0 {
+        return Ok(());
+    }
+    pass_pieces(source, count)
+}
+
+/// The same of octets that there are: the room for pieces of them is on the stack, and cleared.
+fn pass_pieces<S: Source>(source: &mut S, count: usize) -> Result<(), SourceFault>
     requires { S.failed source.old < 2 ^ 64 - 1 }
     ensures octets { OnOk result
         (Passes count (S.remaining source.old) (S.remaining source.new)) }
@@ -96,32 +88,4 @@ pub(crate) fn read_frame<S: Source>(
     }
     fill_whole(source, frame.as_mut_slice())?;
     pass_over(source, captured - kept)
-}
-
-/// Writes all octets. `None` is a failed call, after which no other is made: the sink then has a
-/// prefix of the octets.
-pub(crate) fn store<S: Sink>(sink: &mut S, octets: &[u8]) -> Option<()>
-    requires { S.failed sink.old < 2 ^ 64 - 1 }
-    ensures counts { S.failed sink.new ≡ counted (S.failed sink.old) result }
-    ensures bytes { MatchOption result
-        (AppendsPrefix (S.contents sink.old) (S.contents sink.new) octets.now)
-        (λ _. Appends (S.contents sink.old) (S.contents sink.new) octets.now) }
-{
-    let mut at = 0;
-    while at < octets.len() {
-        at += sink.push(&octets[at..])?;
-    }
-    Some(())
-}
-
-/// Writes a head and what follows it, or a prefix of both where a call fails.
-pub(crate) fn store_both<S: Sink>(sink: &mut S, head: &[u8], octets: &[u8]) -> Option<()>
-    requires { S.failed sink.old < 2 ^ 64 - 1 }
-    ensures counts { S.failed sink.new ≡ counted (S.failed sink.old) result }
-    ensures bytes { MatchOption result
-        (AppendsPrefix (S.contents sink.old) (S.contents sink.new) (head.now ++ octets.now))
-        (λ _. Appends (S.contents sink.old) (S.contents sink.new) (head.now ++ octets.now)) }
-{
-    store(sink, head)?;
-    store(sink, octets)
 }

@@ -1,5 +1,5 @@
-//! Devices that give or take one octet at a time and fail in the end, at each octet, and memory that
-//! ends at each allocation.
+//! Devices that give or take one octet at a time and fail in the end, at each octet, and memory
+//! that ends at each allocation.
 
 use crate::pcapng::{
     INTERFACE, OTHER_INTERFACE, OTHER_SECTION, OTHER_SIMPLE, PACKET, SECTION, joined,
@@ -154,8 +154,8 @@ fn filled(
     Ok((answer, sink.into_inner().into_inner().taken))
 }
 
-/// A device that is full is told wherever it is, and has the octets before; nothing is written to it
-/// again.
+/// A device that is full is told wherever it is, and has the octets before; nothing is written to
+/// it again.
 #[test]
 fn a_full_device_is_told_at_each_octet(rt: HostRuntime) -> Result<(), Fail> {
     for (format, size) in [

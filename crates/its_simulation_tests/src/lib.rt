@@ -1,7 +1,5 @@
-//! Tests of the command `sim`, and of lines of JSON, through public calls.
+//! Tests of the command `sim` through public calls.
 #![tactic(auto)]
 
-#[cfg(test)]
-mod json;
 #[cfg(test)]
 mod simulations;

@@ -2,7 +2,6 @@
 
 mod entries;
 mod failures;
-mod frames;
 mod large;
 mod objects;
 mod options;

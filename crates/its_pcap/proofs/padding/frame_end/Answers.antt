@@ -1,4 +1,4 @@
-use Rattle.std.proofs.Common.{◌≡◌, ◌+◌, ℕ, Some, take, drop, length, ap, sym, subst, ◌∙◌, true≢false}
+use Rattle.std.proofs.Common.{◌≡◌, ◌+◌, ℕ, Some, take, drop, ap, sym, subst, ◌∙◌, true≢false}
 use Rattle.std.proofs.lemmas.List.{take_rest}
 use Rattle.its_linkframe.specs.Frames.{IsFrame}
 use Rattle.its_linkframe.proofs.Fronts.{packet_of_frame}

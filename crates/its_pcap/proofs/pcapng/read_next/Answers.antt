@@ -1,7 +1,5 @@
-use Rattle.std.proofs.Common.{◌≡◌, Option, None, Some, Ok, refl, subst, ◌∙◌, unwrap_or}
+use Rattle.std.proofs.Common.{◌≡◌, Option, None, Some, Ok, refl, ◌∙◌, unwrap_or}
 use Rattle.std.proofs.lemmas.Result.{err_from_is_err_and}
-use Rattle.its_pcap.specs.Blocks.{block_of}
-use Rattle.its_pcap.specs.Layouts.{IsAnswerOf}
 use Rattle.its_pcap.specs.Pcapng.{next_block, order_in}
 use Rattle.its_pcap.specs.declared.octets.Order.{Order}
 use Rattle.its_pcap.specs.declared.octets.Order.TheVariants as orders

@@ -1,4 +1,4 @@
-use Rattle.std.proofs.Common.{◌≡◌, Option, None, Some, inl, inr, subst}
+use Rattle.std.proofs.Common.{◌≡◌, None, Some, inl, inr, subst}
 use Rattle.std.specs.Prelude.{◌⊎◌}
 use Rattle.its_pcap.specs.Pcapng.{PcapngReading, IsAnswer}
 use Rattle.its_pcap.specs.declared.octets.Order.{Order}

@@ -1,6 +1,5 @@
 //! The file of the frames that stations give.
 
-use super::{Left, STATIONS, scenario};
 use its_commands::{FrameFile, Lines, RunOptions, Status, simulate_file};
 use its_vectors::{GEOBROADCAST, RELAYED, WORKED};
 use std::alloc::Global;
@@ -23,6 +22,45 @@ static STATION_1: &str = "0100000030000000010000000000040002000900\
 
 /// The header of a classic pcap file.
 static PCAP: &str = "d4c3b2a10200040000000000000000000000040001000000";
+
+/// Two beacons, the second in the first second that has no place in 32 bits.
+static LATE: &str = "\
+[[station]]
+address = \"1400020000000001\"
+lat = 0
+lon = 0
+[[station]]
+address = \"1400020000000002\"
+lat = 449
+lon = 0
+[[event]]
+station = 0
+at = 4294967295999
+do = \"tick\"
+jitter = 0
+[[event]]
+station = 1
+at = 4294967296000
+do = \"tick\"
+jitter = 0
+";
+
+/// What the command left: its status, standard output and standard error.
+#[derive(Drop)]
+struct Left {
+    status: Status,
+    out: Vec<u8>,
+    err: Vec<u8>,
+}
+
+impl Left {
+    /// It left just this.
+    fn expect(&self, rt: &impl Abort, status: Status, out: &str, err: &str) {
+        assert_eq!(rt; self.err.as_slice(), err.as_bytes());
+        assert_eq!(rt; self.out.as_slice(), out.as_bytes());
+        assert_eq!(rt; self.status, status);
+    }
+}
 
 /// What `sim` leaves of this text with its frames in a file of this name, and that file.
 fn run_to(
@@ -53,14 +91,15 @@ fn run_to(
     Ok((Left { status, out, err }, made))
 }
 
-/// A run of the worked scenario printed its lines, and the file has just the octets of these digits.
+/// A run of the worked scenario printed its lines, and the file has just the octets of these
+/// digits.
 fn expect_file(
     rt: &impl Abort,
     alloc: Global,
     (left, made): &(Left, Vec<u8>),
     digits: &str,
 ) -> Result<(), Fail> {
-    left.expect_out(rt, Status::Done, LINES);
+    left.expect(rt, Status::Done, LINES, "");
     let want = hex::decode(alloc, digits)?;
     assert_eq!(rt; made.as_slice(), want.as_slice());
     Ok(())
@@ -109,7 +148,7 @@ fn a_summed_up_run_has_its_frames(rt: HostRuntime) -> Result<(), Fail> {
     let (left, made) = run_to(&rt, WORKED, "geostation-summed.cap", options)?;
     let summary = "send 1 1000 0 gbc port 2002 inside 1 delivered 1 frames 2 hops 1 last 10\n\
         total events 3 frames 2 deliveries 1 duplicates 0 ignored 0 refused 0\n";
-    left.expect_out(&rt, Status::Done, summary);
+    left.expect(&rt, Status::Done, summary, "");
     assert_eq!(rt; made.len(), 2 * 86);
     Ok(())
 }
@@ -117,22 +156,19 @@ fn a_summed_up_run_has_its_frames(rt: HostRuntime) -> Result<(), Fail> {
 /// Classic pcap counts seconds in 32 bits: the frame of a later one is told and left out.
 #[test]
 fn a_frame_without_place_is_told(rt: HostRuntime) -> Result<(), Fail> {
-    let tick = "station = 0, at = 4294967295999, do = \"tick\", jitter = 0";
-    let late = "station = 1, at = 4294967296000, do = \"tick\", jitter = 0";
-    let text = scenario(rt.alloc(), STATIONS, &[tick, late])?;
     let lines = "0 4294967295999 0 sent 0\n1 4294967296000 1 sent 1\n";
     let mut options = RunOptions::default();
-    let (left, made) = run_to(&rt, text.as_str(), "geostation-late.pcap", options)?;
+    let (left, made) = run_to(&rt, LATE, "geostation-late.pcap", options)?;
     let said = "geostation: frame 1: moment\n";
-    left.expect(&rt, Status::Refused, lines.as_bytes(), said.as_bytes());
+    left.expect(&rt, Status::Refused, lines, said);
     assert_eq!(rt; made.len(), 24 + 16 + 50);
     options.lines.explain = true;
-    let (left, _) = run_to(&rt, text.as_str(), "geostation-late.pcap", options)?;
+    let (left, _) = run_to(&rt, LATE, "geostation-late.pcap", options)?;
     let said = "geostation: frame 1: moment (a moment whose second is 2^32 or more)\n";
-    left.expect(&rt, Status::Refused, lines.as_bytes(), said.as_bytes());
-    let (left, made) = run_to(&rt, text.as_str(), "geostation-late.pcapng", options)?;
-    left.expect_out(&rt, Status::Done, lines);
-    assert_eq!(rt; made.len(), 28 + 3 * 48 + 2 * (32 + 52));
+    left.expect(&rt, Status::Refused, lines, said);
+    let (left, made) = run_to(&rt, LATE, "geostation-late.pcapng", options)?;
+    left.expect(&rt, Status::Done, lines, "");
+    assert_eq!(rt; made.len(), 28 + 2 * 48 + 2 * (32 + 52));
     Ok(())
 }
 
@@ -140,7 +176,7 @@ fn a_frame_without_place_is_told(rt: HostRuntime) -> Result<(), Fail> {
 fn a_refused_scenario_leaves_the_file_alone(rt: HostRuntime) -> Result<(), Fail> {
     let options = RunOptions::default();
     let (left, made) = run_to(&rt, "station = 1\n", "geostation-alone.pcap", options)?;
-    left.expect_err(&rt, Status::Refused, "geostation: scenario: station\n");
+    left.expect(&rt, Status::Refused, "", "geostation: scenario: station\n");
     assert_eq!(rt; made.as_slice(), b"old".as_slice());
     Ok(())
 }
@@ -161,7 +197,7 @@ fn a_file_that_cannot_be_made_is_told(rt: HostRuntime) -> Result<(), Fail> {
     );
     let left = Left { status, out, err };
     let said = "geostation: cannot write /geostation-nowhere/a.pcap\n";
-    left.expect_err(&rt, Status::Failed, said);
+    left.expect(&rt, Status::Failed, "", said);
     Ok(())
 }
 

@@ -1,6 +1,6 @@
 use Rattle.std.proofs.Common.{◌-◌, ◌≡◌, ◌≤◌}
 use Rattle.its_pcap.specs.Reading.{Passes}
-use Rattle.its_pcap.proofs.transfer.pass_over.Given as goal
+use Rattle.its_pcap.proofs.transfer.pass_pieces.Given as goal
 
 abbrev pub invariant-loop-left : goal.invariant-loop-left
 invariant-loop-left g l =

@@ -1,0 +1,156 @@
+-- Files of records of any format, as they are written.
+use Rattle.std.specs.Prelude.{◌≡◌, ℕ, ◌+◌, ◌-◌, ◌/◌, ◌^◌, ◌<◌, ◌≤◌, Bool, true, false, List, length}
+use Rattle.std.specs.Prelude.{Option, None, Some, Result, Ok, Err}
+use Rattle.std.specs.Io.KnownBytes.{Appends}
+use Rattle.its_linkframe.specs.Captures.{IsFrameLength, captured_at, record_octets}
+use Rattle.its_linkframe.specs.Devices.{AppendsPrefix}
+use Rattle.its_linkframe.specs.Writing as captures
+use Rattle.its_pcap.specs.PcapWritten.{file_header, record_of, IsLate}
+use Rattle.its_pcap.specs.PcapngWritten.{section_octets, interface_octets, packet_octets}
+use Rattle.its_pcap.specs.PcapngWritten as sections
+use Rattle.its_pcap.specs.Writing as outputs
+use Rattle.its_pcap.specs.declared.format.Format.{Format}
+use Rattle.its_pcap.specs.declared.format.Format.TheVariants as formats
+use Rattle.its_pcap.specs.declared.pcap.TheConstants.{LONGEST_CAPTURED}
+use Rattle.its_pcap.specs.declared.put_fault.PutFault.{PutFault}
+use Rattle.its_pcap.specs.declared.put_fault.PutFault.TheVariants as faults
+use Rattle.its_pcap.specs.declared.record.RecordFault.{RecordFault}
+use Rattle.its_pcap.specs.declared.sink.SinkFault.{SinkFault}
+use Rattle.its_pcap.specs.declared.sink.SinkFault.TheVariants as sink_faults
+
+-- A file: its format, how many interfaces it has (of pcapng alone), whether a call of its device
+-- failed, what octets its device has, where they are known, and how many calls of the device
+-- failed.
+pub record RecordFile : Type 0 where
+  pub format : Format
+  pub interfaces : ℕ
+  pub failed : Bool
+  pub contents : Option (List ℕ)
+  pub failures : ℕ
+
+-- the files of the writers
+abbrev pub capture_file : captures.Writing → RecordFile
+capture_file w = record {
+  format = formats.Capture;
+  interfaces = 0;
+  failed = w.failed;
+  contents = w.contents;
+  failures = w.failures;
+}
+
+abbrev pub pcap_file : outputs.Writing → RecordFile
+pcap_file w = record {
+  format = formats.Pcap;
+  interfaces = 0;
+  failed = w.failed;
+  contents = w.contents;
+  failures = w.failures;
+}
+
+abbrev pub pcapng_file : sections.Writing → RecordFile
+pcapng_file w = record {
+  format = formats.Pcapng;
+  interfaces = w.interfaces;
+  failed = w.failed;
+  contents = w.contents;
+  failures = w.failures;
+}
+
+-- What a call answers that is to write a text and to add so many interfaces, and what it leaves.
+-- Where nothing speaks against it, that is the text behind what there was, or a prefix of the text
+-- and not all of it, where a call of the device fails; a refusal leaves all as it was.
+abbrev pub Writes : List ℕ → ℕ → Type 0 → (PutFault → Type 0) → RecordFile → RecordFile
+    → Result (Unit {0}) PutFault → Type 0
+Writes text more Fits Refuses old new (Ok _) =
+    (old.failed ≡ false) × Fits × Appends old.contents new.contents text
+    × (new.format ≡ old.format) × (new.interfaces ≡ old.interfaces + more)
+    × (new.failed ≡ false) × (new.failures ≡ old.failures)
+Writes text more Fits Refuses old new (Err faults.Length) =
+    (old.failed ≡ false) × Refuses faults.Length × (new ≡ old)
+Writes text more Fits Refuses old new (Err faults.Moment) =
+    (old.failed ≡ false) × Refuses faults.Moment × (new ≡ old)
+Writes text more Fits Refuses old new (Err faults.Interface) =
+    (old.failed ≡ false) × Refuses faults.Interface × (new ≡ old)
+Writes text more Fits Refuses old new (Err faults.Name) =
+    (old.failed ≡ false) × Refuses faults.Name × (new ≡ old)
+Writes text more Fits Refuses old new (Err faults.Io) =
+    (old.failed ≡ false) × Fits × AppendsPrefix old.contents new.contents text
+    × (new.format ≡ old.format) × (new.interfaces ≡ old.interfaces)
+    × (new.failed ≡ true) × (new.failures ≡ old.failures + 1)
+Writes text more Fits Refuses old new (Err faults.Failed) = (old.failed ≡ true) × (new ≡ old)
+
+-- a call for which the format has nothing to write
+abbrev pub WritesNothing : RecordFile → RecordFile → Result (Unit {0}) PutFault → Type 0
+WritesNothing old new r = (r ≡ Ok tt) × (new ≡ old)
+
+-- what a file begins with
+abbrev pub Starts : Format → RecordFile → RecordFile → Result (Unit {0}) PutFault → Type 0
+Starts formats.Capture old new r = WritesNothing old new r
+Starts formats.Pcap old new r = Writes file_header 0 (Unit {0}) (λ _. ⊥) old new r
+Starts formats.Pcapng old new r = Writes section_octets 0 (Unit {0}) (λ _. ⊥) old new r
+
+-- what speaks against a further interface, where there are so many: their number comes first
+abbrev pub RefusesInterface : ℕ → List ℕ → PutFault → Type 0
+RefusesInterface n name faults.Length = ⊥
+RefusesInterface n name faults.Moment = ⊥
+RefusesInterface n name faults.Interface = 2 ^ 32 - 1 ≤ n
+RefusesInterface n name faults.Name = (n < 2 ^ 32 - 1) × (65535 < length name)
+RefusesInterface n name faults.Io = ⊥
+RefusesInterface n name faults.Failed = ⊥
+
+-- an interface with this name
+abbrev pub AddsInterface : Format → List ℕ → RecordFile → RecordFile
+    → Result (Unit {0}) PutFault → Type 0
+AddsInterface formats.Capture name old new r = WritesNothing old new r
+AddsInterface formats.Pcap name old new r = WritesNothing old new r
+AddsInterface formats.Pcapng name old new r =
+    Writes (interface_octets name) 1
+    ((old.interfaces < 2 ^ 32 - 1) × (length name ≤ 65535))
+    (RefusesInterface old.interfaces name) old new r
+
+-- the octets of a record of a frame at a moment, as one of an interface
+abbrev pub frame_octets : Format → ℕ → ℕ → List ℕ → List ℕ
+frame_octets formats.Capture interface moment frame = record_octets (captured_at moment frame)
+frame_octets formats.Pcap interface moment frame = record_of moment frame
+frame_octets formats.Pcapng interface moment frame = packet_octets interface moment frame
+
+-- a file of so many interfaces has a place for it
+abbrev pub HasPlace : Format → ℕ → ℕ → ℕ → List ℕ → Type 0
+HasPlace formats.Capture n interface moment frame = IsFrameLength (length frame)
+HasPlace formats.Pcap n interface moment frame =
+    (length frame ≤ LONGEST_CAPTURED) × (moment / 1000 < 2 ^ 32)
+HasPlace formats.Pcapng n interface moment frame =
+    (interface < n) × (length frame ≤ LONGEST_CAPTURED)
+
+-- what speaks against it: in pcap its length comes before its moment, in pcapng its interface
+-- before its length
+abbrev pub RefusesFrame : Format → ℕ → ℕ → ℕ → List ℕ → PutFault → Type 0
+RefusesFrame formats.Capture n interface moment frame faults.Length =
+    ¬ IsFrameLength (length frame)
+RefusesFrame formats.Capture n interface moment frame fault = ⊥
+RefusesFrame formats.Pcap n interface moment frame faults.Length =
+    LONGEST_CAPTURED < length frame
+RefusesFrame formats.Pcap n interface moment frame faults.Moment =
+    (length frame ≤ LONGEST_CAPTURED) × IsLate moment
+RefusesFrame formats.Pcap n interface moment frame fault = ⊥
+RefusesFrame formats.Pcapng n interface moment frame faults.Interface = n ≤ interface
+RefusesFrame formats.Pcapng n interface moment frame faults.Length =
+    (interface < n) × (LONGEST_CAPTURED < length frame)
+RefusesFrame formats.Pcapng n interface moment frame fault = ⊥
+
+-- such a record
+abbrev pub PutsFrame : ℕ → ℕ → List ℕ → RecordFile → RecordFile → Result (Unit {0}) PutFault
+    → Type 0
+PutsFrame interface moment frame old new r =
+    Writes (frame_octets old.format interface moment frame) 0
+    (HasPlace old.format old.interfaces interface moment frame)
+    (RefusesFrame old.format old.interfaces interface moment frame) old new r
+
+-- A record of which this is told: its own fault comes first, and leaves all as it was; without one
+-- it is put as a frame is.
+abbrev pub PutsRecord : Option RecordFault → (Result (Unit {0}) PutFault → Type 0) → RecordFile
+    → RecordFile → Result (Unit {0}) SinkFault → Type 0
+PutsRecord (Some fault) Puts old new r = (r ≡ Err (sink_faults.Record fault)) × (new ≡ old)
+PutsRecord None Puts old new (Ok x) = Puts (Ok x)
+PutsRecord None Puts old new (Err (sink_faults.Record fault)) = ⊥
+PutsRecord None Puts old new (Err (sink_faults.Put fault)) = Puts (Err fault)
