@@ -1,9 +1,12 @@
 //! Geoanycasts, which stop at the first station inside of the area.
 
-use super::{BEACON, DUPLICATE, Fate, circle, expect, fate_of, receiver, request, sender, station};
+use super::expect;
 use its_faults::{Fault, FaultKind, FrameFault};
 use its_loctable::{LocationStore, OrderedTable, SortedTable};
 use its_station::Refused;
+use its_test_stations::{
+    BEACON, DUPLICATE, Fate, circle, fate_of, receiver, request, sender, station,
+};
 use its_vectors::{GEOBROADCAST, LINK, SECOND};
 use std::alloc::Global;
 use std::process::Abort;

@@ -6,13 +6,14 @@ mod known;
 use its_gnvalue::{GnAddress, Place};
 use its_loctable::SortedTable;
 use its_station::{Outcome, Station};
+use its_test_stations::BEACON;
 use its_vectors::GEOBROADCAST;
 use std::alloc::Global;
 use std::test::Fail;
 
 /// The beacon of a station of this number.
 fn beacon(alloc: Global, number: u8) -> Result<Vec<u8>, Fail> {
-    let mut octets = hex::decode(alloc, super::BEACON)?;
+    let mut octets = hex::decode(alloc, BEACON)?;
     *octets.get_mut(11).ok_or("short")? = number;
     *octets.get_mut(33).ok_or("short")? = number;
     Ok(octets)

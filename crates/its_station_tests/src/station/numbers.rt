@@ -2,10 +2,11 @@
 
 ghost use Rattle.std.specs.Prelude.{◌≤◌};
 
-use super::{DUPLICATE, Fate, circle, expect, fate_of, receiver, request, sender};
+use super::expect;
 use its_gnvalue::{GnAddress, Place};
 use its_loctable::{LocationStore, OrderedTable, SortedTable};
 use its_station::Station;
+use its_test_stations::{DUPLICATE, Fate, circle, fate_of, receiver, request, sender};
 use its_vectors::{LINK, PORT, SECOND};
 use std::alloc::Global;
 use std::process::Abort;

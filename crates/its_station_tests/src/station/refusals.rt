@@ -1,11 +1,12 @@
 //! What refuses a call: which refusal comes first, that it changes nothing, and what it prints.
 
-use super::{Fate, circle, expect, receiver, request, sender, station};
+use super::expect;
 use its_btp::PortFault;
 use its_faults::{Fault, FaultKind, FrameFault};
 use its_gnvalue::{Place, TrafficClass};
 use its_loctable::{LocationStore, OrderedTable, SortedTable};
 use its_station::{LAST_MOMENT, MAX_PAYLOAD, Refused, ShbRequest, Station};
+use its_test_stations::{Fate, circle, receiver, request, sender, station};
 use its_vectors::{PORT, SECOND};
 use std::alloc::Global;
 use std::process::Abort;

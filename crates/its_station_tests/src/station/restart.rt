@@ -1,11 +1,12 @@
 //! Stations that begin anew.
 
-use super::{
-    DUPLICATE, Fate, circle, deliver, expect, fate_of, geobroadcast, receiver, request, sender,
-};
+use super::expect;
 use its_gnvalue::Place;
 use its_loctable::{LocationStore, OrderedTable, SortedTable};
 use its_station::Refused;
+use its_test_stations::{
+    DUPLICATE, Fate, circle, deliver, fate_of, geobroadcast, receiver, request, sender,
+};
 use its_vectors::PORT;
 use std::alloc::Global;
 use std::process::Abort;

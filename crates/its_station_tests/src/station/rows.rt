@@ -1,14 +1,15 @@
 //! Geobroadcasts, beacons and single-hop broadcasts from station to station.
 
-use super::{
-    BEACON, DUPLICATE, Fate, SINGLE_HOP, circle, deliver, expect, expect_octets, fate_of,
-    geobroadcast, receiver, relay_of, request, sender, station,
-};
+use super::{SINGLE_HOP, expect, expect_octets};
 use its_faults::{Fault, FaultKind, FrameFault};
 use its_geometry::Area;
 use its_gnvalue::{GnAddress, Place, TrafficClass};
 use its_loctable::{LocationStore, OrderedTable, SortedTable};
 use its_station::{Refused, ShbRequest, Station, Why};
+use its_test_stations::{
+    BEACON, DUPLICATE, Fate, circle, deliver, fate_of, geobroadcast, receiver, relay_of, request,
+    sender, station,
+};
 use its_vectors::{FIRST, GEOBROADCAST, LINK, PORT, SECOND, THIRD};
 use std::alloc::Global;
 use std::process::Abort;

@@ -1,10 +1,10 @@
 //! Counts beside a station.
 
 use super::beacon;
-use crate::station::receiver;
 use its_headers::Kind;
 use its_loctable::SortedTable;
 use its_station::Counts;
+use its_test_stations::receiver;
 use its_vectors::GEOBROADCAST;
 use std::test::Fail;
 

@@ -1,11 +1,11 @@
 //! What an embedding program reads of a station and of a world.
 
 use super::beacon;
-use crate::station::{circle, receiver, request};
 use its_gnvalue::{GnAddress, Place};
 use its_linkframe::read_frame;
 use its_loctable::{LocationStore, OrderedTable, SortedTable};
 use its_station::{Outcome, Station};
+use its_test_stations::{circle, receiver, request};
 use its_vectors::{FIRST, GEOBROADCAST, PORT, SECOND};
 use std::alloc::Global;
 use std::process::Abort;

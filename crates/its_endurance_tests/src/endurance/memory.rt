@@ -1,9 +1,10 @@
 //! Stations with every budget of memory from none to enough.
 
-use super::{DUPLICATE, Fate, SHORT, circle, expect, receiver, request, sender};
+use super::expect;
 use its_loctable::{OrderedTable, SortedTable};
 use its_shortage::{MOST, STEP, Shortage};
 use its_station::{Refused, Station, Why};
+use its_test_stations::{DUPLICATE, Fate, SHORT, circle, receiver, request, sender};
 use std::alloc::Global;
 use std::process::Abort;
 use std::test::Fail;

@@ -3,9 +3,10 @@
 ghost use Rattle.std.specs.Prelude.{All};
 ghost use Rattle.its_station.specs.Runs.{IsInRange};
 
-use super::{DUPLICATE, Fate, SHORT, expect, fate_of_reply, station};
+use super::expect;
 use its_loctable::{LocationStore, OrderedTable, SortedTable};
 use its_station::{Call, Station};
+use its_test_stations::{DUPLICATE, Fate, SHORT, fate_of_reply, station};
 use its_vectors::{GEOBROADCAST, PORT, SECOND, THIRD};
 use std::alloc::Global;
 use std::process::Abort;
@@ -32,7 +33,7 @@ fn two_frames<S: LocationStore>(alloc: Global) -> Result<Frames, Fail> {
 
 /// A station with no open port at the place of the receiver.
 fn closed<S: LocationStore>(alloc: Global) -> Result<Station<S>, Fail> {
-    station(alloc, SECOND, 449, 0)
+    Ok(station(alloc, SECOND, 449, 0)?)
 }
 
 /// What one run of the calls gives.

@@ -1,8 +1,9 @@
 //! Beacons of far more sources than a table has room for.
 
-use super::{Fate, expect, fate_of, receiver, station};
+use super::expect;
 use its_loctable::{LocationStore, OrderedTable, SortedTable};
 use its_station::Refused;
+use its_test_stations::{Fate, fate_of, receiver, station};
 use std::alloc::Global;
 use std::process::Abort;
 use std::test::Fail;

@@ -1,9 +1,11 @@
 //! A damaged frame between two good ones.
 
-use super::{DUPLICATE, Fate, circle, deliver, fate_of, receiver, relay_of, request, sender};
 use its_faults::{Fault, FaultKind, FrameFault};
 use its_loctable::{LocationStore, OrderedTable, SortedTable};
 use its_station::{Refused, Why};
+use its_test_stations::{
+    DUPLICATE, Fate, circle, deliver, fate_of, receiver, relay_of, request, sender,
+};
 use its_vectors::LINK;
 use std::alloc::Global;
 use std::process::Abort;

@@ -1,8 +1,8 @@
 //! The longest payload: sent, delivered and passed on.
 
-use super::{circle, receiver, request, sender};
 use its_loctable::{LocationStore, OrderedTable, SortedTable};
 use its_station::{Outcome, Station};
+use its_test_stations::{circle, receiver, request, sender};
 use std::alloc::Global;
 use std::process::Abort;
 use std::test::Fail;

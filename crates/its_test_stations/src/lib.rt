@@ -1,0 +1,156 @@
+//! For tests: stations in a few places, their first frames, and what becomes of a frame. An error
+//! says which call of a fixture failed.
+#![tactic(auto)]
+
+use its_faults::FrameFault;
+use its_geometry::Area;
+use its_gnvalue::{GnAddress, Lifetime, Place, TrafficClass};
+use its_loctable::LocationStore;
+use its_station::{GbcRequest, Handed, Outcome, Refused, Reply, Station, Why};
+use its_vectors::{FIRST, LINK, PORT, SECOND};
+use std::alloc::Global;
+
+/// The beacon of the first station, as hexadecimal digits.
+pub static BEACON: &str =
+    "ffffffffffff020000000001894711001a0100100080000001001400020000000001000000000000000000\
+    00000000000000";
+
+/// What becomes of a packet that came before.
+pub const DUPLICATE: Fate = Fate::Ignored(Why::Duplicate);
+
+/// What becomes of octets that are too few for a frame.
+pub const SHORT: Fate = Fate::Refused(Refused::Frame(FrameFault::Short));
+
+/// What a call gave. A payload counts as delivered where it is "hi" for `PORT`, with info 0.
+#[derive(Clone, Copy, Debug, PartialEq, Eq)]
+pub enum Fate {
+    /// Refused, and nothing changed.
+    Refused(Refused),
+    /// Ignored, for this reason.
+    Ignored(Why),
+    /// Accepted: nothing is delivered, and nothing goes on.
+    Kept,
+    /// Delivered, and it doesn't go on.
+    Delivered,
+    /// It goes on, and isn't delivered.
+    Relayed,
+    /// Delivered, and it goes on.
+    DeliveredAndRelayed,
+    /// Another payload was delivered, or to another port.
+    Misdelivered,
+    /// A call that sends nothing was done.
+    Done,
+    /// No beacon was due.
+    Quiet,
+    /// A call gave a frame.
+    Sent,
+}
+
+fn accepted(handed: Option<Handed<'_>>, relayed: bool) -> Fate {
+    let Some(handed) = handed else {
+        return if relayed { Fate::Relayed } else { Fate::Kept };
+    };
+    if handed.port != PORT || handed.info != 0 || handed.payload != b"hi".as_slice() {
+        return Fate::Misdelivered;
+    }
+    if relayed {
+        Fate::DeliveredAndRelayed
+    } else {
+        Fate::Delivered
+    }
+}
+
+/// What becomes of a frame, and the frame in which its packet goes on.
+pub fn deliver<S: LocationStore>(
+    station: &mut Station<S>,
+    now: u64,
+    frame: &[u8],
+) -> (Fate, Option<Vec<u8>>) {
+    match station.receive(now, frame) {
+        Err(refused) => (Fate::Refused(refused), None),
+        Ok(Outcome::Ignored(why)) => (Fate::Ignored(why), None),
+        Ok(Outcome::Accepted { handed, sent }) => (accepted(handed, sent.is_some()), sent),
+    }
+}
+
+/// What becomes of a frame.
+pub fn fate_of<S: LocationStore>(station: &mut Station<S>, now: u64, frame: &[u8]) -> Fate {
+    deliver(station, now, frame).0
+}
+
+/// What becomes of a call that was one of many.
+pub fn fate_of_reply(reply: &Reply) -> Fate {
+    match reply {
+        Reply::Done => Fate::Done,
+        Reply::Quiet => Fate::Quiet,
+        Reply::Sent(_) => Fate::Sent,
+        Reply::Ignored(why) => Fate::Ignored(*why),
+        Reply::Refused(refused) => Fate::Refused(*refused),
+        Reply::Accepted { handed, sent } => {
+            let handed = handed.as_ref().map(|delivery| Handed {
+                port: delivery.port,
+                info: delivery.info,
+                payload: delivery.payload.as_slice(),
+            });
+            accepted(handed, sent.is_some())
+        }
+    }
+}
+
+/// A station with no open port, which remembers eight numbers of each of 64 sources.
+pub fn station<S: LocationStore>(
+    alloc: Global,
+    address: u64,
+    lat: i32,
+    lon: i32,
+) -> Result<Station<S>, &'static str> {
+    let address = GnAddress::from_u64(address).map_err(|_| "address")?;
+    let place = Place::new(lat, lon).map_err(|_| "place")?;
+    Station::new(alloc, address, place, 64, 8).map_err(|_| "station")
+}
+
+/// The first station, at the centre of the areas.
+pub fn sender<S: LocationStore>(alloc: Global) -> Result<Station<S>, &'static str> {
+    station(alloc, FIRST, 0, 0)
+}
+
+/// The second station, with its port open: inside of the areas at latitude 449, outside at 100000.
+pub fn receiver<S: LocationStore>(alloc: Global, lat: i32) -> Result<Station<S>, &'static str> {
+    let mut made = station(alloc, SECOND, lat, 0)?;
+    made.open(0, PORT).map_err(|_| "port")?;
+    Ok(made)
+}
+
+/// All places within 100 m of the origin.
+pub fn circle() -> Result<Area, &'static str> {
+    let centre = Place::new(0, 0).map_err(|_| "centre")?;
+    Area::circle(centre, 100).map_err(|_| "circle")
+}
+
+/// A payload for `PORT`, to all stations in an area, over at most ten hops.
+pub fn request<'a>(area: Area, payload: &'a [u8]) -> GbcRequest<'a> {
+    GbcRequest {
+        port: PORT,
+        info: 0,
+        class: TrafficClass::from_octet(0),
+        lifetime: Lifetime::from_octet(26),
+        max_hops: 10,
+        area,
+        payload,
+    }
+}
+
+/// The first geobroadcast of the first station.
+pub fn geobroadcast<S: LocationStore>(alloc: Global) -> Result<Vec<u8>, &'static str> {
+    let request = request(circle()?, b"hi");
+    let sent = sender::<S>(alloc)?.send_geobroadcast(1000, &request);
+    sent.map_err(|_| "geobroadcast")
+}
+
+/// The frame in which the second station passes on one that came with ten hops left.
+pub fn relay_of(frame: &Vec<u8>) -> Result<Vec<u8>, &'static str> {
+    let mut relay = frame.clone().map_err(|_| "out of memory")?;
+    *relay.get_mut(11).ok_or("short")? = 2;
+    *relay.get_mut(LINK + 3).ok_or("short")? = 9;
+    Ok(relay)
+}
