@@ -1,7 +1,6 @@
 //! Stations by their calls, over both tables: frames are delivered by hand from one to another.
 
 mod anycast;
-mod embedding;
 mod numbers;
 mod refusals;
 mod restart;
