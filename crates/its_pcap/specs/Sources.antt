@@ -1,10 +1,69 @@
--- Files of any of the formats.
+-- Files of records of any format, as they are read: what one call for the next step gives, and what
+-- it leaves of the source.
+use Rattle.std.specs.Prelude.{◌≡◌, ℕ, ◌+◌, true, false, IsTrue, List, [], length, take}
+use Rattle.std.specs.Prelude.{Option, IfSome, MatchOption, Result, Ok, Err, if◌then◌else◌}
+use Rattle.std.specs.Io.KnownBytes.{Consumes, Keeps}
 use Rattle.std.specs.declared.io.traits.Read as reads
+use Rattle.its_linkframe.specs.Captures.{IsCaptured, captured_at, record_octets}
+use Rattle.its_linkframe.specs.Reading as captures
+use Rattle.its_linkframe.specs.declared.record.CaptureFault.TheVariants as capture_faults
 use Rattle.its_linkframe.specs.declared.source.Source as sources_of
+use Rattle.its_pcap.specs.Formats.{IsFormat}
+use Rattle.its_pcap.specs.Pcap as classic
+use Rattle.its_pcap.specs.Pcapng as blocks
+use Rattle.its_pcap.specs.Reading.{is_io}
+use Rattle.its_pcap.specs.declared.fault.SourceFault.{SourceFault}
+use Rattle.its_pcap.specs.declared.fault.SourceFault.TheVariants as faults
 use Rattle.its_pcap.specs.declared.format.Format.{Format}
 use Rattle.its_pcap.specs.declared.format.Format.TheVariants as formats
+use Rattle.its_pcap.specs.declared.pcap.Stage.TheVariants as classic_stages
+use Rattle.its_pcap.specs.declared.pcapng.Stage.TheVariants as block_stages
+use Rattle.its_pcap.specs.declared.record.Step.{Step}
+use Rattle.its_pcap.specs.declared.record.Step.TheVariants as steps
 use Rattle.its_pcap.specs.declared.source.AnySource.{AnySource}
 use Rattle.its_pcap.specs.declared.source.AnySource.TheVariants as sources
+
+-- ---- a step of each format
+
+-- A step of a capture: a record went, which is a whole frame of Ethernet; or the end was met, or a
+-- fault. It has no part without a record.
+abbrev pub StepsCapture : captures.Reading → captures.Reading → List ℕ → Result Step SourceFault
+    → Type 0
+StepsCapture was now frame (Ok (steps.Record h)) =
+    (h.captured ≡ length frame) × (h.wire ≡ length frame) × (h.is_ethernet ≡ true)
+    × IsCaptured (captured_at h.moment frame)
+    × Consumes was.rest now.rest (record_octets (captured_at h.moment frame))
+StepsCapture was now frame (Ok steps.Passed) = ⊥
+StepsCapture was now frame (Ok steps.End) =
+    captures.MeetsEnd was.rest now.rest × (now.ended ≡ true)
+StepsCapture was now frame (Err (faults.Capture f)) =
+    captures.IsReadFault was.rest now.rest f × (now.failed ≡ true)
+StepsCapture was now frame (Err faults.CutFile) = ⊥
+StepsCapture was now frame (Err faults.Malformed) = ⊥
+StepsCapture was now frame (Err faults.LinkType) = ⊥
+
+-- Such a step; but after the end the end is answered, and after a fault C5, and nothing is read.
+abbrev pub GivesCaptured : captures.Reading → captures.Reading → List ℕ → Result Step SourceFault
+    → Type 0
+GivesCaptured was now frame r =
+    StepsCapture was now frame r
+    × (IsTrue was.ended → (r ≡ Ok steps.End) × (now ≡ was))
+    × (IsTrue was.failed → (r ≡ Err (faults.Capture capture_faults.Failed)) × (now ≡ was))
+    × (now.failures ≡ was.failures + (if is_io r then 1 else 0))
+
+abbrev pub GivesClassic : classic.Reading → classic.Reading → List ℕ → Result Step SourceFault
+    → Type 0
+GivesClassic was now frame r =
+    classic.IsAnswer was.stage now.stage was.keep frame was.rest now.rest r
+    × (now.keep ≡ was.keep) × (now.failures ≡ was.failures + (if is_io r then 1 else 0))
+
+abbrev pub GivesBlock : blocks.PcapngReading → blocks.PcapngReading → List ℕ
+    → Result Step SourceFault → Type 0
+GivesBlock was now frame r =
+    blocks.IsAnswer was now frame r
+    × (now.keep ≡ was.keep) × (now.failures ≡ was.failures + (if is_io r then 1 else 0))
+
+-- ---- a file of any format
 
 -- the format of a file
 abbrev pub format_of_source :
@@ -12,3 +71,49 @@ abbrev pub format_of_source :
 format_of_source (sources.Capture _) = formats.Capture
 format_of_source (sources.Pcap _) = formats.Pcap
 format_of_source (sources.Pcapng _) = formats.Pcapng
+
+-- one call, which leaves the file one of its format
+abbrev pub Gives :
+    {S : Type 0} {s : sources_of.Ghosts S} {r : reads.Ghosts S} → AnySource S s r → AnySource S s r
+    → List ℕ → Result Step SourceFault → Type 0
+Gives (sources.Capture was) (sources.Capture now) frame r = GivesCaptured was now frame r
+Gives (sources.Pcap was) (sources.Pcap now) frame r = GivesClassic was now frame r
+Gives (sources.Pcapng was) (sources.Pcapng now) frame r = GivesBlock was now frame r
+Gives (sources.Capture was) (sources.Pcap now) frame r = ⊥
+Gives (sources.Capture was) (sources.Pcapng now) frame r = ⊥
+Gives (sources.Pcap was) (sources.Capture now) frame r = ⊥
+Gives (sources.Pcap was) (sources.Pcapng now) frame r = ⊥
+Gives (sources.Pcapng was) (sources.Capture now) frame r = ⊥
+Gives (sources.Pcapng was) (sources.Pcap now) frame r = ⊥
+
+-- A file of which nothing was read: so many octets of a frame are kept (of a capture, all), these
+-- its source has, and so many calls of the source failed.
+abbrev pub IsAtStart :
+    {S : Type 0} {s : sources_of.Ghosts S} {r : reads.Ghosts S} → ℕ → Option (List ℕ) → ℕ
+    → AnySource S s r → Type 0
+IsAtStart keep rest failures (sources.Capture r) =
+    r ≡ record { failed = false; ended = false; rest = rest; failures = failures }
+IsAtStart keep rest failures (sources.Pcap r) =
+    r ≡ record { stage = classic_stages.Start; keep = keep; rest = rest; failures = failures }
+IsAtStart keep rest failures (sources.Pcapng r) =
+    r ≡ record {
+      stage = block_stages.Start;
+      interfaces = [];
+      keep = keep;
+      rest = rest;
+      failures = failures;
+    }
+
+-- The format that is given, or else the one that the first four octets say.
+abbrev pub HasFormat : Option Format → Option (List ℕ) → Format → Type 0
+HasFormat given octets format =
+    MatchOption given (IfSome octets (λ w. IsFormat (take 4 w) format)) (λ f. format ≡ f)
+
+-- A file that is opened of a source with these octets: all of them are read, those that were looked
+-- at too.
+abbrev pub IsOpened :
+    {S : Type 0} {s : sources_of.Ghosts S} {r : reads.Ghosts S} → Option Format → ℕ
+    → Option (List ℕ) → ℕ → AnySource S s r → Type 0
+IsOpened given keep octets failures file =
+    HasFormat given octets (format_of_source file)
+    × (rest : Option (List ℕ)) × Keeps octets rest × IsAtStart keep rest failures file

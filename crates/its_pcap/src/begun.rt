@@ -46,6 +46,8 @@ impl<S: Source> Begun<S> {
         ensures rest { IfSome result
             (λ b. Keeps (S.remaining source) (left_of b.at b.first (S.remaining b.source))) }
         ensures failures { IfSome result (λ b. S.failed b.source ≡ S.failed source) }
+        ensures first { IfSome result (λ b. IfSome (S.remaining source)
+            (λ w. drop b.at b.first ≡ take 4 w)) }
     {
         let mut octets = [0; MARK];
         let n = fill(&mut source, &mut octets)?;

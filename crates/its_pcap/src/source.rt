@@ -1,7 +1,12 @@
 //! Files with records of any format, read through one call.
 
-ghost use Rattle.std.specs.Prelude.{◌≡◌, ◌-◌, ◌^◌, ◌<◌, IfOk, IfSome};
-ghost use Rattle.its_pcap.specs.Sources.{format_of_source};
+ghost use Rattle.std.specs.Prelude.{◌≡◌, ℕ, ◌-◌, ◌^◌, ◌<◌, false, List, Result, IfOk, IfErr};
+ghost use Rattle.std.specs.Prelude.{None};
+ghost use Rattle.its_linkframe.specs.declared.record.CaptureFault.TheVariants as captures;
+ghost use Rattle.its_pcap.specs.Begun.{left_of};
+ghost use Rattle.its_pcap.specs.Sources.{GivesCaptured, GivesClassic, GivesBlock, Gives};
+ghost use Rattle.its_pcap.specs.Sources.{format_of_source, IsAtStart, IsOpened};
+ghost use Rattle.its_pcap.specs.declared.fault.SourceFault.TheVariants as faults;
 
 use crate::begun::Begun;
 use crate::fault::SourceFault;
@@ -11,23 +16,36 @@ use crate::pcapng::PcapngReader;
 use crate::record::{Head, Step};
 use its_linkframe::{CaptureFault, CaptureReader, Source};
 use std::alloc::Global;
+use std::marker::Model;
 
 /// A file with records, which are read one after the other. A further format is one more
 /// implementation.
 pub trait RecordSource {
+    ghost use Rattle.its_pcap.specs.declared.fault.SourceFault.{SourceFault};
+    ghost use Rattle.its_pcap.specs.declared.record.Step.{Step};
+
+    /// What a call gives, with these octets in the buffer, and what it leaves of the file: the
+    /// format says it.
+    ghost GivesStep: { Self → Self → List ℕ → Result Step SourceFault → Type 0 };
+
     /// The next step: a record, whose octets are put into the buffer in place of what is there, or
     /// a part of the file that has none, or the end, which is answered from then on. After a fault
     /// each call answers C5.
-    fn next_into(&mut self, frame: &mut Vec<u8>) -> Result<Step, SourceFault>;
+    fn next_into(&mut self, frame: &mut Vec<u8>) -> Result<Step, SourceFault>
+        ensures { GivesStep self.old self.new frame.new.items result };
 }
 
 impl<R: Source> RecordSource for PcapReader<R> {
+    ghost GivesStep = { GivesClassic };
+
     fn next_into(&mut self, frame: &mut Vec<u8>) -> Result<Step, SourceFault> {
         self.next_into(frame)
     }
 }
 
 impl<R: Source> RecordSource for PcapngReader<R> {
+    ghost GivesStep = { GivesBlock };
+
     fn next_into(&mut self, frame: &mut Vec<u8>) -> Result<Step, SourceFault> {
         self.next_into(frame)
     }
@@ -39,10 +57,24 @@ pub struct CaptureSource<R: Source> {
     reader: CaptureReader<R>,
 }
 
+impl<R: Source> Model for CaptureSource<R> {
+    ghost use Rattle.its_linkframe.specs.Reading.{Reading};
+
+    ghost Value = { Reading };
+
+    ghost view = { λ s. s.reader };
+}
+
 impl<R: Source> CaptureSource<R> {
     /// A reader at the start of a capture, which takes memory for frames from `alloc`.
     pub fn new(alloc: Global, source: R) -> CaptureSource<R>
         requires { R.failed source < 2 ^ 64 - 1 }
+        ensures { result ≡ record {
+          failed = false;
+          ended = false;
+          rest = R.remaining source;
+          failures = R.failed source;
+        } }
     {
         CaptureSource {
             reader: CaptureReader::new(alloc, source),
@@ -51,6 +83,8 @@ impl<R: Source> CaptureSource<R> {
 }
 
 impl<R: Source> RecordSource for CaptureSource<R> {
+    ghost GivesStep = { GivesCaptured };
+
     fn next_into(&mut self, frame: &mut Vec<u8>) -> Result<Step, SourceFault> {
         match self.reader.next_into(frame)? {
             None => Ok(Step::End),
@@ -89,7 +123,9 @@ impl<S: Source + Drop> AnySource<S> {
         keep: usize,
     ) -> Result<AnySource<S>, SourceFault>
         requires { S.failed source < 2 ^ 64 - 1 }
-        ensures { IfOk result (λ file. IfSome format (λ f. format_of_source file ≡ f)) }
+        ensures opened { IfOk result (IsOpened format keep (S.remaining source) (S.failed source)) }
+        ensures fault { IfErr result
+            (λ f. (f ≡ faults.Capture captures.Io) × (format ≡ None)) }
     {
         match format {
             Some(format) => Ok(AnySource::of(alloc, Begun::new(source), format, keep)),
@@ -106,7 +142,10 @@ impl<S: Source + Drop> AnySource<S> {
     /// A file of this format.
     fn of(alloc: Global, source: Begun<S>, format: Format, keep: usize) -> AnySource<S>
         requires { S.failed source.source < 2 ^ 64 - 1 }
-        ensures { format_of_source result ≡ format }
+        ensures format { format_of_source result ≡ format }
+        ensures start { IsAtStart keep
+            (left_of source.at source.first (S.remaining source.source))
+            (S.failed source.source) result }
     {
         match format {
             Format::Capture => AnySource::Capture(CaptureSource::new(alloc, source)),
@@ -128,6 +167,8 @@ impl<S: Source + Drop> AnySource<S> {
 }
 
 impl<S: Source> RecordSource for AnySource<S> {
+    ghost GivesStep = { Gives };
+
     fn next_into(&mut self, frame: &mut Vec<u8>) -> Result<Step, SourceFault> {
         match self {
             AnySource::Capture(reader) => reader.next_into(frame),
