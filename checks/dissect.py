@@ -55,7 +55,7 @@ def values_of(layers: dict) -> dict:
             "shape": SHAPES[header_type & 0xF],
             "alat": int(extended["geonw.gxc.latitude"]),
             "alon": int(extended["geonw.gxc.longitude"]),
-            "a": int(extended["geonw.gxc.distancea"]),
+            "a": int(extended.get("geonw.gxc.radius") or extended["geonw.gxc.distancea"]),
             "b": int(extended["geonw.gxc.distanceb"]),
             "angle": int(extended["geonw.gxc.angle"]),
         }
