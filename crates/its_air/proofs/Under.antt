@@ -5,7 +5,7 @@ use Rattle.std.specs.Prelude.{slice_get, Vec}
 use Rattle.std.specs.declared.alloc.Global.{Global}
 use Rattle.std.proofs.lemmas.List.{length-map}
 use denote.Ref.{Bor}
-use Rattle.its_model.specs.Schedules.{HoldsOfSchedules}
+use Rattle.its_model.specs.EverySchedule.{HoldsOfSchedules}
 use Rattle.its_model.specs.World.{Config, Event, opening}
 use Rattle.its_world.specs.declared.entry.Entry.{Entry}
 use Rattle.its_world.specs.declared.event.Event.{Event as Told}

@@ -7,6 +7,8 @@ pub mod Station
 pub mod World
 pub mod Log
 pub mod Schedules
+pub mod Reach
+pub mod EverySchedule
 pub mod Isolation
 pub use Rattle.its_gnvalue.specs.Values
 pub use Rattle.its_geometry.specs.Area

@@ -308,14 +308,3 @@ abbrev pub FramesNameTheirSource : List Config → WorldModel → Type 0
 FramesNameTheirSource configs w =
     (k : ℕ) (t : Transmission) (o : Origin)
     → slice_get w.air k ≡ Some t → slice_get (origins w.log) k ≡ Some o → HasSource configs t o
-
--- ---- all of it
-
--- what holds of every run's world
-pub record HoldsOfSchedules (configs : List Config) (w : WorldModel) : Type 0 where
-  pub handed_as_sent : HandedAsSent configs w
-  pub relays_are_faithful : RelaysAreFaithful configs w
-  pub at_most_once : AtMostOnce configs w
-  pub flooding_is_bounded : FloodingIsBounded configs w
-  pub anycast_stops_inside : AnycastStopsInside configs w
-  pub frames_name_their_source : FramesNameTheirSource configs w

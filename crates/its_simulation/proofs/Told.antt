@@ -1,7 +1,7 @@
 -- One event more of a run that was told.
 use Rattle.std.proofs.Common.{◌≡◌, ℕ, List, [], ◌∷◌, ◌++◌, sym, ap, subst, ◌∙◌}
 use Rattle.its_model.specs.Calls.{Answer}
-use Rattle.its_model.specs.Schedules.{HoldsOfSchedules}
+use Rattle.its_model.specs.EverySchedule.{HoldsOfSchedules}
 use Rattle.its_model.specs.World.{Config, Event, WorldModel, opening, world_run, world_step, entries}
 use Rattle.its_world.specs.declared.entry.Entry.{Entry}
 use Rattle.its_world.specs.State.{WorldState, RepresentsWorld}

@@ -7,7 +7,9 @@ ghost use Rattle.its_model.specs.World.{Config, Event, opening, world_run};
 ghost use Rattle.its_model.specs.Schedules.{HandedAsSent, RelaysAreFaithful, AtMostOnce};
 ghost use Rattle.its_model.specs.Schedules.{FloodingIsBounded, AcceptedAgainByDefault};
 ghost use Rattle.its_model.specs.Schedules.{AnycastStopsInside, FramesNameTheirSource};
-ghost use Rattle.its_model.specs.Schedules.{HoldsOfSchedules};
+ghost use Rattle.its_model.specs.EverySchedule.{HoldsOfSchedules};
+
+use crate::laws::reach::{what_comes_is_accepted, what_is_delivered_reaches};
 
 /// What is delivered to a port of a packet for an area was sent earlier, to that port, for an area
 /// that holds the receiver where it stands then.
@@ -69,4 +71,6 @@ pub fn every_schedule()
     flooding_is_bounded();
     anycast_stops_inside();
     frames_name_their_source();
+    what_comes_is_accepted();
+    what_is_delivered_reaches();
 }

@@ -8,4 +8,6 @@ returns c = λ configs events. record {
   flooding_is_bounded = c.flooding_is_bounded.ensures configs events;
   anycast_stops_inside = c.anycast_stops_inside.ensures configs events;
   frames_name_their_source = c.frames_name_their_source.ensures configs events;
+  accepted_where_it_comes = c.what_comes_is_accepted.ensures configs events;
+  reaches_where_delivered = c.what_is_delivered_reaches.ensures configs events;
 }
