@@ -4,3 +4,9 @@ pub mod Among
 pub mod Under
 pub mod Bands
 pub mod Counts
+pub mod Putting
+pub mod Waits
+pub mod Opening
+pub mod Keeping
+pub mod Stepping
+pub mod OneRun

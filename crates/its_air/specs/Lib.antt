@@ -6,3 +6,7 @@ pub mod Queues
 pub mod Runs
 pub mod Files
 pub mod Scenarios
+pub mod Timetable
+pub mod AirTimed
+pub mod Waits
+pub mod Keeps

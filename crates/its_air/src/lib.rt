@@ -4,6 +4,7 @@
 
 mod draws;
 mod fault;
+pub mod laws;
 mod reach;
 mod run;
 mod scenario;

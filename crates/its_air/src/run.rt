@@ -1,19 +1,27 @@
 //! The run of an air.
 
 ghost use Rattle.std.specs.Prelude.{◌≡◌, ◌≤◌, ◌<◌, ◌^◌, ◌++◌, ◌∷◌, [], List, All, map, length};
-ghost use Rattle.std.specs.Prelude.{ℕ, ◌+◌};
+ghost use Rattle.std.specs.Prelude.{ℕ, ◌+◌, cond};
 ghost use Rattle.std.specs.Prelude.{false, Some, IfOk, OnOk, IsTrue, slice_get};
 ghost use Rattle.std.specs.Option.{option_map};
+ghost use Rattle.its_model.specs.Calls.{Answer};
 ghost use Rattle.its_model.specs.World.{Config as Beginning, Event as Happening, opening};
+ghost use Rattle.its_model.specs.World.{WorldModel, world_run};
 ghost use Rattle.its_station.specs.State.{StationState};
 ghost use Rattle.its_world.specs.State.{RepresentsWorld};
+ghost use Rattle.its_world.specs.Entries.{TellsEntry};
 ghost use Rattle.its_world.specs.Steps.{AreSameBut};
 ghost use Rattle.its_world.specs.Events.{IsConfig, IsInRange, config_of, event_of};
 ghost use Rattle.its_world.specs.Mids.{AreApart};
 ghost use Rattle.its_scenario.specs.Airs.{end_of};
 ghost use Rattle.its_simulation.specs.Simulated.{IsSimulated};
 ghost use Rattle.its_air.specs.AirRun.{AreDue, IsAirRun};
+ghost use Rattle.its_air.specs.AirTimed.{IsTimedRun, rules_of};
 ghost use Rattle.its_air.specs.Files.{SameFile, happenings_due};
+ghost use Rattle.its_air.specs.Keeps.{Keeps, IsAnswered, IsTimed, GoesOn};
+ghost use Rattle.its_air.specs.Timetable.{Timetable, send_all, put_first_ticks, is_refusal};
+ghost use Rattle.its_air.specs.Timetable.{spread_frame, tick_again, put_tick as with_tick};
+ghost use Rattle.its_air.specs.Timetable.{Rules, AirModel, spread, air_opening};
 ghost use Rattle.its_air.specs.Runs.{IsUnderWay};
 ghost use Rattle.its_air.specs.Standings.{AreStandingsOf};
 
@@ -57,9 +65,12 @@ pub fn run_air<S: EventSink>(
     requires apart { AreApart configs.now }
     requires events { All (λ event. IsInRange event.what) events.now }
     requires moments { All (λ event. event.moment < 2 ^ 63) events.now }
-    ensures { S.Took sink.old [] [] → IfOk result (λ world.
+    ensures file { S.Took sink.old [] [] → IfOk result (λ world.
         IsAirRun (map config_of configs.now) (map event_of events.now)
         (end_of air.now.until events.now) world (S.Took sink.new)) }
+    ensures timed { S.Took sink.old [] [] → IfOk result (λ world.
+        IsTimedRun (rules_of air.now (end_of air.now.until events.now))
+        (map config_of configs.now) (map event_of events.now) world (S.Took sink.new)) }
 {
     // A law, for the proof alone.
     every_schedule();
@@ -104,6 +115,11 @@ impl<'a> Run<'a> {
             AreDue (map event_of events.now) (end_of air.now.until events.now)
             (happenings_due run.queue)) }
         ensures start { IfOk result (λ run. run.queue.taken ≡ 0) }
+        ensures rules { IfOk result (λ run. rules_of run.air run.queue.until
+            ≡ rules_of air.now (end_of air.now.until events.now)) }
+        ensures timed { IfOk result (λ run. Keeps run.queue run.draws
+            (air_opening (rules_of air.now (end_of air.now.until events.now))
+            (map config_of configs.now) (map event_of events.now)).timetable) }
         ensures standings { IfOk result (λ run.
             AreStandingsOf run.world.stations run.standings.order.items) }
         ensures ranges { IfOk result (λ run.
@@ -137,6 +153,9 @@ impl<'a> Run<'a> {
         ensures run { (configs : List Beginning) (events : List Happening) →
             IsUnderWay configs events self.old (S.Took sink.old) → OnOk result (
             (more : List Happening) × IsUnderWay configs more self.new (S.Took sink.new)) }
+        ensures timed { (rules : Rules) (configs : List Beginning) (a : AirModel) →
+            IsTimed rules configs a self.old (S.Took sink.old) → IfOk result (λ more.
+            GoesOn more rules configs a self.new (S.Took sink.new)) }
     {
         match self.queue.take() {
             None => Ok(false),
@@ -147,7 +166,7 @@ impl<'a> Run<'a> {
             Some(Next::Own(waiting)) => {
                 let event = waiting.event();
                 let entry = self.do_event(number, &event, sink)?;
-                if matches!(waiting.own, Own::Tick(_)) {
+                if waiting.is_tick() {
                     self.put_next_tick(&event, &entry)?;
                 }
                 Ok(true)
@@ -173,6 +192,17 @@ impl<'a> Run<'a> {
             IsSimulated configs events self.old.world (S.Took sink.old) → OnOk result (
             IsSimulated configs (events ++ event_of event.now ∷ []) self.new.world
             (S.Took sink.new)) }
+        ensures air { self.new.air ≡ self.old.air }
+        ensures answered { (configs : List Beginning) (events : List Happening) →
+            IsSimulated configs events self.old.world (S.Took sink.old) → IfOk result (λ entry.
+            IsAnswered entry
+            (world_run (opening configs) (events ++ event_of event.now ∷ []))) }
+        ensures spread { (configs : List Beginning) (events : List Happening) (t : Timetable) →
+            IsSimulated configs events self.old.world (S.Took sink.old) →
+            Keeps self.old.queue self.old.draws t → OnOk result
+            (Keeps self.new.queue self.new.draws
+            (spread (rules_of self.old.air self.old.queue.until) (event_of event.now)
+            (world_run (opening configs) (events ++ event_of event.now ∷ [])) t)) }
     {
         let stood = place_of(&self.world, event.station);
         let entry = do_event(&mut self.world, number, event, sink)?;
@@ -185,8 +215,10 @@ impl<'a> Run<'a> {
 
     /// A station may have moved from where it stood: it stands where the world has it.
     fn follow(&mut self, number: usize, stood: Option<Place>) -> Result<(), AirFault>
+        ensures air { self.new.air ≡ self.old.air }
         ensures world { self.new.world ≡ self.old.world }
-        ensures file { SameFile self.old.queue self.new.queue }
+        ensures queue { self.new.queue ≡ self.old.queue }
+        ensures draws { self.new.draws ≡ self.old.draws }
         ensures standings { (before : List StationState) →
             AreStandingsOf before self.old.standings.order.items →
             AreSameBut number before self.old.world.stations →
@@ -206,17 +238,21 @@ impl<'a> Run<'a> {
     fn spread(&mut self, event: &Event, frame: usize) -> Result<(), AirFault>
         requires moment { event.now.moment ≤ 2 ^ 63 + 10000 }
         requires standings { AreStandingsOf self.old.world.stations self.old.standings.order.items }
+        ensures air { self.new.air ≡ self.old.air }
         ensures world { self.new.world ≡ self.old.world }
         ensures standings { self.new.standings ≡ self.old.standings }
         ensures file { SameFile self.old.queue self.new.queue }
+        ensures spread { (w : WorldModel) (t : Timetable) → RepresentsWorld self.old.world w →
+            Keeps self.old.queue self.old.draws t → OnOk result
+            (Keeps self.new.queue self.new.draws (spread_frame
+            (rules_of self.old.air self.old.queue.until) (event_of event.now) w (Some frame) t)) }
     {
-        let stations = self.world.stations();
-        let Some(giver) = stations.get(event.station) else {
+        let Some(giver) = self.world.station(event.station) else {
             return Ok(());
         };
         self.standings.find_hearers(
             self.air.range,
-            stations,
+            self.world.stations(),
             event.station,
             giver.vector().place(),
             &mut self.hearers,
@@ -235,9 +271,15 @@ impl<'a> Run<'a> {
 
     /// Puts the next tick of a station after one that wasn't refused.
     fn put_next_tick(&mut self, tick: &Event, entry: &Entry) -> Result<(), AirFault>
+        ensures air { self.new.air ≡ self.old.air }
         ensures world { self.new.world ≡ self.old.world }
         ensures standings { self.new.standings ≡ self.old.standings }
         ensures file { SameFile self.old.queue self.new.queue }
+        ensures tick { (w : WorldModel) (t : Timetable) (answer : Answer ℕ) →
+            RepresentsWorld self.old.world w → TellsEntry entry.now answer →
+            Keeps self.old.queue self.old.draws t → OnOk result
+            (Keeps self.new.queue self.new.draws (cond (is_refusal answer) t
+            (tick_again (event_of tick.now) (slice_get w.stations tick.now.station) t))) }
     {
         if matches!(entry, Entry::Refused(_)) {
             return Ok(());
@@ -277,7 +319,9 @@ fn stood_at(stood: Option<Place>, place: Place) -> bool
 
 /// Puts the first tick of each of so many stations: at its jitter.
 fn put_first_ticks(queue: &mut Queue<'_>, draws: &mut Draws, count: usize) -> Result<(), AirFault>
-    ensures { SameFile queue.old queue.new }
+    ensures file { SameFile queue.old queue.new }
+    ensures ticks { (t : Timetable) → Keeps queue.old draws.old t → OnOk result
+        (Keeps queue.new draws.new (put_first_ticks count t)) }
 {
     for station in 0..count {
         put_tick(queue, draws, station, 0, 0)?;
@@ -294,7 +338,9 @@ fn put_deliveries(
     frame: usize,
     hearers: &[usize],
 ) -> Result<(), AirFault>
-    ensures { SameFile queue.old queue.new }
+    ensures file { SameFile queue.old queue.new }
+    ensures sent { (t : Timetable) → Keeps queue.old draws.old t → OnOk result
+        (Keeps queue.new draws.new (send_all loss frame moment hearers.now t)) }
 {
     for station in hearers {
         if !draws.is_lost(loss) {
@@ -313,7 +359,10 @@ fn put_tick(
     moment: u64,
     beacon_from: u64,
 ) -> Result<(), AirFault>
-    ensures { SameFile queue.old queue.new }
+    requires { beacon_from ≤ 2 ^ 62 + 3000 }
+    ensures file { SameFile queue.old queue.new }
+    ensures tick { (t : Timetable) → Keeps queue.old draws.old t → OnOk result
+        (Keeps queue.new draws.new (with_tick station moment beacon_from t)) }
 {
     let jitter = draws.jitter();
     let due = beacon_from.saturating_add(u64::from(jitter));

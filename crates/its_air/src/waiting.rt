@@ -1,6 +1,6 @@
 //! What waits in an air: the events of the file, and the ticks and deliveries of the air's own.
 
-ghost use Rattle.std.specs.Prelude.{◌≡◌, ◌≤◌, ◌<◌, ◌+◌, ◌^◌, ◌∷◌, All, map, length, slice_get};
+ghost use Rattle.std.specs.Prelude.{◌≡◌, ◌≤◌, ◌<◌, ◌+◌, ◌^◌, ◌∷◌, [], All, map, length, slice_get};
 ghost use Rattle.std.specs.Prelude.{Some, IfOk, IfSome, IfNone, OnOk, nat_eq};
 ghost use Rattle.std.specs.BinaryHeap.{IsHeap, IsUpperBound, HeapUnchanged, heap_items};
 ghost use Rattle.std.specs.Cmp.{partial_order_from_own_ties};
@@ -14,7 +14,9 @@ ghost use Rattle.its_world.specs.declared.event.Event.{Event};
 ghost use Rattle.its_world.specs.Events.{event_of, IsInRange};
 ghost use Rattle.its_air.specs.AirRun.{AreDue};
 ghost use Rattle.its_air.specs.Queues.{ComesFirst, IsFileFirst, IsTaken, waiting_cmp};
-ghost use Rattle.its_air.specs.Queues.{happening_of, happenings_in, moment_of};
+ghost use Rattle.its_air.specs.Queues.{happening_of, happenings_in, moment_of, own_of};
+ghost use Rattle.its_air.specs.Timetable.{is_tick};
+ghost use Rattle.its_air.specs.Waits.{IsLeft};
 
 use crate::fault::AirFault;
 use its_world::{Event, What};
@@ -90,6 +92,13 @@ impl PartialOrd for Waiting {
 }
 
 impl Waiting {
+    /// Whether it is a tick.
+    pub(crate) fn is_tick(self) -> bool
+        ensures { result ≡ is_tick (own_of self.own) }
+    {
+        matches!(self.own, Own::Tick(_))
+    }
+
     /// The event of the world.
     pub(crate) fn event(self) -> Event
         ensures event { event_of result ≡ happening_of self }
@@ -143,6 +152,8 @@ impl<'a> Queue<'a> {
         ensures due { IfOk result (λ queue.
             AreDue (map event_of events.now) until (happenings_in queue.due.items)) }
         ensures start { IfOk result (λ queue. queue.taken ≡ 0) }
+        ensures empty { IfOk result (λ queue. (heap_items queue.own ≡ []) × (queue.put ≡ 0)
+            × (queue.until ≡ until)) }
         ensures ranges { IfOk result (λ queue.
             All (λ event. IsInRange event.now.what) queue.due.items) }
     {
@@ -195,7 +206,13 @@ impl<'a> Queue<'a> {
         ensures taken { IfSome result (λ next.
             IsTaken self.old.due.items next self.old.taken self.new.taken) }
         ensures none { IfNone result ((length self.old.due.items ≤ self.old.taken)
-            × (self.new.taken ≡ self.old.taken)) }
+            × (self.new.taken ≡ self.old.taken)
+            × (heap_items self.new.own ≡ heap_items self.old.own)) }
+        ensures late { IfNone result (All (λ waiting. self.old.until < waiting.moment)
+            (heap_items self.old.own)) }
+        ensures left { IfSome result (λ next.
+            IsLeft next (heap_items self.old.own) (heap_items self.new.own)) }
+        ensures put { self.new.put ≡ self.old.put }
         ensures moment { IfSome result (λ next. moment_of next ≤ self.old.until) }
         ensures first { IfSome result (λ next. ComesFirst next (heap_items self.new.own)) }
         ensures file_first { (e : Bor Event) →
@@ -225,6 +242,7 @@ impl<'a> Queue<'a> {
         ensures due { self.new.due ≡ self.old.due }
         ensures taken { self.new.taken ≡ self.old.taken }
         ensures until { self.new.until ≡ self.old.until }
+        ensures put { self.new.put ≡ self.old.put }
         ensures before { IfSome result (λ waiting. waiting.moment < moment) }
         ensures first { IfSome result (λ waiting.
             IsUpperBound waiting_cmp waiting (heap_items self.new.own)) }

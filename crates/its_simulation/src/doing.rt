@@ -1,10 +1,10 @@
 //! One event of a simulation.
 
-ghost use Rattle.std.specs.Prelude.{◌++◌, ◌∷◌, [], List, OnOk};
+ghost use Rattle.std.specs.Prelude.{◌++◌, ◌∷◌, [], List, OnOk, IfOk};
 ghost use Rattle.its_model.specs.World.{Config, Event as Happening};
 ghost use Rattle.its_world.specs.Events.{IsInRange, event_of};
 ghost use Rattle.its_world.specs.Steps.{AreSameBut};
-ghost use Rattle.its_simulation.specs.Simulated.{IsSimulated};
+ghost use Rattle.its_simulation.specs.Simulated.{IsSimulated, IsEntryOf};
 
 use crate::fault::SimulationFault;
 use crate::record::EventRecord;
@@ -13,7 +13,7 @@ use its_model::laws::{every_schedule, runs_go_on};
 use its_world::{Entry, Event, World};
 
 /// Does an event, which is the one of this number, and hands it to a sink: a world and a sink that
-/// stand after some events stand after one more. No station but the event's is touched. The speed of
+/// stand after some events stand after one more, and the entry is the last one's. No station but the event's is touched. The speed of
 /// a `MoveTo` has to be in its range.
 ///
 /// `OutOfMemory` where an allocation failed; else the sink failed.
@@ -27,6 +27,9 @@ pub fn do_event<S: EventSink>(
     ensures run { (configs : List Config) (events : List Happening) →
         IsSimulated configs events world.old (S.Took sink.old) → OnOk result (
         IsSimulated configs (events ++ event_of event.now ∷ []) world.new (S.Took sink.new)) }
+    ensures entry { (configs : List Config) (events : List Happening) →
+        IsSimulated configs events world.old (S.Took sink.old) → IfOk result (λ entry.
+        IsEntryOf configs events (event_of event.now) entry) }
     ensures others { AreSameBut event.now.station world.old.stations world.new.stations }
 {
     // Laws, for the proof alone.

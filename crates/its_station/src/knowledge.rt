@@ -1,6 +1,6 @@
 //! What a station knows: of itself, of when its next beacon is due, and of others.
 
-ghost use Rattle.std.specs.Prelude.{◌≡◌, ◌≤◌, ◌<◌, ◌^◌, ◌⊎◌, ℕ, None};
+ghost use Rattle.std.specs.Prelude.{◌≡◌, ◌≤◌, ◌<◌, ◌+◌, ◌^◌, ◌⊎◌, ℕ, None};
 ghost use Rattle.its_model.specs.Calls.{Own};
 ghost use Rattle.its_model.specs.Calls.Answer.{Sent, Quiet, Refused as IsRefused};
 ghost use Rattle.its_model.specs.Calls.OwnCall.{Tick};
@@ -62,7 +62,8 @@ impl<S: LocationStore> Station<S> {
     /// its own, or the moment of its restart. A `tick` gives one where its jitter has passed since.
     /// It may lie before the clock: `next_beacon` doesn't.
     pub fn beacon_from(&self) -> u64
-        ensures { result ≡ self.now.beacon_from }
+        ensures value { result ≡ self.now.beacon_from }
+        ensures bound { result ≤ 2 ^ 62 + 3000 }
     {
         self.beacon_from
     }

@@ -8,6 +8,10 @@ use Rattle.its_scenario.specs.Airs.{end_of}
 use Rattle.its_air.specs.AirRun.{AreDue}
 use Rattle.its_air.specs.Queues.{happenings_in}
 use Rattle.its_air.proofs.Under.{begins, ended}
+use Rattle.std.proofs.Common.{Bool, false, suc}
+use Rattle.its_air.specs.AirTimed.{rules_of}
+use Rattle.its_air.specs.Keeps.{GoesOn}
+use Rattle.its_air.specs.Timetable.{air_opening, air_run}
 use Rattle.its_air.proofs.run.run_air.Goals as goal
 
 pub loop-number-init : goal.loop-number-init
@@ -22,6 +26,16 @@ loop-number-init g c =
         [],
         begins configs run (g.S.EventSink.Took c.args.sink.now) c.in_ok-run.ensures.world
             (c.every_schedule.ensures configs []) took c.in_ok-run.ensures.start,
+      );
+      timed = λ took. (
+        0,
+        record {
+          rules_are = c.in_ok-run.ensures.rules;
+          told = (begins configs run (g.S.EventSink.Took c.args.sink.now)
+              c.in_ok-run.ensures.world (c.every_schedule.ensures configs []) took
+              c.in_ok-run.ensures.start).told;
+          keeps = c.in_ok-run.ensures.timed;
+        },
       );
     }
 
@@ -42,10 +56,20 @@ loop-number-preserved g c =
       run = λ took.
           let before = c.loop-number.invariant.run took in
           c.in_ok-go_on.ensures.run configs before.0 before.1;
+      timed = λ took.
+          let rules = rules_of c.args.air.now (end_of c.args.air.now.until c.args.events.now) in
+          let before = c.loop-number.invariant.timed took in
+          let a = air_run rules configs before.0
+          (air_opening rules configs (map event_of c.args.events.now)) in (
+            suc before.0,
+            subst (λ (b : Bool). GoesOn b rules configs a c.go_on.new.self
+                (g.S.EventSink.Took c.go_on.new.sink)) c.if-not-branch.false
+                (c.in_ok-go_on.ensures.timed rules configs a before.1),
+          );
     }
 
-pub returns-then-not-branch : goal.returns-then-not-branch
-returns-then-not-branch g c =
+pub returns-then-not-branch-clause-file : goal.returns-then-not-branch-clause-file
+returns-then-not-branch-clause-file g c =
     λ took.
     let configs = map config_of c.args.configs.now in
     let before = c.loop-number.invariant.run took in
@@ -58,3 +82,18 @@ returns-then-not-branch g c =
     AreDue (map event_of c.args.events.now) (end_of c.args.air.now.until c.args.events.now) (happenings_in d.items))
     (sym c.go_on.ensures.due) c.loop-number.invariant.due)
     all after.1
+
+pub returns-then-not-branch-clause-timed : goal.returns-then-not-branch-clause-timed
+returns-then-not-branch-clause-timed g c =
+    λ took.
+    let configs = map config_of c.args.configs.now in
+    let rules = rules_of c.args.air.now (end_of c.args.air.now.until c.args.events.now) in
+    let before = c.loop-number.invariant.timed took in
+    let a = air_run rules configs before.0
+    (air_opening rules configs (map event_of c.args.events.now)) in
+    let after : GoesOn false rules configs a c.go_on.new.self
+    (g.S.EventSink.Took c.go_on.new.sink) =
+    subst (λ (b : Bool). GoesOn b rules configs a c.go_on.new.self
+    (g.S.EventSink.Took c.go_on.new.sink)) c.if-not-branch.true
+    (c.in_ok-go_on.ensures.timed rules configs a before.1) in
+    record { steps = before.0; over = after.0; run = after.1.told }

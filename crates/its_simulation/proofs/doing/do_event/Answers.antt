@@ -1,5 +1,5 @@
-use Rattle.std.proofs.Common.{List, [], ◌∷◌, ◌++◌, subst}
-use Rattle.its_model.specs.World.{Event}
+use Rattle.std.proofs.Common.{List, [], ◌∷◌, ◌++◌, subst, ap, ◌∙◌}
+use Rattle.its_model.specs.World.{Event, WorldModel, opening, world_run, entries}
 use Rattle.its_world.specs.declared.entry.Entry.{Entry}
 use Rattle.its_world.specs.Events.{event_of}
 use Rattle.its_simulation.specs.Records.{happening_in}
@@ -21,3 +21,14 @@ returns-clause-run g c = λ configs events before.
     (events ++ happening_in c.of.result ∷ []) (log ++ x ∷ []))
     c.of.ensures.entry (c.in_ok-put.ensures events log took)))
     before
+
+pub returns-clause-entry : goal.returns-clause-entry
+returns-clause-entry g c = λ configs events before.
+    let e = event_of c.args.event.now in
+    let done = c.in_ok-entry.ensures.step (world_run (opening configs) events) before.stands in
+    record {
+      answer = done.1;
+      tells = done.2;
+      last = ap (λ (v : WorldModel). entries v.log)
+          (c.runs_go_on.ensures (opening configs) events (e ∷ [])) ∙ done.3;
+    }

@@ -50,6 +50,7 @@ returns c =
           (c.sort_by_key.ensures.stable (λ (e : Bor Event). e.now.moment)
           (always_returns_same _ _ _ (λ a r q k. search rules)));
       start = refl;
+      empty = search rules;
       ranges =
           All-permutation (λ (e : Bor Event). IsInRange e.now.what) c.loop-event.due.items
           sorted moves c.loop-event.invariant.ranges;

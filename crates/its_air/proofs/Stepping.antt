@@ -1,0 +1,189 @@
+-- One step of an air, as a queue takes it.
+use Rattle.std.proofs.Common.{◌≡◌, ℕ, zero, suc, ◌+◌, ◌<◌, ◌≤◌, List, [], ◌∷◌, ◌++◌, refl, sym, ap, ◌∙◌}
+use Rattle.std.proofs.Common.{subst, drop, cond, Bool, true, false, Some, not, ◌&&◌, arith, length, map}
+use Rattle.std.specs.Prelude.{slice_get, Vec, All}
+use Rattle.std.specs.declared.alloc.Global.{Global}
+use Rattle.std.specs.BinaryHeap.{heap_items, IsUpperBound}
+use Rattle.std.specs.List.Sorted.{IsPermutation}
+use denote.Ref.{Bor}
+use Rattle.std.proofs.lemmas.Bool.{le-leb}
+use Rattle.its_model.specs.World.{Config, Event, WorldModel, opening, world_run}
+use Rattle.its_world.specs.Events.{event_of}
+use Rattle.its_world.specs.declared.entry.Entry.{Entry}
+use Rattle.its_world.specs.declared.event.Event.{Event as Told}
+use Rattle.its_simulation.specs.Simulated.{IsSimulated}
+use Rattle.its_air.specs.declared.waiting.Waiting.{Waiting}
+use Rattle.its_air.specs.declared.waiting.Queue.{Queue}
+use Rattle.its_air.specs.declared.run.Run.{Run}
+use Rattle.its_air.specs.AirRun.{AreDue}
+use Rattle.its_air.specs.AirTimed.{rules_of}
+use Rattle.its_air.specs.Draws.{draws_at, draws_of}
+use Rattle.its_air.specs.Files.{happenings_due}
+use Rattle.its_air.specs.Keeps.{Keeps, IsTimed}
+use Rattle.its_air.specs.Queues.{happenings_in, waiting_cmp}
+use Rattle.its_air.specs.Timetable.{Rules, Timetable, Put, AirModel, NoneWaits, of_file, of_air, put_all}
+use Rattle.its_air.specs.Timetable.{air_step, do_first, do_one, after_one, follow_tick, tick_again}
+use Rattle.its_air.specs.Timetable.{is_tick, was_refused}
+use Rattle.its_air.specs.Waits.{Waits, put_of}
+use Rattle.its_air.proofs.Keeping.{waits_at}
+use Rattle.its_air.proofs.Opening.{waits_opening}
+use Rattle.its_air.proofs.Putting.{at}
+use Rattle.its_air.proofs.Waits.{waits_file, waits_own, waits_none, FileIsLater}
+
+-- the next event of the file
+drop_next : (due : List (Bor Told)) (n : ℕ) (e : Bor Told) → slice_get due n ≡ Some e
+    → drop n (happenings_in due) ≡ event_of e.now ∷ drop (suc n) (happenings_in due)
+drop_next [] n e is = let no : ⊥ = cc in absurd no
+drop_next (x ∷ due) zero e is =
+    let same : x ≡ e = cc in
+    ap (λ (y : Bor Told). event_of y.now ∷ happenings_in due) same
+drop_next (x ∷ due) (suc n) e is = drop_next due n e is
+
+drop_past : (due : List (Bor Told)) (n : ℕ) → length due ≤ n → drop n (happenings_in due) ≡ []
+drop_past [] zero le = refl
+drop_past [] (suc n) le = refl
+drop_past (x ∷ due) zero le = absurd (omega arith)
+drop_past (x ∷ due) (suc n) le = drop_past due n (omega arith)
+
+file_is_later : (due : List (Bor Told)) (n m : ℕ)
+    → ((e : Bor Told) → slice_get due n ≡ Some e → m < e.now.moment)
+    → FileIsLater m (drop n (happenings_in due))
+file_is_later [] zero m h = tt
+file_is_later [] (suc n) m h = tt
+file_is_later (x ∷ due) zero m h = h x refl
+file_is_later (x ∷ due) (suc n) m h = file_is_later due n m h
+
+pub takes_file : (old new : Queue) (words : List ℕ) (t : Timetable) (e : Bor Told)
+    → slice_get old.due.items old.taken ≡ Some e → new.due ≡ old.due
+    → new.taken ≡ old.taken + 1 → new.until ≡ old.until → new.put ≡ old.put
+    → heap_items new.own ≡ heap_items old.own
+    → All (λ w. e.now.moment ≤ w.moment) (heap_items new.own) → Keeps old words t
+    → (rest : List Put) × (t.waiting ≡ of_file (event_of e.now) ∷ rest)
+    × Keeps new words (record { waiting = rest; draws = t.draws })
+takes_file old new words t e is due taken until put heap first h =
+    let left = drop (suc old.taken) (happenings_in old.due.items) in
+    let got = waits_file (event_of e.now) left (heap_items old.own) old.put old.until t.waiting
+    (subst (All (λ (w : Waiting). e.now.moment ≤ w.moment)) heap first)
+    (subst (λ (l : List Event). Waits l (heap_items old.own) old.put old.until t.waiting)
+    (drop_next old.due.items old.taken e is) h.waits) in
+    let next : new.taken ≡ suc old.taken = omega (arith, taken) in
+    let same : drop new.taken (happenings_due new) ≡ left =
+    ap (λ k. drop k (happenings_due new)) next
+    ∙ ap (λ (d : Vec (Bor Told) Global). drop (suc old.taken) (happenings_in d.items)) due in (
+      got.0,
+      got.1,
+      record {
+        waits = subst (λ (hs : List Waiting). Waits (drop new.taken (happenings_due new)) hs new.put
+            new.until got.0) (sym heap)
+            (waits_at left _ (heap_items old.own) old.put _ old.until _ got.0 same put until got.2);
+        draws = h.draws;
+      },
+    )
+
+pub takes_own : (old new : Queue) (words : List ℕ) (t : Timetable) (w : Waiting)
+    → new.due ≡ old.due → new.taken ≡ old.taken → new.until ≡ old.until → new.put ≡ old.put
+    → IsPermutation (heap_items old.own) (w ∷ heap_items new.own)
+    → IsUpperBound waiting_cmp w (heap_items new.own) → w.moment ≤ old.until
+    → ((e : Bor Told) → slice_get old.due.items old.taken ≡ Some e → w.moment < e.now.moment)
+    → Keeps old words t
+    → (rest : List Put) × (t.waiting ≡ put_of w ∷ rest)
+    × Keeps new words (record { waiting = rest; draws = t.draws })
+takes_own old new words t w due taken until put moves first le later h =
+    let left = drop old.taken (happenings_in old.due.items) in
+    let got = waits_own w left (heap_items old.own) (heap_items new.own) old.put old.until t.waiting
+    moves first le (file_is_later old.due.items old.taken w.moment later) h.waits in
+    let same : drop new.taken (happenings_due new) ≡ left =
+    ap (λ k. drop k (happenings_due new)) taken
+    ∙ ap (λ (d : Vec (Bor Told) Global). drop old.taken (happenings_in d.items)) due in (
+      got.0,
+      got.1,
+      record {
+        waits = waits_at left _ (heap_items new.own) old.put _ old.until _ got.0 same put until got.2;
+        draws = h.draws;
+      },
+    )
+
+pub takes_none : (old new : Queue) (words : List ℕ) (t : Timetable)
+    → length old.due.items ≤ old.taken → new.due ≡ old.due → new.taken ≡ old.taken
+    → new.until ≡ old.until → new.put ≡ old.put → heap_items new.own ≡ heap_items old.own
+    → All (λ w. old.until < w.moment) (heap_items old.own) → Keeps old words t
+    → NoneWaits old.until t.waiting × Keeps new words t
+takes_none old new words t all due taken until put heap late h =
+    let left = drop old.taken (happenings_in old.due.items) in
+    let same : drop new.taken (happenings_due new) ≡ left =
+    ap (λ k. drop k (happenings_due new)) taken
+    ∙ ap (λ (d : Vec (Bor Told) Global). drop old.taken (happenings_in d.items)) due in (
+      waits_none (heap_items old.own) old.put old.until t.waiting late
+          (subst (λ (l : List Event). Waits l (heap_items old.own) old.put old.until t.waiting)
+          (drop_past old.due.items old.taken all) h.waits),
+      record {
+        waits = subst (λ (hs : List Waiting). Waits (drop new.taken (happenings_due new)) hs new.put
+            new.until t.waiting) (sym heap)
+            (waits_at left _ (heap_items old.own) old.put _ old.until _ t.waiting same put until
+            h.waits);
+        draws = h.draws;
+      },
+    )
+
+-- the air of the model does the first that waits
+step_first : (rules : Rules) (configs : List Config) (a : AirModel) (p : Put) (rest : List Put)
+    → a.timetable.waiting ≡ p ∷ rest → at p ≤ rules.until
+    → air_step rules configs a
+    ≡ do_one rules configs a.done p (record { waiting = rest; draws = a.timetable.draws })
+step_first rules configs a p rest is le =
+    ap (do_first rules configs a) is
+    ∙ ap (λ (b : Bool). cond b
+    (do_one rules configs a.done p (record { waiting = rest; draws = a.timetable.draws })) a)
+    (le-leb (at p) rules.until le)
+
+-- a run that did the first that waits is one step further
+pub timed_one : (rules : Rules) (configs : List Config) (a : AirModel) (p : Put)
+    (rest : List Put) (new : Run) (After : List Event → List Entry → Type 0)
+    → a.timetable.waiting ≡ p ∷ rest → at p ≤ rules.until
+    → rules_of new.air new.queue.until ≡ rules
+    → IsSimulated configs (a.done ++ p.event ∷ []) new.world After
+    → Keeps new.queue new.draws (after_one rules p
+    (world_run (opening configs) (a.done ++ p.event ∷ []))
+    (record { waiting = rest; draws = a.timetable.draws }))
+    → IsTimed rules configs (air_step rules configs a) new After
+timed_one rules configs a p rest new After is le same told keeps =
+    subst (λ (x : AirModel). IsTimed rules configs x new After)
+    (sym (step_first rules configs a p rest is le))
+    (record { rules_are = same; told = told; keeps = keeps })
+
+-- after a tick of the air's own, and after another event
+pub follow_yes : (e : Event) (after : WorldModel) (t : Timetable) (b : Bool)
+    → is_tick e.what ≡ true → was_refused after.log ≡ b
+    → cond b t (tick_again e (slice_get after.stations e.station) t)
+    ≡ follow_tick (of_air e) after t
+follow_yes e after t b ticks refused =
+    let again = tick_again e (slice_get after.stations e.station) t in
+    turned b again
+    ∙ sym (ap (λ (x : Bool). cond (x && not (was_refused after.log)) again t) ticks
+    ∙ ap (λ (x : Bool). cond (not x) again t) refused)
+  where
+    turned : (x : Bool) (u : Timetable) → cond x t u ≡ cond (not x) u t
+    turned true u = refl
+    turned false u = refl
+
+pub follow_no : (e : Event) (after : WorldModel) (t : Timetable) → is_tick e.what ≡ false
+    → t ≡ follow_tick (of_air e) after t
+follow_no e after t no' =
+    sym (ap (λ (x : Bool). cond (x && not (was_refused after.log))
+    (tick_again e (slice_get after.stations e.station) t) t) no')
+
+-- nothing was taken yet
+pub keeps_opening : (queue : Queue) (words : List ℕ) (file : List Event) (until seed : ℕ)
+    → AreDue file until (happenings_due queue) → queue.taken ≡ 0 → heap_items queue.own ≡ []
+    → queue.put ≡ 0 → queue.until ≡ until → draws_at words ≡ draws_of seed
+    → Keeps queue words (record { waiting = put_all (map of_file file) []; draws = draws_of seed })
+keeps_opening queue words file until seed due taken heap put last drawn =
+    let all : drop queue.taken (happenings_due queue) ≡ happenings_due queue =
+    ap (λ k. drop k (happenings_due queue)) taken in
+    record {
+      waits = subst (λ (hs : List Waiting). Waits (drop queue.taken (happenings_due queue)) hs
+          queue.put queue.until (put_all (map of_file file) [])) (sym heap)
+          (waits_at (happenings_due queue) _ [] 0 _ until _ (put_all (map of_file file) []) all put
+          last (waits_opening file (happenings_due queue) until due));
+      draws = sym drawn;
+    }

@@ -1,0 +1,31 @@
+use Rattle.std.proofs.Common.{◌≡◌, ◌∙◌, [], map, length, cond, ap, sym, subst, Bool}
+use Rattle.std.proofs.lemmas.List.{length-map}
+use Rattle.its_world.specs.Events.{config_of, event_of}
+use Rattle.its_air.specs.Draws.{draws_of}
+use Rattle.its_air.specs.Keeps.{Keeps}
+use Rattle.its_air.specs.Timetable.{Timetable, of_file, put_all, put_first_ticks}
+use Rattle.its_air.proofs.Stepping.{keeps_opening}
+use Rattle.its_air.proofs.run.Run.begin.Goals.{then-air, else-air}
+use Rattle.its_air.proofs.run.Run.begin.Goals as goal
+
+pub returns-clause-timed : goal.returns-clause-timed
+returns-clause-timed c =
+    let air = c.args.air.now in
+    let configs = c.args.configs.now in
+    let file = map event_of c.args.events.now in
+    let empty = c.in_ok-queue.ensures.empty in
+    let t : Timetable = record { waiting = put_all (map of_file file) []; draws = draws_of air.seed } in
+    let kept : Keeps c.in_ok-queue.queue c.of_seed-draws.result t =
+    keeps_opening c.in_ok-queue.queue c.of_seed-draws.result file c.end.result air.seed
+    c.in_ok-queue.ensures.due c.in_ok-queue.ensures.start empty.0 empty.1 empty.2
+    c.of_seed-draws.ensures in
+    let many : length configs ≡ length (map config_of configs) = sym (length-map configs config_of) in
+    let ticking : c.if-air.ticking ≡ cond air.beacons (length (map config_of configs)) 0 =
+    (elim c.if-air.branch [
+      | then-air w ↦ w.ticking-is ∙ many
+          ∙ ap (λ (b : Bool). cond b (length (map config_of configs)) 0) (sym w.if-air.true)
+      | else-air w ↦ w.ticking-is
+          ∙ ap (λ (b : Bool). cond b (length (map config_of configs)) 0) (sym w.if-air.false)
+    ]) in
+    subst (λ n. Keeps c.put_first_ticks.new.queue c.put_first_ticks.new.draws (put_first_ticks n t))
+    ticking (c.in_ok-put_first_ticks.ensures.ticks t kept)

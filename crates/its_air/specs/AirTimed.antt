@@ -1,0 +1,29 @@
+-- What the run of an air did, by its timetable.
+use Rattle.std.specs.Prelude.{ℕ, List}
+use Rattle.its_model.specs.World.{Config, Event}
+use Rattle.its_world.specs.declared.entry.Entry.{Entry}
+use Rattle.its_world.specs.State.{WorldState}
+use Rattle.its_scenario.specs.declared.air.Air.{Air}
+use Rattle.its_simulation.specs.Simulated.{IsSimulated}
+use Rattle.its_air.specs.Timetable.{Rules, air_opening, air_run, IsOver}
+
+-- what the air of a scenario goes by
+abbrev pub rules_of : Air → ℕ → Rules
+rules_of air until =
+    record {
+      range = air.range;
+      delay = air.delay;
+      loss = air.loss;
+      beacons = air.beacons;
+      seed = air.seed;
+      until = until;
+    }
+
+-- After so many steps nothing more waits up to the last moment; and what was done until then are
+-- the events of the world.
+pub record IsTimedRun (rules : Rules) (configs : List Config) (file : List Event)
+    (world : WorldState) (Took : List Event → List Entry → Type 0) : Type 0 where
+  pub steps : ℕ
+  pub over : IsOver rules (air_run rules configs steps (air_opening rules configs file))
+  pub run : IsSimulated configs
+      (air_run rules configs steps (air_opening rules configs file)).done world Took

@@ -1,0 +1,42 @@
+-- A queue and a generator keep a timetable.
+use Rattle.std.specs.Prelude.{◌≡◌, ℕ, List, Bool, true, false, drop}
+use Rattle.std.specs.BinaryHeap.{heap_items}
+use Rattle.its_model.specs.Calls.{Answer}
+use Rattle.its_model.specs.World.{Config, Event, WorldModel, frame_of}
+use Rattle.its_world.specs.Entries.{TellsEntry}
+use Rattle.its_world.specs.declared.entry.Entry.{Entry}
+use Rattle.its_simulation.specs.Simulated.{IsSimulated}
+use Rattle.its_air.specs.AirTimed.{rules_of}
+use Rattle.its_air.specs.Draws.{draws_at}
+use Rattle.its_air.specs.Files.{happenings_due}
+use Rattle.its_air.specs.Timetable.{Rules, Timetable, AirModel, air_step, IsOver}
+use Rattle.its_air.specs.Timetable.{given, was_refused, is_refusal}
+use Rattle.its_air.specs.Waits.{Waits}
+use Rattle.its_air.specs.declared.run.Run.{Run}
+use Rattle.its_air.specs.declared.waiting.Queue.{Queue}
+
+-- what waits in the queue, and what a generator with these words will draw, are the timetable's
+pub record Keeps (queue : Queue) (words : List ℕ) (t : Timetable) : Type 0 where
+  pub waits : Waits (drop queue.taken (happenings_due queue)) (heap_items queue.own) queue.put
+      queue.until t.waiting
+  pub draws : t.draws ≡ draws_at words
+
+-- the entry is the one that was logged last
+pub record IsAnswered (entry : Entry) (after : WorldModel) : Type 0 where
+  pub answer : Answer ℕ
+  pub tells : TellsEntry entry answer
+  pub gave : given after.log ≡ frame_of answer
+  pub refused : was_refused after.log ≡ is_refusal answer
+
+-- a run that is under way stands as the air of the model does
+pub record IsTimed (rules : Rules) (configs : List Config) (a : AirModel) (run : Run)
+    (Took : List Event → List Entry → Type 0) : Type 0 where
+  pub rules_are : rules_of run.air run.queue.until ≡ rules
+  pub told : IsSimulated configs a.done run.world Took
+  pub keeps : Keeps run.queue run.draws a.timetable
+
+-- it is one step further, or it was over
+abbrev pub GoesOn : Bool → Rules → List Config → AirModel → Run
+    → (List Event → List Entry → Type 0) → Type 0
+GoesOn true rules configs a run Took = IsTimed rules configs (air_step rules configs a) run Took
+GoesOn false rules configs a run Took = IsOver rules a × IsTimed rules configs a run Took

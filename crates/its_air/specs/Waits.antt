@@ -1,0 +1,36 @@
+-- What waits, as it is kept: the events of the file that are due, and a heap of the air's own.
+use Rattle.std.specs.Prelude.{◌≡◌, ℕ, ◌<◌, List, [], ◌∷◌, ◌++◌, map, sum_by}
+use Rattle.std.specs.List.{AllByRecursion}
+use Rattle.std.specs.List.Sorted.{IsPermutation}
+use Rattle.its_model.specs.World.{Event}
+use Rattle.its_air.specs.declared.waiting.Waiting.{Waiting}
+use Rattle.its_air.specs.declared.waiting.Next.{Next}
+use Rattle.its_air.specs.declared.waiting.Next.TheVariants as nexts
+use Rattle.its_air.specs.Queues.{happening_of}
+use Rattle.its_air.specs.Timetable.{Put, of_file, of_air, put_all}
+
+-- what is put for one of the air's own
+abbrev pub put_of : Waiting → Put
+put_of w = of_air (happening_of w)
+
+-- each was put later than those before it
+abbrev pub PlacesRise : List Waiting → Type 0
+PlacesRise [] = Unit {0}
+PlacesRise (w ∷ own) = AllByRecursion (λ v. w.place < v.place) own × PlacesRise own
+
+-- What waits are the file's events that are due, and later ones that no run reaches, and the air's
+-- own that are in the heap, of which so many were put: they are put in the order of their places.
+pub record Waits (due : List Event) (heap : List Waiting) (count until : ℕ)
+    (waiting : List Put) : Type 0 where
+  pub own : List Waiting
+  pub late : List Event
+  pub past : AllByRecursion (λ e. until < e.moment) late
+  pub same : (f : Waiting → ℕ) → sum_by f own ≡ sum_by f heap
+  pub rise : PlacesRise own
+  pub below : AllByRecursion (λ w. w.place < count) own
+  pub is : waiting ≡ put_all (map put_of own) (map of_file (due ++ late))
+
+-- what is taken is no longer in the heap, if it was there
+abbrev pub IsLeft : Next → List Waiting → List Waiting → Type 0
+IsLeft (nexts.OfFile e) old new = new ≡ old
+IsLeft (nexts.Own w) old new = IsPermutation old (w ∷ new)
