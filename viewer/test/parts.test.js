@@ -11,7 +11,7 @@ const {load, TOP} = require('./load.js');
 const samples = require('./samples.js');
 
 const {frame, geo, map, run: runs, way} = load();
-const EXAMPLES = path.join(TOP, '..', 'crates', 'examples', 'data');
+const EXAMPLES = path.join(TOP, '..', 'cases', 'data');
 const WARNING = 'ffffffffffff020000000001894711001a0a2040008000060a00000000001400020000000001' +
   '000000000000000000000000000000000000000000000000006400000000000007d200006869';
 const HEAD = '{"stations":[{"address":"1400020000000001","lat":0,"lon":0}]}';

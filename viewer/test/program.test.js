@@ -14,7 +14,7 @@ const {load, TOP} = require('./load.js');
 const {run: runs, way} = load();
 const CRATES = path.join(TOP, '..', 'crates');
 const PROGRAM = process.env.GEOSTATION ?? path.join(CRATES, 'geostation', 'out', 'geostation');
-const DATA = path.join(CRATES, 'examples', 'data');
+const DATA = path.join(CRATES, '..', 'cases', 'data');
 
 /** What the program prints. */
 function print(...words) {
