@@ -1,0 +1,174 @@
+//! Why a call wasn't done, and what is wrong with octets that are no frame.
+
+use crate::ffi;
+use std::fmt;
+
+/// Why a call wasn't done. The station is as it was: its clock, its numbers, its table and its
+/// ports too.
+///
+/// It prints a sentence for a person; [`Error::code`] prints what logs show.
+#[derive(Clone, Copy, Debug, PartialEq, Eq, Hash)]
+#[non_exhaustive]
+pub enum Error {
+    /// S1: the moment is before that of the last call.
+    MomentEarlier,
+    /// S2: the moment is over [`LAST_MOMENT`](crate::LAST_MOMENT).
+    MomentTooLate,
+    /// S3: the octets are no frame.
+    BadFrame(Fault),
+    /// S4: the location table has no room for the packet's source.
+    TableFull,
+    /// S5: an allocation failed.
+    NoMemory,
+    /// S6: the payload is over [`PAYLOAD_MAX`](crate::PAYLOAD_MAX) octets.
+    PayloadTooLong,
+    /// S7: the packet would have no hop.
+    HopLimitZero,
+    /// S8 B2: the port is open already.
+    PortAlreadyOpen,
+    /// S8 B3: 64 ports are open.
+    PortsFull,
+    /// S8 B4: the port isn't open.
+    PortNotOpen,
+    /// S9: the jitter is over 750 ms.
+    JitterRange,
+    /// An argument is out of its range. It has no code.
+    BadArgument,
+    /// The buffer has under [`FRAME_MAX`](crate::FRAME_MAX) octets. It has no code.
+    NoRoom,
+    /// A status of a later library. It has no code.
+    Unknown(i32),
+}
+
+impl Error {
+    /// What a call that isn't `receive` tells.
+    pub(crate) fn check(status: i32) -> Result<(), Error> {
+        Error::check_frame(status, Fault::default())
+    }
+
+    /// What `receive` tells: of octets that are no frame their fault.
+    pub(crate) fn check_frame(status: i32, fault: Fault) -> Result<(), Error> {
+        Err(match status {
+            0 => return Ok(()),
+            1 => Error::MomentEarlier,
+            2 => Error::MomentTooLate,
+            3 => Error::BadFrame(fault),
+            4 => Error::TableFull,
+            5 => Error::NoMemory,
+            6 => Error::PayloadTooLong,
+            7 => Error::HopLimitZero,
+            8 => Error::PortAlreadyOpen,
+            9 => Error::JitterRange,
+            10 => Error::PortsFull,
+            11 => Error::PortNotOpen,
+            20 => Error::BadArgument,
+            21 => Error::NoRoom,
+            other => Error::Unknown(other),
+        })
+    }
+
+    /// The status of `geostation.h`.
+    pub fn status(&self) -> i32 {
+        match self {
+            Error::MomentEarlier => 1,
+            Error::MomentTooLate => 2,
+            Error::BadFrame(_) => 3,
+            Error::TableFull => 4,
+            Error::NoMemory => 5,
+            Error::PayloadTooLong => 6,
+            Error::HopLimitZero => 7,
+            Error::PortAlreadyOpen => 8,
+            Error::JitterRange => 9,
+            Error::PortsFull => 10,
+            Error::PortNotOpen => 11,
+            Error::BadArgument => 20,
+            Error::NoRoom => 21,
+            Error::Unknown(status) => *status,
+        }
+    }
+
+    /// What logs show, as `S4`, `S8 B2` or `S3 L5 G9 at 10`; nothing where there is no code.
+    ///
+    /// ```
+    /// let error = geostation::Error::PortAlreadyOpen;
+    /// assert_eq!("S8 B2", error.code().to_string());
+    /// assert_eq!("the port is open already", error.to_string());
+    /// ```
+    pub fn code(&self) -> Code {
+        Code::OfCall(*self)
+    }
+}
+
+impl fmt::Display for Error {
+    fn fmt(&self, f: &mut fmt::Formatter<'_>) -> fmt::Result {
+        match self {
+            Error::BadFrame(fault) => fault.fmt(f),
+            other => f.write_str(&ffi::status_text(other.status()).to_string_lossy()),
+        }
+    }
+}
+
+impl std::error::Error for Error {}
+
+/// What is wrong with octets that are no frame.
+///
+/// It prints a sentence for a person; [`Fault::code`] prints what logs show.
+#[derive(Clone, Copy, Debug, Default, PartialEq, Eq, Hash)]
+pub struct Fault {
+    /// 1 to 5, for L1 to L5.
+    pub layer: u32,
+    /// At 5 (L5): 1 to 12, for G1 to G12; else 0.
+    pub kind: u32,
+    /// At 5 (L5): the octet of the packet at which the field begins; else 0.
+    pub at: usize,
+}
+
+impl Fault {
+    /// What logs show, as `L1` or `L5 G9 at 10`.
+    ///
+    /// ```
+    /// let fault = geostation::read_frame(&[0]).unwrap_err();
+    /// assert_eq!("L1", fault.code().to_string());
+    /// assert_eq!("a frame of fewer than 14 octets", fault.to_string());
+    /// ```
+    pub fn code(&self) -> Code {
+        Code::OfFrame(*self)
+    }
+}
+
+impl fmt::Display for Fault {
+    fn fmt(&self, f: &mut fmt::Formatter<'_>) -> fmt::Result {
+        f.write_str(&ffi::fault_text(self.layer, self.kind).to_string_lossy())?;
+        match self.layer {
+            5 => write!(f, ", at octet {}", self.at),
+            _ => Ok(()),
+        }
+    }
+}
+
+impl std::error::Error for Fault {}
+
+/// What logs show of an [`Error`] or a [`Fault`]: it prints the code.
+#[derive(Clone, Copy, Debug, PartialEq, Eq, Hash)]
+#[non_exhaustive]
+pub enum Code {
+    /// The code of a call.
+    OfCall(Error),
+    /// The code of a frame that was read without a station.
+    OfFrame(Fault),
+}
+
+impl fmt::Display for Code {
+    fn fmt(&self, f: &mut fmt::Formatter<'_>) -> fmt::Result {
+        match self {
+            Code::OfFrame(Fault { layer: 5, kind, at }) => write!(f, "L5 G{kind} at {at}"),
+            Code::OfFrame(fault) => write!(f, "L{}", fault.layer),
+            Code::OfCall(Error::BadFrame(fault)) => write!(f, "S3 {}", fault.code()),
+            Code::OfCall(Error::PortAlreadyOpen) => f.write_str("S8 B2"),
+            Code::OfCall(Error::PortsFull) => f.write_str("S8 B3"),
+            Code::OfCall(Error::PortNotOpen) => f.write_str("S8 B4"),
+            Code::OfCall(Error::BadArgument | Error::NoRoom | Error::Unknown(_)) => Ok(()),
+            Code::OfCall(error) => write!(f, "S{}", error.status()),
+        }
+    }
+}

@@ -1,0 +1,393 @@
+//! The calls of `geostation.h`: its structs, and a safe function for each call.
+//!
+//! All `unsafe` of this crate stands here, one block a call. What each rests on: a [`Handle`] comes
+//! from `geostation_new`, is freed once, when it is dropped, and can't be in two calls at a time,
+//! since it isn't `Sync`; pointers and lengths are those of slices and references; what a call
+//! writes to is borrowed mutably, so it overlaps nothing else that the call is given. The library
+//! keeps none of these pointers.
+
+use std::ffi::{c_char, c_int, CStr};
+use std::ptr::{null_mut, NonNull};
+
+/// A station of the library: only its address is known here.
+#[repr(C)]
+struct Opaque {
+    _octets: [u8; 0],
+}
+
+/// `struct geostation_reception`.
+#[repr(C)]
+#[derive(Default)]
+pub(crate) struct Reception {
+    pub(crate) ignored: u32,
+    pub(crate) delivered: u32,
+    pub(crate) port: u16,
+    pub(crate) info: u16,
+    pub(crate) payload_start: usize,
+    pub(crate) payload_length: usize,
+    pub(crate) relay_length: usize,
+    pub(crate) fault: u32,
+    pub(crate) fault_kind: u32,
+    pub(crate) fault_at: usize,
+}
+
+/// `struct geostation_shb_request`.
+#[repr(C)]
+pub(crate) struct ShbRequest {
+    pub(crate) port: u16,
+    pub(crate) info: u16,
+    pub(crate) traffic_class: u8,
+}
+
+/// `struct geostation_area_request`.
+#[repr(C)]
+pub(crate) struct AreaRequest {
+    pub(crate) port: u16,
+    pub(crate) info: u16,
+    pub(crate) traffic_class: u8,
+    pub(crate) lifetime: u8,
+    pub(crate) max_hops: u8,
+    pub(crate) shape: u8,
+    pub(crate) latitude: i32,
+    pub(crate) longitude: i32,
+    pub(crate) a: u16,
+    pub(crate) b: u16,
+    pub(crate) angle: u16,
+}
+
+/// `struct geostation_vector`.
+#[repr(C)]
+#[derive(Default)]
+pub(crate) struct Vector {
+    pub(crate) address: u64,
+    pub(crate) timestamp: u32,
+    pub(crate) latitude: i32,
+    pub(crate) longitude: i32,
+    pub(crate) speed: i16,
+    pub(crate) heading: u16,
+    pub(crate) accurate: u8,
+}
+
+/// `struct geostation_area`.
+#[repr(C)]
+#[derive(Default)]
+pub(crate) struct Area {
+    pub(crate) latitude: i32,
+    pub(crate) longitude: i32,
+    pub(crate) a: u16,
+    pub(crate) b: u16,
+    pub(crate) angle: u16,
+    pub(crate) shape: u8,
+}
+
+/// `struct geostation_message`.
+#[repr(C)]
+#[derive(Default)]
+pub(crate) struct Message {
+    pub(crate) payload_start: usize,
+    pub(crate) payload_length: usize,
+    pub(crate) port: u16,
+    pub(crate) info: u16,
+}
+
+/// `struct geostation_packet`.
+#[repr(C)]
+#[derive(Default)]
+pub(crate) struct Packet {
+    pub(crate) target: [u8; 6],
+    pub(crate) source: [u8; 6],
+    pub(crate) kind: u32,
+    pub(crate) vector: Vector,
+    pub(crate) hops_left: u8,
+    pub(crate) max_hops: u8,
+    pub(crate) lifetime: u8,
+    pub(crate) traffic_class: u8,
+    pub(crate) mobile: u8,
+    pub(crate) media: [u8; 4],
+    pub(crate) number: u16,
+    pub(crate) area: Area,
+    pub(crate) message: Message,
+    pub(crate) fault: u32,
+    pub(crate) fault_kind: u32,
+    pub(crate) fault_at: usize,
+}
+
+// The layouts of the header, as the library asserts them of itself.
+#[cfg(target_pointer_width = "64")]
+const _: () = {
+    use std::mem::size_of;
+    assert!(size_of::<Reception>() == 56 && size_of::<Packet>() == 120);
+    assert!(size_of::<Message>() == 24);
+};
+const _: () = {
+    use std::mem::size_of;
+    assert!(size_of::<ShbRequest>() == 6 && size_of::<AreaRequest>() == 24);
+    assert!(size_of::<Vector>() == 32 && size_of::<Area>() == 16);
+};
+
+type SendToArea = unsafe extern "C" fn(
+    *mut Opaque,
+    u64,
+    *const AreaRequest,
+    *const u8,
+    usize,
+    *mut u8,
+    usize,
+    *mut usize,
+) -> c_int;
+
+extern "C" {
+    fn geostation_new(
+        out: *mut *mut Opaque,
+        address: u64,
+        latitude: i32,
+        longitude: i32,
+        capacity: u16,
+        remember: u8,
+    ) -> c_int;
+    fn geostation_free(s: *mut Opaque);
+    fn geostation_move(
+        s: *mut Opaque,
+        now: u64,
+        latitude: i32,
+        longitude: i32,
+        accurate: u8,
+        speed: i16,
+        heading: u16,
+    ) -> c_int;
+    fn geostation_open_port(s: *mut Opaque, now: u64, port: u16) -> c_int;
+    fn geostation_close_port(s: *mut Opaque, now: u64, port: u16) -> c_int;
+    fn geostation_restart(s: *mut Opaque, now: u64, number: u16) -> c_int;
+    fn geostation_tick(
+        s: *mut Opaque,
+        now: u64,
+        jitter: u16,
+        frame: *mut u8,
+        room: usize,
+        length: *mut usize,
+    ) -> c_int;
+    fn geostation_send_shb(
+        s: *mut Opaque,
+        now: u64,
+        request: *const ShbRequest,
+        payload: *const u8,
+        payload_length: usize,
+        frame: *mut u8,
+        room: usize,
+        length: *mut usize,
+    ) -> c_int;
+    fn geostation_send_gbc(
+        s: *mut Opaque,
+        now: u64,
+        request: *const AreaRequest,
+        payload: *const u8,
+        payload_length: usize,
+        frame: *mut u8,
+        room: usize,
+        length: *mut usize,
+    ) -> c_int;
+    fn geostation_send_gac(
+        s: *mut Opaque,
+        now: u64,
+        request: *const AreaRequest,
+        payload: *const u8,
+        payload_length: usize,
+        frame: *mut u8,
+        room: usize,
+        length: *mut usize,
+    ) -> c_int;
+    fn geostation_receive(
+        s: *mut Opaque,
+        now: u64,
+        frame: *const u8,
+        length: usize,
+        out: *mut Reception,
+        relay: *mut u8,
+        room: usize,
+    ) -> c_int;
+    fn geostation_next_beacon(s: *const Opaque) -> u64;
+    fn geostation_neighbour(s: *const Opaque, now: u64, after: u64, out: *mut Vector) -> c_int;
+    fn geostation_look_up(s: *const Opaque, now: u64, address: u64, out: *mut Vector) -> c_int;
+    fn geostation_read_frame(frame: *const u8, length: usize, out: *mut Packet) -> c_int;
+    fn geostation_status_text(status: c_int) -> *const c_char;
+    fn geostation_fault_text(fault: u32, fault_kind: u32) -> *const c_char;
+}
+
+/// What a call returns that may write a frame: its status, and the frame's length.
+pub(crate) type Written = (c_int, usize);
+
+/// A station of the library, which ends with this value.
+pub(crate) struct Handle(NonNull<Opaque>);
+
+// SAFETY: the library has no global state and no thread of its own, so that a handle is bound to
+// none. It isn't `Sync`, as its look-ups count as calls too.
+unsafe impl Send for Handle {}
+
+impl Drop for Handle {
+    fn drop(&mut self) {
+        // SAFETY: the handle comes from `geostation_new`, and isn't used after this.
+        unsafe { geostation_free(self.0.as_ptr()) }
+    }
+}
+
+impl Handle {
+    pub(crate) fn new(
+        address: u64,
+        latitude: i32,
+        longitude: i32,
+        capacity: u16,
+        remember: u8,
+    ) -> Result<Handle, c_int> {
+        let mut out = null_mut();
+        // SAFETY: `out` is a pointer's place, to which the call writes a handle or NULL.
+        let status =
+            unsafe { geostation_new(&mut out, address, latitude, longitude, capacity, remember) };
+        NonNull::new(out).map(Handle).ok_or(status)
+    }
+
+    pub(crate) fn move_to(
+        &mut self,
+        now: u64,
+        (latitude, longitude): (i32, i32),
+        accurate: bool,
+        speed: i16,
+        heading: u16,
+    ) -> c_int {
+        let (s, accurate) = (self.0.as_ptr(), accurate.into());
+        // SAFETY: the handle lives, and is in this call alone.
+        unsafe { geostation_move(s, now, latitude, longitude, accurate, speed, heading) }
+    }
+
+    pub(crate) fn open_port(&mut self, now: u64, port: u16) -> c_int {
+        // SAFETY: the handle lives, and is in this call alone.
+        unsafe { geostation_open_port(self.0.as_ptr(), now, port) }
+    }
+
+    pub(crate) fn close_port(&mut self, now: u64, port: u16) -> c_int {
+        // SAFETY: the handle lives, and is in this call alone.
+        unsafe { geostation_close_port(self.0.as_ptr(), now, port) }
+    }
+
+    pub(crate) fn restart(&mut self, now: u64, number: u16) -> c_int {
+        // SAFETY: the handle lives, and is in this call alone.
+        unsafe { geostation_restart(self.0.as_ptr(), now, number) }
+    }
+
+    pub(crate) fn tick(&mut self, now: u64, jitter: u16, frame: &mut [u8]) -> Written {
+        let (s, mut length) = (self.0.as_ptr(), 0);
+        // SAFETY: the handle lives, and is in this call alone; the buffer is as long as is said.
+        let status = unsafe {
+            geostation_tick(s, now, jitter, frame.as_mut_ptr(), frame.len(), &mut length)
+        };
+        (status, length)
+    }
+
+    pub(crate) fn send_shb(
+        &mut self,
+        now: u64,
+        request: &ShbRequest,
+        payload: &[u8],
+        frame: &mut [u8],
+    ) -> Written {
+        let (s, mut length) = (self.0.as_ptr(), 0);
+        let (octets, room) = (frame.as_mut_ptr(), frame.len());
+        let (given, count) = (payload.as_ptr(), payload.len());
+        // SAFETY: the handle lives, and is in this call alone; both slices are as long as is said,
+        // and don't overlap, as one of them is borrowed mutably.
+        let status = unsafe {
+            geostation_send_shb(s, now, request, given, count, octets, room, &mut length)
+        };
+        (status, length)
+    }
+
+    pub(crate) fn send_gbc(
+        &mut self,
+        now: u64,
+        request: &AreaRequest,
+        payload: &[u8],
+        frame: &mut [u8],
+    ) -> Written {
+        self.send_to_area(geostation_send_gbc, now, request, payload, frame)
+    }
+
+    pub(crate) fn send_gac(
+        &mut self,
+        now: u64,
+        request: &AreaRequest,
+        payload: &[u8],
+        frame: &mut [u8],
+    ) -> Written {
+        self.send_to_area(geostation_send_gac, now, request, payload, frame)
+    }
+
+    fn send_to_area(
+        &mut self,
+        call: SendToArea,
+        now: u64,
+        request: &AreaRequest,
+        payload: &[u8],
+        frame: &mut [u8],
+    ) -> Written {
+        let (s, mut length) = (self.0.as_ptr(), 0);
+        let (octets, room) = (frame.as_mut_ptr(), frame.len());
+        let (given, count) = (payload.as_ptr(), payload.len());
+        // SAFETY: as for `geostation_send_shb`; `call` is one of the two above.
+        let status = unsafe { call(s, now, request, given, count, octets, room, &mut length) };
+        (status, length)
+    }
+
+    pub(crate) fn receive(
+        &mut self,
+        now: u64,
+        frame: &[u8],
+        relay: &mut [u8],
+    ) -> (c_int, Reception) {
+        let (s, mut out) = (self.0.as_ptr(), Reception::default());
+        let (octets, room) = (relay.as_mut_ptr(), relay.len());
+        // SAFETY: the handle lives, and is in this call alone; both slices are as long as is said,
+        // and don't overlap, as one of them is borrowed mutably.
+        let status = unsafe {
+            geostation_receive(s, now, frame.as_ptr(), frame.len(), &mut out, octets, room)
+        };
+        (status, out)
+    }
+
+    pub(crate) fn next_beacon(&self) -> u64 {
+        // SAFETY: the handle lives, and is in this call alone, since it isn't `Sync`.
+        unsafe { geostation_next_beacon(self.0.as_ptr()) }
+    }
+
+    pub(crate) fn neighbour(&self, now: u64, after: u64) -> Option<Vector> {
+        let mut out = Vector::default();
+        // SAFETY: the handle lives, and is in this call alone, since it isn't `Sync`.
+        let found = unsafe { geostation_neighbour(self.0.as_ptr(), now, after, &mut out) };
+        (found == 1).then_some(out)
+    }
+
+    pub(crate) fn look_up(&self, now: u64, address: u64) -> Option<Vector> {
+        let mut out = Vector::default();
+        // SAFETY: the handle lives, and is in this call alone, since it isn't `Sync`.
+        let found = unsafe { geostation_look_up(self.0.as_ptr(), now, address, &mut out) };
+        (found == 1).then_some(out)
+    }
+}
+
+/// All fields of a frame, or its fault.
+pub(crate) fn read_frame(frame: &[u8]) -> (c_int, Packet) {
+    let mut out = Packet::default();
+    // SAFETY: the slice is as long as is said.
+    let status = unsafe { geostation_read_frame(frame.as_ptr(), frame.len(), &mut out) };
+    (status, out)
+}
+
+/// A sentence for a status.
+pub(crate) fn status_text(status: c_int) -> &'static CStr {
+    // SAFETY: the call gives a string literal, whatever the number.
+    unsafe { CStr::from_ptr(geostation_status_text(status)) }
+}
+
+/// A sentence for a frame's fault.
+pub(crate) fn fault_text(fault: u32, kind: u32) -> &'static CStr {
+    // SAFETY: the call gives a string literal, whatever the numbers.
+    unsafe { CStr::from_ptr(geostation_fault_text(fault, kind)) }
+}

@@ -1,0 +1,382 @@
+//! A station, and what it is asked and tells.
+
+use crate::buffer::{written, Buffer};
+use crate::error::{Error, Fault};
+use crate::ffi::{self, Handle};
+use crate::frame::{Area, Message, Vector};
+use std::fmt;
+use std::iter::FusedIterator;
+
+/// What a station is made of.
+#[derive(Clone, Copy, Debug, PartialEq, Eq, Hash)]
+#[non_exhaustive]
+pub struct Config {
+    /// Its GN address.
+    pub address: u64,
+    /// Where it stands, in 0.1 microdegree, -900000000 to 900000000.
+    pub latitude: i32,
+    /// Where it stands, in 0.1 microdegree, -1800000000 to 1800000000.
+    pub longitude: i32,
+    /// For how many sources its location table has room, 1 to 4096.
+    pub capacity: u16,
+    /// How many sequence numbers of a source it remembers, 1 to 64.
+    pub remember: u8,
+}
+
+impl Config {
+    /// A station of an address at a place, which has room for 64 sources and remembers 8 numbers of
+    /// each.
+    pub fn new(address: u64, latitude: i32, longitude: i32) -> Config {
+        Config { address, latitude, longitude, capacity: 64, remember: 8 }
+    }
+}
+
+/// Where a station stands.
+#[derive(Clone, Copy, Debug, PartialEq, Eq, Hash)]
+pub struct Place {
+    /// In 0.1 microdegree, -900000000 to 900000000.
+    pub latitude: i32,
+    /// In 0.1 microdegree, -1800000000 to 1800000000.
+    pub longitude: i32,
+    /// Whether the place is accurate (PAI).
+    pub accurate: bool,
+    /// In 0.01 m/s, -16384 to 16383, negative backwards.
+    pub speed: i16,
+    /// In 0.1 degree, clockwise from north.
+    pub heading: u16,
+}
+
+/// A payload for all stations in reach.
+#[derive(Clone, Copy, Debug, Default, PartialEq, Eq, Hash)]
+pub struct ShbRequest {
+    /// The destination port (BTP-B).
+    pub port: u16,
+    /// The destination port info.
+    pub info: u16,
+    /// The octet of the traffic class.
+    pub traffic_class: u8,
+}
+
+/// A payload for the stations in an area.
+#[derive(Clone, Copy, Debug, PartialEq, Eq, Hash)]
+pub struct AreaRequest {
+    /// The destination port (BTP-B).
+    pub port: u16,
+    /// The destination port info.
+    pub info: u16,
+    /// The octet of the traffic class.
+    pub traffic_class: u8,
+    /// The octet of the lifetime: a multiplier, then a base.
+    pub lifetime: u8,
+    /// How many hops the packet may take, from 1.
+    pub max_hops: u8,
+    /// Where it is to go.
+    pub area: Area,
+}
+
+impl AreaRequest {
+    /// A request for a port in an area, of ten hops and a lifetime of 60 s (0x1a).
+    pub fn new(port: u16, area: Area) -> AreaRequest {
+        AreaRequest { port, info: 0, traffic_class: 0, lifetime: 0x1a, max_hops: 10, area }
+    }
+
+    fn numbers(&self) -> ffi::AreaRequest {
+        let (shape, a, b, angle) = self.area.shape.numbers();
+        ffi::AreaRequest {
+            port: self.port,
+            info: self.info,
+            traffic_class: self.traffic_class,
+            lifetime: self.lifetime,
+            max_hops: self.max_hops,
+            shape,
+            latitude: self.area.latitude,
+            longitude: self.area.longitude,
+            a,
+            b,
+            angle,
+        }
+    }
+}
+
+/// Why a frame is ignored.
+#[derive(Clone, Copy, Debug, PartialEq, Eq, Hash)]
+#[non_exhaustive]
+pub enum Why {
+    /// It is to another link address.
+    NotForMe,
+    /// Its packet is the station's own.
+    OwnSource,
+    /// A beacon or SHB not from its source's link address.
+    SenderMismatch,
+    /// A GBC or GAC whose sequence number is remembered.
+    Duplicate,
+}
+
+impl fmt::Display for Why {
+    fn fmt(&self, f: &mut fmt::Formatter<'_>) -> fmt::Result {
+        f.write_str(match self {
+            Why::NotForMe => "not-for-me",
+            Why::OwnSource => "own-source",
+            Why::SenderMismatch => "sender-mismatch",
+            Why::Duplicate => "duplicate",
+        })
+    }
+}
+
+/// What became of a frame that came: it borrows the frame, and the buffer of what goes on.
+#[derive(Clone, Copy, Debug, PartialEq, Eq, Hash)]
+#[non_exhaustive]
+pub struct Received<'a> {
+    /// Why the frame is ignored; nothing where its packet is accepted.
+    pub ignored: Option<Why>,
+    /// What is delivered to a port, a part of the frame.
+    pub delivered: Option<Message<'a>>,
+    /// The frame that is to be sent on.
+    pub relay: Option<&'a [u8]>,
+}
+
+/// An ITS station's GeoNetworking and BTP-B.
+///
+/// Moments `now` are in milliseconds and never go back. A call that isn't done changed nothing. A
+/// station may go to another thread, and is in one thread at a time: it is `Send`, and not `Sync`.
+///
+/// ```
+/// fn sent<T: Send>() {}
+/// sent::<geostation::Station>();
+/// ```
+///
+/// ```compile_fail,E0277
+/// fn shared<T: Sync>() {}
+/// shared::<geostation::Station>();
+/// ```
+pub struct Station {
+    handle: Handle,
+}
+
+impl fmt::Debug for Station {
+    fn fmt(&self, f: &mut fmt::Formatter<'_>) -> fmt::Result {
+        f.debug_struct("Station").finish_non_exhaustive()
+    }
+}
+
+impl Station {
+    /// Makes a station to which nothing happened yet.
+    ///
+    /// # Errors
+    ///
+    /// [`Error::BadArgument`] where a number is out of its range, and [`Error::NoMemory`].
+    pub fn new(config: &Config) -> Result<Station, Error> {
+        let Config { address, latitude, longitude, capacity, remember } = *config;
+        match Handle::new(address, latitude, longitude, capacity, remember) {
+            Ok(handle) => Ok(Station { handle }),
+            Err(status) => Err(Error::check(status).err().unwrap_or(Error::NoMemory)),
+        }
+    }
+
+    /// The station stands there from now on.
+    ///
+    /// # Errors
+    ///
+    /// S1, S2, and [`Error::BadArgument`] where a number is out of its range.
+    pub fn move_to(&mut self, now: u64, place: &Place) -> Result<(), Error> {
+        let Place { latitude, longitude, accurate, speed, heading } = *place;
+        let there = (latitude, longitude);
+        Error::check(self.handle.move_to(now, there, accurate, speed, heading))
+    }
+
+    /// Opens a port, at which payloads are delivered.
+    ///
+    /// # Errors
+    ///
+    /// S1, S2, and S8 where it is open already or 64 ports are open.
+    pub fn open_port(&mut self, now: u64, port: u16) -> Result<(), Error> {
+        Error::check(self.handle.open_port(now, port))
+    }
+
+    /// Closes a port.
+    ///
+    /// # Errors
+    ///
+    /// S1, S2, and S8 where it isn't open.
+    pub fn close_port(&mut self, now: u64, port: u16) -> Result<(), Error> {
+        Error::check(self.handle.close_port(now, port))
+    }
+
+    /// The station forgets what it heard and closes its ports; its next packet for an area has this
+    /// sequence number.
+    ///
+    /// # Errors
+    ///
+    /// S1, S2.
+    pub fn restart(&mut self, now: u64, number: u16) -> Result<(), Error> {
+        Error::check(self.handle.restart(now, number))
+    }
+
+    /// The frame of a beacon, where one is due: `jitter` is 0 to 750 ms, drawn once for each.
+    ///
+    /// # Errors
+    ///
+    /// S1, S2, S5, S9, and [`Error::NoRoom`].
+    pub fn tick<'a, B: Buffer + ?Sized>(
+        &mut self,
+        now: u64,
+        jitter: u16,
+        buffer: &'a mut B,
+    ) -> Result<Option<&'a [u8]>, Error> {
+        let told = self.handle.tick(now, jitter, buffer.room());
+        written(buffer, told).map(|frame| (!frame.is_empty()).then_some(frame))
+    }
+
+    /// The frame of a payload for all stations in reach (SHB).
+    ///
+    /// # Errors
+    ///
+    /// S1, S2, S5, S6, and [`Error::NoRoom`].
+    pub fn send_shb<'a, B: Buffer + ?Sized>(
+        &mut self,
+        now: u64,
+        request: &ShbRequest,
+        payload: &[u8],
+        buffer: &'a mut B,
+    ) -> Result<&'a [u8], Error> {
+        let ShbRequest { port, info, traffic_class } = *request;
+        let request = ffi::ShbRequest { port, info, traffic_class };
+        let told = self.handle.send_shb(now, &request, payload, buffer.room());
+        written(buffer, told)
+    }
+
+    /// The frame of a payload for all stations in an area (GBC).
+    ///
+    /// # Errors
+    ///
+    /// S1, S2, S5, S6, S7, [`Error::BadArgument`] where there is no such area, and
+    /// [`Error::NoRoom`].
+    pub fn send_gbc<'a, B: Buffer + ?Sized>(
+        &mut self,
+        now: u64,
+        request: &AreaRequest,
+        payload: &[u8],
+        buffer: &'a mut B,
+    ) -> Result<&'a [u8], Error> {
+        let told = self.handle.send_gbc(now, &request.numbers(), payload, buffer.room());
+        written(buffer, told)
+    }
+
+    /// The frame of a payload for any one station in an area (GAC).
+    ///
+    /// # Errors
+    ///
+    /// As of [`Station::send_gbc`].
+    pub fn send_gac<'a, B: Buffer + ?Sized>(
+        &mut self,
+        now: u64,
+        request: &AreaRequest,
+        payload: &[u8],
+        buffer: &'a mut B,
+    ) -> Result<&'a [u8], Error> {
+        let told = self.handle.send_gac(now, &request.numbers(), payload, buffer.room());
+        written(buffer, told)
+    }
+
+    /// Takes a frame that came. What is to be sent on is written to the buffer.
+    ///
+    /// # Errors
+    ///
+    /// S1 to S5, and [`Error::NoRoom`].
+    ///
+    /// What is delivered is a part of the frame, and what goes on of the buffer: neither may end
+    /// before them.
+    ///
+    /// ```compile_fail,E0597
+    /// # use geostation::{Config, Station};
+    /// let mut station = Station::new(&Config::new(0x1400_0200_0000_0001, 0, 0)).unwrap();
+    /// let mut relay = Vec::new();
+    /// let received = {
+    ///     let frame = vec![0; 50];
+    ///     station.receive(0, &frame, &mut relay)
+    /// };
+    /// drop(received);
+    /// ```
+    ///
+    /// ```compile_fail,E0499
+    /// # use geostation::{Config, Station};
+    /// let mut station = Station::new(&Config::new(0x1400_0200_0000_0001, 0, 0)).unwrap();
+    /// let mut relay = Vec::new();
+    /// let first = station.receive(0, &[0; 50], &mut relay);
+    /// let second = station.receive(0, &[0; 50], &mut relay);
+    /// drop((first, second));
+    /// ```
+    pub fn receive<'a, B: Buffer + ?Sized>(
+        &mut self,
+        now: u64,
+        frame: &'a [u8],
+        buffer: &'a mut B,
+    ) -> Result<Received<'a>, Error> {
+        let (status, r) = self.handle.receive(now, frame, buffer.room());
+        let relay = buffer.keep(r.relay_length);
+        let fault = Fault { layer: r.fault, kind: r.fault_kind, at: r.fault_at };
+        Error::check_frame(status, fault)?;
+        Ok(Received {
+            ignored: match r.ignored {
+                0 => None,
+                1 => Some(Why::NotForMe),
+                2 => Some(Why::OwnSource),
+                3 => Some(Why::SenderMismatch),
+                _ => Some(Why::Duplicate),
+            },
+            delivered: (r.delivered != 0).then(|| Message {
+                port: r.port,
+                info: r.info,
+                payload: &frame[r.payload_start..r.payload_start + r.payload_length],
+            }),
+            relay: (!relay.is_empty()).then_some(relay),
+        })
+    }
+
+    /// The least moment at which [`Station::tick`] with no jitter gives a beacon, in ms.
+    pub fn next_beacon(&self) -> u64 {
+        self.handle.next_beacon()
+    }
+
+    /// The newest vector of the live source of an address. There is none at a moment before the
+    /// last call's, nor at one over [`LAST_MOMENT`](crate::LAST_MOMENT).
+    pub fn look_up(&self, now: u64, address: u64) -> Option<Vector> {
+        self.handle.look_up(now, address).as_ref().map(Vector::shown)
+    }
+
+    /// The vectors of the live neighbours, which are heard directly, by ascending address. There
+    /// are none at a moment before the last call's, nor at one over
+    /// [`LAST_MOMENT`](crate::LAST_MOMENT); one of address 0 is found by [`Station::look_up`]
+    /// alone.
+    ///
+    /// ```compile_fail,E0502
+    /// # use geostation::{Config, Station};
+    /// let mut station = Station::new(&Config::new(0x1400_0200_0000_0001, 0, 0)).unwrap();
+    /// for neighbour in station.neighbours(0) {
+    ///     station.open_port(0, 2002);
+    /// }
+    /// ```
+    pub fn neighbours(&self, now: u64) -> Neighbours<'_> {
+        Neighbours { station: self, now, after: Some(0) }
+    }
+}
+
+/// The vectors of a station's live neighbours, by ascending address: [`Station::neighbours`].
+#[derive(Debug)]
+pub struct Neighbours<'a> {
+    station: &'a Station,
+    now: u64,
+    after: Option<u64>,
+}
+
+impl Iterator for Neighbours<'_> {
+    type Item = Vector;
+
+    fn next(&mut self) -> Option<Vector> {
+        let found = self.station.handle.neighbour(self.now, self.after?);
+        self.after = found.as_ref().map(|vector| vector.address);
+        found.as_ref().map(Vector::shown)
+    }
+}
+
+impl FusedIterator for Neighbours<'_> {}

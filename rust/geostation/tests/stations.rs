@@ -1,0 +1,166 @@
+//! Two stations through the calls of the crate. Frames are those that the standard's layouts give;
+//! moments of beacons are those of EN 302 636-4-1, clause 10.3.6 (3 s after the last packet).
+
+use geostation::{
+    read_frame, Area, AreaRequest, Config, Content, Error, Fault, Place, Shape, ShbRequest,
+    Station, Why, FRAME_MAX, LAST_MOMENT, PAYLOAD_MAX,
+};
+
+const A: u64 = 0x1400_0200_0000_0001;
+const B: u64 = 0x1400_0200_0000_0002;
+
+fn circle(radius: u16) -> Area {
+    Area { latitude: 449, longitude: 0, shape: Shape::Circle { radius } }
+}
+
+fn warning() -> AreaRequest {
+    let mut request = AreaRequest::new(2002, circle(200));
+    request.info = 7;
+    request.max_hops = 5;
+    request
+}
+
+fn pair() -> (Station, Station) {
+    let a = Station::new(&Config::new(A, 449, 0)).unwrap();
+    let mut b = Station::new(&Config::new(B, 449, 900)).unwrap();
+    b.open_port(0, 2002).unwrap();
+    (a, b)
+}
+
+#[test]
+fn delivered_relayed_and_heard_again() {
+    let (mut a, mut b) = pair();
+    let (mut sent, mut relay, mut none) = (Vec::new(), [0; FRAME_MAX], [0; FRAME_MAX]);
+    let frame = a.send_gbc(10, &warning(), b"hi", &mut sent).unwrap();
+    let got = b.receive(11, frame, &mut relay).unwrap();
+    let message = got.delivered.unwrap();
+    assert_eq!((2002, 7, &b"hi"[..]), (message.port, message.info, message.payload));
+    let relay = got.relay.unwrap();
+    assert_eq!((None, 76), (got.ignored, relay.len()));
+    let back = a.receive(12, relay, &mut none).unwrap();
+    assert_eq!((Some(Why::OwnSource), None, None), (back.ignored, back.delivered, back.relay));
+    let again = b.receive(12, frame, &mut none).unwrap();
+    assert_eq!(Some(Why::Duplicate), again.ignored);
+    assert_eq!("own-source duplicate", format!("{} {}", Why::OwnSource, Why::Duplicate));
+}
+
+#[test]
+fn fields_of_frames() {
+    let (mut a, mut b) = pair();
+    let mut sent = Vec::new();
+    let area =
+        Area { latitude: -5, longitude: 7, shape: Shape::Rectangle { a: 30, b: 20, angle: 359 } };
+    let mut request = AreaRequest::new(1, area);
+    request.traffic_class = 3;
+    let frame = a.send_gac(10, &request, b"x", &mut sent).unwrap();
+    let packet = read_frame(frame).unwrap();
+    assert_eq!([0xff; 6], packet.target);
+    assert_eq!([2, 0, 0, 0, 0, 1], packet.source);
+    assert_eq!((A, 449, 0), (packet.vector.address, packet.vector.latitude, packet.vector.speed));
+    assert_eq!((10, 10, 0x1a, 3), (packet.hops_left, packet.max_hops, packet.lifetime, 3));
+    assert_eq!((3, true), (packet.traffic_class, packet.mobile));
+    match packet.content {
+        Content::Geoanycast { number, area: told, message } => {
+            assert_eq!((0, area, &b"x"[..]), (number, told, message.payload));
+        }
+        other => panic!("{other:?}"),
+    }
+    let shb = ShbRequest { port: 9, info: 1, traffic_class: 0 };
+    let frame = b.send_shb(10, &shb, &[], &mut sent).unwrap();
+    assert!(matches!(read_frame(frame).unwrap().content, Content::SingleHop { media, .. }
+        if media == [0; 4]));
+    assert_eq!(9, read_frame(frame).unwrap().message().unwrap().port);
+}
+
+#[test]
+fn errors_are_told_and_change_nothing() {
+    let (mut a, _) = pair();
+    let mut room = vec![1];
+    let fault = Fault { layer: 1, kind: 0, at: 0 };
+    assert_eq!(Err(Error::BadFrame(fault)), a.receive(5, &[], &mut room));
+    assert!(room.is_empty());
+    assert_eq!(Ok(()), a.open_port(5, 1));
+    assert_eq!(Err(Error::PortAlreadyOpen), a.open_port(5, 1));
+    assert_eq!(Err(Error::MomentEarlier), a.open_port(4, 2));
+    assert_eq!(Err(Error::MomentTooLate), a.restart(LAST_MOMENT + 1, 0));
+    assert_eq!(Err(Error::PortNotOpen), a.close_port(5, 2));
+    assert_eq!(Err(Error::JitterRange), a.tick(5, 751, &mut room));
+    assert_eq!(Err(Error::NoRoom), a.tick(3005, 0, &mut [0; FRAME_MAX - 1]));
+    let long = [0; PAYLOAD_MAX + 1];
+    assert_eq!(Err(Error::PayloadTooLong), a.send_shb(5, &shb(), &long, &mut room));
+    let mut request = warning();
+    request.max_hops = 0;
+    assert_eq!(Err(Error::HopLimitZero), a.send_gbc(5, &request, b"", &mut room));
+    request.area = circle(0);
+    assert_eq!(Err(Error::BadArgument), a.send_gac(5, &request, b"", &mut room));
+    let mut config = Config::new(A, 900_000_001, 0);
+    assert_eq!(Err(Error::BadArgument), Station::new(&config).map(|_| ()));
+    config = Config::new(A, 0, 0);
+    config.capacity = 0;
+    assert_eq!(Err(Error::BadArgument), Station::new(&config).map(|_| ()));
+}
+
+fn shb() -> ShbRequest {
+    ShbRequest { port: 1, ..ShbRequest::default() }
+}
+
+#[test]
+fn codes_are_those_of_logs() {
+    let (mut a, mut b) = pair();
+    let mut sent = Vec::new();
+    a.send_gbc(10, &warning(), b"hi", &mut sent).unwrap();
+    sent[14 + 10] = 1;
+    sent[14 + 3] = 2;
+    let mut relay = Vec::new();
+    let error = b.receive(11, &sent, &mut relay).unwrap_err();
+    assert_eq!("S3 L5 G9 at 10", error.code().to_string());
+    assert_eq!("more hops left than the maximum, at octet 10", error.to_string());
+    assert_eq!("L5 G9 at 10", read_frame(&sent).unwrap_err().code().to_string());
+    for (error, code, status) in [
+        (Error::MomentEarlier, "S1", 1),
+        (Error::MomentTooLate, "S2", 2),
+        (Error::TableFull, "S4", 4),
+        (Error::NoMemory, "S5", 5),
+        (Error::PayloadTooLong, "S6", 6),
+        (Error::HopLimitZero, "S7", 7),
+        (Error::PortAlreadyOpen, "S8 B2", 8),
+        (Error::JitterRange, "S9", 9),
+        (Error::PortsFull, "S8 B3", 10),
+        (Error::PortNotOpen, "S8 B4", 11),
+        (Error::BadArgument, "", 20),
+        (Error::NoRoom, "", 21),
+    ] {
+        assert_eq!((code, status), (error.code().to_string().as_str(), error.status()));
+        assert!(!error.to_string().is_empty());
+    }
+    let error: Box<dyn std::error::Error> = Box::new(error);
+    assert!(error.downcast_ref::<Error>().is_some());
+}
+
+#[test]
+fn beacons_make_neighbours() {
+    let (mut a, mut b) = pair();
+    let (mut out, mut none) = (Vec::new(), Vec::new());
+    let place = Place { latitude: 5, longitude: 6, accurate: true, speed: -7, heading: 8 };
+    b.move_to(1, &place).unwrap();
+    assert_eq!(1, b.next_beacon());
+    assert!(b.tick(1, 0, &mut out).unwrap().is_some());
+    assert_eq!(3001, b.next_beacon());
+    assert_eq!(Ok(None), b.tick(3000, 0, &mut out));
+    let beacon = b.tick(3001, 0, &mut out).unwrap().unwrap();
+    assert_eq!(50, beacon.len());
+    a.receive(3001, beacon, &mut none).unwrap();
+    let heard: Vec<_> = a.neighbours(3001).collect();
+    assert_eq!(1, heard.len());
+    assert_eq!((B, 1, 5, 6), (heard[0].address, heard[0].timestamp, heard[0].latitude, 6));
+    assert_eq!((6, -7, 8, true), (heard[0].longitude, heard[0].speed, heard[0].heading, true));
+    assert_eq!(Some(heard[0]), a.look_up(3001, B));
+    assert_eq!((None, 0), (a.look_up(23_002, B), a.neighbours(23_002).count()));
+}
+
+#[test]
+fn a_station_goes_to_another_thread() {
+    let (mut a, _) = pair();
+    let a = std::thread::spawn(move || a.open_port(1, 9).map(|()| a)).join().unwrap().unwrap();
+    assert!(a.next_beacon() <= 3000);
+}
