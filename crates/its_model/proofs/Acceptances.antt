@@ -16,7 +16,7 @@ use Rattle.its_model.specs.World.{Config, LogLine, WorldModel}
 use Rattle.its_model.specs.Log.{Forgotten, IsBroken, IsOutlived, has_restarted, heard_at, heard_in}
 use Rattle.its_model.specs.Log.{is_restart, is_restart_of, receptions_at, sequence_number_at}
 use Rattle.its_model.specs.Schedules.{AcceptedAgainByDefault, AcceptedAgainWasForgotten, Accepts}
-use Rattle.its_model.specs.Schedules.{DuplicateWasAccepted, IsOfSend, WasAccepted, WasForgotten}
+use Rattle.its_model.specs.Schedules.{DuplicateWasAccepted, IsOfSend, WasAccepted}
 use Rattle.its_model.proofs.Sound.{AcceptedFact, DuplicateFact, LineFact, EachLine, Sound}
 use Rattle.its_model.proofs.NumberTests.{lt_test, eq_test, eqb_same, and_false, false_or_true}
 use Rattle.its_model.proofs.NumberTests.{or_false}

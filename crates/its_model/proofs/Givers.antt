@@ -29,7 +29,7 @@ named_length (Some n) e before k is h =
     )
 
 -- a line's frame has its number and an origin
-names_at : (later : List LogLine) (line : LogLine) (before : List LogLine)
+pub names_at : (later : List LogLine) (line : LogLine) (before : List LogLine)
     → EachNamed (later ++ line ∷ before) → NamedBy (frame_of line.entry) line.event before
 names_at [] line before h = h.0
 names_at (x ∷ later) line before h = names_at later line before h.1
@@ -50,7 +50,7 @@ grows (Some k) e before earlier = by (origin_by e.what e before earlier)
     by (Some o) = omega (arith, length_more earlier o)
 
 -- more lines have no fewer origins
-at_least : (later rest : List LogLine) → length (origins rest) ≤ length (origins (later ++ rest))
+pub at_least : (later rest : List LogLine) → length (origins rest) ≤ length (origins (later ++ rest))
 unfolding origins
 at_least [] rest = omega arith
 at_least (line ∷ later) rest =
@@ -68,7 +68,7 @@ number_is log later before line k h e is =
     (names_at later line before (subst EachNamed e h))).0
 
 -- the origins with a line that gives a frame
-length_at : (line : LogLine) (before : List LogLine) (k : ℕ)
+pub length_at : (line : LogLine) (before : List LogLine) (k : ℕ)
     → NamedBy (frame_of line.entry) line.event before → frame_of line.entry ≡ Some k
     → length (origins (line ∷ before)) ≡ suc k
 unfolding origins

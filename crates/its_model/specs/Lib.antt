@@ -8,6 +8,7 @@ pub mod World
 pub mod Log
 pub mod Schedules
 pub mod Reach
+pub mod Chain
 pub mod EverySchedule
 pub mod Isolation
 pub use Rattle.its_gnvalue.specs.Values
