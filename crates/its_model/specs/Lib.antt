@@ -9,6 +9,7 @@ pub mod Log
 pub mod Schedules
 pub mod Reach
 pub mod Chain
+pub mod Remembered
 pub mod EverySchedule
 pub mod Isolation
 pub use Rattle.its_gnvalue.specs.Values
