@@ -1,0 +1,43 @@
+/* One clock for moments and time stamps. The time of day is taken once; from then on the time since
+ * the machine's start leads, so that a step of the time of day moves nothing: a station refuses
+ * each call that is before its last one. */
+#define _GNU_SOURCE
+#include "parts.h"
+#include <stdio.h>
+#include <sys/timex.h>
+#include <time.h>
+
+/* 2004-01-01T00:00:00Z in UTC seconds since 1970; TAI was 32 s ahead of UTC then, now it is 37 s. */
+#define EPOCH INT64_C(1072915200)
+enum { AHEAD_THEN = 32, AHEAD_SINCE = 5 };
+
+static int64_t ahead_ms;     /* of TAI before UTC, since the epoch */
+static int64_t from_boot_ms; /* the moment at which the machine started */
+
+static int64_t ms_of(clockid_t id) {
+    struct timespec t;
+    clock_gettime(id, &t);
+    return (int64_t)t.tv_sec * 1000 + t.tv_nsec / 1000000;
+}
+
+void clock_start(void) {
+    struct timex kernel = { .modes = 0 };
+    if (adjtimex(&kernel) == TIME_ERROR) {
+        fputs("geostation-link: the clock isn't synchronised: time stamps may be wrong\n", stderr);
+    }
+    ahead_ms = (kernel.tai > 0 ? kernel.tai - AHEAD_THEN : AHEAD_SINCE) * INT64_C(1000);
+    int64_t moment = ms_of(CLOCK_REALTIME) - EPOCH * 1000 + ahead_ms;
+    if (moment < 0) {
+        fail(FAILED, "the clock of this machine stands before 2004");
+    }
+    from_boot_ms = moment - ms_of(CLOCK_BOOTTIME);
+}
+
+uint64_t clock_now(void) {
+    return (uint64_t)(from_boot_ms + ms_of(CLOCK_BOOTTIME));
+}
+
+uint32_t clock_stamp_of_utc(int64_t seconds, long nanoseconds) {
+    return (uint32_t)((uint64_t)(seconds - EPOCH) * 1000 + (uint64_t)(nanoseconds / 1000000)
+                      + (uint64_t)ahead_ms);
+}
