@@ -1,0 +1,70 @@
+"""Lines and frames that no one should send: mutated.py PROGRAM, built with the sanitizers.
+
+Each line that isn't blank has one answer, and the program ends with status 0.
+"""
+
+import json
+import random
+import socket
+import subprocess
+import sys
+
+import frames
+
+draws = random.Random(5)
+RULES = [
+    {**frames.GBC, "payload": "00"}, {"do": "counts"}, {"do": "open", "port": 5, "id": 1},
+    {"do": "move", "lat": 1, "lon": 2, "pai": False, "speed": -5, "heading": 3},
+    {"do": "receive", "frame": frames.beacon(0x1400020000000009, 5).hex()},
+    {"do": "tick", "jitter": 1, "id": "a\"result\":\"sent"}, {"do": "restart", "number": 5},
+    {"do": "next_beacon", "jitter": 1}, {"do": "neighbours"}, {"do": "read_frame", "frame": "00"},
+]
+SPECIAL = [
+    b"", b" \t\r", b"{}", b"[]", b"x" * 70000, b"{" * 3000, b'{"do":1}', b"\xff\xfe", b"\0",
+    b'{"do":"receive","frame":"' + b"00" * 30000 + b'"}', b"[" * 126 + b"]" * 126,
+    b'{"do":"shb","port":1,"info":0,"tc":0,"payload":"' + b"ab" * 1394 + b'"}',
+    b'{"do":"shb","port":1,"info":0,"tc":0,"payload":"' + b"ab" * 1395 + b'"}',
+]
+
+
+def mutated_line():
+    line = bytearray(json.dumps(draws.choice(RULES), separators=(",", ":")).encode())
+    for _ in range(draws.randrange(3)):
+        line[draws.randrange(len(line))] = draws.choice(b'{}[]":,019-a\\ \xff')
+    return bytes(line)
+
+
+def mutated_frame():
+    made = draws.choice([frames.beacon(0x1400020000000009, 5),
+                         frames.gbc(0x1400020000000009, 5, draws.randrange(99), b"hi")])
+    frame = bytearray(made)
+    for _ in range(draws.randrange(4)):
+        frame[draws.randrange(len(frame))] = draws.randrange(256)
+    return bytes(frame[:draws.randrange(len(frame) + 1)]) if draws.random() < 0.2 else bytes(frame)
+
+
+def run(place):
+    command = [sys.argv[1], "--udp", "127.0.0.1:47701", "--to", "127.0.0.1:47702", "--address",
+               "3c00020000000001", "--port", "2002", *place]
+    pipe = subprocess.PIPE
+    p = subprocess.Popen(command, stdin=pipe, stdout=pipe, stderr=pipe)
+    p.stdout.readline()
+    link = socket.socket(socket.AF_INET, socket.SOCK_DGRAM)
+    for _ in range(5000):
+        link.sendto(mutated_frame(), ("127.0.0.1", 47701))
+    link.sendto(bytes(2048), ("127.0.0.1", 47701))
+    lines = SPECIAL + [mutated_line() for _ in range(5000)]
+    out, err = p.communicate(b"\n".join(lines), timeout=600)
+    assert p.returncode == 0, (p.returncode, err[-3000:])
+    wanted = sum(line.strip(b" \t\r") != b"" for line in lines)
+    answers = [a for a in map(json.loads, out.splitlines()) if "event" not in a]
+    assert len(answers) == wanted, (len(answers), wanted)
+    frames_read = json.loads(err.splitlines()[-1])["link"]["frames"]
+    return wanted, frames_read
+
+
+total = [run(("--position", "51.47765,-0.001"))]
+asked = subprocess.run([sys.argv[1], "--gpsd", "127.0.0.1:1"], capture_output=True, text=True)
+if "without libgps" not in asked.stderr:
+    total.append(run(("--gpsd", "127.0.0.1:1")))
+print(f"{sum(t[0] for t in total)} lines and {sum(t[1] for t in total)} frames under the sanitizers")

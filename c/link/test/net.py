@@ -1,0 +1,173 @@
+"""Namespaces with a wire to one air, and the daemons in them.
+
+Nothing of the machine's own network is touched. Each wait ends with what it waits for; PATIENCE is
+for what never comes.
+"""
+
+import ctypes
+import json
+import os
+import select
+import signal
+import socket
+import subprocess
+import time
+from contextlib import ExitStack, contextmanager
+from pathlib import Path
+
+PATIENCE = 120
+LIBC = ctypes.CDLL(None, use_errno=True)
+CLONE_NEWNET = 0x40000000
+GEONETWORKING = 0x8947
+
+
+def ip(*arguments):
+    subprocess.run(["ip", *arguments], check=True, capture_output=True)
+
+
+@contextmanager
+def inside(namespace):
+    """What is opened in here belongs to the namespace."""
+    home = os.open("/proc/self/ns/net", os.O_RDONLY)
+    there = os.open(f"/run/netns/{namespace}", os.O_RDONLY)
+    assert LIBC.setns(there, CLONE_NEWNET) == 0
+    try:
+        yield
+    finally:
+        LIBC.setns(home, CLONE_NEWNET)
+        os.close(home)
+        os.close(there)
+
+
+def raw(namespace, name):
+    with inside(namespace):
+        s = socket.socket(socket.AF_PACKET, socket.SOCK_RAW, 0)
+        s.bind((name, GEONETWORKING))
+        s.settimeout(PATIENCE)
+        return s
+
+
+class Net(ExitStack):
+    """Namespaces s0, s1, .. with an interface `v` each, and the air's, with a0, a1, .. to them."""
+
+    count = 0
+
+    def __init__(self, program, stations):
+        super().__init__()
+        self.program = program
+        Net.count += 1
+        self.air = f"gl{os.getpid()}n{Net.count}air"
+        self.names = [f"gl{os.getpid()}n{Net.count}s{k}" for k in range(stations)]
+        try:
+            self.make()
+        except BaseException:
+            self.close()
+            raise
+
+    def make(self):
+        for name in [self.air, *self.names]:
+            ip("netns", "add", name)
+            self.callback(ip, "netns", "del", name)
+            ip("-n", name, "link", "set", "lo", "up")
+        for k, name in enumerate(self.names):
+            ip("-n", self.air, "link", "add", f"a{k}", "type", "veth", "peer", "name", "v",
+               "netns", name)
+            ip("-n", name, "link", "set", "v", "address", f"02:00:00:00:01:{k:02x}", "up")
+            ip("-n", self.air, "link", "set", f"a{k}", "up")
+
+    def ends(self):
+        """The air's sockets."""
+        sockets = [raw(self.air, f"a{k}") for k in range(len(self.names))]
+        for s in sockets:
+            self.callback(s.close)
+        return sockets
+
+    def enter(self, k, *command):
+        return ["nsenter", f"--net=/run/netns/{self.names[k]}", *map(str, command)]
+
+    def station(self, k, *arguments, place=("--position", "51.47765,-0.001")):
+        d = Daemon(self.enter(k, self.program, "--interface", "v", *place, *arguments))
+        self.callback(d.end)
+        return d
+
+
+class Daemon:
+    def __init__(self, command):
+        pipe = subprocess.PIPE
+        self.process = subprocess.Popen(command, stdin=pipe, stdout=pipe, stderr=pipe)
+        self.rest, self.events, self.said = b"", [], b""
+        self.ready = self.line()
+        assert self.ready is not None, self.end()
+        assert self.ready["event"] == "ready", self.ready
+
+    def line(self, patience=PATIENCE):
+        """The next line, or None where none comes or no more can."""
+        limit = time.monotonic() + patience
+        while b"\n" not in self.rest:
+            left = max(limit - time.monotonic(), 0)
+            if not select.select([self.process.stdout], [], [], left)[0]:
+                return None
+            got = os.read(self.process.stdout.fileno(), 65536)
+            if not got:
+                return None
+            self.rest += got
+        line, self.rest = self.rest.split(b"\n", 1)
+        return json.loads(line)
+
+    def put(self, **keys):
+        self.process.stdin.write(json.dumps(keys).encode() + b"\n")
+        self.process.stdin.flush()
+
+    def ask(self, **keys):
+        self.put(**keys)
+        while (line := self.line()) is not None:
+            if "event" not in line:
+                return line
+            self.events.append(line)
+        raise AssertionError(f"no answer to {keys}: {self.process.poll()}")
+
+    def event(self, kind):
+        """The next event of a kind; those before it are passed over."""
+        while True:
+            line = self.events.pop(0) if self.events else self.line()
+            assert line is not None, f"no event '{kind}'"
+            if line.get("event") == kind:
+                return line
+
+    def seen(self):
+        """All events up to now: an answer comes behind them."""
+        self.ask(do="counts")
+        events, self.events = self.events, []
+        return events
+
+    def counts(self):
+        """The line that SIGUSR1 makes."""
+        self.process.send_signal(signal.SIGUSR1)
+        while b"\n" not in self.said or b'"link"' not in self.said:
+            assert select.select([self.process.stderr], [], [], PATIENCE)[0], "no counts"
+            self.said += os.read(self.process.stderr.fileno(), 65536)
+        lines = self.said.splitlines()
+        self.said = b""
+        return json.loads(lines[-1])
+
+    def until(self, test):
+        """Asks for the counts until they are as wanted."""
+        limit = time.monotonic() + PATIENCE
+        while not test(counts := self.counts()):
+            assert time.monotonic() < limit, counts
+            time.sleep(0.02)
+        return counts
+
+    def memory(self):
+        """What the process may write to, in kB."""
+        text = Path(f"/proc/{self.process.pid}/status").read_text()
+        return next(int(line.split()[1]) for line in text.splitlines() if line.startswith("VmData"))
+
+    def end(self, kind=signal.SIGTERM):
+        if self.process.poll() is None:
+            self.process.send_signal(kind)
+        try:
+            out, err = self.process.communicate(timeout=PATIENCE)
+        except ValueError:
+            out, err = b"", b""
+        return self.process.returncode, out, err
