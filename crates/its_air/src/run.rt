@@ -48,7 +48,8 @@ use std::alloc::Global;
 ///
 /// There is a list of events of which the world stands at the end, by the written rules: of that
 /// very end hold the laws over every schedule; the sink took just these events and their entries;
-/// and those of the file, up to the last moment, are among them, in their order.
+/// and those of the file, up to the last moment, are among them, in their order. One of these laws:
+/// where deliveries come, a geobroadcast reaches (`what_is_delivered_reaches` of `its_model`).
 ///
 /// The numbers of each config have to be in their ranges, of no two the MIDs the same, of at most
 /// 65535, and the speed of each `MoveTo` has to be in its range. Where an allocation or the sink

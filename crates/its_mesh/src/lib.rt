@@ -1,5 +1,6 @@
 //! The command `mesh`: the stations of a scenario in one process, each with a UDP socket on the
-//! loopback. What comes by a socket goes through `Station::run`, whoever sent it.
+//! loopback. What comes by a socket goes through `Station::run`, whoever sent it: so its stations
+//! step as those do of which `its_model` proves that a geobroadcast reaches where deliveries come.
 #![tactic(auto)]
 
 mod answers;

@@ -36,7 +36,8 @@ pub fn simulate<W: Write>(
 /// Gives the world that the last event left. The scenario's air is left alone.
 ///
 /// The world is the one in which the scenario's stations begin and all of its events were done, and
-/// what the sink took are the events and entries of just this run, in order.
+/// what the sink took are the events and entries of just this run, in order. Of it hold the laws
+/// over every schedule, so where deliveries come, a geobroadcast reaches.
 ///
 /// Where an allocation or the sink failed, the sink has the events before.
 pub fn simulate_into<S: EventSink>(

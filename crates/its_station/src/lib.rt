@@ -34,7 +34,8 @@
 //! A frame from the air that is refused ends nothing: the station stands as before.
 //!
 //! Each call is a step of the station that `its_model` defines: its contract says the answer and
-//! the station afterwards. A call that is refused changes nothing.
+//! the station afterwards. A call that is refused changes nothing. Of stations that step so holds
+//! the law that a geobroadcast reaches where deliveries come (`what_is_delivered_reaches` there).
 //!
 //! # What a maker has to know
 //!

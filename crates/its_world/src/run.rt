@@ -33,7 +33,10 @@ impl World {
     /// reorderings: what is delivered of a packet for an area was sent earlier to that port for an
     /// area that holds the receiver then; a relay is the received packet, one hop fewer; no station
     /// delivers a send twice unless, between, as many other packets of the source came as it
-    /// remembers, nothing new of the source came for 20 s, or the station restarted.
+    /// remembers, nothing new of the source came for 20 s, or the station restarted. And where the
+    /// deliveries come, a geobroadcast reaches: each station of a way on which what one gave came
+    /// to the next accepts it, n links away n delays after the send at the latest, where its hops
+    /// suffice (`what_is_delivered_reaches` of `its_model`).
     pub fn run(&mut self, events: &[Event]) -> Run
         requires { All (λ event. IsInRange event.what) events.now }
         ensures log { length result.log.items ≡ result.done }
