@@ -10,3 +10,6 @@ pub mod Opening
 pub mod Keeping
 pub mod Stepping
 pub mod OneRun
+pub mod Moments
+pub mod Lasting
+pub mod Heard

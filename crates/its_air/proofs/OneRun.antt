@@ -15,7 +15,7 @@ stays rules configs a (p ∷ rest) h =
     (do_one rules configs a.done p (record { waiting = rest; draws = a.timetable.draws })) a)
     (lt-leb p.event.moment rules.until h)
 
-later : (rules : Rules) (configs : List Config) (a : AirModel) (m n : ℕ) → n ≤ m
+pub later : (rules : Rules) (configs : List Config) (a : AirModel) (m n : ℕ) → n ≤ m
     → IsOver rules (air_run rules configs n a)
     → air_run rules configs m a ≡ air_run rules configs n a
 later rules configs a zero n le over =

@@ -10,3 +10,4 @@ pub mod Timetable
 pub mod AirTimed
 pub mod Waits
 pub mod Keeps
+pub mod Heard

@@ -1,7 +1,9 @@
-//! A law of the runs of an air. It is a function that does nothing and proves what it ensures.
+//! Laws of the runs of an air. Each is a function that does nothing and proves what it ensures.
 
 ghost use Rattle.std.specs.Prelude.{◌≡◌, ℕ, List};
 ghost use Rattle.its_model.specs.World.{Config, Event};
+ghost use Rattle.its_air.specs.Heard.{StepsDoEvents, MomentsNeverFall, WhatIsHeardIsDelivered};
+ghost use Rattle.its_air.specs.Heard.{DeliveriesAreHeard};
 ghost use Rattle.its_air.specs.Timetable.{Rules, IsOver, air_opening, air_run};
 
 /// The run of an air is one: where two numbers of steps leave nothing that waits up to the last
@@ -12,4 +14,31 @@ pub fn one_run()
         IsOver rules (air_run rules configs n (air_opening rules configs file)) →
         air_run rules configs m (air_opening rules configs file)
         ≡ air_run rules configs n (air_opening rules configs file) }
+{}
+
+/// What a step does is the next of the events done.
+pub fn steps_do_events()
+    ensures { (rules : Rules) (configs : List Config) (file : List Event) →
+        StepsDoEvents rules configs file }
+{}
+
+/// The moments of the events that an air does never fall.
+pub fn moments_never_fall()
+    ensures { (rules : Rules) (configs : List Config) (file : List Event) →
+        MomentsNeverFall rules configs file }
+{}
+
+/// In a run that is over, each frame that was given comes, by one of the steps after, to each other
+/// station that stood in range then, the delay after it was given, unless the draw of that station
+/// loses it or that is past the last moment.
+pub fn what_is_heard_is_delivered()
+    ensures { (rules : Rules) (configs : List Config) (file : List Event) →
+        WhatIsHeardIsDelivered rules configs file }
+{}
+
+/// Each delivery of the air's own is of a frame that an earlier step gave, to another station that
+/// stood in range then and whose draw didn't lose it, the delay after it was given.
+pub fn deliveries_are_heard()
+    ensures { (rules : Rules) (configs : List Config) (file : List Event) →
+        DeliveriesAreHeard rules configs file }
 {}

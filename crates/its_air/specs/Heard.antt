@@ -1,0 +1,70 @@
+-- What holds of every run of an air, said of its steps: each does one event.
+use Rattle.std.specs.Prelude.{◌≡◌, ℕ, zero, suc, ◌+◌, ◌%◌, ◌≤◌, ◌<◌, List, [], ◌∷◌, ◌++◌, Some}
+use Rattle.std.specs.Prelude.{true, slice_get}
+use Rattle.std.specs.List.Sorted.{IsNonDecreasingBy}
+use Rattle.rand_core.specs.Stream.{Stream, next_u64}
+use Rattle.its_model.specs.World.{Config, Event, WorldModel, opening, world_run}
+use Rattle.its_model.specs.World.What.{Deliver}
+use Rattle.its_air.specs.Timetable.{Rules, Put, AirModel, air_opening, air_run, IsOver}
+use Rattle.its_air.specs.Timetable.{delivery, given, heard_by}
+
+-- an air after so many steps
+abbrev pub air_at : Rules → List Config → List Event → ℕ → AirModel
+air_at r configs file n = air_run r configs n (air_opening r configs file)
+
+-- The step of this number does p: it is the first that waits, and its moment isn't past the last.
+pub record IsDone (r : Rules) (configs : List Config) (file : List Event) (n : ℕ)
+    (p : Put) : Type 0 where
+  pub rest : List Put
+  pub first : (air_at r configs file n).timetable.waiting ≡ p ∷ rest
+  pub in_time : p.event.moment ≤ r.until
+
+-- the world once the step of this number did p
+abbrev pub world_after : Rules → List Config → List Event → ℕ → Put → WorldModel
+world_after r configs file n p =
+    world_run (opening configs) ((air_at r configs file n).done ++ p.event ∷ [])
+
+-- the draw of this number, from 0
+abbrev pub draw_of : ℕ → Stream → ℕ
+draw_of zero draws = (next_u64 draws).0
+draw_of (suc i) draws = draw_of i (next_u64 draws).1
+
+-- The step of this number does p, which gives frame k, and station j hears it: it is one of those
+-- in range, and the draw that is its own loses nothing.
+pub record IsHeard (r : Rules) (configs : List Config) (file : List Event) (n : ℕ) (p : Put)
+    (k j : ℕ) : Type 0 where
+  pub done : IsDone r configs file n p
+  pub gives : given (world_after r configs file n p).log ≡ Some k
+  pub place : ℕ
+  pub in_range : slice_get (heard_by r.range (world_after r configs file n p) p.event.station) place
+      ≡ Some j
+  pub is_kept : r.loss ≤ draw_of place (air_at r configs file n).timetable.draws % 100
+
+-- What a step does is the next of the events done.
+abbrev pub StepsDoEvents : Rules → List Config → List Event → Type 0
+StepsDoEvents r configs file =
+    (n : ℕ) (p : Put) → IsDone r configs file n p
+    → (air_at r configs file (suc n)).done ≡ (air_at r configs file n).done ++ p.event ∷ []
+
+-- The moments of the events done never fall.
+abbrev pub MomentsNeverFall : Rules → List Config → List Event → Type 0
+MomentsNeverFall r configs file =
+    (n : ℕ) → IsNonDecreasingBy (λ e. e.moment) (air_at r configs file n).done
+
+-- In a run that is over, a frame that a station hears is delivered to it, by a later step, the
+-- delay after it was given, where that isn't past the last moment.
+abbrev pub WhatIsHeardIsDelivered : Rules → List Config → List Event → Type 0
+WhatIsHeardIsDelivered r configs file =
+    (end n k j : ℕ) (p : Put) → IsOver r (air_at r configs file end)
+    → IsHeard r configs file n p k j
+    → p.event.moment + r.delay ≤ r.until
+    → (m : ℕ) × (n < m) × (m < end)
+    × IsDone r configs file m (delivery k (p.event.moment + r.delay) j)
+
+-- Each delivery of the air's own is of a frame that an earlier step gave, to a station that heard
+-- it, the delay after.
+abbrev pub DeliveriesAreHeard : Rules → List Config → List Event → Type 0
+DeliveriesAreHeard r configs file =
+    (m k : ℕ) (q : Put) → IsDone r configs file m q → q.own ≡ true → q.event.what ≡ Deliver k
+    → (n : ℕ) × (p : Put) × (n < m) × IsHeard r configs file n p k q.event.station
+    × (q.event.moment ≡ p.event.moment + r.delay)
