@@ -7,7 +7,3 @@ use Rattle.its_model.specs.History.{Known}
 abbrev pub slot_known : Slot → Known
 slot_known s =
     record { vector = s.vector; neighbour = s.neighbour; numbers = reverse s.recent.numbers }
-
--- the same at a moment: nothing from the slot's end on
-abbrev pub live_slot_part : ℕ → Slot → Option Known
-live_slot_part now s = if nat_lt now s.until then Some (slot_known s) else None

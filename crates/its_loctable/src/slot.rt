@@ -2,12 +2,12 @@
 
 ghost use Rattle.std.specs.Prelude.{◌≡◌, ◌+◌, ◌^◌, ◌≤◌, [], length, Some, None};
 ghost use Rattle.its_model.specs.History.{entry_life, renewed};
-ghost use Rattle.its_loctable.specs.Heard.{reception, shown, has_number, is_noted};
+ghost use Rattle.its_loctable.specs.Heard.{reception, shown, has_number};
 
 use crate::heard::{Heard, Known};
 use crate::renewal::{end_after, fresher, note};
 use its_duplicates::Recent;
-use its_gnvalue::{GnAddress, LongPv};
+use its_gnvalue::LongPv;
 
 /// What is kept of a source.
 #[derive(Drop)]
@@ -24,7 +24,7 @@ pub struct Slot {
 }
 
 impl Slot {
-    ghost use Rattle.its_loctable.specs.Slots.{slot_known, live_slot_part};
+    ghost use Rattle.its_loctable.specs.Slots.{slot_known};
 
     /// The slot of a source that wasn't live, by a packet of it. It is handed an empty list for its
     /// numbers.
@@ -62,47 +62,6 @@ impl Slot {
         self.until = end_after(now);
     }
 
-    /// A packet of a source that isn't live any more: nothing of what was known remains.
-    fn begin_again(&mut self, now: u64, heard: &Heard)
-        requires { now ≤ 2 ^ 62 }
-        ensures known { slot_known self.new
-            ≡ renewed self.old.recent.limit None (reception now heard.now) }
-        ensures address { self.new.vector.address ≡ heard.now.vector.address }
-        ensures until { self.new.until ≡ now + entry_life }
-        ensures limit { self.new.recent.limit ≡ self.old.recent.limit }
-    {
-        self.vector = heard.vector();
-        self.neighbour = heard.neighbour();
-        self.recent.clear();
-        note(&mut self.recent, heard.number());
-        self.until = end_after(now);
-    }
-
-    /// One more packet of the source, whether it is live or not.
-    pub fn renew(&mut self, now: u64, heard: &Heard)
-        requires moment { now ≤ 2 ^ 62 }
-        requires same { self.old.vector.address ≡ heard.now.vector.address }
-        ensures known { slot_known self.new
-            ≡ renewed self.old.recent.limit (live_slot_part now self.old)
-            (reception now heard.now) }
-        ensures address { self.new.vector.address ≡ heard.now.vector.address }
-        ensures until { self.new.until ≡ now + entry_life }
-        ensures limit { self.new.recent.limit ≡ self.old.recent.limit }
-    {
-        if now < self.until {
-            self.hear(now, heard);
-        } else {
-            self.begin_again(now, heard);
-        }
-    }
-
-    /// The address of the source.
-    pub fn address(&self) -> GnAddress
-        ensures { result ≡ self.now.vector.address }
-    {
-        self.vector.address()
-    }
-
     /// What is shown of the source.
     pub fn known(&self) -> Known
         ensures { result ≡ shown (slot_known self.now) }
@@ -118,15 +77,5 @@ impl Slot {
         ensures { result ≡ has_number (Some (slot_known self.now)) number }
     {
         self.recent.holds(number)
-    }
-
-    /// Whether the source is live, and a packet's number is kept of it.
-    pub fn repeats(&self, now: u64, heard: &Heard) -> bool
-        ensures { result ≡ is_noted (live_slot_part now self.now) heard.now.number }
-    {
-        match heard.number() {
-            Some(number) => now < self.until && self.remembers(number),
-            None => false,
-        }
     }
 }
