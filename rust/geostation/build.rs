@@ -3,7 +3,8 @@
 //! runs alone; with `GEOSTATION_SHARED=1` the shared library is.
 
 use std::env;
-use std::path::PathBuf;
+use std::fs;
+use std::path::{Path, PathBuf};
 use std::process::Command;
 
 fn main() {
@@ -16,9 +17,24 @@ fn main() {
         if shared { ("dylib", "libgeostation.so") } else { ("static", "libgeostation.a") };
     let library = folder.join(file);
     assert!(library.is_file(), "there is no {}: 'c/build PREFIX' makes it", library.display());
+    check_version(&folder);
     println!("cargo:rerun-if-changed={}", library.display());
     println!("cargo:rustc-link-search=native={}", folder.display());
     println!("cargo:rustc-link-lib={kind}=geostation");
+}
+
+/// Refuses a library of another version, whose structs may have other layouts than this crate's.
+fn check_version(folder: &Path) {
+    let file = folder.join("pkgconfig/geostation.pc");
+    let told = fs::read_to_string(&file).unwrap_or_default();
+    let version = told.lines().find_map(|line| line.strip_prefix("Version: "));
+    let own = env!("CARGO_PKG_VERSION");
+    assert!(
+        version == Some(own),
+        "{} tells of version {}, and this crate is for {own}",
+        file.display(),
+        version.unwrap_or("none")
+    );
 }
 
 /// The folder of the library.

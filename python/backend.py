@@ -1,0 +1,77 @@
+"""Builds the package's wheel (PEP 517, PEP 660) by the standard library alone, so that pip has
+nothing to fetch: a wheel is an archive of the package's files and three of their metadata."""
+
+from __future__ import annotations
+
+import base64
+import hashlib
+import re
+import zipfile
+from pathlib import Path
+from typing import Any, Dict, List, Optional, Tuple
+
+HERE = Path(__file__).resolve().parent
+PACKAGE = "geostation"
+SUFFIXES = (".py", ".typed", ".so.0")
+
+
+def _project(key: str) -> str:
+    """A text of the project's table in pyproject.toml, which stands on a line of its own."""
+    found = re.search(rf'^{key} = "(.*)"$', (HERE / "pyproject.toml").read_text(), re.MULTILINE)
+    assert found is not None, key
+    return found.group(1)
+
+
+def _metadata() -> str:
+    return (
+        "Metadata-Version: 2.1\n"
+        f"Name: {PACKAGE}\n"
+        f"Version: {_project('version')}\n"
+        f"Summary: {_project('description')}\n"
+        f"Requires-Python: {_project('requires-python')}\n"
+    )
+
+
+def _write(folder: str, files: Dict[str, bytes]) -> str:
+    """Writes a wheel of some files and the metadata; what it returns is its name."""
+    begin = f"{PACKAGE}-{_project('version')}"
+    info, name = f"{begin}.dist-info", f"{begin}-py3-none-any.whl"
+    files = dict(files)
+    files[f"{info}/METADATA"] = _metadata().encode()
+    files[f"{info}/WHEEL"] = (
+        b"Wheel-Version: 1.0\nGenerator: backend\nRoot-Is-Purelib: true\nTag: py3-none-any\n"
+    )
+    record = f"{info}/RECORD"
+    lines: List[str] = []
+    for path, octets in files.items():
+        digest = base64.urlsafe_b64encode(hashlib.sha256(octets).digest()).rstrip(b"=").decode()
+        lines.append(f"{path},sha256={digest},{len(octets)}\n")
+    files[record] = "".join([*lines, f"{record},,\n"]).encode()
+    with zipfile.ZipFile(Path(folder) / name, "w", zipfile.ZIP_DEFLATED) as wheel:
+        for path, octets in files.items():
+            wheel.writestr(path, octets)
+    return name
+
+
+def build_wheel(
+    wheel_directory: str,
+    config_settings: Optional[Dict[str, Any]] = None,
+    metadata_directory: Optional[str] = None,
+) -> str:
+    """A wheel of the package; a library that stands beside its files goes with them."""
+    paths = sorted((HERE / PACKAGE).iterdir())
+    files: List[Tuple[str, bytes]] = [
+        (f"{PACKAGE}/{path.name}", path.read_bytes())
+        for path in paths
+        if path.is_file() and path.name.endswith(SUFFIXES)
+    ]
+    return _write(wheel_directory, dict(files))
+
+
+def build_editable(
+    wheel_directory: str,
+    config_settings: Optional[Dict[str, Any]] = None,
+    metadata_directory: Optional[str] = None,
+) -> str:
+    """A wheel that points to this folder (`pip install -e`)."""
+    return _write(wheel_directory, {f"{PACKAGE}.pth": f"{HERE}\n".encode()})

@@ -1,0 +1,36 @@
+"""An ITS station's GeoNetworking and BTP-B (EN 302 636-4-1, EN 302 636-5-1).
+
+`Station` is a station of the shared library, `Line` one of the program on a pipe: both have the
+same calls. Moments are milliseconds; `latitude` and `longitude` are tenths of a microdegree, and
+`degrees` a pair of degrees.
+"""
+
+from .calls import FRAME_MAX, LAST_MOMENT, PAYLOAD_MAX
+from .errors import BadArgument, BadFrame, Fault, Refused, Status
+from .line import Ended, Line
+from .station import Station, read_frame
+from .values import Area, Kind, Message, Packet, Reception, Shape, Vector, Why
+
+__all__ = [
+    "FRAME_MAX",
+    "LAST_MOMENT",
+    "PAYLOAD_MAX",
+    "Area",
+    "BadArgument",
+    "BadFrame",
+    "Ended",
+    "Fault",
+    "Kind",
+    "Line",
+    "Message",
+    "Packet",
+    "Reception",
+    "Refused",
+    "Shape",
+    "Station",
+    "Status",
+    "Vector",
+    "Why",
+    "read_frame",
+]
+__version__ = "0.1.0"

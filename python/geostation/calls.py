@@ -1,0 +1,252 @@
+"""The calls of a station, whatever answers them: their arguments are checked here, once."""
+
+from __future__ import annotations
+
+from abc import ABC, abstractmethod
+from threading import get_ident
+from typing import Optional, Tuple, TypeVar, Union
+
+from .errors import BadArgument
+from .values import Area, Reception, place, whole
+
+FRAME_MAX = 1468
+"""The longest frame, in octets."""
+PAYLOAD_MAX = 1394
+"""The longest payload of a request, in octets."""
+LAST_MOMENT = 1 << 62
+"""The last moment of a call, in ms."""
+
+Address = Union[int, str]
+Degrees = Optional[Tuple[float, float]]
+Self = TypeVar("Self", bound="Calls")
+
+
+def address_of(value: Address) -> int:
+    """An address: a number, or 16 hexadecimal digits. One of a group of stations is refused."""
+    if isinstance(value, str):
+        if len(value) != 16 or not all(digit in "0123456789abcdefABCDEF" for digit in value):
+            raise BadArgument("address")
+        value = int(value, 16)
+    whole("address", value, 0, (1 << 64) - 1)
+    if value >> 40 & 1:
+        raise BadArgument("address")
+    return value
+
+
+def moment(now: int) -> int:
+    """A moment that a call may be given: one over `LAST_MOMENT` is refused by the station."""
+    return whole("now", now, 0, (1 << 63) - 1)
+
+
+def octets(name: str, value: bytes) -> bytes:
+    """Octets, of `bytes` or what is like it."""
+    if isinstance(value, (str, int)):
+        raise TypeError(f"{name} has octets, and {value!r} has none")
+    return bytes(value)
+
+
+class Calls(ABC):
+    """A station. The thread that makes it is the one that may use it.
+
+    A call that is refused raises `Refused` and changed nothing. `with` frees the station at its
+    end; so does its last use.
+    """
+
+    def __init__(
+        self,
+        address: Address,
+        *,
+        latitude: Optional[int] = None,
+        longitude: Optional[int] = None,
+        degrees: Degrees = None,
+        capacity: int = 64,
+        remember: int = 8,
+    ):
+        self._owner = get_ident()
+        self._make(
+            address_of(address),
+            *place(latitude, longitude, degrees),
+            whole("capacity", capacity, 1, 4096),
+            whole("remember", remember, 1, 64),
+        )
+
+    def __enter__(self: Self) -> Self:
+        return self
+
+    def __exit__(self, *_: object) -> None:
+        self.free()
+
+    def _check_thread(self) -> None:
+        if get_ident() != self._owner:
+            raise RuntimeError("a station is used by the thread that made it, and by no other")
+
+    def free(self) -> None:
+        """Ends the station; a call after it raises ValueError."""
+        self._check_thread()
+        self._end()
+
+    def move(
+        self,
+        now: int,
+        *,
+        latitude: Optional[int] = None,
+        longitude: Optional[int] = None,
+        degrees: Degrees = None,
+        accurate: bool = True,
+        speed: int = 0,
+        heading: int = 0,
+    ) -> None:
+        """The station stands there from now on; speed in 0.01 m/s, heading in 0.1 degree."""
+        self._check_thread()
+        self._move(
+            moment(now),
+            *place(latitude, longitude, degrees),
+            bool(accurate),
+            whole("speed", speed, -16384, 16383),
+            whole("heading", heading, 0, 65535),
+        )
+
+    def open_port(self, now: int, port: int) -> None:
+        """Opens a port, at which payloads are delivered."""
+        self._check_thread()
+        self._open_port(moment(now), whole("port", port, 0, 65535))
+
+    def close_port(self, now: int, port: int) -> None:
+        """Closes a port."""
+        self._check_thread()
+        self._close_port(moment(now), whole("port", port, 0, 65535))
+
+    def restart(self, now: int, number: int) -> None:
+        """The station forgets what it heard and closes its ports; its next packet for an area has
+        this sequence number."""
+        self._check_thread()
+        self._restart(moment(now), whole("number", number, 0, 65535))
+
+    def tick(self, now: int, jitter: int = 0) -> Optional[bytes]:
+        """The frame of a beacon, where one is due: the jitter is 0 to 750 ms."""
+        self._check_thread()
+        return self._tick(moment(now), whole("jitter", jitter, 0, 65535))
+
+    def send_shb(
+        self, now: int, *, port: int, payload: bytes, info: int = 0, traffic_class: int = 0
+    ) -> bytes:
+        """The frame of a payload for all in reach."""
+        self._check_thread()
+        return self._send_shb(
+            moment(now),
+            whole("port", port, 0, 65535),
+            whole("info", info, 0, 65535),
+            whole("traffic_class", traffic_class, 0, 255),
+            octets("payload", payload),
+        )
+
+    def send_gbc(
+        self,
+        now: int,
+        *,
+        port: int,
+        payload: bytes,
+        area: Area,
+        info: int = 0,
+        traffic_class: int = 0,
+        lifetime: int = 0x1A,
+        max_hops: int = 10,
+    ) -> bytes:
+        """The frame of a payload for all stations in an area."""
+        return self._send_to_area(
+            "gbc", now, port, info, traffic_class, lifetime, max_hops, area, payload
+        )
+
+    def send_gac(
+        self,
+        now: int,
+        *,
+        port: int,
+        payload: bytes,
+        area: Area,
+        info: int = 0,
+        traffic_class: int = 0,
+        lifetime: int = 0x1A,
+        max_hops: int = 10,
+    ) -> bytes:
+        """The frame of a payload for any one station in an area."""
+        return self._send_to_area(
+            "gac", now, port, info, traffic_class, lifetime, max_hops, area, payload
+        )
+
+    def _send_to_area(
+        self,
+        word: str,
+        now: int,
+        port: int,
+        info: int,
+        traffic_class: int,
+        lifetime: int,
+        max_hops: int,
+        area: Area,
+        payload: bytes,
+    ) -> bytes:
+        self._check_thread()
+        return self._send_area(
+            word,
+            moment(now),
+            whole("port", port, 0, 65535),
+            whole("info", info, 0, 65535),
+            whole("traffic_class", traffic_class, 0, 255),
+            whole("lifetime", lifetime, 0, 255),
+            whole("max_hops", max_hops, 0, 255),
+            area,
+            octets("payload", payload),
+        )
+
+    def receive(self, now: int, frame: bytes) -> Reception:
+        """Takes a frame that came."""
+        self._check_thread()
+        return self._receive(moment(now), octets("frame", frame))
+
+    @abstractmethod
+    def _make(
+        self, address: int, latitude: int, longitude: int, capacity: int, remember: int
+    ) -> None: ...
+
+    @abstractmethod
+    def _end(self) -> None: ...
+
+    @abstractmethod
+    def _move(
+        self, now: int, latitude: int, longitude: int, accurate: bool, speed: int, heading: int
+    ) -> None: ...
+
+    @abstractmethod
+    def _open_port(self, now: int, port: int) -> None: ...
+
+    @abstractmethod
+    def _close_port(self, now: int, port: int) -> None: ...
+
+    @abstractmethod
+    def _restart(self, now: int, number: int) -> None: ...
+
+    @abstractmethod
+    def _tick(self, now: int, jitter: int) -> Optional[bytes]: ...
+
+    @abstractmethod
+    def _send_shb(
+        self, now: int, port: int, info: int, traffic_class: int, payload: bytes
+    ) -> bytes: ...
+
+    @abstractmethod
+    def _send_area(
+        self,
+        word: str,
+        now: int,
+        port: int,
+        info: int,
+        traffic_class: int,
+        lifetime: int,
+        max_hops: int,
+        area: Area,
+        payload: bytes,
+    ) -> bytes: ...
+
+    @abstractmethod
+    def _receive(self, now: int, frame: bytes) -> Reception: ...

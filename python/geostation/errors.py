@@ -1,0 +1,146 @@
+"""Why a call wasn't done, and what is wrong with octets that are no frame."""
+
+from __future__ import annotations
+
+import re
+from dataclasses import dataclass
+from enum import IntEnum
+
+
+class Status(IntEnum):
+    """What a call returns: the statuses of geostation.h."""
+
+    OK = 0
+    MOMENT_EARLIER = 1
+    MOMENT_TOO_LATE = 2
+    BAD_FRAME = 3
+    TABLE_FULL = 4
+    NO_MEMORY = 5
+    PAYLOAD_TOO_LONG = 6
+    HOP_LIMIT_ZERO = 7
+    PORT_ALREADY_OPEN = 8
+    JITTER_RANGE = 9
+    PORTS_FULL = 10
+    PORT_NOT_OPEN = 11
+    BAD_ARGUMENT = 20
+    NO_ROOM = 21
+
+
+# What logs show of a status; those of arguments have no code.
+CODES = {
+    Status.MOMENT_EARLIER: "S1",
+    Status.MOMENT_TOO_LATE: "S2",
+    Status.BAD_FRAME: "S3",
+    Status.TABLE_FULL: "S4",
+    Status.NO_MEMORY: "S5",
+    Status.PAYLOAD_TOO_LONG: "S6",
+    Status.HOP_LIMIT_ZERO: "S7",
+    Status.PORT_ALREADY_OPEN: "S8 B2",
+    Status.PORTS_FULL: "S8 B3",
+    Status.PORT_NOT_OPEN: "S8 B4",
+    Status.JITTER_RANGE: "S9",
+}
+STATUSES = {code: status for status, code in CODES.items()}
+
+# The sentences of the library, for a machine that hasn't got it.
+TEXTS = {
+    Status.MOMENT_EARLIER: "the moment is before the last one",
+    Status.MOMENT_TOO_LATE: "the moment is over 2^62 ms",
+    Status.BAD_FRAME: "the octets are no frame",
+    Status.TABLE_FULL: "the location table is full",
+    Status.NO_MEMORY: "out of memory",
+    Status.PAYLOAD_TOO_LONG: "the payload is over 1394 octets",
+    Status.HOP_LIMIT_ZERO: "a packet of no hop",
+    Status.PORT_ALREADY_OPEN: "the port is open already",
+    Status.JITTER_RANGE: "the jitter is over 750 ms",
+    Status.PORTS_FULL: "64 ports are open",
+    Status.PORT_NOT_OPEN: "the port isn't open",
+    Status.BAD_ARGUMENT: "an argument is out of its range",
+    Status.NO_ROOM: "the buffer is under 1468 octets",
+}
+FAULT_TEXTS = {
+    1: "a frame of fewer than 14 octets",
+    2: "a frame of another type than 0x8947",
+    3: "a frame of more than 1468 octets",
+    4: "octets after the packet",
+}
+PACKET_TEXTS = {
+    1: "the octets end in a field or before it",
+    2: "a version other than 1",
+    3: "no Common Header after the Basic Header",
+    4: "a reserved bit that is set",
+    5: "no hop left",
+    6: "neither nothing nor BTP-B after the headers",
+    7: "a header type that is not read",
+    8: "a sub-type that the header type does not have",
+    9: "more hops left than the maximum",
+    10: "a payload length out of range",
+    11: "a group address or a place out of range",
+    12: "an area out of range",
+}
+
+
+@dataclass(frozen=True)
+class Fault:
+    """What is wrong with octets that are no frame."""
+
+    layer: int
+    """1 to 5, for L1 to L5."""
+    kind: int = 0
+    """At 5 (L5): 1 to 12, for G1 to G12; else 0."""
+    at: int = 0
+    """At 5 (L5): the octet of the packet at which the field begins; else 0."""
+
+    @property
+    def code(self) -> str:
+        """What logs show, as `L1` or `L5 G9 at 10`."""
+        return f"L5 G{self.kind} at {self.at}" if self.layer == 5 else f"L{self.layer}"
+
+    def __str__(self) -> str:
+        if self.layer == 5:
+            return f"{PACKET_TEXTS[self.kind]}, at octet {self.at}"
+        return FAULT_TEXTS[self.layer]
+
+
+class Refused(Exception):
+    """A call that wasn't done: the station is as it was."""
+
+    def __init__(self, status: Status, text: str | None = None):
+        super().__init__(TEXTS[status] if text is None else text)
+        self.status = status
+
+    @property
+    def code(self) -> str:
+        """What logs show, as `S1` or `S8 B2`; of an argument nothing."""
+        return CODES.get(self.status, "")
+
+
+class BadArgument(Refused, ValueError):
+    """An argument out of its range; `name` is the argument's."""
+
+    def __init__(self, name: str):
+        super().__init__(Status.BAD_ARGUMENT, f"{name} is out of its range")
+        self.name = name
+
+
+class BadFrame(Refused):
+    """Octets that are no frame: `fault` says why."""
+
+    def __init__(self, fault: Fault, received: bool = True):
+        super().__init__(Status.BAD_FRAME, str(fault))
+        self.fault = fault
+        self.received = received
+
+    @property
+    def code(self) -> str:
+        """`S3` and the fault's code; of a frame that was read without a station the fault's."""
+        return f"S3 {self.fault.code}" if self.received else self.fault.code
+
+
+def refused_by(code: str) -> Refused:
+    """The refusal of a code, as a station on a pipe tells it."""
+    frame = re.fullmatch(r"S3 L([1-5])(?: G(\d+) at (\d+))?", code)
+    if frame:
+        layer, kind, at = frame.groups("0")
+        return BadFrame(Fault(int(layer), int(kind), int(at)))
+    return Refused(STATUSES[code])

@@ -1,0 +1,217 @@
+"""The shared library: where it is, its structs and its calls.
+
+It is called with the interpreter's lock held (PyDLL), so that a handle is in one call at a time.
+"""
+
+from __future__ import annotations
+
+import ctypes as c
+import os
+from functools import lru_cache
+from pathlib import Path
+from typing import Any
+
+from .errors import Fault
+
+NAME = "libgeostation.so.0"
+# Of a library that doesn't tell its ABI yet: the layouts below are those of its header.
+ABI = 1
+
+
+class Reception(c.Structure):
+    _fields_ = [
+        ("ignored", c.c_uint32),
+        ("delivered", c.c_uint32),
+        ("port", c.c_uint16),
+        ("info", c.c_uint16),
+        ("payload_start", c.c_size_t),
+        ("payload_length", c.c_size_t),
+        ("relay_length", c.c_size_t),
+        ("fault", c.c_uint32),
+        ("fault_kind", c.c_uint32),
+        ("fault_at", c.c_size_t),
+    ]
+
+
+class ShbRequest(c.Structure):
+    _fields_ = [("port", c.c_uint16), ("info", c.c_uint16), ("traffic_class", c.c_uint8)]
+
+
+class AreaRequest(c.Structure):
+    _fields_ = [
+        ("port", c.c_uint16),
+        ("info", c.c_uint16),
+        ("traffic_class", c.c_uint8),
+        ("lifetime", c.c_uint8),
+        ("max_hops", c.c_uint8),
+        ("shape", c.c_uint8),
+        ("latitude", c.c_int32),
+        ("longitude", c.c_int32),
+        ("a", c.c_uint16),
+        ("b", c.c_uint16),
+        ("angle", c.c_uint16),
+    ]
+
+
+class Vector(c.Structure):
+    _fields_ = [
+        ("address", c.c_uint64),
+        ("timestamp", c.c_uint32),
+        ("latitude", c.c_int32),
+        ("longitude", c.c_int32),
+        ("speed", c.c_int16),
+        ("heading", c.c_uint16),
+        ("accurate", c.c_uint8),
+    ]
+
+
+class Area(c.Structure):
+    _fields_ = [
+        ("latitude", c.c_int32),
+        ("longitude", c.c_int32),
+        ("a", c.c_uint16),
+        ("b", c.c_uint16),
+        ("angle", c.c_uint16),
+        ("shape", c.c_uint8),
+    ]
+
+
+class Message(c.Structure):
+    _fields_ = [
+        ("payload_start", c.c_size_t),
+        ("payload_length", c.c_size_t),
+        ("port", c.c_uint16),
+        ("info", c.c_uint16),
+    ]
+
+
+class Packet(c.Structure):
+    _fields_ = [
+        ("target", c.c_uint8 * 6),
+        ("source", c.c_uint8 * 6),
+        ("kind", c.c_uint32),
+        ("vector", Vector),
+        ("hops_left", c.c_uint8),
+        ("max_hops", c.c_uint8),
+        ("lifetime", c.c_uint8),
+        ("traffic_class", c.c_uint8),
+        ("mobile", c.c_uint8),
+        ("media", c.c_uint8 * 4),
+        ("number", c.c_uint16),
+        ("area", Area),
+        ("message", Message),
+        ("fault", c.c_uint32),
+        ("fault_kind", c.c_uint32),
+        ("fault_at", c.c_size_t),
+    ]
+
+
+# The sizes that the library asserts of its structs, with pointers of 64 bits.
+SIZES = {Reception: 56, ShbRequest: 6, AreaRequest: 24, Vector: 32, Packet: 120}
+
+_OCTETS = (c.c_char_p, c.c_size_t)
+_WRITTEN = (c.c_char_p, c.c_size_t, c.POINTER(c.c_size_t))
+_AREA = (c.c_void_p, c.c_uint64, c.POINTER(AreaRequest), *_OCTETS, *_WRITTEN)
+_FOUND = (c.c_void_p, c.c_uint64, c.c_uint64, c.POINTER(Vector))
+
+# Each call: what it returns and what it takes.
+CALLS = {
+    "new": (
+        c.c_int,
+        c.POINTER(c.c_void_p),
+        c.c_uint64,
+        c.c_int32,
+        c.c_int32,
+        c.c_uint16,
+        c.c_uint8,
+    ),
+    "free": (None, c.c_void_p),
+    "move": (
+        c.c_int,
+        c.c_void_p,
+        c.c_uint64,
+        c.c_int32,
+        c.c_int32,
+        c.c_uint8,
+        c.c_int16,
+        c.c_uint16,
+    ),
+    "open_port": (c.c_int, c.c_void_p, c.c_uint64, c.c_uint16),
+    "close_port": (c.c_int, c.c_void_p, c.c_uint64, c.c_uint16),
+    "restart": (c.c_int, c.c_void_p, c.c_uint64, c.c_uint16),
+    "tick": (c.c_int, c.c_void_p, c.c_uint64, c.c_uint16, *_WRITTEN),
+    "send_shb": (c.c_int, c.c_void_p, c.c_uint64, c.POINTER(ShbRequest), *_OCTETS, *_WRITTEN),
+    "send_gbc": (c.c_int, *_AREA),
+    "send_gac": (c.c_int, *_AREA),
+    "receive": (
+        c.c_int,
+        c.c_void_p,
+        c.c_uint64,
+        *_OCTETS,
+        c.POINTER(Reception),
+        c.c_char_p,
+        c.c_size_t,
+    ),
+    "next_beacon": (c.c_uint64, c.c_void_p),
+    "neighbour": (c.c_int, *_FOUND),
+    "look_up": (c.c_int, *_FOUND),
+    "read_frame": (c.c_int, *_OCTETS, c.POINTER(Packet)),
+    "status_text": (c.c_char_p, c.c_int),
+    "fault_text": (c.c_char_p, c.c_uint32, c.c_uint32),
+}
+
+
+class Library:
+    """The calls of the library, each an attribute by its name without `geostation_`."""
+
+    def __init__(self, shared: Any):
+        for name, (result, *arguments) in CALLS.items():
+            call = getattr(shared, "geostation_" + name)
+            call.restype, call.argtypes = result, arguments
+            setattr(self, name, call)
+
+    def __getattr__(self, name: str) -> Any:
+        raise AttributeError(f"the library has no call {name}")
+
+
+def _find() -> str:
+    """The library's file: as the environment says, beside this package, or where the system's
+    loader looks."""
+    if "GEOSTATION_LIBRARY" in os.environ:
+        return os.environ["GEOSTATION_LIBRARY"]
+    if "GEOSTATION_PREFIX" in os.environ:
+        return str(Path(os.environ["GEOSTATION_PREFIX"]) / "lib" / NAME)
+    beside = Path(__file__).resolve().parent / NAME
+    return str(beside) if beside.is_file() else NAME
+
+
+def check_abi(shared: Any) -> None:
+    """Refuses a library of other layouts before the first call."""
+    told = 1
+    if hasattr(shared, "geostation_abi"):
+        shared.geostation_abi.restype = c.c_uint32
+        told = shared.geostation_abi()
+    if told != ABI:
+        raise ImportError(f"the library's layouts are of version {told}, this package's of {ABI}")
+    if c.sizeof(c.c_void_p) == 8:
+        for struct, size in SIZES.items():
+            if c.sizeof(struct) != size:
+                raise ImportError(f"{struct.__name__} isn't laid out as the library has it")
+
+
+@lru_cache(maxsize=None)
+def load() -> Library:
+    """The library, loaded once."""
+    path = _find()
+    try:
+        shared = c.PyDLL(path)
+    except OSError as error:
+        told = f"{error}: 'c/build PREFIX' makes it, GEOSTATION_PREFIX tells where"
+        raise ImportError(told) from None
+    check_abi(shared)
+    return Library(shared)
+
+
+def fault_of(struct: Any) -> Fault:
+    """The fault that a reception or a packet tells."""
+    return Fault(struct.fault, struct.fault_kind, struct.fault_at)

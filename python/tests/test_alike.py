@@ -1,0 +1,155 @@
+"""Both back ends answer alike: random calls, of a station of the library and of one on a pipe."""
+
+import os
+import random
+import shutil
+import unittest
+
+from geostation import Area, BadArgument, Ended, Line, Refused, Station
+
+PROGRAM = os.environ.get("GEOSTATION_PROGRAM", "geostation")
+PORTS = (1, 2, 2002)
+
+
+def outcome(call, station):
+    """What a call gives, or how it is refused."""
+    try:
+        return call(station)
+    except Refused as refused:
+        return type(refused), refused.code, refused.status, str(refused)
+
+
+class Traffic:
+    """Random calls: moments mostly rise, frames are those of another station, or nearly so."""
+
+    def __init__(self, seed):
+        self.draws = random.Random(seed)
+        self.now = 0
+        self.others = [
+            Station(0x1400020000000100 + n, latitude=n, longitude=0) for n in range(6)
+        ]
+
+    def place(self):
+        return {"latitude": self.draws.randint(-20, 20), "longitude": self.draws.randint(-20, 20)}
+
+    def area(self):
+        draws, make = self.draws, self.draws.choice([Area.circle, Area.rectangle, Area.ellipse])
+        sizes = [draws.randint(1, 300)]
+        if make != Area.circle:
+            sizes += [draws.randint(1, 300), draws.randint(0, 359)]
+        return make(*sizes, **self.place())
+
+    def sending(self):
+        draws = self.draws
+        length = draws.choice([0, 1, 50, 1394, 1395, 40000])
+        return {"port": draws.choice(PORTS), "info": draws.randint(0, 65535),
+                "payload": draws.randbytes(length), "traffic_class": draws.randint(0, 255)}
+
+    def to_area(self):
+        draws = self.draws
+        return {**self.sending(), "area": self.area(), "lifetime": draws.randint(0, 255),
+                "max_hops": draws.choice([0, 1, 2, 10, 255])}
+
+    def frame(self):
+        draws = self.draws
+        keys = {"port": draws.choice(PORTS), "payload": draws.randbytes(draws.randint(0, 40))}
+        other = draws.choice(self.others)
+        kind = draws.randrange(4)
+        if kind == 0:
+            frame = other.tick(self.now) or b""
+        elif kind == 1:
+            frame = other.send_shb(self.now, **keys)
+        else:
+            send = other.send_gbc if kind == 2 else other.send_gac
+            frame = send(self.now, area=self.area(), **keys)
+        if frame and draws.randrange(4) == 0:
+            at = draws.randrange(len(frame))
+            frame = frame[:at] + bytes([draws.randrange(256)]) + frame[at + 1 :]
+        if draws.randrange(10) == 0:
+            frame = frame[: draws.randrange(len(frame) + 1)] + bytes(draws.choice([0, 3, 3000]))
+        return frame
+
+    def call(self):
+        """A call, as a function of a station."""
+        draws = self.draws
+        self.now += draws.choice([0, 1, 100, 3000])
+        now = draws.choice([self.now] * 20 + [max(self.now - 1, 0), (1 << 62) + 1])
+        word = draws.choice(
+            ["move", "open_port", "close_port", "tick", "send_shb", "send_gbc", "send_gac"]
+            + ["receive"] * 7 + ["restart"] * (draws.randrange(10) == 0) + ["bad"]
+        )
+        if word == "receive":
+            frame = self.frame()
+            if draws.randrange(4) == 0:
+                self.last = getattr(self, "last", frame)
+                frame = self.last
+            self.last = frame
+            return lambda s: s.receive(now, frame)
+        keys = {
+            "move": lambda: {**self.place(), "accurate": draws.random() < 0.5,
+                             "speed": draws.randint(-16384, 16383),
+                             "heading": draws.randint(0, 65535)},
+            "open_port": lambda: {"port": draws.choice(PORTS)},
+            "close_port": lambda: {"port": draws.choice(PORTS)},
+            "restart": lambda: {"number": draws.randint(0, 65535)},
+            "tick": lambda: {"jitter": draws.choice([0, 750, 751])},
+            "send_shb": self.sending,
+            "send_gbc": self.to_area,
+            "send_gac": self.to_area,
+            "bad": lambda: {"port": 65536},
+        }[word]()
+        word = "open_port" if word == "bad" else word
+        return lambda s: getattr(s, word)(now, **keys)
+
+
+@unittest.skipUnless(shutil.which(PROGRAM), "the program isn't built")
+class Alike(unittest.TestCase):
+    def test_a_thousand_random_calls(self):
+        place = {"latitude": 3, "longitude": -3, "capacity": 4, "remember": 2}
+        kinds = set()
+        traffic = Traffic(7)
+        with Station(0x1400020000000001, **place) as station:
+            with Line(0x1400020000000001, **place, program=PROGRAM) as line:
+                for number in range(1000):
+                    call = traffic.call()
+                    want = outcome(call, station)
+                    self.assertEqual(want, outcome(call, line), f"call {number}")
+                    kinds.add(self.kind(want))
+        wanted = {"S1", "S2", "S4", "S6", "S7", "S8 B2", "S8 B4", "S9", "", "NoneType", "bytes",
+                  "ignored", "accepted", "delivered", "relay"}
+        self.assertEqual(set(), wanted - kinds)
+        self.assertTrue({"S3 L1", "S3 L3"} <= kinds)
+
+    @staticmethod
+    def kind(told):
+        """A word for what a call gave, so that each is seen."""
+        if isinstance(told, tuple):
+            return told[1]
+        if not hasattr(told, "ignored"):
+            return type(told).__name__
+        if told.ignored:
+            return "ignored"
+        return "delivered" if told.delivered else "relay" if told.relay else "accepted"
+
+
+@unittest.skipUnless(shutil.which(PROGRAM), "the program isn't built")
+class Lines(unittest.TestCase):
+    def test_what_the_program_says(self):
+        line = Line(0x1400020000000001, latitude=0, longitude=0, program=[PROGRAM])
+        answer = line.ask("open", 0, port=2002)
+        self.assertEqual({"at": 0, "result": "opened"}, answer)
+        with self.assertRaises(BadArgument) as told:
+            line.ask("open", 0, port=-1)
+        self.assertEqual("port", told.exception.name)
+        line.free()
+        self.assertRaises(ValueError, lambda: line.tick(0))
+
+    def test_a_program_that_ends(self):
+        line = Line(0x1400020000000001, latitude=0, longitude=0, program=["false"])
+        with self.assertRaises(Ended) as told:
+            line.tick(0)
+        self.assertEqual(1, told.exception.status)
+
+
+if __name__ == "__main__":
+    unittest.main()

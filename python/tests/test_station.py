@@ -1,0 +1,184 @@
+"""Two stations of the library. Moments of beacons are those of the standard, 3 s after the last
+packet; lengths those of its headers."""
+
+import ctypes
+import dataclasses
+import threading
+import unittest
+
+from geostation import (
+    Area,
+    BadArgument,
+    BadFrame,
+    Fault,
+    Kind,
+    Message,
+    Reception,
+    Refused,
+    Shape,
+    Station,
+    Status,
+    Why,
+    errors,
+    library,
+    read_frame,
+)
+
+A, B = 0x1400020000000001, 0x1400020000000002
+CIRCLE = Area.circle(200, latitude=449, longitude=0)
+
+
+class Stations(unittest.TestCase):
+    def test_delivered_and_relayed(self):
+        with Station(A, latitude=449, longitude=0) as a:
+            with Station("1400020000000002", degrees=(0.0000449, 0.00009)) as b:
+                b.open_port(0, 2002)
+                frame = a.send_gbc(10, port=2002, payload=b"hi", area=CIRCLE, info=7, max_hops=5)
+                got = b.receive(11, frame)
+                self.assertEqual((None, Message(2002, 7, b"hi")), (got.ignored, got.delivered))
+                self.assertEqual(76, len(got.relay))
+                self.assertEqual(Reception(Why.OWN_SOURCE), a.receive(12, got.relay))
+                self.assertEqual("duplicate", str(b.receive(12, frame).ignored))
+                told = read_frame(got.relay)
+                self.assertEqual((Kind.GBC, A, 449), (told.kind, told.vector.address, 449))
+                self.assertEqual((4, 5, CIRCLE, 0), (told.hops_left, told.max_hops, told.area, 0))
+
+    def test_fields_of_frames(self):
+        a = Station(A, latitude=1, longitude=-2)
+        area = Area.rectangle(30, 20, 359, degrees=(-0.0000005, 0.0000007))
+        told = read_frame(a.send_gac(10, port=1, payload=b"x", area=area, traffic_class=3))
+        self.assertEqual((Kind.GAC, 0, area), (told.kind, told.number, told.area))
+        self.assertEqual((b"\xff" * 6, bytes.fromhex("020000000001")), (told.target, told.source))
+        self.assertEqual((0x1A, 3, True, None), (told.lifetime, told.traffic_class, True, None))
+        self.assertEqual((1, -2), (told.vector.latitude, told.vector.longitude))
+        self.assertEqual((1e-7, -2e-7), told.vector.degrees)
+        told = read_frame(a.send_shb(10, port=9, info=1, payload=bytearray()))
+        self.assertEqual((Kind.SHB, bytes(4), None), (told.kind, told.media, told.area))
+        self.assertEqual(Message(9, 1, b""), told.message)
+        with self.assertRaises(dataclasses.FrozenInstanceError):
+            told.kind = Kind.GBC
+
+    def test_beacons_make_neighbours(self):
+        a, b = Station(A, latitude=0, longitude=0), Station(B, latitude=0, longitude=0)
+        b.move(1, latitude=5, longitude=6, speed=-7, heading=8)
+        self.assertEqual(1, b.next_beacon())
+        self.assertEqual(50, len(b.tick(1)))
+        self.assertEqual(3001, b.next_beacon())
+        self.assertIsNone(b.tick(3000))
+        a.receive(3001, b.tick(3001))
+        heard = list(a.neighbours(3001))
+        self.assertEqual([(B, 1, 5, 6, -7, 8, True)], [dataclasses.astuple(v) for v in heard])
+        self.assertEqual(heard[0], a.look_up(3001, B))
+        self.assertIsNone(a.look_up(23002, B))
+        self.assertEqual([], list(a.neighbours(23002)))
+
+    def test_refusals(self):
+        a = Station(A, latitude=0, longitude=0)
+        a.open_port(5, 1)
+        cases = [
+            ("S8 B2", Status.PORT_ALREADY_OPEN, lambda: a.open_port(5, 1)),
+            ("S1", Status.MOMENT_EARLIER, lambda: a.open_port(4, 2)),
+            ("S2", Status.MOMENT_TOO_LATE, lambda: a.restart((1 << 62) + 1, 2)),
+            ("S8 B4", Status.PORT_NOT_OPEN, lambda: a.close_port(5, 2)),
+            ("S9", Status.JITTER_RANGE, lambda: a.tick(5, 751)),
+            ("S6", Status.PAYLOAD_TOO_LONG, lambda: a.send_shb(5, port=1, payload=bytes(1395))),
+            (
+                "S7",
+                Status.HOP_LIMIT_ZERO,
+                lambda: a.send_gbc(5, port=1, payload=b"", area=CIRCLE, max_hops=0),
+            ),
+        ]
+        for code, status, call in cases:
+            with self.assertRaises(Refused) as told:
+                call()
+            self.assertEqual((code, status), (told.exception.code, told.exception.status))
+        with self.assertRaises(BadFrame) as told:
+            a.receive(5, b"")
+        self.assertEqual((Fault(1), "S3 L1"), (told.exception.fault, told.exception.code))
+        self.assertEqual("a frame of fewer than 14 octets", str(told.exception))
+        frame = bytearray(a.send_gbc(5, port=1, payload=b"", area=CIRCLE))
+        frame[17], frame[24] = 2, 1
+        with self.assertRaises(BadFrame) as told:
+            read_frame(frame)
+        self.assertEqual("L5 G9 at 10", told.exception.code)
+        self.assertEqual("more hops left than the maximum, at octet 10", str(told.exception))
+
+    def test_arguments_out_of_range_are_named(self):
+        a = Station(A, latitude=0, longitude=0)
+        for name, call in [
+            ("port", lambda: a.open_port(5, 65536)),
+            ("now", lambda: a.open_port(-1, 1)),
+            ("latitude", lambda: a.move(5, degrees=(90.0000001, 0))),
+            ("speed", lambda: a.move(5, latitude=0, longitude=0, speed=16384)),
+            ("a", lambda: Area.circle(0, latitude=0, longitude=0)),
+            ("angle", lambda: Area.ellipse(1, 1, 360, latitude=0, longitude=0)),
+            ("capacity", lambda: Station(A, latitude=0, longitude=0, capacity=4097)),
+            ("address", lambda: Station("1400010000000001", latitude=0, longitude=0)),
+            ("address", lambda: Station("14", latitude=0, longitude=0)),
+        ]:
+            with self.assertRaises(BadArgument) as told:
+                call()
+            self.assertEqual((name, 20, ""), (told.exception.name, told.exception.status, ""))
+        for call in [
+            lambda: a.move(5, latitude=0.5, longitude=0),
+            lambda: a.move(5, latitude=0, longitude=0, degrees=(0, 0)),
+            lambda: a.move(5),
+            lambda: a.open_port(5, True),
+            lambda: a.receive(5, "00"),
+            lambda: a.send_shb(5, port=1, payload=5),
+        ]:
+            self.assertRaises(TypeError, call)
+        a.free()
+        a.free()
+        self.assertRaises(ValueError, a.next_beacon)
+
+    def test_another_thread_is_refused(self):
+        a, told = Station(A, latitude=0, longitude=0), []
+
+        def use():
+            for call in (
+                a.next_beacon,
+                a.free,
+                lambda: a.open_port(0, 1),
+                lambda: next(a.neighbours(0)),
+            ):
+                try:
+                    call()
+                except RuntimeError as error:
+                    told.append(str(error))
+
+        thread = threading.Thread(target=use)
+        thread.start()
+        thread.join()
+        self.assertEqual(4, len(told), told)
+        a.open_port(0, 1)
+
+
+class Library(unittest.TestCase):
+    def test_sentences_are_the_librarys(self):
+        known = library.load()
+        for status, text in errors.TEXTS.items():
+            self.assertEqual(text, known.status_text(status).decode())
+        for layer, text in errors.FAULT_TEXTS.items():
+            self.assertEqual(text, known.fault_text(layer, 0).decode())
+        for kind, text in errors.PACKET_TEXTS.items():
+            self.assertEqual(text, known.fault_text(5, kind).decode())
+        self.assertEqual((4, 12), (len(errors.FAULT_TEXTS), len(errors.PACKET_TEXTS)))
+
+    def test_other_layouts_are_refused(self):
+        class Other:
+            @staticmethod
+            def geostation_abi():
+                return 77
+
+        with self.assertRaisesRegex(ImportError, "of version 77"):
+            library.check_abi(Other)
+        for struct, size in library.SIZES.items():
+            self.assertEqual(size, ctypes.sizeof(struct))
+
+    def test_shapes_are_those_of_areas(self):
+        self.assertEqual([0, 1, 2], [Shape.CIRCLE, Shape.RECTANGLE, Shape.ELLIPSE])
+
+
+if __name__ == "__main__":
+    unittest.main()
