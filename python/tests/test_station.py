@@ -3,8 +3,13 @@ packet; lengths those of its headers."""
 
 import ctypes
 import dataclasses
+import os
+import shutil
+import subprocess
+import tempfile
 import threading
 import unittest
+from pathlib import Path
 
 from geostation import (
     Area,
@@ -25,6 +30,8 @@ from geostation import (
 )
 
 A, B = 0x1400020000000001, 0x1400020000000002
+INCLUDE = Path(os.environ.get("GEOSTATION_PREFIX", "/usr")) / "include"
+CC = shutil.which(os.environ.get("CC", "cc"))
 CIRCLE = Area.circle(200, latitude=449, longitude=0)
 
 
@@ -175,6 +182,31 @@ class Library(unittest.TestCase):
             library.check_abi(Other)
         for struct, size in library.SIZES.items():
             self.assertEqual(size, ctypes.sizeof(struct))
+
+    @unittest.skipUnless(INCLUDE.is_dir() and CC, "a C compiler or the header isn't there")
+    def test_layouts_are_the_headers(self):
+        structs = {
+            "reception": library.Reception,
+            "shb_request": library.ShbRequest,
+            "area_request": library.AreaRequest,
+            "vector": library.Vector,
+            "area": library.Area,
+            "message": library.Message,
+            "packet": library.Packet,
+        }
+        code, own = ['#include "geostation.h"', "#include <stdio.h>", "int main(void) {"], []
+        for name, struct in structs.items():
+            code.append(f'printf("%zu\\n", sizeof(struct geostation_{name}));')
+            own.append(ctypes.sizeof(struct))
+            for field, _ in struct._fields_:
+                code.append(f'printf("%zu\\n", offsetof(struct geostation_{name}, {field}));')
+                own.append(getattr(struct, field).offset)
+        with tempfile.TemporaryDirectory() as folder:
+            program = f"{folder}/layouts"
+            command = [CC, "-I", str(INCLUDE), "-x", "c", "-o", program, "-"]
+            subprocess.run(command, input="\n".join([*code, "}"]), text=True, check=True)
+            told = subprocess.run([program], capture_output=True, text=True, check=True).stdout
+        self.assertEqual([int(line) for line in told.split()], own)
 
     def test_shapes_are_those_of_areas(self):
         self.assertEqual([0, 1, 2], [Shape.CIRCLE, Shape.RECTANGLE, Shape.ELLIPSE])
