@@ -47,6 +47,13 @@ def raw(namespace, name):
         return s
 
 
+def wait_for_link(namespace, name):
+    """A wire takes up to a second to be up; what is sent before is lost."""
+    shown = ["ip", "-n", namespace, "-o", "link", "show", name]
+    while " state UP " not in subprocess.run(shown, capture_output=True, text=True).stdout:
+        time.sleep(0.01)
+
+
 class Net(ExitStack):
     """Namespaces s0, s1, .. with an interface `v` each, and the air's, with a0, a1, .. to them."""
 
@@ -74,6 +81,9 @@ class Net(ExitStack):
                "netns", name)
             ip("-n", name, "link", "set", "v", "address", f"02:00:00:00:01:{k:02x}", "up")
             ip("-n", self.air, "link", "set", f"a{k}", "up")
+        for k, name in enumerate(self.names):
+            wait_for_link(name, "v")
+            wait_for_link(self.air, f"a{k}")
 
     def ends(self):
         """The air's sockets."""

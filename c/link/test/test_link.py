@@ -231,6 +231,24 @@ def test_closed_output():
         assert p.wait(PATIENCE) == 0
 
 
+def test_answers_wait():
+    """Requests that are sent without reading: none is lost, they wait until answers have room."""
+    with Net(PROGRAM, 1) as net, tempfile.TemporaryDirectory() as room:
+        net.station(0, "--listen", f"{room}/s")
+        s, lines = connect(f"{room}/s")
+        sent, many = 0, b"{}\n" * 100000
+        s.setblocking(False)
+        try:
+            while sent < len(many):
+                sent += s.send(many[sent:])
+        except BlockingIOError:
+            pass
+        s.settimeout(PATIENCE)
+        s.shutdown(socket.SHUT_WR)
+        found = [json.loads(line).get("line") for line in lines][1:]
+        assert sent < len(many) and found == list(range(1, -(-sent // 3) + 1)), (sent, len(found))
+
+
 def test_answers_in_order():
     """Many requests at once, each with its answer in its order; and the end of a client's input."""
     with Net(PROGRAM, 1) as net, tempfile.TemporaryDirectory() as room:
