@@ -7,7 +7,7 @@
 #include <sys/timex.h>
 #include <time.h>
 
-/* 2004-01-01T00:00:00Z in UTC seconds since 1970; TAI was 32 s ahead of UTC then, now it is 37 s. */
+/* 2004-01-01T00:00:00Z in UTC seconds since 1970; TAI was 32 s ahead of UTC then, now 37 s. */
 #define EPOCH INT64_C(1072915200)
 enum { AHEAD_THEN = 32, AHEAD_SINCE = 5 };
 

@@ -72,6 +72,12 @@ static bool is_place(const struct gps_fix_t *f) {
         && fabs(f->latitude) <= 90 && fabs(f->longitude) <= 180;
 }
 
+/* An error that isn't told doesn't count. */
+static bool is_accurate(const struct gps_fix_t *f) {
+    double error = isfinite(f->eph) ? f->eph : hypot(f->epx, f->epy);
+    return f->mode >= MODE_3D && !(error > ACCURATE_TO);
+}
+
 static void take_motion(struct place *p, const struct gps_fix_t *f) {
     p->speed = (int16_t)(isfinite(f->speed) ? fmin(round(fabs(f->speed) * 100), 16383) : 0);
     if (isfinite(f->track) && f->track >= 0 && f->track <= 360) {
@@ -89,7 +95,7 @@ static bool take_fix(struct place *p, const struct gps_fix_t *f, uint64_t now) {
     p->known = true;
     p->timestamp = f->time.tv_sec > 0 ? clock_stamp_of_utc(f->time.tv_sec, f->time.tv_nsec)
                                       : (uint32_t)now;
-    p->accurate = f->mode >= MODE_3D && !(isfinite(f->eph) && f->eph > ACCURATE_TO);
+    p->accurate = is_accurate(f);
     p->latitude = (int32_t)lround(f->latitude * 1e7);
     p->longitude = (int32_t)lround(f->longitude * 1e7);
     take_motion(p, f);

@@ -211,13 +211,12 @@ def test_closed_output():
         d = net.station(0, "--listen", f"{room}/s")
         d.process.stdout.close()
         d.put(do="counts")
-        s, lines = connect(f"{room}/s")
-        for k in range(3):
+        for k in range(20):
+            s, lines = connect(f"{room}/s")
             s.sendall(b'{"id":%d,"do":"counts"}\n' % k)
-            found = [json.loads(lines.readline()) for _ in range(2 if k == 0 else 1)]
-            assert found[-1]["id"] == k, found
-        s.close()
-        lines.close()
+            s.shutdown(socket.SHUT_WR)
+            found = [json.loads(line) for line in lines]
+            assert len(found) == 2 and found[1]["id"] == k, found
         has({"event": "ready"}, json.loads(connect(f"{room}/s")[1].readline()))
         d.process.send_signal(signal.SIGTERM)
         assert d.process.wait(PATIENCE) == 0
@@ -227,6 +226,8 @@ def test_closed_output():
         while not os.path.exists(f"{room}/s"):
             time.sleep(0.01)
         has({"event": "ready"}, json.loads(connect(f"{room}/s")[1].readline()))
+        for number in (0, 1):
+            assert os.readlink(f"/proc/{p.pid}/fd/{number}") == "/dev/null"
         p.terminate()
         assert p.wait(PATIENCE) == 0
 
@@ -421,6 +422,63 @@ def test_no_place():
     has({"result": "moved"}, d.ask(do="move", lat=1, lon=-2, pai=True, speed=0, heading=0))
     told = frames.vector_of(bytes.fromhex(d.ask(**GBC, payload="")["frame"]))
     has({"lat": 1, "lon": -2}, told)
+    assert d.end()[0] == 0
+
+
+def report(**keys):
+    return json.dumps({"class": "TPV", **keys}, separators=(",", ":")).encode() + b"\r\n"
+
+
+def until_sent(d, **wanted):
+    """What a packet says of its source, once it is as wanted."""
+    limit = time.monotonic() + PATIENCE
+    while True:
+        answer = d.ask(**GBC, payload="00")
+        told = {}
+        if answer["result"] == "sent":
+            told = frames.vector_of(bytes.fromhex(answer["frame"]))
+        if wanted.items() <= told.items():
+            return told
+        assert time.monotonic() < limit, (wanted, answer, told)
+        time.sleep(0.02)
+
+
+def test_fixes():
+    """Each report of a gpsd: its place, moment, motion and accuracy; and a connection that ends."""
+    if not gps_is_built_in():
+        return
+    server = socket.create_server(("127.0.0.1", 0))
+    server.settimeout(PATIENCE)
+    d = udp(1, 47601, "127.0.0.1:47602", place=("--gpsd", f"127.0.0.1:{server.getsockname()[1]}"))
+    gpsd, _ = server.accept()
+    assert gpsd.makefile("rb").readline().startswith(b'?WATCH={"enable":true')
+    fix = {"mode": 3, "time": "2026-11-25T12:00:00.250Z", "lat": -33.8567844, "lon": 151.2152967,
+           "speed": 13.886, "track": 359.96, "eph": 10.0}
+    # 2026-11-25T12:00:00.250Z is 722692800.25 s of UTC after 2004, and 5 s more of TAI
+    moment = 722692805250 % (1 << 32)
+    first = {"lat": -338567844, "lon": 1512152967, "speed": 1389, "heading": 0, "pai": 1,
+             "stamp": moment}
+    gpsd.sendall(b'{"class":"VERSION","release":"3.22"}\r\n' + report(**{**fix, "mode": 1}))
+    gpsd.sendall(b'{"class":"TPV",' + b" " * 20000 + b"}\r\n" + report(**fix)[:40])
+    time.sleep(0.05)
+    gpsd.sendall(report(**fix)[40:])
+    until_sent(d, **first)
+    gpsd.sendall(report(**{**fix, "eph": 10.1, "lat": 1}))
+    until_sent(d, lat=10000000, pai=0)
+    gpsd.sendall(report(**fix))
+    until_sent(d, **first)
+    gpsd.sendall(report(**{**fix, "mode": 2, "lat": 2}))
+    until_sent(d, lat=20000000, pai=0)
+    gpsd.sendall(report(**fix))
+    until_sent(d, **first)
+    gpsd.sendall(report(mode=1, time="2026-11-25T12:00:09.000Z"))
+    until_sent(d, **{**first, "pai": 0})
+    gpsd.close()
+    gpsd, _ = server.accept()
+    gpsd.sendall(report(**{**fix, "lat": 91}) + report(**{**fix, "lat": 3, "track": 90.04}))
+    until_sent(d, lat=30000000, heading=900, pai=1)
+    gpsd.close()
+    server.close()
     assert d.end()[0] == 0
 
 
