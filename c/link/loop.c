@@ -33,15 +33,17 @@ static bool read_signal(int signals, struct station *s) {
     return got.ssi_signo != SIGUSR1;
 }
 
+/* Those of a turn are of one moment. */
 static void read_frames(struct station *s, struct clients *c) {
     static uint8_t octets[FRAME_ROOM];
+    uint64_t now = clock_now();
     for (int k = 0; k < FRAMES_A_TURN; k++) {
         ssize_t n = link_receive(s->link, octets);
         if (n < 0) {
             return;
         }
         if (n > 0 || s->link->index == 0) {
-            station_hear(s, octets, (size_t)n, clock_now(), c);
+            station_hear(s, octets, (size_t)n, now, c);
         }
     }
 }
