@@ -6,3 +6,4 @@ pub mod AreaCalls
 pub mod Runs
 pub mod Beacons
 pub mod Sizes
+pub mod Beside

@@ -5,3 +5,4 @@ pub mod Receiving
 pub mod Runs
 pub mod Walks
 pub mod Counting
+pub mod Beside

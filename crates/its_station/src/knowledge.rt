@@ -1,6 +1,6 @@
 //! What a station knows: of itself, of when its next beacon is due, and of others.
 
-ghost use Rattle.std.specs.Prelude.{◌≡◌, ◌≤◌, ◌<◌, ◌+◌, ◌^◌, ◌⊎◌, ℕ, None};
+ghost use Rattle.std.specs.Prelude.{◌≡◌, ◌≤◌, ◌<◌, ◌+◌, ◌-◌, ◌^◌, ◌⊎◌, ℕ, None};
 ghost use Rattle.its_model.specs.Calls.{Own};
 ghost use Rattle.its_model.specs.Calls.Answer.{Sent, Quiet, Refused as IsRefused};
 ghost use Rattle.its_model.specs.Calls.OwnCall.{Tick};
@@ -10,6 +10,7 @@ ghost use Rattle.its_model.specs.Station.{StationModel, station_step, beacon_of}
 ghost use Rattle.its_station.specs.State.{RepresentsStation};
 
 use crate::neighbours::Neighbours;
+use crate::sending::MAX_JITTER;
 use crate::station::Station;
 use its_gnvalue::{GnAddress, LongPv};
 use its_loctable::LocationStore;
@@ -23,7 +24,7 @@ impl<S: LocationStore> Station<S> {
     }
 
     /// The position vector that the station's packets carry: its address, and what was last handed
-    /// to `move_to`, with the moment of that call as its time stamp.
+    /// to `move_to`, with the moment of that call as its time stamp, or to `move_at`.
     pub fn vector(&self) -> LongPv
         ensures { result ≡ self.now.vector }
     {
@@ -68,8 +69,30 @@ impl<S: LocationStore> Station<S> {
         self.beacon_from
     }
 
-    /// The least moment at which `tick` with no jitter gives a beacon, in milliseconds: a program
-    /// sleeps until then, and asks anew after each other call.
+    /// The least moment at which `tick` with this jitter gives a beacon, in milliseconds; the
+    /// greatest number for a jitter over 750, with which none comes. A program draws a jitter once
+    /// for each beacon and sleeps until this moment. It asks anew after a packet of the station's
+    /// own and after a restart, and not after a frame that came: the answer is never before the
+    /// clock, which each call sets.
+    pub fn beacon_at(&self, jitter: u16) -> u64
+        ensures due { (s : StationModel) (now : ℕ) → RepresentsStation self.now s → jitter ≤ 750 →
+            result ≤ now → now ≤ 2 ^ 62 →
+            (station_step s now (Own (Tick jitter))).answer ≡ Sent (beacon_of s) }
+        ensures early { (s : StationModel) (now : ℕ) → RepresentsStation self.now s →
+            jitter ≤ 750 → now < result → now ≤ 2 ^ 62 →
+            ((station_step s now (Own (Tick jitter))).answer ≡ Quiet)
+            ⊎ ((station_step s now (Own (Tick jitter))).answer ≡ IsRefused MomentEarlier) }
+        ensures never { 750 < jitter → result ≡ 2 ^ 64 - 1 }
+    {
+        if jitter > MAX_JITTER {
+            return u64::MAX;
+        }
+        (self.beacon_from + u64::from(jitter)).max(self.clock)
+    }
+
+    /// The least moment at which `tick` with no jitter gives a beacon, in milliseconds: `beacon_at`
+    /// of none. Once the beacon is due it moves on with each call, so that a program whose beacons
+    /// have a jitter asks `beacon_at` in place of adding it here.
     pub fn next_beacon(&self) -> u64
         ensures due { (s : StationModel) (now : ℕ) → RepresentsStation self.now s →
             result ≤ now → now ≤ 2 ^ 62 →

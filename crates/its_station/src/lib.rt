@@ -42,9 +42,13 @@
 //! - **Clock.** A moment is milliseconds of any clock that doesn't fall, at most 2^62; for the
 //!   standard's time stamps, those of TAI since 2004-01-01. After a step back each call is refused
 //!   (S1) until the clock has caught up.
-//! - **Beacons.** `next_beacon` is when to wake. A jitter of 0 to 750 ms is drawn once for a beacon
-//!   and handed to each `tick` until that gave it: drawn anew for each `tick`, beacons come early.
-//!   `move_to` sets the time stamp that packets carry; before it is called, that is 0.
+//! - **Beacons.** A jitter of 0 to 750 ms is drawn once for a beacon and handed to each `tick` until
+//!   that gave it: drawn anew for each `tick`, beacons come early. `beacon_at` of that jitter is when
+//!   to wake. It is asked anew after a packet of the station's own and after a restart, and not
+//!   after a frame that came: no answer is before the clock, which each call sets, so that a sleep
+//!   which begins anew with each frame may never end.
+//! - **Places.** `move_to` sets the time stamp that packets carry, and `move_at` one of the fix's
+//!   own; before either is called, that is 0.
 //! - **Memory.** The table has room for `capacity` live sources, 1 to 4096, and up to 64 sequence
 //!   numbers of each. `SortedTable` takes it all in `new`; `OrderedTable` takes it as sources come.
 //!   Of the calls, `tick` with a beacon that is due, `send_*`, a frame that goes on and, over

@@ -9,13 +9,14 @@ ghost use Rattle.its_model.specs.Calls.{Own, area_call};
 ghost use Rattle.its_model.specs.Calls.OwnCall.{Tick, SendShb, SendGbc, SendGac};
 ghost use Rattle.its_model.specs.History.{Reception};
 ghost use Rattle.its_model.specs.Station.{StationModel, station_step, moment_refusal, own_refusal};
-ghost use Rattle.its_model.specs.Station.{first, beacon_of, shb_of, area_packet, target_of};
+ghost use Rattle.its_model.specs.Station.{first, beacon_of, area_packet, target_of};
 ghost use Rattle.its_model.specs.Station.{decided, number_after};
 ghost use Rattle.its_headers.specs.Fields.{message_of};
 ghost use Rattle.its_headers.specs.Packets.{pdu_of_packet, hops_left};
 ghost use Rattle.its_linkframe.specs.Frames.{EncodesFrame, sent_packet};
 ghost use Rattle.its_loctable.specs.Content.{Represents};
 ghost use Rattle.its_station.specs.State.{model_of, RepresentsStation};
+ghost use Rattle.its_station.specs.Beside.{send_shb_for_step, shb_for, shb_refusal};
 ghost use Rattle.its_station.specs.Steps.{IsStepOf};
 ghost use Rattle.its_station.specs.Requests.{gbc_request, shb_request, kind_of_cast, area_pdu};
 ghost use Rattle.its_station.specs.Requests.{TellsSent, TellsTick};
@@ -36,7 +37,7 @@ use std::alloc::Global;
 pub const MAX_PAYLOAD: usize = 1394;
 
 /// How much later than due a beacon may be asked for, in milliseconds (profile).
-const MAX_JITTER: u16 = 750;
+pub(crate) const MAX_JITTER: u16 = 750;
 
 /// From one packet of a station's own to its next beacon, in milliseconds (profile).
 const BEACON_WAIT: u64 = 3000;
@@ -91,11 +92,30 @@ impl<S: LocationStore> Station<S> {
             first (moment_refusal s now) (own_refusal s (SendShb (shb_request r.now))) ≡ None }
         ensures short_frame { IfOk result (λ frame. length frame.items ≤ 1468) }
     {
+        self.send_shb_for(now, r, Lifetime::from_octet(SHORT_LIFETIME))
+    }
+
+    /// A single-hop broadcast that lives as long as this says, in place of 60 s. It is refused as
+    /// one of `send_shb` is.
+    pub fn send_shb_for(
+        &mut self,
+        now: u64,
+        r: &ShbRequest<'_>,
+        lifetime: Lifetime,
+    ) -> Result<Vec<u8>, Refused>
+        ensures step { (s : StationModel) → RepresentsStation self.old s →
+            IsStepOf TellsSent result self.new
+            (send_shb_for_step s now lifetime (shb_request r.now)) }
+        ensures unchanged { OnErr result (self.new ≡ self.old) }
+        ensures memory { (s : StationModel) → RepresentsStation self.old s →
+            result ≡ Err Refused.NoMemory → shb_refusal s now (shb_request r.now) ≡ None }
+        ensures short_frame { IfOk result (λ frame. length frame.items ≤ 1468) }
+    {
         self.check_moment(now)?;
         if r.payload.len() > MAX_PAYLOAD {
             return Err(Refused::PayloadTooLong);
         }
-        let frame = self.shb_frame(r)?;
+        let frame = self.shb_frame(r, lifetime)?;
         self.set_sent(now);
         Ok(frame)
     }
@@ -190,18 +210,21 @@ impl<S: LocationStore> Station<S> {
             IfOk result (λ w. EncodesFrame (beacon_of (model_of self.now ports history)) w.items) }
         ensures short_frame { IfOk result (λ frame. length frame.items ≤ 1468) }
     {
-        let packet = Packet::Beacon(self.short_header(TrafficClass::from_octet(0)));
+        let lifetime = Lifetime::from_octet(SHORT_LIFETIME);
+        let header = self.short_header(lifetime, TrafficClass::from_octet(0));
+        let packet = Packet::Beacon(header);
         write_frame(self.alloc, Mac::BROADCAST, self.mac(), &packet)
     }
 
-    fn shb_frame(&self, r: &ShbRequest<'_>) -> Result<Vec<u8>, NoMemory>
+    fn shb_frame(&self, r: &ShbRequest<'_>, lifetime: Lifetime) -> Result<Vec<u8>, NoMemory>
         requires { length r.now.payload.now ≤ 1394 }
         ensures octets { (ports : List ℕ) (history : List Reception) → IfOk result (λ w.
-            EncodesFrame (shb_of (model_of self.now ports history) (shb_request r.now)) w.items) }
+            EncodesFrame (shb_for (model_of self.now ports history) lifetime (shb_request r.now))
+            w.items) }
         ensures short_frame { IfOk result (λ frame. length frame.items ≤ 1468) }
     {
         let packet = Packet::Shb(SingleHopBroadcast {
-            header: self.short_header(r.class),
+            header: self.short_header(lifetime, r.class),
             media: [0; 4],
             payload: payload_of(self.alloc, r.port, r.info, r.payload)?,
         });
@@ -264,10 +287,10 @@ impl<S: LocationStore> Station<S> {
     }
 
     /// The header of a beacon or a single-hop broadcast: one hop.
-    fn short_header(&self, class: TrafficClass) -> Header
+    fn short_header(&self, lifetime: Lifetime, class: TrafficClass) -> Header
         ensures { result ≡ record {
           hops = record { left = 1; max = 1 };
-          lifetime = 26;
+          lifetime = lifetime;
           class = class;
           mobile = true;
           vector = self.now.vector;
@@ -276,7 +299,7 @@ impl<S: LocationStore> Station<S> {
         let Some(hops) = Hops::new(1, 1) else {
             unreachable!()
         };
-        self.header(hops, Lifetime::from_octet(SHORT_LIFETIME), class)
+        self.header(hops, lifetime, class)
     }
 
     /// The header of a packet of the station's own: it says that the station is mobile (profile).

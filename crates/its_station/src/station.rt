@@ -9,6 +9,7 @@ ghost use Rattle.its_model.specs.History.{Reception};
 ghost use Rattle.its_model.specs.Station.{StationModel, new_station, station_step, moment_refusal};
 ghost use Rattle.its_loctable.specs.Content.{Represents};
 ghost use Rattle.its_station.specs.State.{model_of, RepresentsStation};
+ghost use Rattle.its_station.specs.Beside.{move_at_step};
 ghost use Rattle.its_station.specs.Steps.{IsStepOf, refusal_in, Says};
 
 use crate::refused::Refused;
@@ -119,7 +120,31 @@ impl<S: LocationStore> Station<S> {
         ensures memory { result ≢ Err Refused.NoMemory }
     {
         self.check_moment(now)?;
-        self.set_vector(now, place, pai, speed, heading);
+        let timestamp = (now % (1 << 32)) as u32;
+        self.set_vector(now, timestamp, place, pai, speed, heading);
+        Ok(())
+    }
+
+    /// The same for a place of another moment than `now`, as a receiver tells it: the moment of the
+    /// fix, in milliseconds since 2004-01-01 TAI, modulo 2^32, is the time stamp that packets carry.
+    pub fn move_at(
+        &mut self,
+        now: u64,
+        fix: u32,
+        place: Place,
+        pai: bool,
+        speed: i16,
+        heading: u16,
+    ) -> Result<(), Refused>
+        requires { IsSpeed speed }
+        ensures step { (s : StationModel) → RepresentsStation self.old s →
+            IsStepOf (Says Moved) result self.new
+            (move_at_step s now fix place pai speed heading) }
+        ensures unchanged { OnErr result (self.new ≡ self.old) }
+        ensures memory { result ≢ Err Refused.NoMemory }
+    {
+        self.check_moment(now)?;
+        self.set_vector(now, fix, place, pai, speed, heading);
         Ok(())
     }
 
@@ -153,15 +178,22 @@ impl<S: LocationStore> Station<S> {
         self.clock = now;
     }
 
-    /// The vector's time stamp is the moment, modulo 2^32 (profile).
-    fn set_vector(&mut self, now: u64, place: Place, pai: bool, speed: i16, heading: u16)
+    fn set_vector(
+        &mut self,
+        now: u64,
+        timestamp: u32,
+        place: Place,
+        pai: bool,
+        speed: i16,
+        heading: u16,
+    )
         requires time { now ≤ 2 ^ 62 }
         requires speed { IsSpeed speed }
         ensures { self.new ≡ record self.old {
           clock = now;
           vector = record {
             address = self.old.vector.address;
-            timestamp = now % 2 ^ 32;
+            timestamp = timestamp;
             place = place;
             accurate = pai;
             speed = speed;
@@ -169,7 +201,6 @@ impl<S: LocationStore> Station<S> {
           };
         } }
     {
-        let timestamp = (now % (1 << 32)) as u32;
         let address = self.vector.address();
         let Ok(vector) = LongPv::new(address, timestamp, place, pai, speed, heading) else {
             unreachable!()
