@@ -4,6 +4,7 @@ ghost use Rattle.std.specs.Prelude.{◌≡◌, ◌≢◌, pos, not, nat_eq};
 ghost use Rattle.its_model.specs.Calls.{Own, Moved, Opened, Closed, Restarted};
 ghost use Rattle.its_model.specs.Calls.OwnCall.{Move, Open, Close, Restart};
 ghost use Rattle.its_model.specs.Station.{StationModel, station_step};
+ghost use Rattle.its_station.specs.Beside.{move_at_step};
 ghost use Rattle.its_c.specs.Arguments.{AreForMove, place_of};
 ghost use Rattle.its_c.specs.Open.{HoldsModel};
 ghost use Rattle.its_c.specs.Told.{IsToldDone};
@@ -44,6 +45,40 @@ pub extern "C" fn geostation_move(
     };
     let mut station = s.held.take(alloc);
     let said = station.move_to(now, place, accurate != 0, speed, heading);
+    s.held.put(station);
+    told(said)
+}
+
+/// The same for a place of another moment than `now`, of this time stamp: milliseconds since
+/// 2004-01-01 TAI, modulo 2^32.
+#[unsafe(no_mangle)]
+pub extern "C" fn geostation_move_at(
+    alloc: Global,
+    s: &mut Geostation,
+    now: u64,
+    timestamp: u32,
+    latitude: i32,
+    longitude: i32,
+    accurate: u8,
+    speed: i16,
+    heading: u16,
+) -> i32
+    ensures step { (m : StationModel) → HoldsModel s.old.held.station m → result ≢ pos 20 →
+        IsToldDone Moved result s.new.held.station (move_at_step m now timestamp
+        (place_of latitude longitude) (not (nat_eq accurate 0)) speed heading) }
+    ensures refused { result ≡ pos 20 → AreForMove latitude longitude speed → ⊥ }
+    ensures taken { result ≢ pos 20 → AreForMove latitude longitude speed }
+    ensures unchanged { result ≢ pos 0 → s.new.held.station ≡ s.old.held.station }
+    ensures memory { result ≢ pos 5 }
+{
+    if speed < -16384 || speed > 16383 {
+        return BAD_ARGUMENT;
+    }
+    let Ok(place) = Place::new(latitude, longitude) else {
+        return BAD_ARGUMENT;
+    };
+    let mut station = s.held.take(alloc);
+    let said = station.move_at(now, timestamp, place, accurate != 0, speed, heading);
     s.held.put(station);
     told(said)
 }

@@ -1,6 +1,7 @@
 //! The calls that look at a station: when its next beacon is due, and what it heard of others.
 
-ghost use Rattle.std.specs.Prelude.{◌≡◌, ◌≤◌, ◌<◌, ◌+◌, ◌^◌, ◌⊎◌, ◌↔◌, ℕ, None, IfSome, IsTrue};
+ghost use Rattle.std.specs.Prelude.{◌≡◌, ◌≤◌, ◌<◌, ◌+◌, ◌-◌, ◌^◌, ◌⊎◌, ◌↔◌, ℕ, None, IfSome};
+ghost use Rattle.std.specs.Prelude.{IsTrue};
 ghost use Rattle.its_gnvalue.specs.Values.{IsGroup, IsIndividual};
 ghost use Rattle.its_model.specs.Calls.{Own};
 ghost use Rattle.its_model.specs.Calls.Answer.{Sent, Quiet, Refused as IsRefused};
@@ -22,8 +23,43 @@ use std::alloc::Global;
 /// The bit of an address that says whether its MID is a group.
 const GROUP_BIT: u64 = 1 << 40;
 
-/// The least moment at which `geostation_tick` with no jitter gives a beacon, in milliseconds: a
-/// program sleeps until then, and asks anew after each other call.
+/// The least moment at which `geostation_tick` with this jitter gives a beacon, in milliseconds; the
+/// greatest number for a jitter over 750. A program draws a jitter once for each beacon and sleeps
+/// until this moment; it asks anew after a packet of the station's own and after a restart.
+#[unsafe(no_mangle)]
+pub extern "C" fn geostation_beacon_at(alloc: Global, s: &mut Geostation, jitter: u16) -> u64
+    ensures due { (m : StationModel) (now : ℕ) → HoldsModel s.old.held.station m →
+        jitter ≤ 750 → result ≤ now → now ≤ 2 ^ 62 →
+        (station_step m now (Own (Tick jitter))).answer ≡ Sent (beacon_of m) }
+    ensures early { (m : StationModel) (now : ℕ) → HoldsModel s.old.held.station m →
+        jitter ≤ 750 → now < result → now ≤ 2 ^ 62 →
+        ((station_step m now (Own (Tick jitter))).answer ≡ Quiet)
+        ⊎ ((station_step m now (Own (Tick jitter))).answer ≡ IsRefused MomentEarlier) }
+    ensures never { 750 < jitter → result ≡ 2 ^ 64 - 1 }
+    ensures unchanged { s.new.held.station ≡ s.old.held.station }
+{
+    let station = s.held.take(alloc);
+    let due = station.beacon_at(jitter);
+    s.held.put(station);
+    due
+}
+
+/// The sequence number of the station's next packet for an area.
+#[unsafe(no_mangle)]
+pub extern "C" fn geostation_next_number(alloc: Global, s: &mut Geostation) -> u16
+    ensures number { (m : StationModel) → HoldsModel s.old.held.station m →
+        result ≡ m.next_number }
+    ensures unchanged { s.new.held.station ≡ s.old.held.station }
+{
+    let station = s.held.take(alloc);
+    let number = station.next_number();
+    s.held.put(station);
+    number
+}
+
+/// The least moment at which `geostation_tick` with no jitter gives a beacon, in milliseconds. It
+/// moves on with each call once the beacon is due: with a jitter a program asks
+/// `geostation_beacon_at`.
 #[unsafe(no_mangle)]
 pub extern "C" fn geostation_next_beacon(alloc: Global, s: &mut Geostation) -> u64
     ensures due { (m : StationModel) (now : ℕ) → HoldsModel s.old.held.station m →

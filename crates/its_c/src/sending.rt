@@ -6,7 +6,8 @@ ghost use Rattle.its_model.specs.Calls.{Own};
 ghost use Rattle.its_model.specs.Calls.OwnCall.{Tick, SendShb};
 ghost use Rattle.its_model.specs.Station.{StationModel, station_step};
 ghost use Rattle.its_model.specs.Station.{first, moment_refusal, own_refusal};
-ghost use Rattle.its_station.specs.Requests.{TellsTick, TellsSent};
+ghost use Rattle.its_station.specs.Beside.{send_shb_for_step, shb_refusal};
+ghost use Rattle.its_station.specs.Requests.{TellsTick, TellsSent, shb_request};
 ghost use Rattle.its_c.specs.Arguments.{shb_asked};
 ghost use Rattle.its_c.specs.Open.{HoldsModel};
 ghost use Rattle.its_c.specs.Told.{IsTold, ShowsBeacon, ShowsFrame};
@@ -15,7 +16,7 @@ use crate::handle::Geostation;
 use crate::layout::ShbRequest;
 use crate::status::NO_ROOM;
 use crate::told::{told_beacon, told_frame};
-use its_gnvalue::TrafficClass;
+use its_gnvalue::{Lifetime, TrafficClass};
 use its_station::ShbRequest as StationShbRequest;
 use std::alloc::Global;
 
@@ -83,15 +84,55 @@ pub extern "C" fn geostation_send_shb(
     if frame.len() < LONGEST_FRAME {
         return NO_ROOM;
     }
-    let class = TrafficClass::from_octet(request.traffic_class);
-    let r = StationShbRequest {
-        port: request.port,
-        info: request.info,
-        class,
-        payload,
-    };
+    let r = single_hop_request(request, payload);
     let mut station = s.held.take(alloc);
     let said = station.send_shb(now, &r);
     s.held.put(station);
     told_frame(said, frame, written)
+}
+
+/// Writes the frame of a single-hop broadcast that lives as long as this octet says, a multiplier
+/// of six bits and a base of two. It is refused as one of `geostation_send_shb` is.
+#[unsafe(no_mangle)]
+pub extern "C" fn geostation_send_shb_for(
+    alloc: Global,
+    s: &mut Geostation,
+    now: u64,
+    request: &ShbRequest,
+    lifetime: u8,
+    payload: &[u8],
+    frame: &mut [u8],
+    written: &mut usize,
+) -> i32
+    ensures room { length frame.old < 1468 → (result ≡ pos 21) × (s.new ≡ s.old) }
+    ensures step { (m : StationModel) → 1468 ≤ length frame.old →
+        HoldsModel s.old.held.station m →
+        IsTold TellsSent (ShowsFrame written.new frame.new) result s.new.held.station
+        (send_shb_for_step m now lifetime (shb_asked request.now payload.now)) }
+    ensures unchanged { result ≢ pos 0 → s.new.held.station ≡ s.old.held.station }
+    ensures nothing { result ≢ pos 0 → written.new ≡ 0 }
+    ensures memory { (m : StationModel) → HoldsModel s.old.held.station m → result ≡ pos 5 →
+        shb_refusal m now (shb_asked request.now payload.now) ≡ None }
+{
+    *written = 0;
+    if frame.len() < LONGEST_FRAME {
+        return NO_ROOM;
+    }
+    let r = single_hop_request(request, payload);
+    let mut station = s.held.take(alloc);
+    let said = station.send_shb_for(now, &r, Lifetime::from_octet(lifetime));
+    s.held.put(station);
+    told_frame(said, frame, written)
+}
+
+/// What the station is asked for.
+fn single_hop_request<'a>(request: &ShbRequest, payload: &'a [u8]) -> StationShbRequest<'a>
+    ensures { shb_request result ≡ shb_asked request.now payload.now }
+{
+    StationShbRequest {
+        port: request.port,
+        info: request.info,
+        class: TrafficClass::from_octet(request.traffic_class),
+        payload,
+    }
 }

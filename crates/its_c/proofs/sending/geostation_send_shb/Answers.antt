@@ -1,10 +1,9 @@
-use Rattle.std.proofs.Common.{rules, ℕ, subst}
-use Rattle.its_model.specs.Calls.{Own}
+use Rattle.std.proofs.Common.{rules, subst}
+use Rattle.its_model.specs.Calls.{Own, ShbRequest}
 use Rattle.its_model.specs.Calls.OwnCall.{SendShb}
 use Rattle.its_model.specs.Station.{station_step}
-use Rattle.its_station.specs.Requests.{TellsSent}
+use Rattle.its_station.specs.Requests.{TellsSent, shb_request}
 use Rattle.its_station.specs.Steps.{IsStepOf}
-use Rattle.its_c.specs.Arguments.{shb_asked}
 use Rattle.its_c.proofs.Opens.{held_model, stays_open}
 use Rattle.its_c.proofs.sending.geostation_send_shb.Goals as goal
 
@@ -13,8 +12,8 @@ invariant_of-s c =
     record {
       represents = stays_open (TellsSent) c.send_shb-said.result c.deref_mut.result.now
           c.send_shb-said.new.self
-          (λ m. station_step m c.args.now (Own (SendShb (record (shb_asked c.args.request.now
-          c.args.payload.now) { class = c.from_octet-class.result })))) c.args.s.now.held.station
+          (λ m. station_step m c.args.now (Own (SendShb (shb_request
+          c.single_hop_request-r.result)))) c.args.s.now.held.station
           c.put.new.self.station c.send_shb-said.ensures.step c.send_shb-said.ensures.unchanged
           (search rules) (search rules) c.args.s.now.represents;
     }
@@ -22,10 +21,9 @@ invariant_of-s c =
 pub returns-clause-step : goal.returns-clause-step
 returns-clause-step c = λ m long model.
     let rep = held_model c.args.s.now.held.station c.deref_mut.result.now m (search rules) model in
-    let asked = shb_asked c.args.request.now c.args.payload.now in
-    let done = subst (λ (k : ℕ). IsStepOf TellsSent c.send_shb-said.result c.send_shb-said.new.self
-    (station_step m c.args.now (Own (SendShb (record asked { class = k })))))
-    c.from_octet-class.ensures (c.send_shb-said.ensures.step m rep) in
+    let done = subst (λ (asked : ShbRequest). IsStepOf TellsSent c.send_shb-said.result
+    c.send_shb-said.new.self (station_step m c.args.now (Own (SendShb asked))))
+    c.single_hop_request-r.ensures (c.send_shb-said.ensures.step m rep) in
     record {
       said = c.send_shb-said.result;
       after = c.send_shb-said.new.self;

@@ -1,0 +1,40 @@
+use Rattle.std.proofs.Common.{rules, subst, ℕ}
+use Rattle.its_model.specs.Calls.{ShbRequest}
+use Rattle.its_station.specs.Beside.{send_shb_for_step}
+use Rattle.its_station.specs.Requests.{TellsSent, shb_request}
+use Rattle.its_station.specs.Steps.{IsStepOf}
+use Rattle.its_c.specs.Arguments.{shb_asked}
+use Rattle.its_c.proofs.Opens.{held_model, stays_open}
+use Rattle.its_c.proofs.sending.geostation_send_shb_for.Goals as goal
+
+pub invariant_of-s : goal.invariant_of-s
+invariant_of-s c =
+    record {
+      represents = stays_open (TellsSent) c.send_shb_for-said.result c.deref_mut.result.now
+          c.send_shb_for-said.new.self
+          (λ m. send_shb_for_step m c.args.now c.from_octet.result (shb_request
+          c.single_hop_request-r.result)) c.args.s.now.held.station
+          c.put.new.self.station c.send_shb_for-said.ensures.step
+          c.send_shb_for-said.ensures.unchanged
+          (search rules) (search rules) c.args.s.now.represents;
+    }
+
+pub returns-clause-step : goal.returns-clause-step
+returns-clause-step c = λ m long model.
+    let rep = held_model c.args.s.now.held.station c.deref_mut.result.now m (search rules) model in
+    let said = c.send_shb_for-said.result in
+    let new = c.send_shb_for-said.new.self in
+    let asked = subst (λ (r : ShbRequest).
+    IsStepOf TellsSent said new (send_shb_for_step m c.args.now c.from_octet.result r))
+    c.single_hop_request-r.ensures (c.send_shb_for-said.ensures.step m rep) in
+    let done = subst (λ (k : ℕ). IsStepOf TellsSent said new
+    (send_shb_for_step m c.args.now k (shb_asked c.args.request.now c.args.payload.now)))
+    c.from_octet.ensures asked in
+    record {
+      said = said;
+      after = new;
+      held = search rules;
+      done = done;
+      code = search rules;
+      shown = c.told_frame.ensures.shown;
+    }
