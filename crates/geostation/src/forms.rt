@@ -36,7 +36,14 @@ const STRICT: Word = Word::Flag("strict", "Ends with status 1 where an event was
 const FRAMES: Word = Word::Value(
     "frames",
     "OUT",
-    "Also writes the frames to this file: .pcap, .pcapng, or a capture",
+    "Also writes the frames to this file: .pcap, .pcapng or .cap",
+);
+
+const TO: Word = Word::Choice(
+    "to",
+    "FORMAT",
+    &["capture", "pcap", "pcapng"],
+    "The format that is written, in place of what the file's name says",
 );
 
 const FORMAT: Word = Word::Choice(
@@ -73,8 +80,12 @@ Example:
         about: "Writes the records of a capture in the format of another file's name",
         words: &[
             Word::Required("IN", "The capture, or - for standard input"),
-            Word::Required("OUT", "The file that is made: .pcap, .pcapng, or a capture"),
+            Word::Required(
+                "OUT",
+                "The file that is made: .pcap, .pcapng or .cap, or - for standard output",
+            ),
             FORMAT,
+            TO,
             EXPLAIN,
         ],
         example: "\
@@ -86,7 +97,7 @@ Example:
         about: "Makes a capture of lines of a moment and hexadecimal digits",
         words: &[
             Word::Required("FILE", "The lines, or - for standard input"),
-            Word::Required("OUT", "The capture that is made"),
+            Word::Required("OUT", "The capture that is made, or - for standard output"),
             EXPLAIN,
         ],
         example: "\
@@ -103,6 +114,7 @@ Example, of a line with a frame of one octet at moment 5:
                 "Prints what came of each send in place of the events",
             ),
             FRAMES,
+            TO,
             JSON,
             EXPLAIN,
             STRICT,
@@ -114,18 +126,24 @@ Example:
     Form {
         name: "mesh",
         about: "Runs a scenario over UDP sockets on the loopback",
-        words: &[SCENARIO, FRAMES, EXPLAIN, STRICT],
+        words: &[SCENARIO, FRAMES, TO, EXPLAIN, STRICT],
         example: "\
 Example:
   geostation mesh warning.toml",
     },
     Form {
         name: "station",
-        about: "Is one station, driven by JSON lines on standard input",
+        about: "Runs one station on JSON lines",
         words: &[
             Word::Required("ADDRESS", "The station's address, 16 hexadecimal digits"),
-            Word::Signed("LAT", "Its latitude in tenths of a microdegree"),
-            Word::Signed("LON", "Its longitude in tenths of a microdegree"),
+            Word::Signed(
+                "LAT",
+                "Its latitude in tenths of a microdegree: 481000000 is 48.1 degrees",
+            ),
+            Word::Signed(
+                "LON",
+                "Its longitude in tenths of a microdegree: 115000000 is 11.5 degrees",
+            ),
             Word::Value(
                 "capacity",
                 "N",

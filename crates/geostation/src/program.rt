@@ -111,14 +111,14 @@ where
                 format,
                 lines,
             },
-        ) => convert_file(rt, file, input, target, format, lines, err),
+        ) => convert_file(rt, file, input, target, format, lines, out, err),
         Ok(
             Subcommand::Import {
                 file,
                 out: target,
                 lines,
             },
-        ) => import_file(rt, file, input, target, lines, err),
+        ) => import_file(rt, file, input, target, lines, out, err),
         Ok(
             Subcommand::Sim {
                 file,

@@ -2,7 +2,7 @@
 
 use crate::station::StationWords;
 use clap::ArgMatches;
-use its_commands::{Lines, RunOptions};
+use its_commands::{Lines, RunOptions, Target};
 use its_mesh::MeshOptions;
 use its_pcap::Format;
 
@@ -24,7 +24,7 @@ pub enum Subcommand<'a> {
     /// To write the records of the capture in the file to `out`.
     Convert {
         file: &'a str,
-        out: &'a str,
+        out: Target<'a>,
         format: Option<Format>,
         lines: Lines,
     },
@@ -37,13 +37,13 @@ pub enum Subcommand<'a> {
     /// To run the scenario in the file, and to write its frames to `frames`.
     Sim {
         file: &'a str,
-        frames: Option<&'a str>,
+        frames: Option<Target<'a>>,
         options: RunOptions,
     },
     /// To run the scenario in the file over sockets, and to write its frames to `frames`.
     Mesh {
         file: &'a str,
-        frames: Option<&'a str>,
+        frames: Option<Target<'a>>,
         options: MeshOptions,
     },
     /// To be one station, which these words describe.
@@ -62,8 +62,9 @@ pub(crate) fn subcommand_of<'a>(matches: &ArgMatches<'a>) -> Option<Subcommand<'
         explain: inner.get_flag("explain"),
     };
     let strict = inner.get_flag("strict");
-    let format = format_of(inner);
-    let frames = inner.get_str("frames");
+    let format = format_of(inner, "format");
+    let to = format_of(inner, "to");
+    let frames = inner.get_str("frames").map(|name| Target { name, to });
     let file = file_of(inner)?;
     match name {
         "show" => Some(Subcommand::Show {
@@ -78,7 +79,10 @@ pub(crate) fn subcommand_of<'a>(matches: &ArgMatches<'a>) -> Option<Subcommand<'
         }),
         "convert" => Some(Subcommand::Convert {
             file,
-            out: inner.get_str("OUT")?,
+            out: Target {
+                name: inner.get_str("OUT")?,
+                to,
+            },
             format,
             lines,
         }),
@@ -110,9 +114,9 @@ pub(crate) fn subcommand_of<'a>(matches: &ArgMatches<'a>) -> Option<Subcommand<'
     }
 }
 
-/// The format that is given, if one is.
-fn format_of(matches: &ArgMatches<'_>) -> Option<Format> {
-    match matches.get_str("format")? {
+/// The format that is given by the option of this name, if one is.
+fn format_of(matches: &ArgMatches<'_>, option: &str) -> Option<Format> {
+    match matches.get_str(option)? {
         "pcap" => Some(Format::Pcap),
         "pcapng" => Some(Format::Pcapng),
         _ => Some(Format::Capture),

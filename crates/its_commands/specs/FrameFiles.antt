@@ -5,7 +5,6 @@ use Rattle.its_pcap.specs.declared.format.Format.{Format}
 use Rattle.its_pcap.specs.declared.put_fault.PutFault.{PutFault}
 use Rattle.its_pcap.specs.declared.put_fault.PutFault.TheVariants as puts
 use Rattle.its_pcap.specs.RecordFiles.{RecordFile, Starts, AddsInterface, PutsFrame}
-use Rattle.its_commands.specs.FileNames.{format_of_name}
 use Rattle.its_commands.specs.declared.fault.Fault.{Fault}
 use Rattle.its_commands.specs.declared.status.Status.{Status}
 use Rattle.its_commands.specs.declared.status.Status.TheVariants.{Done, Refused}
@@ -34,11 +33,11 @@ fresh format contents = record {
   failures = 0;
 }
 
--- what a file of that name begins with is written behind what the device has, and then an interface
+-- what a file of that format begins with is written behind what the device has, and then an interface
 -- for each of so many stations, where the format has any
-abbrev pub IsBegun : List ℕ → Option (List ℕ) → ℕ → RunFile → Type 0
-IsBegun name contents stations f = (begun : RecordFile)
-    × Starts (format_of_name name) (fresh (format_of_name name) contents) begun (Ok tt)
+abbrev pub IsBegun : Format → Option (List ℕ) → ℕ → RunFile → Type 0
+IsBegun format contents stations f = (begun : RecordFile)
+    × Starts format (fresh format contents) begun (Ok tt)
     × AddsInterfaces stations begun f.file
     × (f.frames ≡ 0) × (f.left_out ≡ false) × (f.failed ≡ false)
 

@@ -1,7 +1,6 @@
 //! The command `convert`.
 
-ghost use Rattle.std.specs.Prelude.{◌≡◌, IfOk};
-ghost use Rattle.its_commands.specs.FileNames.{format_of_name};
+ghost use Rattle.std.specs.Prelude.{IfOk};
 ghost use Rattle.its_commands.specs.Statuses.{IsCommandStatus};
 
 use crate::fault::{Fault, status_of};
@@ -26,25 +25,12 @@ pub struct Conversion<'a> {
     pub file: &'a str,
     /// Its format; its first four octets tell it where none is given.
     pub format: Option<Format>,
-    /// The name of the file that is written, which tells its format.
+    /// The name of the file that is written. `-` is standard output.
     pub target: &'a str,
+    /// Its format.
+    pub to: Format,
     /// How lines on standard error are printed: only `explain` counts.
     pub lines: Lines,
-}
-
-/// The format of a file that is written, by the end of its name: pcapng where that is `.pcapng`,
-/// classic pcap where it is `.pcap`, in lower case, and else a capture.
-pub fn format_named(name: &str) -> Format
-    ensures { result ≡ format_of_name name.now }
-{
-    let name = name.as_bytes();
-    if name.ends_with(b".pcapng") {
-        Format::Pcapng
-    } else if name.ends_with(b".pcap") {
-        Format::Pcap
-    } else {
-        Format::Capture
-    }
 }
 
 /// Writes the records of the file that the reader gives to the one that the writer makes, one by
@@ -75,9 +61,9 @@ fn convert_records<'a, R: Read + Drop, W: Write + Drop, E: Write>(
 ) -> Result<Status, Fault<'a>>
     ensures { IfOk result IsCommandStatus }
 {
-    let mut sink = AnySink::new(Counted::new(writer), format_named(conversion.target));
+    let mut sink = AnySink::new(Counted::new(writer), conversion.to);
     if sink.start().is_err() || sink.add_interface("").is_err() {
-        return Err(Fault::CannotWrite(conversion.target));
+        return Err(Fault::of_target(conversion.target));
     }
     let keep = LONGEST_CAPTURED as usize;
     let ended = match AnySource::open(alloc, Counted::new(reader), conversion.format, keep) {
@@ -88,7 +74,7 @@ fn convert_records<'a, R: Read + Drop, W: Write + Drop, E: Write>(
     let status = ended?;
     match flushed {
         Ok(()) => Ok(status),
-        Err(_) => Err(Fault::CannotWrite(conversion.target)),
+        Err(_) => Err(Fault::of_target(conversion.target)),
     }
 }
 
@@ -131,7 +117,7 @@ fn leave_out<'a, E: Write>(
     err: &mut E,
 ) -> Result<(), Fault<'a>> {
     if fault.word().is_none() {
-        return Err(Fault::CannotWrite(conversion.target));
+        return Err(Fault::of_target(conversion.target));
     }
     let left_out = LeftOut::new("record", record, fault, conversion.lines);
     let _ = writeln!(err, "{left_out}");

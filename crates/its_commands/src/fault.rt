@@ -5,6 +5,7 @@ ghost use Rattle.its_commands.specs.Statuses.{fault_status};
 
 use crate::importing::LineFault;
 use crate::options::Lines;
+use crate::outputs::is_standard;
 use crate::status::Status;
 use its_air::AirFault;
 use its_gnvalue::NoMemory;
@@ -66,6 +67,18 @@ impl Fault<'_> {
         match error.kind() {
             io::ErrorKind::OutOfMemory => Fault::OutOfMemory(AllocError),
             _ => Fault::CannotWrite(file),
+        }
+    }
+
+    /// The fault of a failed write to the file of this name: for standard output, `-`, there is no
+    /// line.
+    pub(crate) fn of_target(file: &str) -> Fault<'_>
+        ensures { fault_status result ≡ Status.Failed }
+    {
+        if is_standard(file) {
+            Fault::NoOutput(io::Error::from(io::ErrorKind::Other))
+        } else {
+            Fault::CannotWrite(file)
         }
     }
 

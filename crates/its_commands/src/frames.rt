@@ -4,13 +4,13 @@ ghost use Rattle.std.specs.Prelude.{◌≡◌, ◌^◌, ◌<◌, IfOk, is_ok};
 ghost use Rattle.its_commands.specs.FrameFiles.{IsBegun, IsNoted, IsEnded};
 ghost use Rattle.its_commands.specs.Statuses.{IsCommandStatus};
 
-use crate::converting::{LeftOut, format_named};
+use crate::converting::LeftOut;
 use crate::fault::Fault;
 use crate::options::Lines;
 use crate::progress::Progress;
 use crate::status::Status;
 use its_linkframe::Counted;
-use its_pcap::{AnySink, PutFault, RecordSink, SinkFault};
+use its_pcap::{AnySink, Format, PutFault, RecordSink, SinkFault};
 use its_simulation::{EventRecord, EventSink, SimulationFault};
 use its_world::World;
 use std::alloc::Global;
@@ -46,19 +46,20 @@ impl<'a, W: Write + Drop> Model for FrameFile<'a, W> {
 }
 
 impl<'a, W: Write + Drop> FrameFile<'a, W> {
-    /// Begins the file `target`, in the format that its name says. One of pcapng has an interface
-    /// for each of so many stations, `station 0` and on; what their names say is printed, and no
+    /// Begins the file `target`, in this format. One of pcapng has an interface for each of so many
+    /// stations, `station 0` and on; what their names say is printed, and no
     /// clause speaks of it. `CannotWrite` where the file failed, `OutOfMemory` where there was none
     /// for a name.
     pub fn start(
         alloc: Global,
         writer: W,
         target: &'a str,
+        format: Format,
         stations: usize,
     ) -> Result<FrameFile<'a, W>, Fault<'a>>
-        ensures { IfOk result (IsBegun target.now (W.contents writer) stations) }
+        ensures { IfOk result (IsBegun format (W.contents writer) stations) }
     {
-        let mut sink = AnySink::new(Counted::new(writer), format_named(target));
+        let mut sink = AnySink::new(Counted::new(writer), format);
         if sink.start().is_err() {
             return Err(Fault::CannotWrite(target));
         }

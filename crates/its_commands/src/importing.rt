@@ -186,7 +186,8 @@ fn add_record<'a>(
     }
 }
 
-/// Writes the records as a capture, and flushes it. `file` is the name of what the writer makes.
+/// Writes the records as a capture, and flushes it. `file` is the name of what the writer makes, `-`
+/// that of standard output.
 ///
 /// `Failed` where a write or the flush failed.
 pub fn write_records<W: Write + Drop, E: Write>(
@@ -199,7 +200,7 @@ pub fn write_records<W: Write + Drop, E: Write>(
 {
     match write_capture(records, out) {
         Some(()) => Status::Done,
-        None => Fault::CannotWrite(file).report(err),
+        None => Fault::of_target(file).report(err),
     }
 }
 

@@ -12,6 +12,7 @@ mod importing;
 mod lines;
 mod options;
 mod output;
+mod outputs;
 mod progress;
 mod refusal;
 mod showing;
@@ -24,14 +25,16 @@ mod walk;
 mod watched;
 
 pub use checking::check;
-pub use converting::{Conversion, convert, format_named};
+pub use converting::{Conversion, convert};
 pub use fault::Fault;
 pub use files::{
-    Opened, check_file, convert_file, create, import_file, open, show_file, simulate_file,
+    Opened, check_file, convert_file, create, create_apart, import_file, open, show_file,
+    simulate_file,
 };
 pub use frames::FrameFile;
 pub use importing::{LineFault, read_lines, write_records};
 pub use options::{Lines, RunOptions};
+pub use outputs::{OutputFault, Target, refuse_same};
 pub use showing::show;
 pub use simulating::{read_scenario, read_scenario_without_air, simulate};
 pub use status::Status;

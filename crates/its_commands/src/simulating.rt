@@ -12,6 +12,7 @@ use crate::status::Status;
 use crate::summary::print_summary;
 use crate::watched::Watched;
 use its_air::{AirFault, Tally, run_scenario};
+use its_pcap::Format;
 use its_scenario::Scenario;
 use its_simulation::{EventSink, JsonLines, TextLines};
 use std::alloc::Global;
@@ -63,7 +64,8 @@ fn run_without_frames<'a, W: Write, E: Write>(
     ran
 }
 
-/// Runs a scenario, and also writes each frame that a station gives to the file `target`.
+/// Runs a scenario, and also writes each frame that a station gives to the file `target`,
+/// in this format.
 ///
 /// `Refused` where a frame was left out and, with `strict`, where an event was refused; `Failed`
 /// where the file or standard output could not be written or memory ran out.
@@ -71,6 +73,7 @@ pub(crate) fn simulate_with_frames<F: Write + Drop, W: Write, E: Write>(
     alloc: Global,
     scenario: &Scenario,
     target: &str,
+    format: Format,
     writer: F,
     options: RunOptions,
     out: &mut W,
@@ -80,7 +83,7 @@ pub(crate) fn simulate_with_frames<F: Write + Drop, W: Write, E: Write>(
     ensures { IsCommandStatus result }
 {
     let stations = scenario.stations.len();
-    let ended = match FrameFile::start(alloc, writer, target, stations) {
+    let ended = match FrameFile::start(alloc, writer, target, format, stations) {
         Ok(file) => run_with_frames(alloc, scenario, file, options, out, err),
         Err(fault) => Err(fault),
     };

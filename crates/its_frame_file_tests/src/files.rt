@@ -1,6 +1,7 @@
 //! The file of the frames that stations give.
 
-use its_commands::{FrameFile, Lines, RunOptions, Status, simulate_file};
+use its_commands::{FrameFile, Lines, RunOptions, Status, Target, simulate_file};
+use its_pcap::Format;
 use its_vectors::{GEOBROADCAST, RELAYED, WORKED};
 use std::alloc::Global;
 use std::process::Abort;
@@ -80,7 +81,7 @@ fn run_to(
         rt,
         from.as_str(),
         b"".as_slice(),
-        Some(to.as_str()),
+        Some(Target::named(to.as_str())),
         options,
         &mut out,
         &mut err,
@@ -190,7 +191,7 @@ fn a_file_that_cannot_be_made_is_told(rt: HostRuntime) -> Result<(), Fail> {
         &rt,
         "-",
         WORKED.as_bytes(),
-        Some(nowhere),
+        Some(Target::named(nowhere)),
         RunOptions::default(),
         &mut out,
         &mut err,
@@ -208,7 +209,7 @@ fn a_device_that_fails_ends_the_file(rt: HostRuntime) -> Result<(), Fail> {
     let alloc = rt.alloc();
     for room in 0..28 + 48 + 36 {
         let mut octets = [0u8; 112];
-        let started = FrameFile::start(alloc, &mut octets[..room], "a.pcapng", 1);
+        let started = FrameFile::start(alloc, &mut octets[..room], "a.pcapng", Format::Pcapng, 1);
         let Ok(mut file) = started else {
             assert!(rt; room < 28 + 48, "{room}");
             continue;

@@ -1,13 +1,16 @@
 //! The command `mesh`.
 
-ghost use Rattle.std.specs.Prelude.{IfOk, IfErr};
+ghost use Rattle.std.specs.Prelude.{◌≡◌, IfOk, IfErr, IfSome, IsErr, None};
+ghost use Rattle.its_commands.specs.FileNames.{format_of_file};
 ghost use Rattle.its_commands.specs.Statuses.{IsCommandStatus};
 ghost use Rattle.its_mesh.specs.Statuses.{IsMeshStatus};
 
 use crate::mesh::Mesh;
 use crate::sockets::Sockets;
 use crate::udp::UdpSockets;
-use its_commands::{Fault, FrameFile, Lines, Status, create, open, read_scenario_without_air};
+use its_commands::{
+    Fault, FrameFile, Lines, Status, Target, create_apart, open, read_scenario_without_air,
+};
 use its_scenario::Scenario;
 use std::alloc::Global;
 use std::io::{Read, Write};
@@ -40,33 +43,33 @@ impl MeshOptions {
 /// Runs the scenario in the file, of at most 64 stations, each with a UDP socket on 127.0.0.1 at a
 /// port that the system picks. Prints a line for each event but `deliver`, and for each datagram
 /// that comes: its moment, its station and what is told of it. `input` is standard input, which is
-/// read where the file is `-`. With `frames` each frame that a station gives is also written to the
-/// file of that name, at the moment of its line; it is created once the scenario is read.
+/// read where the file is `-`. With `frames` each frame that a station gives is also written to that
+/// file, at the moment of its line; it is created once the scenario is read.
 ///
-/// `Refused` for a text that is no scenario, where a frame has no place in its file and, with
-/// `strict`, where a call was refused and nothing failed. `Failed` where a file could not be read,
-/// created or written, a socket not be made or standard output not written, or memory ran out: then
-/// it ends there. `Failed` too where a send or a receive failed: that is told, and it goes on.
+/// `BadArguments`, before anything is opened, where nothing says that file's format or its name is
+/// `-`, and before it is created where it is the scenario's own file. `Refused` for a text that is
+/// no scenario, where a frame has no place in its file and, with `strict`, where a call was refused
+/// and nothing failed. `Failed` where a file could not be read, created or written, a socket not be
+/// made or standard output not written, or memory ran out: then it ends there. `Failed` too where a
+/// send or a receive failed: that is told, and it goes on.
 pub fn mesh_file<R: Files + Net + AllocGlobal, I: Read + Drop, W: Write, E: Write>(
     rt: &R,
     file: &str,
     input: I,
-    frames: Option<&str>,
+    frames: Option<Target<'_>>,
     options: MeshOptions,
     out: &mut W,
     err: &mut E,
 ) -> Status
 where
     R::File: Read + Write + Drop,
-    ensures { IsCommandStatus result }
+    ensures alone { frames.entry ≡ None → IsCommandStatus result }
+    ensures format { IfSome frames.entry (λ target.
+        format_of_file target.to target.name.now ≡ None → result ≡ Status.BadArguments) }
 {
-    let ended = match (open(rt, file, input, err), frames) {
-        (Ok(reader), Some(target)) => mesh_to(rt, file, reader, target, options, out, err),
-        (Ok(reader), None) => {
-            let mut sockets = UdpSockets::new(rt, rt.alloc());
-            Ok(mesh(rt.alloc(), file, reader, options, &mut sockets, out, err))
-        }
-        (Err(status), _) => Err(status),
+    let ended = match frames {
+        Some(target) => mesh_to(rt, file, input, target, options, out, err),
+        None => mesh_opened(rt, file, input, options, out, err),
     };
     match ended {
         Ok(status) => status,
@@ -74,30 +77,57 @@ where
     }
 }
 
-/// Reads the scenario, and only then creates the file of frames. An `Err` is the status of what
-/// stopped it before a socket was made.
-fn mesh_to<R: Files + Net + AllocGlobal, I: Read + Drop, W: Write, E: Write>(
+/// Runs the scenario in the file, and writes no file.
+fn mesh_opened<R: Files + Net + AllocGlobal, I: Read + Drop, W: Write, E: Write>(
     rt: &R,
     file: &str,
-    reader: I,
-    target: &str,
+    input: I,
     options: MeshOptions,
     out: &mut W,
     err: &mut E,
 ) -> Result<Status, Status>
 where
-    R::File: Write + Drop,
+    R::File: Read + Write + Drop,
     ensures done { IfOk result IsCommandStatus }
     ensures stopped { IfErr result IsCommandStatus }
 {
+    let reader = open(rt, file, input, err)?;
+    let mut sockets = UdpSockets::new(rt, rt.alloc());
+    Ok(mesh(rt.alloc(), file, reader, options, &mut sockets, out, err))
+}
+
+/// Reads the scenario, and only then creates the file of frames. An `Err` is the status of what
+/// stopped it before a socket was made.
+fn mesh_to<R: Files + Net + AllocGlobal, I: Read + Drop, W: Write, E: Write>(
+    rt: &R,
+    file: &str,
+    input: I,
+    target: Target<'_>,
+    options: MeshOptions,
+    out: &mut W,
+    err: &mut E,
+) -> Result<Status, Status>
+where
+    R::File: Read + Write + Drop,
+    ensures done { IfOk result IsCommandStatus }
+    ensures format { format_of_file target.entry.to target.entry.name.now ≡ None
+        → IfErr result (λ status. status ≡ Status.BadArguments) }
+    ensures formatless { format_of_file target.entry.to target.entry.name.now ≡ None
+        → IsErr result }
+{
+    let format = match target.file_format() {
+        Ok(format) => format,
+        Err(fault) => return Err(fault.report(err)),
+    };
+    let reader = open(rt, file, input, err)?;
     let scenario = match read_scenario_without_air(rt.alloc(), file, reader, MOST_STATIONS) {
         Ok(scenario) => scenario,
         Err(fault) => return Err(fault.report_as(options.lines(), err)),
     };
-    let created = create(rt, target, err)?;
+    let created = create_apart(rt, target.name, file, err)?;
     let mut sockets = UdpSockets::new(rt, rt.alloc());
-    let begun = FrameFile::start(rt.alloc(), created, target, scenario.stations.len());
-    let ended = match begun {
+    let stations = scenario.stations.len();
+    let ended = match FrameFile::start(rt.alloc(), created, target.name, format, stations) {
         Ok(file) => {
             mesh_with_frames(rt.alloc(), scenario, file, options, &mut sockets, out, err)
         }

@@ -17,7 +17,7 @@ Commands:
   import   Makes a capture of lines of a moment and hexadecimal digits
   sim      Runs a scenario and prints a line for each event
   mesh     Runs a scenario over UDP sockets on the loopback
-  station  Is one station, driven by JSON lines on standard input
+  station  Runs one station on JSON lines
   help     Print this message or the help of the given subcommand(s)
 
 Options:
@@ -68,7 +68,7 @@ Usage: geostation import [OPTIONS] <FILE> <OUT>
 
 Arguments:
   <FILE>  The lines, or - for standard input
-  <OUT>   The capture that is made
+  <OUT>   The capture that is made, or - for standard output
 
 Options:
       --explain  Says in words what each code means
@@ -88,7 +88,8 @@ Arguments:
 
 Options:
       --summary       Prints what came of each send in place of the events
-      --frames <OUT>  Also writes the frames to this file: .pcap, .pcapng, or a capture
+      --frames <OUT>  Also writes the frames to this file: .pcap, .pcapng or .cap
+      --to <FORMAT>   The format that is written, in place of what the file's name says [possible values: capture, pcap, pcapng]
       --json          Prints each line as a JSON object
       --explain       Says in words what each code means
       --strict        Ends with status 1 where an event was refused
@@ -107,7 +108,8 @@ Arguments:
   <SCENARIO>  The scenario, or - for standard input
 
 Options:
-      --frames <OUT>  Also writes the frames to this file: .pcap, .pcapng, or a capture
+      --frames <OUT>  Also writes the frames to this file: .pcap, .pcapng or .cap
+      --to <FORMAT>   The format that is written, in place of what the file's name says [possible values: capture, pcap, pcapng]
       --explain       Says in words what each code means
       --strict        Ends with status 1 where an event was refused
   -h, --help          Print help
@@ -123,10 +125,11 @@ Usage: geostation convert [OPTIONS] <IN> <OUT>
 
 Arguments:
   <IN>   The capture, or - for standard input
-  <OUT>  The file that is made: .pcap, .pcapng, or a capture
+  <OUT>  The file that is made: .pcap, .pcapng or .cap, or - for standard output
 
 Options:
       --format <FORMAT>  The format that is read, in place of what the first octets say [possible values: capture, pcap, pcapng]
+      --to <FORMAT>      The format that is written, in place of what the file's name says [possible values: capture, pcap, pcapng]
       --explain          Says in words what each code means
   -h, --help             Print help
 
@@ -135,14 +138,14 @@ Example:
 ";
 
 static STATION_HELP: &str = "\
-Is one station, driven by JSON lines on standard input
+Runs one station on JSON lines
 
 Usage: geostation station [OPTIONS] <ADDRESS> <LAT> <LON>
 
 Arguments:
   <ADDRESS>  The station's address, 16 hexadecimal digits
-  <LAT>      Its latitude in tenths of a microdegree
-  <LON>      Its longitude in tenths of a microdegree
+  <LAT>      Its latitude in tenths of a microdegree: 481000000 is 48.1 degrees
+  <LON>      Its longitude in tenths of a microdegree: 115000000 is 11.5 degrees
 
 Options:
       --capacity <N>  How many sources it knows: 1 to 4096, else 64

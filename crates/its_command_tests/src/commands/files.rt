@@ -39,8 +39,8 @@ fn check_named(rt: &HostRuntime, file: &str) -> Left {
 }
 
 fn import_named(rt: &HostRuntime, from: &str, to: &str) -> Left {
-    let (out, mut err) = (Vec::new(rt.alloc()), Vec::new(rt.alloc()));
-    let status = import_file(rt, from, NOTHING, to, Lines::default(), &mut err);
+    let (mut out, mut err) = (Vec::new(rt.alloc()), Vec::new(rt.alloc()));
+    let status = import_file(rt, from, NOTHING, to, Lines::default(), &mut out, &mut err);
     Left { status, out, err }
 }
 

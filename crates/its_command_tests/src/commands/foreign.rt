@@ -66,14 +66,15 @@ fn checked(alloc: Global, parts: &[&str]) -> Result<Left, Fail> {
 }
 
 /// What `convert` leaves of it: the file that it writes in place of standard output.
-fn converted(alloc: Global, parts: &[&str], target: &str, explain: bool) -> Result<Left, Fail> {
+fn converted(alloc: Global, parts: &[&str], to: Format, explain: bool) -> Result<Left, Fail> {
     let digits = joined(alloc, parts)?;
     let file = hex::decode(alloc, digits.as_str())?;
     let (mut out, mut err) = (Vec::new(alloc), Vec::new(alloc));
     let conversion = Conversion {
         file: "a",
         format: None,
-        target,
+        target: "b",
+        to,
         lines: Lines {
             json: false,
             explain,
@@ -128,14 +129,14 @@ fn records_are_converted_each_way(rt: HostRuntime) -> Result<(), Fail> {
     let pcapng = [PCAPNG, PACKET_HEAD, gbc, PACKET_END];
     for from in [capture.as_slice(), pcap.as_slice(), pcapng.as_slice()] {
         let targets = [
-            ("b.cap", capture.as_slice()),
-            ("b.pcap", pcap.as_slice()),
-            ("b.pcapng", pcapng.as_slice()),
+            (Format::Capture, capture.as_slice()),
+            (Format::Pcap, pcap.as_slice()),
+            (Format::Pcapng, pcapng.as_slice()),
         ];
-        for (target, to) in targets {
-            let digits = joined(alloc, to)?;
+        for (to, parts) in targets {
+            let digits = joined(alloc, parts)?;
             let want = hex::decode(alloc, digits.as_str())?;
-            let left = converted(alloc, from, target, false)?;
+            let left = converted(alloc, from, to, false)?;
             left.expect(&rt, Status::Done, want.as_slice(), b"");
         }
     }
@@ -147,12 +148,12 @@ fn records_without_a_place_are_left_out(rt: HostRuntime) -> Result<(), Fail> {
     let alloc = rt.alloc();
     let empty = "00000000000000000000000000000000";
     let parts = [PCAP, CUT, empty, "00"];
-    let left = converted(alloc, &parts, "-", false)?;
+    let left = converted(alloc, &parts, Format::Capture, false)?;
     let said = "geostation: record 0: cut\ngeostation: record 1: length\n\
         geostation: capture: P1 at record 2\n";
     left.expect_err(&rt, Status::Refused, said);
     let late = "000003e800000000000100";
-    let left = converted(alloc, &[SHORT, late], "b.pcap", true)?;
+    let left = converted(alloc, &[SHORT, late], Format::Pcap, true)?;
     let want = joined(alloc, &[PCAP, "0000000088130000010000000100000000"])?;
     let file = hex::decode(alloc, want.as_str())?;
     let said = "geostation: record 1: moment (a moment whose second is 2^32 or more)\n";

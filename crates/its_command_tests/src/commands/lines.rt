@@ -181,8 +181,8 @@ fn creates_no_capture_before_all_lines_are_read(rt: HostRuntime) -> Result<(), F
     let _ = fs::remove_file(&rt, to);
     let bad = text(alloc, "7 00\n8 ", MANY, "\n")?;
     fs::write(&rt, from, bad.as_str())?;
-    let mut err = Vec::new(alloc);
-    let refused = import_file(&rt, from, NOTHING, to, Lines::default(), &mut err);
+    let (mut out, mut err) = (Vec::new(alloc), Vec::new(alloc));
+    let refused = import_file(&rt, from, NOTHING, to, Lines::default(), &mut out, &mut err);
     assert_eq!(rt; refused, Status::Refused);
     assert!(rt; fs::metadata(&rt, to).is_err());
     fs::write(&rt, from, "7 00ff\n8 aabbcc\n")?;
@@ -192,7 +192,7 @@ fn creates_no_capture_before_all_lines_are_read(rt: HostRuntime) -> Result<(), F
         assert!(rt; shortage.leave(step * STEP));
         let mut said = [0u8; 64];
         let mut err = said.as_mut_slice();
-        let status = import_file(&rt, from, NOTHING, to, Lines::default(), &mut err);
+        let status = import_file(&rt, from, NOTHING, to, Lines::default(), &mut out, &mut err);
         let is_made = fs::metadata(&rt, to).is_ok();
         assert_eq!(rt; is_made, budgets.count(&rt, status, &said));
         let _ = fs::remove_file(&rt, to);

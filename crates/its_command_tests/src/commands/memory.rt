@@ -190,8 +190,8 @@ fn imports_a_file_short_of_memory(rt: HostRuntime) -> Result<(), Fail> {
         assert!(rt; shortage.leave(step * STEP));
         let _ = fs::remove_file(&rt, to);
         let mut said = [0u8; 64];
-        let mut err = said.as_mut_slice();
-        let status = import_file(&rt, from, NOTHING, to, Lines::default(), &mut err);
+        let (mut out, mut err) = (Vec::new(alloc), said.as_mut_slice());
+        let status = import_file(&rt, from, NOTHING, to, Lines::default(), &mut out, &mut err);
         let size = fs::metadata(&rt, to).ok().map(|made| made.len());
         if budgets.count(&rt, status, &said) {
             assert_eq!(rt; size, Some(25));

@@ -4,7 +4,7 @@ use super::{DELIVER, FRAME, LINES, OPEN, SEND, STATIONS, scenario};
 use crate::command::{MeshOptions, mesh_file};
 use crate::sockets::{Received, Sent, Sockets};
 use crate::udp::UdpSockets;
-use its_commands::Status;
+use its_commands::{Status, Target};
 use std::test::Fail;
 use std::{env, fs};
 
@@ -107,7 +107,7 @@ fn frames_are_written_to_a_file(rt: HostRuntime) -> Result<(), Fail> {
         &rt,
         from.as_str(),
         b"".as_slice(),
-        Some(to.as_str()),
+        Some(Target::named(to.as_str())),
         MeshOptions::default(),
         &mut out,
         &mut err,
@@ -135,7 +135,7 @@ fn a_refused_scenario_makes_no_file(rt: HostRuntime) -> Result<(), Fail> {
         &rt,
         "-",
         b"station = 1\n".as_slice(),
-        Some(to.as_str()),
+        Some(Target::named(to.as_str())),
         MeshOptions::default(),
         &mut out,
         &mut err,

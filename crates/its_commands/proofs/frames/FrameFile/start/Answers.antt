@@ -2,7 +2,6 @@ use Rattle.std.proofs.Common.{◌≡◌, ℕ, Result, Ok, rules, refl, subst}
 use Rattle.its_pcap.specs.declared.put_fault.PutFault.{PutFault}
 use Rattle.its_pcap.specs.RecordFiles.{RecordFile, Starts}
 use Rattle.its_pcap.specs.Sinks.{file_of_sink}
-use Rattle.its_commands.specs.FileNames.{format_of_name}
 use Rattle.its_commands.specs.FrameFiles.{AddsInterfaces, fresh}
 use Rattle.its_commands.proofs.frames.FrameFile.start.Goals as goal
 
@@ -10,7 +9,7 @@ pub returns : goal.returns
 returns g c =
     let before = file_of_sink c.new-sink.result in
     let begun = file_of_sink c.start.new.self in
-    let format = format_of_name c.args.target.now in
+    let format = c.args.format in
     let is_fresh : before ≡ fresh format (g.W.Write.contents c.args.writer) = search rules in
     let is_ok : c.start.result ≡ Ok tt = search rules in
     let started : Starts before.format before begun (Ok tt) =
