@@ -133,8 +133,8 @@ fn a_pcap_file_has_seconds_and_microseconds(rt: HostRuntime) -> Result<(), Fail>
 }
 
 #[test]
-fn any_other_name_is_a_capture(rt: HostRuntime) -> Result<(), Fail> {
-    let ran = run_to(&rt, WORKED, "geostation-frames.PCAP", RunOptions::default())?;
+fn a_name_in_capitals_says_its_format(rt: HostRuntime) -> Result<(), Fail> {
+    let ran = run_to(&rt, WORKED, "geostation-frames.CAP", RunOptions::default())?;
     let digits = format!(in rt.alloc();
         "00000000000003e8004c{GEOBROADCAST}00000000000003f2004c{RELAYED}"
     )?;
