@@ -6,8 +6,10 @@
  * return GEOSTATION_OK changed nothing of the station.
  *
  * The caller's duties, which the library can't check: no pointer is NULL but where that is said;
- * objects that one call is given don't overlap; a buffer has as many octets as its length says; a
- * handle comes from geostation_new, isn't used after geostation_free, and is in one call at a time.
+ * objects that one call is given don't overlap, so that `frame` and `relay` are two buffers; a
+ * buffer has as many octets as its length says, at most PTRDIFF_MAX; what a call writes to is
+ * aligned as its type asks; a handle comes from geostation_new, isn't used after geostation_free,
+ * and is in one call at a time: a call with a const handle is a call too.
  */
 #ifndef GEOSTATION_H
 #define GEOSTATION_H
@@ -19,10 +21,17 @@
 extern "C" {
 #endif
 
+/* The library's version, and that of its layouts and calls. A program that loads the library, or
+ * that copies these layouts, compares geostation_abi() with GEOSTATION_ABI first. */
+#define GEOSTATION_VERSION "0.1.0"
+#define GEOSTATION_ABI 1
+
 /* The longest frame, in octets: a call that may write one wants a buffer with room for it. */
 #define GEOSTATION_FRAME_MAX 1468
 /* The longest payload of a request, in octets. */
 #define GEOSTATION_PAYLOAD_MAX 1394
+/* The greatest jitter of a beacon, in ms. */
+#define GEOSTATION_JITTER_MAX 750
 /* The last moment of a call, in ms. */
 #define GEOSTATION_LAST_MOMENT (UINT64_C(1) << 62)
 
@@ -145,6 +154,10 @@ struct geostation_packet {
     size_t fault_at;                   /* at 5 (L5): the octet of the packet */
 };
 
+/* What the library was built as: GEOSTATION_ABI and GEOSTATION_VERSION of its header. */
+uint32_t geostation_abi(void);
+const char *geostation_version(void);
+
 /* Makes a station to which nothing happened yet. Its location table has room for `capacity`
  * sources, 1 to 4096, and remembers the last `remember` sequence numbers of each, 1 to 64. *out is
  * its handle, or NULL where the status isn't 0 (BAD_ARGUMENT, NO_MEMORY). */
@@ -158,6 +171,12 @@ void geostation_free(geostation_handle *s);
  * -16384 to 16383, and its heading in 0.1 degree. S1, S2, BAD_ARGUMENT. */
 int geostation_move(geostation_handle *s, uint64_t now, int32_t latitude, int32_t longitude,
                     uint8_t accurate, int16_t speed, uint16_t heading);
+
+/* The same with the time stamp of the fix, in ms since 2004-01-01 TAI modulo 2^32, in place of
+ * that of `now`: a receiver tells the place of some moments ago. */
+int geostation_move_at(geostation_handle *s, uint64_t now, uint32_t timestamp,
+                       int32_t latitude, int32_t longitude, uint8_t accurate, int16_t speed,
+                       uint16_t heading);
 
 /* Opens and closes a port, at which payloads are delivered. S1, S2, S8. */
 int geostation_open_port(geostation_handle *s, uint64_t now, uint16_t port);
@@ -187,12 +206,38 @@ int geostation_send_gac(geostation_handle *s, uint64_t now,
                         const uint8_t *payload, size_t payload_length,
                         uint8_t *frame, size_t room, size_t *length);
 
+/* An SHB with this octet of a lifetime, a multiplier and a base; geostation_send_shb's is 0x1a. */
+int geostation_send_shb_for(geostation_handle *s, uint64_t now,
+                            const struct geostation_shb_request *request, uint8_t lifetime,
+                            const uint8_t *payload, size_t payload_length,
+                            uint8_t *frame, size_t room, size_t *length);
+
+/* The sequence number of the station's next packet for an area. */
+uint16_t geostation_next_number(const geostation_handle *s);
+
 /* Takes a frame that came. What is to be sent on is written to `relay`. S1 to S5, NO_ROOM. */
 int geostation_receive(geostation_handle *s, uint64_t now, const uint8_t *frame, size_t length,
                        struct geostation_reception *out, uint8_t *relay, size_t room);
 
-/* The least moment at which geostation_tick with no jitter gives a beacon, in ms: a program sleeps
- * until then, and asks anew after each other call. */
+/* The least moment at which geostation_tick with this jitter gives a beacon, in ms; UINT64_MAX for
+ * one over 750. A program draws a jitter once for each beacon, hands it to each geostation_tick
+ * until that gave the beacon, and sleeps so:
+ *
+ *     uint64_t due = geostation_beacon_at(s, jitter);
+ *     for (;;) {
+ *         if (now_ms() >= due) { .. geostation_tick(s, now_ms(), jitter, ..) ..
+ *             jitter = drawn(); due = geostation_beacon_at(s, jitter); }
+ *         .. wait until due, or for a frame, and take that ..
+ *     }
+ *
+ * It asks anew after a packet of the station's own, which puts the beacon off, and after
+ * geostation_restart; and not after a frame that came: the answer is never before the last call, so
+ * that a sleep begun anew with each frame, with a jitter added to it, never ends. */
+uint64_t geostation_beacon_at(const geostation_handle *s, uint16_t jitter);
+
+/* The same with no jitter. Since no call may be earlier than the last one, this moves on with each
+ * call, with each frame that came too, once the beacon is due: a program whose beacons have a
+ * jitter doesn't add it here, but asks geostation_beacon_at. */
 uint64_t geostation_next_beacon(const geostation_handle *s);
 
 /* Look-ups in what the station heard: of the live neighbour of least address above `after` (a
@@ -214,6 +259,13 @@ int geostation_read_frame(const uint8_t *frame, size_t length, struct geostation
 /* A sentence for a status, and for the fault of a bad frame. */
 const char *geostation_status_text(int status);
 const char *geostation_fault_text(uint32_t fault, uint32_t fault_kind);
+
+/* Writes what logs show of a status and, of GEOSTATION_BAD_FRAME, of its fault, as `S4`, `S8 B2` or
+ * `S3 L5 G9 at 10`, ended by 0, and returns its length without the 0, also where the room was too
+ * small and less is written, as snprintf does; `out` may be NULL with no room. A status that has no
+ * code has no octets. */
+size_t geostation_code(int status, uint32_t fault, uint32_t fault_kind, size_t fault_at,
+                       char *out, size_t room);
 
 #ifdef __cplusplus
 }

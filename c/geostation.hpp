@@ -36,9 +36,12 @@ inline const char *text(Status status) noexcept {
     return geostation_status_text(static_cast<int>(status));
 }
 
-/// Octets that someone else owns: a pointer and a length.
+/// What a pointer to no octets points to, since the library takes no NULL.
+inline constexpr std::uint8_t no_octets[1] = {};
+
+/// Octets that someone else owns: a pointer, which isn't NULL, and a length.
 struct Octets {
-    const std::uint8_t *data = nullptr;
+    const std::uint8_t *data = no_octets;
     std::size_t size = 0;
 };
 
@@ -109,6 +112,12 @@ class Station {
         return Status(geostation_move(handle_, now, latitude, longitude, accurate ? 1 : 0, speed,
                                       heading));
     }
+    Status move_at(std::uint64_t now, std::uint32_t timestamp, std::int32_t latitude,
+                   std::int32_t longitude, bool accurate, std::int16_t speed,
+                   std::uint16_t heading) noexcept {
+        return Status(geostation_move_at(handle_, now, timestamp, latitude, longitude,
+                                         accurate ? 1 : 0, speed, heading));
+    }
     Status open_port(std::uint64_t now, std::uint16_t port) noexcept {
         return Status(geostation_open_port(handle_, now, port));
     }
@@ -126,6 +135,12 @@ class Station {
                     Frame &frame) noexcept {
         return Status(geostation_send_shb(handle_, now, &request, payload.data, payload.size,
                                           frame.octets.data(), frame.octets.size(), &frame.size));
+    }
+    Status send_shb_for(std::uint64_t now, const geostation_shb_request &request,
+                        std::uint8_t lifetime, Octets payload, Frame &frame) noexcept {
+        return Status(geostation_send_shb_for(handle_, now, &request, lifetime, payload.data,
+                                              payload.size, frame.octets.data(),
+                                              frame.octets.size(), &frame.size));
     }
     Status send_gbc(std::uint64_t now, const geostation_area_request &request, Octets payload,
                     Frame &frame) noexcept {
@@ -151,6 +166,14 @@ class Station {
         }
         return got;
     }
+
+    /// The least moment at which `tick` with this jitter gives a beacon.
+    std::uint64_t beacon_at(std::uint16_t jitter) const noexcept {
+        return geostation_beacon_at(handle_, jitter);
+    }
+
+    /// The number of the next packet for an area.
+    std::uint16_t next_number() const noexcept { return geostation_next_number(handle_); }
 
     /// The least moment at which `tick` with no jitter gives a beacon.
     std::uint64_t next_beacon() const noexcept { return geostation_next_beacon(handle_); }

@@ -1,5 +1,5 @@
-/* Sentences for statuses and faults, and the free that passes over NULL: the part of the library
- * that is C, and no part of any proof. */
+/* Sentences and codes for statuses and faults, the version, and the free that passes over NULL: the
+ * part of the library that is C, and no part of any proof. */
 #include "geostation.h"
 
 /* The library's structs have the same layout: fields in this order, each at its own alignment. */
@@ -117,4 +117,71 @@ const char *geostation_fault_text(uint32_t fault, uint32_t fault_kind) {
     case 5: return kind_text(fault_kind);
     default: return "no fault";
     }
+}
+
+uint32_t geostation_abi(void) { return GEOSTATION_ABI; }
+
+const char *geostation_version(void) { return GEOSTATION_VERSION; }
+
+/* Where a code is written: what has no room is counted all the same. */
+struct code {
+    char *out;
+    size_t room, length;
+};
+
+static void put_text(struct code *code, const char *text) {
+    for (; *text != 0; text++) {
+        if (code->length + 1 < code->room) {
+            code->out[code->length] = *text;
+        }
+        code->length++;
+    }
+}
+
+static void put_number(struct code *code, size_t number) {
+    char digits[3 * sizeof number + 1];
+    char *first = digits + sizeof digits - 1;
+    *first = 0;
+    do {
+        *--first = (char)('0' + number % 10);
+        number /= 10;
+    } while (number != 0);
+    put_text(code, first);
+}
+
+static const char *status_code(int status) {
+    switch (status) {
+    case GEOSTATION_MOMENT_EARLIER: return "S1";
+    case GEOSTATION_MOMENT_TOO_LATE: return "S2";
+    case GEOSTATION_BAD_FRAME: return "S3";
+    case GEOSTATION_TABLE_FULL: return "S4";
+    case GEOSTATION_NO_MEMORY: return "S5";
+    case GEOSTATION_PAYLOAD_TOO_LONG: return "S6";
+    case GEOSTATION_HOP_LIMIT_ZERO: return "S7";
+    case GEOSTATION_PORT_ALREADY_OPEN: return "S8 B2";
+    case GEOSTATION_JITTER_RANGE: return "S9";
+    case GEOSTATION_PORTS_FULL: return "S8 B3";
+    case GEOSTATION_PORT_NOT_OPEN: return "S8 B4";
+    default: return "";
+    }
+}
+
+size_t geostation_code(int status, uint32_t fault, uint32_t fault_kind, size_t fault_at,
+                       char *out, size_t room) {
+    struct code code = { .out = out, .room = room, .length = 0 };
+    put_text(&code, status_code(status));
+    if (status == GEOSTATION_BAD_FRAME && fault >= 1 && fault <= 5) {
+        put_text(&code, " L");
+        put_number(&code, fault);
+        if (fault == 5) {
+            put_text(&code, " G");
+            put_number(&code, fault_kind);
+            put_text(&code, " at ");
+            put_number(&code, fault_at);
+        }
+    }
+    if (room != 0) {
+        out[code.length < room ? code.length : room - 1] = 0;
+    }
+    return code.length;
 }
