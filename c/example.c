@@ -39,6 +39,23 @@ static void put_on_air(int link, const struct sockaddr_in *peer, const uint8_t *
     }
 }
 
+/* A number that differs from one start to the next; a unit in the field asks its system for it. */
+static uint32_t drawn(void) {
+    static uint64_t state;
+    if (state == 0) {
+        struct timespec t;
+        clock_gettime(CLOCK_REALTIME, &t);
+        state = (uint64_t)t.tv_sec * 1000000000 + (uint64_t)t.tv_nsec + (uint64_t)getpid();
+    }
+    state = state * UINT64_C(6364136223846793005) + UINT64_C(1442695040888963407);
+    return (uint32_t)(state >> 33);
+}
+
+/* The jitter of a beacon: drawn once for each. */
+static uint16_t drawn_jitter(void) {
+    return (uint16_t)(drawn() % (GEOSTATION_JITTER_MAX + 1));
+}
+
 static int fail(const char *what, int status) {
     fprintf(stderr, "%s: %s\n", what, geostation_status_text(status));
     return 1;
@@ -63,6 +80,16 @@ static void hear(struct geostation *s, int link, const struct sockaddr_in *peer)
     put_on_air(link, peer, frame, r.relay_length);
 }
 
+/* Asleep until a moment, the end, or a frame that comes, which is taken. */
+static void hear_until(struct geostation *s, int link, const struct sockaddr_in *peer,
+                       uint64_t moment, uint64_t end) {
+    uint64_t next = moment < end ? moment : end, now = now_ms();
+    struct pollfd ready = { .fd = link, .events = POLLIN, .revents = 0 };
+    if (poll(&ready, 1, next > now ? (int)(next - now) : 0) > 0) {
+        hear(s, link, peer);
+    }
+}
+
 int main(int argc, char **argv) {
     if (argc < 4) {
         fprintf(stderr, "usage: example PORT PEER_PORT NUMBER [SECONDS]\n");
@@ -83,19 +110,34 @@ int main(int argc, char **argv) {
         return fail("new", status);
     }
     uint64_t now = now_ms(), end = now + 1000 * (uint64_t)(argc > 4 ? atoi(argv[4]) : 10);
-    status = geostation_open_port(s, now, 2002);
-    if (status != GEOSTATION_OK) {
-        return fail("open_port", status);
-    }
-
     const struct geostation_area_request area = {
         .port = 2002, .lifetime = 0x29, .max_hops = 3, .shape = GEOSTATION_CIRCLE,
         .latitude = 514776500, .longitude = -10000, .a = 500,
     };
     const char *warning = "road works";
+    /* others still remember the numbers of a unit that was started anew */
+    status = geostation_restart(s, now, (uint16_t)drawn());
+    if (status != GEOSTATION_OK) {
+        return fail("restart", status);
+    }
+    status = geostation_open_port(s, now, 2002);
+    if (status != GEOSTATION_OK) {
+        return fail("open_port", status);
+    }
     uint64_t warn_at = now + 500;
+    uint16_t jitter = drawn_jitter();
+    uint64_t beacon_at = geostation_beacon_at(s, jitter);
     size_t n;
     while ((now = now_ms()) < end) {
+        if (now < warn_at && now < beacon_at) {
+            hear_until(s, link, &peer, warn_at < beacon_at ? warn_at : beacon_at, end);
+            continue;
+        }
+        /* its place is handed in before each packet of its own: its time stamp is that moment */
+        status = geostation_move(s, now, 514776500, -10000, 1, 0, 0);
+        if (status != GEOSTATION_OK) {
+            return fail("move", status);
+        }
         if (now >= warn_at) {
             status = geostation_send_gbc(s, now, &area, (const uint8_t *)warning, strlen(warning),
                                          frame, sizeof frame, &n);
@@ -105,21 +147,16 @@ int main(int argc, char **argv) {
             put_on_air(link, &peer, frame, n);
             warn_at = end;
         }
-        status = geostation_tick(s, now, 0, frame, sizeof frame, &n);
+        status = geostation_tick(s, now, jitter, frame, sizeof frame, &n);
         if (status != GEOSTATION_OK) {
             return fail("tick", status);
         }
         put_on_air(link, &peer, frame, n);
-
-        /* asleep until the next beacon is due, the warning is, or a frame comes */
-        uint64_t next = geostation_next_beacon(s);
-        next = next < warn_at ? next : warn_at;
-        next = next < end ? next : end;
-        now = now_ms();
-        struct pollfd ready = { .fd = link, .events = POLLIN, .revents = 0 };
-        if (poll(&ready, 1, next > now ? (int)(next - now) : 0) > 0) {
-            hear(s, link, &peer);
+        if (n != 0) {
+            jitter = drawn_jitter();
         }
+        /* asked anew only here, after what the unit may have sent: not after frames that came */
+        beacon_at = geostation_beacon_at(s, jitter);
     }
     geostation_free(s);
     close(link);

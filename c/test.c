@@ -115,6 +115,73 @@ static void test_beacons(void) {
     geostation_free(b);
 }
 
+/* The moment of a beacon with a jitter: 3000 ms and the jitter after the last packet, and never
+ * before the last call. */
+static void test_beacon_moments(void) {
+    struct geostation *a = station(A_ADDRESS, 0, 64);
+    size_t n = 0;
+    CHECK(geostation_beacon_at(a, 0) == 0 && geostation_beacon_at(a, 750) == 750);
+    CHECK(geostation_beacon_at(a, 751) == UINT64_MAX);
+    CHECK(geostation_tick(a, 10, 0, frame, ROOM, &n) == GEOSTATION_OK && n == 50);
+    CHECK(geostation_beacon_at(a, 0) == 3010 && geostation_beacon_at(a, 750) == 3760);
+    CHECK(geostation_receive(a, 3500, frame, n, &r, relay, ROOM) == GEOSTATION_OK);
+    CHECK(geostation_next_beacon(a) == 3500 && geostation_beacon_at(a, 750) == 3760);
+    CHECK(geostation_tick(a, 3759, 750, frame, ROOM, &n) == GEOSTATION_OK && n == 0);
+    CHECK(geostation_tick(a, 3760, 750, frame, ROOM, &n) == GEOSTATION_OK && n == 50);
+    geostation_free(a);
+}
+
+/* A place of another moment, and a single-hop broadcast with a lifetime of its own: the time stamp
+ * is octets 34 to 37 of a frame, the lifetime its octet 16. */
+static void test_beside(void) {
+    static const struct geostation_shb_request request = { .port = 2001 };
+    struct geostation *a = station(A_ADDRESS, 0, 64);
+    size_t n = 99;
+    CHECK(geostation_move_at(a, 20, 0x01020304, 449, 0, 1, 0, 0) == GEOSTATION_OK);
+    CHECK(geostation_move_at(a, 19, 5, 449, 0, 1, 0, 0) == GEOSTATION_MOMENT_EARLIER);
+    CHECK(geostation_move_at(a, 20, 5, 900000001, 0, 1, 0, 0) == GEOSTATION_BAD_ARGUMENT);
+    CHECK(geostation_move_at(a, 20, 5, 449, 0, 1, 16384, 0) == GEOSTATION_BAD_ARGUMENT);
+    CHECK(geostation_send_shb_for(a, 20, &request, 0x05, HI, 2, frame, ROOM, &n)
+          == GEOSTATION_OK && n == 60);
+    CHECK(frame[16] == 0x05 && memcmp(frame + 34, "\1\2\3\4", 4) == 0);
+    CHECK(geostation_send_shb_for(a, 20, &request, 0x05, payload, 1395, frame, ROOM, &n)
+          == GEOSTATION_PAYLOAD_TOO_LONG && n == 0);
+    CHECK(geostation_send_shb_for(a, 20, &request, 0x05, HI, 2, frame, ROOM - 1, &n)
+          == GEOSTATION_NO_ROOM && n == 0);
+    CHECK(geostation_send_shb(a, 20, &request, HI, 2, frame, ROOM, &n) == GEOSTATION_OK);
+    CHECK(frame[16] == 0x1a);
+    CHECK(geostation_next_number(a) == 0);
+    CHECK(geostation_restart(a, 20, 65535) == GEOSTATION_OK);
+    CHECK(geostation_next_number(a) == 65535);
+    CHECK(geostation_send_gbc(a, 20, &AREA, HI, 2, frame, ROOM, &n) == GEOSTATION_OK);
+    CHECK(geostation_next_number(a) == 0);
+    geostation_free(a);
+}
+
+static void check_code(const char *wanted, int status, uint32_t fault, uint32_t kind, size_t at) {
+    char code[32];
+    CHECK(geostation_code(status, fault, kind, at, code, sizeof code) == strlen(wanted));
+    CHECK(strcmp(code, wanted) == 0);
+}
+
+static void test_codes(void) {
+    char code[6] = "sssss";
+    check_code("", GEOSTATION_OK, 0, 0, 0);
+    check_code("S4", GEOSTATION_TABLE_FULL, 0, 0, 0);
+    check_code("S8 B2", GEOSTATION_PORT_ALREADY_OPEN, 0, 0, 0);
+    check_code("S8 B3", GEOSTATION_PORTS_FULL, 0, 0, 0);
+    check_code("S8 B4", GEOSTATION_PORT_NOT_OPEN, 0, 0, 0);
+    check_code("S9", GEOSTATION_JITTER_RANGE, 0, 0, 0);
+    check_code("S3 L1", GEOSTATION_BAD_FRAME, 1, 0, 0);
+    check_code("S3 L5 G9 at 10", GEOSTATION_BAD_FRAME, 5, 9, 10);
+    check_code("", GEOSTATION_NO_ROOM, 0, 0, 0);
+    CHECK(geostation_code(GEOSTATION_BAD_FRAME, 5, 12, 140, NULL, 0) == 16);
+    CHECK(geostation_code(GEOSTATION_BAD_FRAME, 5, 9, 10, code, sizeof code) == 14);
+    CHECK(strcmp(code, "S3 L5") == 0);
+    CHECK(geostation_abi() == GEOSTATION_ABI);
+    CHECK(strcmp(geostation_version(), GEOSTATION_VERSION) == 0);
+}
+
 /* The frame of a geobroadcast of A, which is at longitude 0. */
 static size_t test_sending(struct geostation *a) {
     size_t n = 99;
@@ -179,7 +246,7 @@ static void test_receiving(long damaged) {
     CHECK(r.ignored == GEOSTATION_NOT_FOR_ME);
 
     /* octets that are no frame */
-    CHECK(geostation_receive(b, 25, NULL, 0, &r, relay, ROOM) == GEOSTATION_BAD_FRAME);
+    CHECK(geostation_receive(b, 25, HI, 0, &r, relay, ROOM) == GEOSTATION_BAD_FRAME);
     CHECK(r.fault == 1 && r.fault_kind == 0 && r.fault_at == 0);
     for (size_t k = 14; k < n; k++) {
         CHECK(geostation_receive(b, 25, frame, k, &r, relay, ROOM) == GEOSTATION_BAD_FRAME);
@@ -331,7 +398,7 @@ static void test_frames(void) {
     CHECK(p.fault == 5 && p.fault_kind == 1 && p.fault_at == 35);
     p.fault = 0, p.fault_kind = 0, p.fault_at = 0;
     CHECK(memcmp(&p, &nothing, sizeof p) == 0);
-    CHECK(geostation_read_frame(NULL, 0, &p) == GEOSTATION_BAD_FRAME && p.fault == 1);
+    CHECK(geostation_read_frame(HI, 0, &p) == GEOSTATION_BAD_FRAME && p.fault == 1);
     CHECK(p.fault_kind == 0 && p.fault_at == 0 && p.kind == 0);
     geostation_free(a);
 }
@@ -340,6 +407,9 @@ int main(int argc, char **argv) {
     test_new();
     test_calls();
     test_beacons();
+    test_beacon_moments();
+    test_beside();
+    test_codes();
     test_look_ups();
     test_frames();
     test_receiving(argc > 1 ? atol(argv[1]) : 1000);
