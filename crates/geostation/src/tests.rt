@@ -1,10 +1,7 @@
 //! The program over arguments, files and outputs that the tests make.
 
-mod arguments;
 mod failures;
 
-use crate::program;
-use its_commands::Status;
 use std::alloc::Global;
 use std::env;
 use std::env::{Env, FillError};
@@ -43,25 +40,4 @@ impl Alloc for Given<'_> {
     fn alloc(&self) -> Global {
         self.rt.alloc()
     }
-}
-
-/// What the program left: its status, standard output and standard error.
-#[derive(Drop)]
-struct Left {
-    status: Status,
-    out: Vec<u8>,
-    err: Vec<u8>,
-}
-
-/// What the program leaves when it is run with these arguments and nothing on standard input.
-fn left_by(rt: &HostRuntime, line: &[u8]) -> Left {
-    left_by_input(rt, line, b"")
-}
-
-/// What the program leaves when it is run with these arguments and this on standard input.
-fn left_by_input(rt: &HostRuntime, line: &[u8], input: &[u8]) -> Left {
-    let (mut out, mut err) = (Vec::new(rt.alloc()), Vec::new(rt.alloc()));
-    let arguments = env::args(&Given { rt, line });
-    let status = program::run(rt, arguments, input, &mut out, &mut err, false);
-    Left { status, out, err }
 }

@@ -1,4 +1,5 @@
-//! Tests of frames and captures through their public calls.
+//! Tests of frames, of captures and of those of other programs through their public calls, a module
+//! for each subject.
 #![tactic(auto)]
 
 #[cfg(test)]
@@ -11,3 +12,11 @@ mod frames;
 mod largest;
 #[cfg(test)]
 mod memory;
+#[cfg(test)]
+mod pcap;
+#[cfg(test)]
+mod pcapng;
+#[cfg(test)]
+mod pcapng_writer;
+#[cfg(test)]
+mod record_devices;

@@ -1,7 +1,6 @@
 //! The program where its output fails, and with every budget of memory from none to enough.
 
 use super::Given;
-use super::arguments::HELP;
 use crate::program;
 use its_commands::Status;
 use its_shortage::{STEP, Shortage, written};
@@ -9,6 +8,26 @@ use std::alloc::AllocError;
 use std::io::Write;
 use std::test::Fail;
 use std::{env, fs, io};
+
+static HELP: &str = "\
+Shows, checks and makes captures of GeoNetworking frames, and runs scenarios
+
+Usage: geostation <COMMAND>
+
+Commands:
+  show     Prints a line for each record of a capture
+  check    Prints a line for each refused record of a capture, and a count
+  convert  Writes the records of a capture in the format of another file's name
+  import   Makes a capture of lines of a moment and hexadecimal digits
+  sim      Runs a scenario and prints a line for each event
+  mesh     Runs a scenario over UDP sockets on the loopback
+  station  Is one station, driven by JSON lines on standard input
+  help     Print this message or the help of the given subcommand(s)
+
+Options:
+  -h, --help     Print help
+  -V, --version  Print version
+";
 
 static NO_MEMORY: &[u8] = b"geostation: out of memory\n";
 

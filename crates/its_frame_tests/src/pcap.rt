@@ -1,6 +1,6 @@
 //! Classic pcap: headers and records in either order of octets, each fault, and files as written.
 
-use crate::devices::Dripping;
+use crate::record_devices::Dripping;
 use its_linkframe::{CaptureFault, Counted};
 use its_pcap::{Head, PcapReader, PcapWriter, PutFault, SourceFault, Step};
 use std::test::Fail;
