@@ -21,7 +21,7 @@ Commands:
   import   Makes a capture of lines of a moment and hexadecimal digits
   sim      Runs a scenario and prints a line for each event
   mesh     Runs a scenario over UDP sockets on the loopback
-  station  Is one station, driven by JSON lines on standard input
+  station  Runs one station on JSON lines
   help     Print this message or the help of the given subcommand(s)
 
 Options:
