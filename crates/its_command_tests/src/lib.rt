@@ -1,5 +1,8 @@
-//! Tests of the commands of the program but `sim` through their public calls.
+//! Tests of the commands of the program through their public calls: memory that runs out, readers and
+//! writers that fail.
 #![tactic(auto)]
 
 #[cfg(test)]
 mod commands;
+#[cfg(test)]
+mod simulations;

@@ -1,5 +1,8 @@
-//! Tests of what a station withstands, through its public calls.
+//! Tests of what a station withstands, and of a station as a program that embeds it sees it, through
+//! its public calls.
 #![tactic(auto)]
 
+#[cfg(test)]
+mod embedding;
 #[cfg(test)]
 mod endurance;

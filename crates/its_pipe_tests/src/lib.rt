@@ -1,5 +1,7 @@
-//! Tests of a station on a pipe through its public calls.
+//! Tests of a station on a pipe, and of the reading of scenarios, through public calls.
 #![tactic(auto)]
 
 #[cfg(test)]
 mod pipes;
+#[cfg(test)]
+mod scenarios;

@@ -3,16 +3,14 @@
 ghost use Rattle.std.specs.Prelude.{◌≤◌, IfOk};
 ghost use Rattle.its_world.specs.Events.{IsConfig};
 
-mod answers;
 mod devices;
 mod interplay;
 mod large;
 mod memory;
-mod reading;
 
 use its_gnvalue::{GnAddress, Place};
 use its_pipe::{Ended, run_station};
-use its_vectors::{FIRST, SECOND};
+use its_vectors::FIRST;
 use its_world::Config;
 use std::alloc::Global;
 use std::io::Read;
@@ -63,11 +61,6 @@ fn config(address: u64, lat: i32, capacity: u16) -> Result<Config, Fail>
 /// What is left of this input by the first station, which stands at the centre of the areas.
 fn first<R: Read + Drop>(alloc: Global, input: R) -> Result<Left, Fail> {
     left_of(alloc, &config(FIRST, 0, 64)?, input)
-}
-
-/// The same by the second station, 50 m north of it.
-fn second<R: Read + Drop>(alloc: Global, input: R) -> Result<Left, Fail> {
-    left_of(alloc, &config(SECOND, 449, 64)?, input)
 }
 
 fn left_of<R: Read + Drop>(alloc: Global, config: &Config, input: R) -> Result<Left, Fail>

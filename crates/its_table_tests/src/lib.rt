@@ -1,5 +1,12 @@
-//! Tests of location tables and of lists of recent numbers through their public calls.
+//! Tests of location tables, of lists of recent numbers, of forwarding, of walks over neighbours and of
+//! ports through their public calls, a module for each subject.
 #![tactic(auto)]
 
+#[cfg(test)]
+mod forwarding;
+#[cfg(test)]
+mod pieces;
+#[cfg(test)]
+mod ports;
 #[cfg(test)]
 mod tables;

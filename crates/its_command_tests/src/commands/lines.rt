@@ -1,8 +1,8 @@
-//! Long lines, and lines that come in pieces: what `import` says of them, in bounded memory, and
-//! that it creates no capture before all lines are read.
+//! Long lines, and lines that come in pieces: `import` reads them in bounded memory, and creates no
+//! capture before all lines are read.
 
 use super::memory::Budgets;
-use super::{NOTHING, import_of, joined};
+use super::{NOTHING, joined};
 use its_commands::{Lines, Status, import_file, read_lines};
 use its_shortage::{STEP, Shortage};
 use std::alloc::{AllocError, Global};
@@ -36,67 +36,6 @@ fn said_of(fault: &str) -> &'static str {
         "length" => "geostation: line 1: length\n",
         _ => "",
     }
-}
-
-/// What stands first, zeros, what stands last, and the fault.
-#[test]
-fn judges_a_line_whole(rt: HostRuntime) -> Result<(), Fail> {
-    let cases = [
-        ("18446744073709551615 ", DIGITS, "", ""),
-        ("18446744073709551615 ", DIGITS, "\n", ""),
-        ("18446744073709551615 ", DIGITS + 1, "", "hex"),
-        ("18446744073709551615 ", DIGITS, "\r\n", "hex"),
-        ("18446744073709551615 ", DIGITS - 1, "\r\n", "hex"),
-        ("18446744073709551615 ", DIGITS + 1, "\r\n", "hex"),
-        ("18446744073709551615 ", DIGITS + 2, "", "length"),
-        ("18446744073709551615 ", DIGITS + 1, "g", "hex"),
-        ("18446744073709551615 g", DIGITS + 1, "", "hex"),
-        ("18446744073709551615 ", DIGITS, " 0", "hex"),
-        ("7 ", DIGITS + 2, "", "length"),
-        ("7 ", DIGITS + 20, "", "length"),
-        ("7 ", MANY, "", "length"),
-        ("7 ", MANY, "\n7", "length"),
-        ("7 ", MANY + 1, "", "hex"),
-        ("7 ", MANY - 1, "x", "hex"),
-        ("7 x", MANY - 1, "", "hex"),
-        ("18446744073709551616 ", MANY, "x", "moment"),
-        ("+7 ", MANY, "x", "moment"),
-        (" ", MANY, "", "moment"),
-        ("", 20, " 00", ""),
-        ("", 21, " 00", "moment"),
-        ("", 2956, " 00", "moment"),
-        ("", 2957, " 00", "moment"),
-        ("", MANY, " 00", "moment"),
-        ("", MANY, "", "moment"),
-    ];
-    for (first, zeros, last, fault) in cases {
-        let line = text(rt.alloc(), first, zeros, last)?;
-        let left = import_of(rt.alloc(), line.as_bytes());
-        let said = said_of(fault).as_bytes();
-        assert_eq!(rt; left.err.as_slice(), said, "{first}{zeros}{last}");
-        assert_eq!(rt;
-            left.out.is_empty(),
-            !fault.is_empty(),
-            "{first}{zeros}{last}"
-        );
-    }
-    Ok(())
-}
-
-/// A line after the longest one is a record of its own.
-#[test]
-fn imports_a_line_after_the_longest(rt: HostRuntime) -> Result<(), Fail> {
-    let alloc = rt.alloc();
-    let lines = text(alloc, "18446744073709551615 ", DIGITS, "\n\n7 05\n")?;
-    let made = text(
-        alloc,
-        "ffffffffffffffff05bc",
-        DIGITS,
-        "0000000000000007000105",
-    )?;
-    let want = hex::decode(alloc, made.as_str())?;
-    import_of(alloc, lines.as_bytes()).expect(&rt, Status::Done, &want, b"");
-    Ok(())
 }
 
 /// A reader whose every second call is interrupted, and which gives so many octets at the others.

@@ -1,4 +1,4 @@
-//! Refusals that are explained, or count.
+//! Refusals that count.
 
 use super::{Left, OPEN, STATIONS, scenario};
 use crate::command::{MeshOptions, mesh};
@@ -31,20 +31,6 @@ fn left_by(
         &mut err,
     );
     Ok(Left { status, out, err })
-}
-
-#[test]
-fn refusals_are_explained(rt: HostRuntime) -> Result<(), Fail> {
-    let options = MeshOptions {
-        explain: true,
-        strict: false,
-    };
-    let left = left_by(rt.alloc(), options, &[OPEN, REFUSED], None)?;
-    let want = "0 1 opened\n0 1 refused S8 B4 (the port isn't open)\n";
-    assert_eq!(rt; left.out.as_slice(), want.as_bytes());
-    assert_eq!(rt; left.status, Status::Done);
-    assert!(rt; left.err.is_empty());
-    Ok(())
 }
 
 /// A refusal counts where the mesh is strict, and less than a socket that failed.

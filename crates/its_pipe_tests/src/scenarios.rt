@@ -3,8 +3,6 @@
 mod air;
 mod defaults;
 mod memory;
-mod reasons;
-mod refusals;
 mod values;
 
 use its_scenario::{Scenario, ScenarioFault};
@@ -29,12 +27,4 @@ fn with_station(alloc: Global, keys: &str) -> Result<String, AllocError> {
 
 fn read(alloc: Global, text: &str) -> Result<Scenario, ScenarioFault> {
     Scenario::from_toml(alloc, text.as_bytes(), MOST_STATIONS)
-}
-
-/// What is printed of the fault of a text, or `read`.
-fn said(alloc: Global, text: &[u8]) -> Result<String, Fail> {
-    match Scenario::from_toml(alloc, text, MOST_STATIONS) {
-        Ok(_) => Ok("read".to_string(alloc)?),
-        Err(fault) => Ok(format!(in alloc; "{fault}")?),
-    }
 }

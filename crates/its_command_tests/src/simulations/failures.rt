@@ -1,11 +1,11 @@
-//! A reader or an output that fails, files, and every budget of memory from none to enough.
+//! A reader or an output that fails, and every budget of memory from none to enough.
 
-use super::{DELIVER, Left, OPEN, SEND, STATIONS, scenario, simulation_of};
-use its_commands::{RunOptions, Status, simulate, simulate_file};
+use super::{DELIVER, OPEN, SEND, STATIONS, scenario, simulation_of};
+use its_commands::{RunOptions, Status, simulate};
 use its_shortage::{MOST, STEP, Shortage, written};
+use std::io;
 use std::io::Read;
 use std::test::Fail;
-use std::{env, fs, io};
 
 static LINES: &str =
     "0 0 1 opened\n1 1000 0 sent 0\n2 1010 1 accepted port 2002 info 0 6869 sent 1\n";
@@ -74,36 +74,6 @@ fn a_write_that_fails_ends_it(rt: HostRuntime) -> Result<(), Fail> {
         assert!(rt; err.is_empty(), "{room}");
         assert_eq!(rt; &printed[..room], &LINES.as_bytes()[..room], "{room}");
     }
-    Ok(())
-}
-
-/// What `sim` leaves of a file.
-fn simulation_of_file(rt: &HostRuntime, file: &str) -> Left {
-    let (mut out, mut err) = (Vec::new(rt.alloc()), Vec::new(rt.alloc()));
-    let status = simulate_file(
-        rt,
-        file,
-        NOTHING,
-        None,
-        RunOptions::default(),
-        &mut out,
-        &mut err,
-    );
-    Left { status, out, err }
-}
-
-#[test]
-fn a_file_is_run(rt: HostRuntime) -> Result<(), Fail> {
-    let folder = env::temp_dir(&rt)?;
-    let made = folder.join(rt.alloc(), "geostation-sim.toml")?;
-    let text = scenario(rt.alloc(), STATIONS, &[OPEN, SEND, DELIVER])?;
-    fs::write(&rt, made.as_str(), text.as_str())?;
-    let left = simulation_of_file(&rt, made.as_str());
-    fs::remove_file(&rt, made.as_str())?;
-    left.expect_out(&rt, Status::Done, LINES);
-    let said = format!(in rt.alloc(); "geostation: cannot read {}\n", made.as_str())?;
-    let left = simulation_of_file(&rt, made.as_str());
-    left.expect_err(&rt, Status::Failed, said.as_str());
     Ok(())
 }
 

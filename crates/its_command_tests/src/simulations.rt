@@ -1,11 +1,9 @@
 //! The command `sim`: the lines of scenarios, and what ends it.
 
-mod entries;
 mod failures;
-mod large;
+mod frame_file;
 mod objects;
-mod options;
-mod refusals;
+mod progress;
 
 use its_commands::{RunOptions, Status, simulate};
 use std::alloc::{AllocError, Global};
@@ -29,17 +27,8 @@ static SEND: &str = "station = 0, at = 1000, do = \"gbc\", port = 2002, info = 0
     hops = 10, shape = \"circle\", alat = 0, alon = 0, a = 100, b = 0, angle = 0, \
     payload = \"6869\"";
 
-/// Station 0 sends a geoanycast for that circle.
-static ANYCAST: &str = "station = 0, at = 1000, do = \"gac\", port = 2002, info = 0, tc = 0, \
-    lt = 26, hops = 10, shape = \"circle\", alat = 0, alon = 0, a = 100, b = 0, angle = 0, \
-    payload = \"6869\"";
-
 /// Frame 0 is delivered to station 1.
 static DELIVER: &str = "station = 1, at = 1010, do = \"deliver\", frame = 0";
-
-/// Station 1 moves out of the circle, at moment 0.
-static MOVE_OUT: &str = "station = 1, at = 0, do = \"move\", lat = 100000, lon = 0, pai = false, \
-    speed = 0, heading = 0";
 
 /// What the command left: its status, standard output and standard error.
 #[derive(Drop)]
@@ -78,13 +67,6 @@ fn simulation_with<R: Read + Drop>(alloc: Global, options: RunOptions, reader: R
     Left { status, out, err }
 }
 
-/// The three stations, and the beginning of a list of events.
-fn scenario_begun(alloc: Global) -> Result<String, AllocError> {
-    let mut text = STATIONS.to_string(alloc)?;
-    text.push_str("event = [\n")?;
-    Ok(text)
-}
-
 fn append_event(text: &mut String, event: &str) -> Result<(), AllocError> {
     text.push_str("{")?;
     text.push_str(event)?;
@@ -100,14 +82,4 @@ fn scenario(alloc: Global, stations: &str, events: &[&str]) -> Result<String, Al
     }
     text.push_str("]\n")?;
     Ok(text)
-}
-
-/// What `sim` leaves of the three stations and these events.
-fn left_by(alloc: Global, events: &[&str]) -> Result<Left, AllocError> {
-    left_with(alloc, RunOptions::default(), events)
-}
-
-fn left_with(alloc: Global, options: RunOptions, events: &[&str]) -> Result<Left, AllocError> {
-    let text = scenario(alloc, STATIONS, events)?;
-    Ok(simulation_with(alloc, options, text.as_bytes()))
 }

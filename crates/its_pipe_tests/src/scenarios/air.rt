@@ -1,6 +1,6 @@
 //! The table of the air.
 
-use super::{read, said};
+use super::read;
 use its_scenario::{Air, Scenario};
 use std::alloc::Global;
 use std::test::Fail;
@@ -55,54 +55,6 @@ fn keys_of_the_air(rt: HostRuntime) -> Result<(), Fail> {
         assert_eq!(rt; scenario.air, Some(want), "{lines}");
     }
     assert_eq!(rt; read(rt.alloc(), "")?.air, None);
-    Ok(())
-}
-
-#[test]
-fn refused_airs(rt: HostRuntime) -> Result<(), Fail> {
-    let cases = [
-        ("", "range"),
-        ("range = 0\ndelay = -1\n", "range"),
-        ("range = 65536\n", "range"),
-        ("range = \"1\"\n", "range"),
-        ("range = 1\ndelay = -1\nloss = -1\n", "delay"),
-        ("range = 1\ndelay = 65536\n", "delay"),
-        ("range = 1\nloss = 101\nseed = -1\n", "loss"),
-        ("range = 1\nseed = -1\nbeacons = 1\n", "seed"),
-        ("range = 1\nbeacons = 1\nuntil = -1\n", "beacons"),
-        ("range = 1\nuntil = -1\n", "until"),
-        ("range = 1\nuntil = 4611686018427387905\n", "until"),
-    ];
-    for (lines, key) in cases {
-        let text = with_air(rt.alloc(), lines)?;
-        let want = format!(in rt.alloc(); "scenario: air: {key}")?;
-        assert_eq!(rt;
-            said(rt.alloc(), text.as_bytes())?.as_str(),
-            want.as_str(),
-            "{lines}"
-        );
-    }
-    Ok(())
-}
-
-/// What is no table is refused right after the arrays, the keys of the air after those of the
-/// stations and before those of the events.
-#[test]
-fn the_place_of_the_air_among_the_faults(rt: HostRuntime) -> Result<(), Fail> {
-    let cases: [(&[u8], &str); 6] = [
-        (b"air = 1\n", "scenario: air"),
-        (b"air = [{range = 1}]\n", "scenario: air"),
-        (b"air = 1\nevent = 1\n", "scenario: event"),
-        (b"air = 1\nstation = [{}, {}, {}, {}]\n", "scenario: air"),
-        (
-            b"air = {}\nstation = [{}]\n",
-            "scenario: station 0: address",
-        ),
-        (b"air = {}\nevent = [{}]\n", "scenario: air: range"),
-    ];
-    for (text, want) in cases {
-        assert_eq!(rt; said(rt.alloc(), text)?.as_str(), want);
-    }
     Ok(())
 }
 

@@ -1,5 +1,0 @@
-//! Tests of lines of JSON through public calls.
-#![tactic(auto)]
-
-#[cfg(test)]
-mod lines;
