@@ -4,35 +4,32 @@
   'use strict';
 
   const {byId, element} = geostation.dom;
-  const {run: runs, way: ways} = geostation;
-  const PIECE = 1 << 20;
-  /** How long a frame stays on the map where no send is chosen, in milliseconds. */
-  const AFTERGLOW = 20;
+  const {run: runs, way: ways, why, reason, filter, clock, load} = geostation;
+  const {countUpTo} = geostation.columns;
+  const {kindOf} = geostation.scene;
+  const LIMITS = {links: geostation.map.MOST_LINKS, circles: geostation.map.MOST_CIRCLES};
 
   /** All that is shown. */
-  const state = {run: undefined, at: 0, station: undefined, send: -1, frame: undefined, opening: 0};
+  const state = {run: undefined, at: 0, station: undefined, kind: '', result: '', send: -1,
+    chosen: undefined, rows: undefined, frames: {}, opening: 0};
 
-  const map = new geostation.map.RunMap(byId('map'), toggleStation, showFrame);
+  const map = new geostation.map.RunMap(byId('map'), byId('canvas'), toggleStation, showFrame);
   const timeline = new geostation.timeline.Timeline(go, stepBy);
+  const strip = new geostation.strip.Strip();
   const events = new geostation.list.List(byId('events'), fillEvent, (row) => {
     timeline.pause();
     go(eventOfRow(row));
   });
-  const sends = new geostation.list.List(byId('sends'), fillSend, (row) => chooseSend(row - 1));
+  const sends = new geostation.list.List(byId('sends'), fillSend, (row) => {
+    timeline.pause();
+    chooseSend(row - 1);
+    if (state.chosen) go(ways.end(state.run, state.chosen));
+  });
+  const missed = new geostation.list.List(byId('missed'), fillMissed, pickMissed);
   const tree = new geostation.list.List(byId('tree'), fillStep, (row) => {
     timeline.pause();
     go(state.steps[row].event);
   });
-
-  /** The text of a file, a piece at a time, so that the page stays alive. @param {Blob} blob */
-  async function* pieces(blob) {
-    const decoder = new TextDecoder();
-    for (let at = 0; at < blob.size; at += PIECE) {
-      const octets = await blob.slice(at, at + PIECE).arrayBuffer();
-      tell(`Reading: ${Math.round((100 * at) / blob.size)} %`);
-      yield decoder.decode(octets, {stream: at + PIECE < blob.size});
-    }
-  }
 
   /** @param {string} words */
   function tell(words) {
@@ -45,7 +42,7 @@
     const mine = state.opening;
     byId('fault').hidden = true;
     try {
-      const run = await runs.read(pieces(blob));
+      const run = await runs.read(geostation.open.pieces(blob, tell));
       if (mine === state.opening) begin(run, name);
     } catch (fault) {
       if (mine === state.opening) refuse(name, fault);
@@ -55,32 +52,36 @@
   /** @param {string} name @param {any} fault */
   function refuse(name, fault) {
     const known = fault instanceof runs.RunFault || fault instanceof DOMException;
-    const why = known ? fault.message : `It can't be read: ${fault.message}`;
-    byId('fault').textContent = `${name}: ${why}`;
+    const because = known ? fault.message : `It can't be read: ${fault.message}`;
+    byId('fault').textContent = `${name}: ${because}`;
     byId('fault').hidden = false;
     if (state.run) showTotals();
     else tell('');
   }
 
-  /** @param {import('./run.js').Run} run @param {string} name */
+  /** Shows a run from its first warning on. @param {import('./run.js').Run} run */
   function begin(run, name) {
-    Object.assign(state, {run, at: 0, station: undefined, frame: undefined}, ways.follow(run));
+    Object.assign(state, {run, name, at: 0, station: undefined, kind: '', result: '', rows: undefined,
+      frames: {}, judgements: new Map(), loads: new Map()}, ways.follow(run));
     state.total = ways.total(run);
-    state.name = name;
     document.body.dataset.state = 'run';
     document.title = `${name}: geostation`;
     byId('name').textContent = name;
-    byId('station').value = '';
+    for (const id of ['station', 'kind', 'result']) byId(id).value = '';
     byId('station').max = String(Math.max(0, run.stations.length - 1));
     byId('all').hidden = true;
     showTotals();
-    timeline.begin(run.events.length);
+    timeline.begin(run.times, state.sends.map(({event}, i) =>
+      ({event, name: `Warning ${i + 1}, at ${run.moment(event)} ms`})));
     const packets = state.sends.slice(0, 200).map((send) => ways.packetOf(run, send));
     map.begin(run, packets.map((packet) => packet?.area).filter((area) => area));
     sends.show(state.sends.length + 1, 0);
     chooseSend(state.sends.length > 0 ? 0 : -1);
     events.show(rowCount(), 0);
-    go(0);
+    const wanted = state.wanted ?? (state.chosen ? ways.end(run, state.chosen) : 0);
+    state.wanted = undefined;
+    go(wanted);
+    setTimeout(() => state.run === run && showLoad(), 30);
   }
 
   function showTotals() {
@@ -94,44 +95,51 @@
       count(total.refused, 'refused', 'refused')].join(' · '));
   }
 
-  /** The events that are listed: a station's, or all. */
   function rowCount() {
-    const {run, station} = state;
-    return station === undefined ? run.events.length : run.stations[station].events.length;
+    return state.rows ? state.rows.length : state.run.events.length;
   }
 
   /** @param {number} row */
   function eventOfRow(row) {
-    const {run, station} = state;
-    return station === undefined ? row : run.stations[station].events[row];
+    return state.rows ? state.rows[row] : row;
   }
 
   /** The row of the present event, or of the last one before it; -1 where there is none. */
   function presentRow() {
-    const {run, station, at} = state;
-    if (station === undefined) return run.events.length === 0 ? -1 : at;
-    return runs.countUpTo(run.stations[station].events, at) - 1;
+    const {run, rows, at} = state;
+    if (!rows) return run.events.length === 0 ? -1 : at;
+    return countUpTo(rows, at) - 1;
   }
 
   /** Goes to an event. @param {number} at */
   function go(at) {
     const {run} = state;
     state.at = Math.max(0, Math.min(at, run.events.length - 1));
-    const event = run.events[state.at];
-    state.frame = event && (event.sent ?? event.frame);
+    const event = run.events.at(state.at);
+    state.frames = {came: event?.frame, given: event?.sent};
     const words = event ? presentWords(event) : 'This run has no events.';
     byId('present').textContent = words;
     timeline.show(state.at, words);
     events.mark(presentRow());
     tree.mark(state.steps.findIndex((step) => step.event === state.at));
-    geostation.packet.show(byId('packet'), run, state.frame);
+    geostation.packet.show(byId('packet'), run, state.frames);
+    showPresentLoad();
     drawMap();
+    if (!timeline.playing) nameEvent();
+  }
+
+  /** Puts the present event into the page's address, once steps have ended. */
+  function nameEvent() {
+    clearTimeout(state.naming);
+    state.naming = setTimeout(() => {
+      if (state.run.events.length > 0) history.replaceState(null, '', `#event=${state.at}`);
+    }, 150);
   }
 
   /** Steps along the listed events. @param {number} by */
   function stepBy(by) {
     if (state.run.events.length === 0) return;
-    if (state.station === undefined) return void go(state.at + by);
+    if (!state.rows) return void go(state.at + by);
     const row = Math.max(0, Math.min(presentRow() + by, rowCount() - 1));
     if (rowCount() > 0) go(eventOfRow(row));
     if (row >= rowCount() - 1) timeline.pause();
@@ -139,35 +147,36 @@
 
   /** @param {import('./run.js').Event} event */
   function presentWords(event) {
-    const reason = event.reason ? ` (${event.reason})` : '';
-    return `Event ${event.index}, ${state.run.moment(event.index)} ms, station ${event.station}: ` +
-      `${runs.doing(event)}, ${runs.entry(event)}${reason}`;
+    const because = event.reason ? ` (${event.reason})` : '';
+    return `Event ${event.index}, ${state.run.moment(event.index)} ms, station ` +
+      `${state.run.name(event.station)}: ${runs.doing(event)}, ${runs.entry(event)}${because}`;
   }
 
   /** @param {number} row @returns {import('./list.js').Row} */
   function fillEvent(row) {
-    const event = state.run.events[eventOfRow(row)];
+    const event = state.run.events.at(eventOfRow(row));
     return {kind: `event ${kindOf(event)}`, title: event.reason ?? runs.entry(event), cells: [
-      ['moment', state.run.moment(event.index)], ['who', String(event.station)],
+      ['moment', state.run.moment(event.index)], ['who', state.run.name(event.station)],
       ['what', runs.doing(event)], ['entry', runs.entry(event)],
     ]};
   }
 
-  /** How an event is coloured and a delivery is drawn. @param {import('./run.js').Event} event */
-  function kindOf(event) {
-    if (event.result === 'refused') return 'refused';
-    if (event.result === 'ignored') return event.why === 'duplicate' ? 'duplicate' : 'other';
-    if (event.port !== undefined) return 'accepted delivered';
-    return event.result === 'accepted' ? 'accepted' : event.result;
+  /** Who was reached by a send and who wasn't, worked out once. */
+  function judgementOf(send) {
+    if (!state.judgements.has(send)) state.judgements.set(send, why.judge(state.run, send));
+    return state.judgements.get(send);
   }
 
   /** @param {number} row 0 for all @returns {import('./list.js').Row} */
   function fillSend(row) {
     if (row === 0) return {kind: 'send', cells: [['entry', 'All frames, as they come']]};
-    const send = ways.figures(state.run, state.sends[row - 1]);
-    return {kind: 'send', cells: [
-      ['moment', send.moment], ['who', String(send.station)], ['what', send.do],
-      ['entry', `port ${send.port ?? '?'}, delivered at ${send.delivered}`],
+    const {run} = state;
+    const send = ways.figures(run, state.sends[row - 1]);
+    const {inside, reached} = judgementOf(state.sends[row - 1]);
+    const words = `port ${send.port ?? '?'}, ${reached.length} of ${inside.length} reached`;
+    return {kind: `send${reached.length < inside.length ? ' short' : ''}`, cells: [
+      ['moment', send.moment], ['who', run.name(send.station)], ['what', send.do],
+      ['entry', words],
     ]};
   }
 
@@ -175,12 +184,14 @@
   function chooseSend(send) {
     const {run} = state;
     const chosen = state.sends[send];
-    state.send = chosen ? send : -1;
+    Object.assign(state, {chosen, send: chosen ? send : -1});
     state.steps = chosen ? ways.tree(run, chosen) : [];
-    state.deliveries = chosen ? ways.deliveries(run, state.steps) : [];
+    state.deliveries = chosen ? ways.deliveries(run, chosen) : new Int32Array(0);
     state.area = chosen && ways.packetOf(run, chosen)?.area;
+    state.judgement = chosen && judgementOf(chosen);
     sends.mark(state.send + 1);
     showFigures(chosen);
+    showMissed();
     byId('tree').hidden = !chosen;
     byId('sends').parentElement.classList.toggle('all', !chosen);
     tree.show(state.steps.length, state.steps.findIndex((step) => step.event === state.at));
@@ -193,19 +204,56 @@
     box.hidden = !send;
     if (!send) return;
     const {delivered, frames, hops, last} = ways.figures(state.run, send);
+    const {inside} = state.judgement;
+    const repeats = delivered === 0 ? '–' : (send.duplicates / delivered).toFixed(1);
     const rows = [
-      ['delivered at', delivered], ['in the area', ways.standing(state.run, send)],
-      ['frames', frames], ['hops', hops], ['last', `${last} ms`],
+      ['delivered at', delivered], ['in the area', inside.length], ['frames', frames],
+      ['hops', hops], ['last', `${last} ms`], ['dup./delivery', repeats],
     ];
     box.replaceChildren(...rows.map(([name, value]) =>
       element('div', '', element('dt', '', name), element('dd', '', String(value)))));
-    box.title = 'In the area: other stations that stood in it at the send, with any ports open';
+    box.title = 'In the area: other stations that stood in it at the send, with a port open';
+  }
+
+  /** The stations that the chosen send didn't reach. */
+  function showMissed() {
+    const {judgement, run} = state;
+    const count = judgement?.missed.length ?? 0;
+    const deaf = judgement?.deaf ?? [];
+    byId('missed-box').hidden = !judgement;
+    byId('why').textContent = '';
+    if (!judgement) return;
+    const few = deaf.slice(0, 6).map((station) => run.name(station)).join(', ');
+    const closed = deaf.length === 0 ? '' : ` Its port wasn’t open at ` +
+      `${few}${deaf.length > 6 ? ` and ${deaf.length - 6} more` : ''}.`;
+    byId('missed-title').textContent = count === 0
+      ? `All in its area have it.${closed}` : `In its area without it: ${count}.${closed}`;
+    byId('missed').hidden = count === 0;
+    missed.show(count, -1);
+  }
+
+  /** @param {number} row @returns {import('./list.js').Row} */
+  function fillMissed(row) {
+    const miss = state.judgement.missed[row];
+    return {kind: `miss ${miss.reason}`, title: reason.sentence(state.run, state.chosen, miss),
+      cells: [['who', state.run.name(miss.station)], ['entry', miss.reason],
+        ['note', reason.short(miss)]]};
+  }
+
+  /** Tells why a station wasn't reached, and goes to where it came closest. @param {number} row */
+  function pickMissed(row) {
+    timeline.pause();
+    const miss = state.judgement.missed[row];
+    missed.mark(row);
+    byId('why').textContent = reason.sentence(state.run, state.chosen, miss);
+    chooseStation(miss.station);
+    if (miss.event !== undefined) go(miss.event);
   }
 
   /** @param {number} row @returns {import('./list.js').Row} */
   function fillStep(row) {
     const {event, station, hop, delivered, sent, duplicates} = state.steps[row];
-    const start = state.run.elapsed(state.sends[state.send].event, event);
+    const start = state.run.elapsed(state.chosen.event, event);
     const words = [hop === 0 ? 'sent it' : delivered ? 'delivered' : 'accepted'];
     if (hop > 0 && sent !== undefined) words.push('relayed');
     if (duplicates > 0) words.push(`${duplicates} knew it`);
@@ -213,76 +261,58 @@
     const later = event > state.at ? ' later' : '';
     const note = words.join(', ');
     return {kind: `step ${kind}${later}`, hop: Math.min(hop, 12), title: note, cells: [
-      ['entry', `station ${station}`], ['note', note], ['moment', `+${start} ms`],
+      ['entry', `station ${state.run.name(station)}`], ['note', note], ['moment', `+${start} ms`],
     ]};
   }
 
-  /** @param {number} index of a delivery @returns {import('./map.js').Link | undefined} */
-  function linkOf(index) {
-    const {run, at} = state;
-    const event = run.events[index];
-    const frame = run.frames[event.frame];
-    if (!frame) return undefined;
-    const kind = kindOf(event).split(' ')[0];
-    return {from: run.events[frame.giver].station, to: event.station, frame: event.frame, kind,
-      isNew: index === at};
-  }
-
-  /** The deliveries on the map: of the chosen send so far, else those of the last moments. */
-  function seenDeliveries() {
-    const {run, at, send, deliveries} = state;
-    const most = geostation.map.MOST_LINKS;
-    if (send >= 0) {
-      const end = runs.countUpTo(deliveries, at);
-      return deliveries.slice(Math.max(0, end - most), end);
-    }
-    const found = [];
-    const {moment} = run.events[at];
-    for (let i = at; i >= 0 && i > at - 4 * most && found.length < most; i -= 1) {
-      const event = run.events[i];
-      if (Math.abs(moment - event.moment) > AFTERGLOW) break;
-      if (event.do === 'deliver') found.push(i);
-    }
-    return found.reverse();
-  }
-
-  /** What each station did of the chosen send so far. */
-  function rolesSoFar() {
-    const roles = new Map();
-    for (const {event, station, hop, delivered} of state.steps) {
-      if (event > state.at) continue;
-      if (hop === 0) roles.set(station, 'sender');
-      else if (delivered) roles.set(station, 'delivered');
-      else if (!roles.has(station)) roles.set(station, 'reached');
-    }
-    return roles;
-  }
-
-  /**
-   * The areas of the sends whose frames are on the map.
-   * @param {import('./map.js').Link[]} links
-   */
-  function seenAreas(links) {
-    if (state.send >= 0) return state.area ? [state.area] : [];
-    const numbers = new Set(links.map(({frame}) => state.sendOf[frame]));
-    numbers.add(state.sendOf[state.frame] ?? -1);
-    numbers.delete(-1);
-    const packets = [...numbers].slice(-8).map((i) => ways.packetOf(state.run, state.sends[i]));
-    return packets.map((packet) => packet?.area).filter((area) => area);
-  }
-
   function drawMap() {
-    const {run, at, station} = state;
-    const isEmpty = run.events.length === 0;
-    const links = isEmpty ? [] : seenDeliveries().map(linkOf).filter((link) => link);
-    map.show({at, active: run.events[at]?.station, chosen: station, links,
-      areas: isEmpty ? [] : seenAreas(links), roles: rolesSoFar()});
+    map.show(geostation.scene.scene(state, {...LIMITS, isRange: byId('range').checked}));
   }
 
-  /** Shows a frame's packet. @param {number} frame */
-  function showFrame(frame) {
-    state.frame = frame;
-    geostation.packet.show(byId('packet'), state.run, frame);
+  /** Shows the load of the chosen station or of all, which is worked out once, in turns. */
+  function showLoad() {
+    const {run, station, loads} = state;
+    state.repeats = load.repeats(run, station);
+    strip.show(run.times, loads.get(station), timeline.speed);
+    showPresentLoad();
+    if (loads.has(station)) return;
+    const turns = load.inTurns(run, station);
+    const turn = () => {
+      if (state.run !== run || state.station !== station) return;
+      const {done, value} = turns.next();
+      if (!done) return void setTimeout(turn, 0);
+      loads.set(station, value);
+      showLoad();
+    };
+    turn();
+  }
+
+  /** The strip's figures at the present moment. */
+  function showPresentLoad() {
+    const {run, station, at, repeats} = state;
+    const part = clock.fraction(run.times, at, timeline.speed);
+    byId('cursor').style.left = `${(100 * part).toFixed(2)}%`;
+    const bin = strip.binAt(run.times[at] ?? 0);
+    if (!bin || !repeats) return void (byId('load').textContent = '');
+    const percent = (share) => `${(100 * share).toFixed(share < 0.1 ? 2 : 0)} %`;
+    const rate = (1000 * bin.frames) / strip.load.width;
+    const again = repeats.delivered === 0 ? `${repeats.duplicates} duplicates`
+      : `${(repeats.duplicates / repeats.delivered).toFixed(1)} duplicates a delivery`;
+    const full = repeats.full > 0 ? `, ${repeats.full} refused as full` : '';
+    const busy = station === undefined
+      ? `air busy ${percent(bin.busy)} (median), ${percent(bin.most)} (most)`
+      : `air busy ${percent(bin.busy)}`;
+    const table = `${station === undefined ? 'fullest table' : 'table'} ${bin.table}${full}`;
+    byId('load').textContent = [station === undefined ? 'All' : `Station ${run.name(station)}`,
+      `${Math.round(rate)} frames/s`, busy, again, table].join(' · ');
+  }
+
+  /** Shows a frame that came, and the one that was given for it. */
+  function showFrame(frame, event) {
+    const {run} = state;
+    const given = run.events.isDelivery(event) ? run.events.at(event).sent : undefined;
+    state.frames = {came: frame, given};
+    geostation.packet.show(byId('packet'), run, state.frames);
     byId('packet').closest('section').scrollIntoView({block: 'nearest'});
   }
 
@@ -290,9 +320,17 @@
   function chooseStation(station) {
     state.station = station;
     byId('station').value = station === undefined ? '' : String(station);
-    byId('all').hidden = station === undefined;
-    events.show(rowCount(), presentRow());
+    listEvents();
+    showLoad();
     drawMap();
+  }
+
+  /** Lists the events that are chosen by station, kind and result. */
+  function listEvents() {
+    const {run, station, kind, result} = state;
+    state.rows = filter.rows(run, {station, kind, result});
+    byId('all').hidden = state.rows === undefined;
+    events.show(rowCount(), presentRow());
   }
 
   /** @param {number} station */
@@ -300,68 +338,46 @@
     chooseStation(station === state.station ? undefined : station);
   }
 
-  function openShown() {
-    const input = byId('file');
-    const pick = () => input.click();
-    byId('open').addEventListener('click', pick);
-    byId('choose').addEventListener('click', pick);
-    byId('sample').addEventListener('click', () =>
-      open(new Blob([geostation.sample]), 'sample: ice on a road'));
-    input.addEventListener('change', () => {
-      const [file] = input.files;
-      if (file) open(file, file.name);
-      input.value = '';
-    });
-  }
-
-  function openDropped() {
-    const drop = byId('drop');
-    document.addEventListener('dragover', (event) => {
-      event.preventDefault();
-      drop.hidden = false;
-    });
-    document.addEventListener('dragleave', (event) => {
-      if (event.relatedTarget === null) drop.hidden = true;
-    });
-    document.addEventListener('drop', (event) => {
-      event.preventDefault();
-      drop.hidden = true;
-      const [file] = event.dataTransfer.files;
-      if (file) open(file, file.name);
-    });
-  }
-
-  /** `?run=NAME` opens a file that is served from where the page is. */
-  async function openNamed() {
-    const name = new URLSearchParams(location.search).get('run');
-    if (name === null) return;
-    try {
-      const address = new URL(name, location.href);
-      if (address.origin !== location.origin || location.protocol === 'file:') {
-        throw new Error('“?run=” opens only what is served beside this page: drop it here');
-      }
-      const answer = await fetch(address);
-      if (!answer.ok) throw new Error(`the server answered ${answer.status}`);
-      await open(await answer.blob(), name);
-    } catch (fault) {
-      refuse(name, fault);
-    }
+  function showAll() {
+    Object.assign(state, {kind: '', result: ''});
+    for (const id of ['kind', 'result']) byId(id).value = '';
+    chooseStation(undefined);
   }
 
   function listen() {
     byId('zoom-in').addEventListener('click', () => map.zoom(1.5));
     byId('zoom-out').addEventListener('click', () => map.zoom(1 / 1.5));
     byId('zoom-fit').addEventListener('click', () => map.fit());
-    byId('all').addEventListener('click', () => chooseStation(undefined));
+    byId('range').addEventListener('change', drawMap);
+    byId('all').addEventListener('click', showAll);
     byId('station').addEventListener('input', () => {
       const number = byId('station').value === '' ? -1 : Number(byId('station').value);
       chooseStation(state.run.stations[number] ? number : undefined);
     });
+    for (const name of ['kind', 'result']) {
+      const options = filter[`${name.toUpperCase()}S`].map((word) => new Option(word, word));
+      byId(name).append(...options);
+      byId(name).addEventListener('change', () => {
+        state[name] = byId(name).value;
+        listEvents();
+      });
+    }
+    window.addEventListener('hashchange', () => {
+      const wanted = clock.eventOf(location.hash);
+      if (wanted === undefined) return;
+      timeline.pause();
+      if (state.run) go(wanted);
+      else state.wanted = wanted;
+    });
+    timeline.changed = () => state.run && showLoad();
+    timeline.paused = () => state.run && nameEvent();
+    for (const handle of document.querySelectorAll('.handle')) geostation.split.listen(handle);
   }
 
-  openShown();
-  openDropped();
+  state.wanted = clock.eventOf(location.hash);
+  geostation.open.shown(open);
+  geostation.open.dropped(open);
   listen();
-  openNamed();
-  geostation.app = {state, open, go};
+  geostation.open.named(open, refuse);
+  geostation.app = {state, open, go, map, timeline};
 })(globalThis.geostation ??= {});

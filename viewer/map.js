@@ -1,15 +1,15 @@
-//! The map: stations where they stand, their trails, areas, and the frames that pass between them.
-//! North is up. Only what is in sight changes is drawn again.
+//! The map: its view and scale, the areas and circles of range. Stations and frames are drawn by
+//! `drawn.js`, of more than a thousand stations by `canvas.js`. North is up.
 
 (function (geostation) {
   'use strict';
 
-  const {svg, set, Pool} = geostation.dom;
+  const {byId, svg, set, Pool} = geostation.dom;
+  const {shape} = geostation;
   const MOST_LINKS = 400;
-  /** With more than these, lines have no tips. */
-  const MANY_LINKS = 120;
-  const MOST_LABELS = 60;
-  const LONGEST_TRAIL = 200;
+  const MOST_CIRCLES = 60;
+  /** With more stations than these, they are painted on a canvas. */
+  const MOST_ELEMENTS = 1000;
   const MARGIN = 0.075;
 
   /** @typedef {{east: number, north: number}} Point in metres from the run's origin */
@@ -17,7 +17,8 @@
   /**
    * @typedef {object} Link a frame that reached a station
    * @property {number} from station @property {number} to station @property {number} frame
-   * @property {string} kind accepted, duplicate, other or refused
+   * @property {number} event of the delivery, of a lost one of the giving
+   * @property {string} kind accepted, duplicate, other, refused or lost
    * @property {boolean} isNew whether the present event is it
    */
 
@@ -28,24 +29,31 @@
    * @property {number | undefined} chosen station
    * @property {Link[]} links
    * @property {import('./geo.js').Area[]} areas
-   * @property {Map<number, string>} roles of stations: sender, delivered, reached
+   * @property {Map<number, string>} roles of stations: sender, delivered, reached, missed
+   * @property {{place: object, metres: number, isNew: boolean}[]} circles of range
+   * @property {string[]} unseen what can't be drawn
    */
 
   class RunMap {
     /**
      * @param {SVGSVGElement} root
+     * @param {HTMLCanvasElement} canvas below it
      * @param {(station: number) => void} pickStation
-     * @param {(frame: number) => void} pickFrame
+     * @param {(frame: number, event: number) => void} pickFrame
      */
-    constructor(root, pickStation, pickFrame) {
+    constructor(root, canvas, pickStation, pickFrame) {
       this.root = root;
       this.layers = {};
-      root.append(makeMarkers());
-      for (const name of ['grid', 'areas', 'trails', 'links', 'stations', 'labels', 'scale']) {
+      root.append(geostation.drawn.makeMarkers());
+      for (const name of ['grid', 'areas', 'circles', 'trails', 'links', 'stations', 'labels',
+        'scale']) {
         this.layers[name] = svg('g', {class: name});
         root.append(this.layers[name]);
       }
-      this.links = new Pool(makeLink, this.layers.links);
+      this.drawn = new geostation.drawn.Drawn(this.layers, this);
+      this.painted = new geostation.canvas.Painted(canvas, this);
+      this.painter = this.drawn;
+      this.circles = new Pool(() => svg('circle', {class: 'range'}), this.layers.circles);
       this.areas = new Pool(() => svg('path', {class: 'area'}), this.layers.areas);
       this.makeScale();
       this.view = {east: 0, north: 0, scale: 1};
@@ -64,27 +72,12 @@
       this.run = run;
       this.scene = undefined;
       this.origin = run.stations[0] ?? {lat: 0, lon: 0};
-      const isFew = run.stations.length <= MOST_LABELS;
-      const radius = isFew ? 8 : run.stations.length <= 300 ? 5 : 3.5;
-      this.stations = run.stations.map((_, i) => this.makeStation(i, radius, isFew));
-      this.layers.stations.replaceChildren(...this.stations.map(({dot}) => dot));
-      const labels = this.stations.map(({label}) => label).filter((label) => label);
-      this.layers.labels.replaceChildren(...labels);
-      this.layers.trails.replaceChildren();
+      this.painter.clear();
+      this.painter = run.stations.length > MOST_ELEMENTS ? this.painted : this.drawn;
+      this.painter.begin(run);
       this.bounds = this.findBounds(areas);
       this.measure();
       this.fit();
-    }
-
-    /** @param {number} index @param {number} radius @param {boolean} isLabelled */
-    makeStation(index, radius, isLabelled) {
-      const dot = svg('circle', {class: 'station', r: radius, 'data-station': index});
-      const title = svg('title');
-      title.textContent = `station ${index}, ${this.run.stations[index].address}`;
-      dot.append(title);
-      const label = isLabelled ? svg('text', {class: 'label'}) : undefined;
-      if (label) label.textContent = String(index);
-      return {dot, label, radius, trail: undefined, place: undefined, role: '', x: 0, y: 0};
     }
 
     /** @param {import('./geo.js').Place} place @returns {Point} */
@@ -104,10 +97,8 @@
         bounds.south = Math.min(bounds.south, north - by);
         bounds.north = Math.max(bounds.north, north + by);
       };
-      for (const station of this.run.stations) {
-        take(this.point(station), 0);
-        for (const move of station.moves) take(this.point(this.run.events[move]), 0);
-      }
+      for (const station of this.run.stations) take(this.point(station), 0);
+      for (const move of this.run.moves.members) take(this.point(this.run.place(move)), 0);
       if (bounds.west > bounds.east) take({east: 0, north: 0}, 50);
       const size = Math.max(bounds.east - bounds.west, bounds.north - bounds.south);
       const near = Math.max(0.1 * size, 150);
@@ -115,7 +106,7 @@
       const within = (low, value, high) => Math.max(low - near, Math.min(value, high + near));
       for (const area of areas.filter(({a, b}) => Math.max(a, b) <= Math.max(size, near))) {
         const centre = this.point(area);
-        for (const corner of outline(area, 16)) {
+        for (const corner of shape.outline(area, 16)) {
           take({
             east: within(west, centre.east + corner.east, east),
             north: within(south, centre.north + corner.north, north),
@@ -187,70 +178,38 @@
       this.draw(false);
     }
 
+    /** Where a place is on the screen. @param {import('./geo.js').Place} place */
+    screenOf(place) {
+      return this.screen(this.point(place));
+    }
+
     /** @param {boolean} isAnew whether all moves on the screen */
     draw(isAnew) {
-      this.stations.forEach((station, index) => this.drawStation(station, index, isAnew));
-      this.drawLinks();
+      this.painter.draw(this.scene, isAnew);
       this.drawAreas();
+      this.drawCircles();
+      const unseen = [...this.scene.unseen, ...this.painter.unseen()];
+      const words = unseen.length === 0 ? '' : `Not drawn: ${unseen.join('; ')}.`;
+      const box = byId('unseen');
+      if (box.textContent !== words) box.textContent = words;
     }
 
-    /** @param {any} station @param {number} index @param {boolean} isAnew */
-    drawStation(station, index, isAnew) {
-      const {at, active, chosen, roles} = this.scene;
-      const place = this.run.placeAt(index, at);
-      if (isAnew || place !== station.place) {
-        station.place = place;
-        Object.assign(station, this.screen(this.point(place)));
-        const [x, y] = [station.x.toFixed(1), station.y.toFixed(1)];
-        set(station.dot, {cx: x, cy: y});
-        if (station.label) set(station.label, {x, y, dy: 3.8});
-        this.drawTrail(station, index);
+    drawCircles() {
+      this.circles.begin();
+      for (const {place, metres, isNew} of this.scene.circles.slice(-MOST_CIRCLES)) {
+        const {x, y} = this.screenOf(place);
+        const r = (metres * this.view.scale).toFixed(1);
+        const circle = this.circles.next();
+        set(circle, {cx: x.toFixed(1), cy: y.toFixed(1), r, class: `range${isNew ? ' new' : ''}`});
       }
-      const role = [roles.get(index) ?? '', index === active ? 'active' : '',
-        index === chosen ? 'chosen' : ''].join(' ');
-      if (role === station.role) return;
-      station.role = role;
-      station.dot.setAttribute('class', `station ${role}`);
-      station.label?.setAttribute('class', `label ${role}`);
-    }
-
-    /** @param {any} station @param {number} index */
-    drawTrail(station, index) {
-      if (this.run.stations[index].moves.length === 0) return;
-      if (!station.trail) {
-        station.trail = svg('polyline', {class: 'trail'});
-        this.layers.trails.append(station.trail);
-      }
-      const places = this.run.trail(index, this.scene.at).slice(-LONGEST_TRAIL);
-      const points = places.map((place) => this.screen(this.point(place)));
-      const text = points.map(({x, y}) => `${x.toFixed(1)},${y.toFixed(1)}`).join(' ');
-      station.trail.setAttribute('points', points.length > 1 ? text : '');
-    }
-
-    drawLinks() {
-      this.links.begin();
-      this.layers.links.classList.toggle('many', this.scene.links.length > MANY_LINKS);
-      for (const link of this.scene.links.slice(-MOST_LINKS)) {
-        const from = this.stations[link.from];
-        const to = this.stations[link.to];
-        if (!from || !to || from === to) continue;
-        const path = arc(from, to, to.radius + 3);
-        if (path === '') continue;
-        const group = this.links.next();
-        const kind = `link ${link.kind}${link.isNew ? ' new' : ''}`;
-        if (group.dataset.frame !== String(link.frame)) group.dataset.frame = String(link.frame);
-        if (group.getAttribute('class') !== kind) group.setAttribute('class', kind);
-        if (group.firstChild.getAttribute('d') === path) continue;
-        for (const line of group.children) line.setAttribute('d', path);
-      }
-      this.links.finish();
+      this.circles.finish();
     }
 
     drawAreas() {
       this.areas.begin();
       for (const area of this.scene.areas) {
         const centre = this.point(area);
-        const points = outline(area, 72).map(({east, north}) =>
+        const points = shape.outline(area, 72).map(({east, north}) =>
           this.screen({east: centre.east + east, north: centre.north + north}));
         const text = points.map(({x, y}) => `${x.toFixed(1)} ${y.toFixed(1)}`).join('L');
         this.areas.next().setAttribute('d', `M${text}Z`);
@@ -271,7 +230,7 @@
 
     /** @param {number} width @param {number} height */
     drawScale(width, height) {
-      const metres = roundLength(110 / this.view.scale);
+      const metres = shape.roundLength(110 / this.view.scale);
       const long = metres * this.view.scale;
       const y = height - 18;
       set(this.bar, {d: `M16 ${y - 6}V${y}H${(16 + long).toFixed(1)}V${y - 6}`});
@@ -297,20 +256,22 @@
     }
 
     click(event, pickStation, pickFrame) {
-      if (this.hasDragged) return;
-      const station = event.target.closest('[data-station]');
-      const link = event.target.closest('[data-frame]');
-      if (station) pickStation(Number(station.dataset.station));
-      else if (link) pickFrame(Number(link.dataset.frame));
+      if (this.hasDragged || !this.scene) return;
+      const found = this.painter.hit(event, this.at(event));
+      if (found?.station !== undefined) pickStation(found.station);
+      else if (found) pickFrame(found.frame, found.event);
+    }
+
+    /** Where an event of the pointer is on the map. @param {MouseEvent} event */
+    at(event) {
+      const box = this.root.getBoundingClientRect();
+      return {x: event.clientX - box.left, y: event.clientY - box.top};
     }
 
     /** Wheel and pinch come closer, a drag moves the map. */
     listen() {
       const fingers = new Map();
-      const at = (event) => {
-        const box = this.root.getBoundingClientRect();
-        return {x: event.clientX - box.left, y: event.clientY - box.top};
-      };
+      const at = (event) => this.at(event);
       this.root.addEventListener('wheel', (event) => {
         event.preventDefault();
         const {x, y} = at(event);
@@ -348,71 +309,5 @@
     }
   }
 
-  function makeMarkers() {
-    const defs = svg('defs');
-    for (const kind of ['accepted', 'duplicate', 'other', 'refused']) {
-      const marker = svg('marker', {id: `tip-${kind}`, class: `tip ${kind}`, viewBox: '0 0 8 8',
-        refX: 6.5, refY: 4, markerUnits: 'userSpaceOnUse', orient: 'auto',
-        markerWidth: kind === 'accepted' ? 10 : 7, markerHeight: kind === 'accepted' ? 10 : 7});
-      marker.append(svg('path', {d: 'M0.5 0.5L7.5 4L0.5 7.5z'}));
-      defs.append(marker);
-    }
-    return defs;
-  }
-
-  /** A line that is seen, and a wider one to click at. */
-  function makeLink() {
-    const group = svg('g', {class: 'link'});
-    group.append(svg('path', {class: 'hit'}), svg('path', {class: 'seen'}));
-    return group;
-  }
-
-  /** An arc between two points of the screen, bent to the left, so that both ways are seen. */
-  function arc(from, to, gap) {
-    const dx = to.x - from.x;
-    const dy = to.y - from.y;
-    const length = Math.hypot(dx, dy);
-    if (length < 2 * gap) return '';
-    const bend = Math.min(0.16 * length, 46);
-    const cx = (from.x + to.x) / 2 + (dy / length) * bend;
-    const cy = (from.y + to.y) / 2 - (dx / length) * bend;
-    const start = toward(from, {x: cx, y: cy}, gap - 2);
-    const end = toward(to, {x: cx, y: cy}, gap);
-    const text = [start.x, start.y, cx, cy, end.x, end.y].map((value) => value.toFixed(1));
-    return `M${text[0]} ${text[1]}Q${text[2]} ${text[3]} ${text[4]} ${text[5]}`;
-  }
-
-  /** The point that is some pixels from one to another. */
-  function toward(from, to, by) {
-    const part = by / (Math.hypot(to.x - from.x, to.y - from.y) || 1);
-    return {x: from.x + (to.x - from.x) * part, y: from.y + (to.y - from.y) * part};
-  }
-
-  /**
-   * The border of an area, in metres from its centre.
-   * @param {import('./geo.js').Area} area @param {number} steps of a round one @returns {Point[]}
-   */
-  function outline({shape, a, b, angle}, steps) {
-    const wide = shape === 'circle' ? a : b;
-    const corners = shape === 'rectangle' ? [[a, b], [a, -b], [-a, -b], [-a, b]]
-      : Array.from({length: steps}, (_, i) => {
-        const turn = (2 * Math.PI * i) / steps;
-        return [a * Math.cos(turn), wide * Math.sin(turn)];
-      });
-    const cos = Math.cos((angle * Math.PI) / 180);
-    const sin = Math.sin((angle * Math.PI) / 180);
-    return corners.map(([along, across]) => ({
-      north: along * cos - across * sin,
-      east: along * sin + across * cos,
-    }));
-  }
-
-  /** The greatest of 1, 2, 5, 10, 20 .. that isn't over a length. @param {number} length */
-  function roundLength(length) {
-    const power = 10 ** Math.floor(Math.log10(length));
-    const step = [5, 2, 1].find((digit) => digit * power <= length) ?? 1;
-    return step * power;
-  }
-
-  geostation.map = {RunMap, outline, roundLength, MOST_LINKS};
+  geostation.map = {RunMap, MOST_LINKS, MOST_CIRCLES};
 })(globalThis.geostation ??= {});

@@ -57,9 +57,12 @@
     return rows;
   }
 
-  /** @param {string[][]} rows */
-  function table(rows) {
-    const parts = ([name, value]) => [element('dt', '', name), element('dd', '', value)];
+  /** @param {string[][]} rows @param {Map<string, string>} other values to compare with */
+  function table(rows, other) {
+    const parts = ([name, value]) => {
+      const isOther = other.size > 0 && other.get(name) !== value;
+      return [element('dt', '', name), element('dd', isOther ? 'changed' : '', value)];
+    };
     return element('dl', 'fields', ...rows.flatMap(parts));
   }
 
@@ -68,34 +71,55 @@
    * @param {import('./run.js').Run} run @param {number} number
    */
   function fate(run, number) {
-    const {giver, deliveries} = run.frames[number];
-    const count = (holds) => deliveries.filter((index) => holds(run.events[index])).length;
-    const accepted = count(({result}) => result === 'accepted');
-    const ignored = count(({result}) => result === 'ignored');
-    const refused = count(({result}) => result === 'refused');
-    const {station} = run.events[giver];
-    return `Frame ${number}, given by station ${station} at ${run.moment(giver)} ms: ` +
-      `${accepted} accepted it, ${ignored} ignored it, ${refused} refused it.`;
+    const {giver} = run.frames.at(number);
+    const deliveries = Array.from(run.deliveries.of(number));
+    const count = (result) => deliveries.filter((index) => run.events.is(index, result)).length;
+    const lost = run.lost.of(number).length;
+    const words = `Frame ${number}, given by station ${run.name(run.events.at(giver).station)} at ` +
+      `${run.moment(giver)} ms: ${count('accepted')} accepted it, ${count('ignored')} ignored it, ` +
+      `${count('refused')} refused it`;
+    return lost > 0 ? `${words}, ${lost} lost it.` : `${words}.`;
+  }
+
+  /** The rows of a frame's fields, none where it is no packet. */
+  function rowsOf(run, number) {
+    const {packet, fault} = geostation.frame.decode(run.frames.octets[number]);
+    return {rows: packet ? fields(packet) : [], fault};
   }
 
   /**
-   * Shows a frame, or that there is none.
-   * @param {HTMLElement} box @param {import('./run.js').Run} run @param {number | undefined} number
+   * A frame's part of the panel.
+   * @param {import('./run.js').Run} run @param {number} number @param {string} title
+   * @param {string[][]} before rows to compare its own with
    */
-  function show(box, run, number) {
+  function part(run, number, title, before) {
+    const {rows, fault} = rowsOf(run, number);
+    const body = fault ? element('p', 'quiet', `Its octets are no packet: ${fault}.`)
+      : table(rows, new Map(before));
+    const code = element('code', 'octets', run.frames.octets[number]);
+    return element('div', 'frame', ...(title ? [element('h3', '', title)] : []),
+      element('p', 'fate', fate(run, number)), body, code);
+  }
+
+  /**
+   * Shows the frame that came and the one that was given, or that there is none.
+   * @param {HTMLElement} box @param {import('./run.js').Run} run
+   * @param {{came?: number, given?: number}} frames
+   */
+  function show(box, run, {came, given}) {
     box.scrollTop = 0;
-    if (number === undefined || !run.frames[number]) {
-      const why = number === undefined ? 'The present event has no frame.'
-        : `No frame has the number ${number}.`;
-      box.replaceChildren(element('p', 'quiet', why));
+    const isThere = (number) => number !== undefined && number < run.frames.length;
+    if (isThere(came) && isThere(given)) {
+      const {rows} = rowsOf(run, came);
+      box.replaceChildren(part(run, came, 'The frame that came', []),
+        part(run, given, 'The frame that was given for it', rows));
       return;
     }
-    const {octets} = run.frames[number];
-    const {packet, fault} = geostation.frame.decode(octets);
-    const body = packet ? table(fields(packet))
-      : element('p', 'quiet', `Its octets are no packet: ${fault}.`);
-    const code = element('code', 'octets', octets);
-    box.replaceChildren(element('p', 'fate', fate(run, number)), body, code);
+    const number = came ?? given;
+    const why = number === undefined ? 'The present event has no frame.'
+      : `No frame has the number ${number}.`;
+    box.replaceChildren(isThere(number) ? part(run, number, '', [])
+      : element('p', 'quiet', why));
   }
 
   geostation.packet = {show, fields};

@@ -1,48 +1,30 @@
-//! A run: the lines that `geostation sim --json` prints, read one by one. A line that isn't such a
-//! line is refused with a sentence for a person.
+//! A run: the lines that `geostation sim --json` prints, its notes among them, read one by one. A
+//! line that isn't such a line is refused with a sentence for a person.
 
 (function (geostation) {
   'use strict';
 
-  /**
-   * @typedef {object} Event
-   * @property {number} index its place in the run, from 0
-   * @property {number} moment in milliseconds
-   * @property {string} [exact] the moment's digits, where it is past what a number holds
-   * @property {number} station
-   * @property {string} do
-   * @property {string} result
-   * @property {number} [frame] the number of a delivered frame
-   * @property {number} [lat] of a move
-   * @property {number} [lon] of a move
-   * @property {string} [why] it was ignored
-   * @property {string} [code] of what it was refused for
-   * @property {string} [reason] the code's sentence
-   * @property {number} [port] at which a payload was delivered
-   * @property {number} [info]
-   * @property {string} [payload]
-   * @property {number} [sent] the number of the frame that the station gave
-   */
+  const {Events, Frames, Notes, DO, RESULT, NOTES} = geostation.events;
+  const {Groups, countUpTo} = geostation.columns;
+
+  /** @typedef {import('./events.js').Event} Event */
 
   /**
    * @typedef {object} Station
    * @property {string} address
    * @property {number} lat where it begins
    * @property {number} lon
-   * @property {number[]} moves indexes of its moves that weren't refused
-   * @property {number[]} events indexes of all its events
+   * @property {string} [id] its name in the file of moves
+   * @property {number} born how many events were run before it was made, 0 of the scenario's own
    */
 
   /**
-   * @typedef {object} Frame
-   * @property {number} giver the index of the event that gave it
-   * @property {string} octets in hexadecimal
-   * @property {number[]} deliveries indexes of the events that delivered it
+   * @typedef {object} Air how frames are heard, as the first line tells
+   * @property {number} range in metres
+   * @property {number} delay in milliseconds
+   * @property {number} loss in percent
+   * @property {number | null} until the last moment that is run
    */
-
-  const DOS = ['move', 'open', 'close', 'restart', 'tick', 'shb', 'gbc', 'gac', 'deliver'];
-  const RESULTS = ['moved', 'opened', 'closed', 'restarted', 'quiet', 'sent', 'ignored',
-    'accepted', 'refused'];
 
   /** No line of a run comes near it: 65535 stations take some 4 million letters. */
   const LONGEST_LINE = 1 << 24;
@@ -71,11 +53,15 @@
     constructor() {
       /** @type {Station[]} */
       this.stations = [];
-      /** @type {Event[]} */
-      this.events = [];
-      /** @type {Frame[]} */
-      this.frames = [];
+      this.events = new Events();
+      this.frames = new Frames();
+      this.notes = new Notes();
+      /** @type {Air | undefined} */
+      this.air = undefined;
+      /** The lines of `--summary` behind the run, by the event of their send. */
+      this.summaries = new Map();
       this.lines = 0;
+      this.scanner = new geostation.line.Scanner();
     }
 
     /**
@@ -85,9 +71,10 @@
      */
     add(text) {
       this.lines += 1;
-      const value = this.parse(text);
+      const value = this.scanner.read(text) ?? this.parse(text);
       if (this.lines === 1) this.addStations(value);
-      else this.addEvent(value, text);
+      else if (value.event !== undefined) this.addEvent(value, text);
+      else this.addOther(value);
     }
 
     /** @param {string} why @returns {never} */
@@ -116,26 +103,74 @@
       if (!Array.isArray(value.stations)) {
         throw new RunFault(`${NOT_A_RUN}: its first line has no “stations”.`);
       }
-      for (const [i, station] of value.stations.entries()) {
-        if (!/^[0-9a-f]{16}$/.test(station?.address)) this.refuse(`station ${i} has no address`);
-        if (!isPlace(station)) this.refuse(`station ${i} has no place`);
-        const {address, lat, lon} = station;
-        this.stations.push({address, lat, lon, moves: [], events: []});
+      for (const station of value.stations) this.addStation(station);
+      if (value.air !== undefined) this.addAir(value.air);
+    }
+
+    /** @param {any} air */
+    addAir(air) {
+      if (!isWhole(air?.range, 1, 65535)) this.refuse('its air has no range');
+      const {range, delay = 1, loss = 0, until = null} = air;
+      if (!isWhole(delay, 0, 65535)) this.refuse('the air’s delay is none');
+      if (!isWhole(loss, 0, 100)) this.refuse('the air’s loss is none');
+      this.air = {range, delay, loss, until};
+    }
+
+    /** @param {any} station */
+    addStation(station) {
+      const i = this.stations.length;
+      if (!/^[0-9a-f]{16}$/.test(station?.address)) this.refuse(`station ${i} has no address`);
+      if (!isPlace(station)) this.refuse(`station ${i} has no place`);
+      const {address, lat, lon, id} = station;
+      const name = typeof id === 'string' ? {id} : {};
+      this.stations.push({address, lat, lon, ...name, born: this.events.length});
+    }
+
+    /** A note, a station that a row of moves made, a line of the summary. @param {any} value */
+    addOther(value) {
+      if (value.note !== undefined) this.addNote(value);
+      else if (value.address !== undefined) this.addMade(value);
+      else if (value.send !== undefined) this.addSummary(value);
+      else if (value.total === undefined) this.refuse(`“event” isn't ${this.events.length}`);
+    }
+
+    /** @param {any} value */
+    addMade(value) {
+      if (value.station !== this.stations.length) {
+        this.refuse(`“station” isn't ${this.stations.length}`);
       }
+      this.addStation(value);
+    }
+
+    /** @param {any} value */
+    addNote(value) {
+      if (!NOTES.includes(value.note)) this.refuse('“note” is unknown');
+      if (!isWhole(value.moment, 0, 2 ** 63)) this.refuse('“moment” is missing or no moment');
+      if (value.note !== 'absent') this.whole(value, 'station', 65535);
+      if (value.note === 'lost') this.whole(value, 'frame', 2 ** 31 - 1);
+      this.notes.push(value, this.events.length - 1);
+    }
+
+    /** @param {any} value */
+    addSummary(value) {
+      const isPair = (pair) => Array.isArray(pair) && isWhole(pair[0], 0, 65535) &&
+        typeof pair[1] === 'string';
+      const {send, missed} = value;
+      if (missed !== undefined && !(Array.isArray(missed) && missed.every(isPair))) {
+        this.refuse('“missed” is no list of stations and reasons');
+      }
+      this.summaries.set(send, value);
     }
 
     /** @param {any} value @param {string} text */
     addEvent(value, text) {
       const event = this.readEvent(value);
-      if (!Number.isSafeInteger(event.moment)) event.exact = /"moment":(\d+)/.exec(text)?.[1];
-      const station = this.stations[event.station];
-      this.events.push(event);
-      station?.events.push(event.index);
-      if (event.result === 'moved') station?.moves.push(event.index);
-      if (event.do === 'deliver') this.frames[event.frame]?.deliveries.push(event.index);
-      if (event.sent !== undefined) {
-        this.frames.push({giver: event.index, octets: value.octets, deliveries: []});
+      const {index} = event;
+      if (!Number.isSafeInteger(event.moment)) {
+        this.events.exact.set(index, /"moment":(\d+)/.exec(text)?.[1]);
       }
+      this.events.push(event);
+      if (event.sent !== undefined) this.frames.push(index, value.octets);
     }
 
     /** @param {any} value @returns {Event} */
@@ -144,8 +179,8 @@
       if (index !== this.events.length) this.refuse(`“event” isn't ${this.events.length}`);
       if (!isWhole(moment, 0, 2 ** 63)) this.refuse('“moment” is missing or no moment');
       if (!isWhole(station, 0, 65535)) this.refuse('“station” is missing or no number');
-      if (!DOS.includes(what)) this.refuse('“do” is missing or unknown');
-      if (!RESULTS.includes(result)) this.refuse('“result” is missing or unknown');
+      if (DO[what] === undefined) this.refuse('“do” is missing or unknown');
+      if (RESULT[result] === undefined) this.refuse('“result” is missing or unknown');
       const event = {index, moment, station, do: what, result};
       if (what === 'deliver') event.frame = this.whole(value, 'frame', 2 ** 32 - 1);
       if (what === 'move') this.readMove(value, event);
@@ -196,16 +231,34 @@
       return value[key];
     }
 
-    /** @throws {RunFault} where no line came */
+    /** Puts events and notes into groups. @throws {RunFault} where no line came */
     end() {
       if (this.lines === 0) throw new RunFault(`${NOT_A_RUN}: it is empty.`);
+      const {events, notes, stations} = this;
+      const {station, result, frame} = events;
+      const count = events.length;
+      const most = stations.length;
+      const within = (i) => (station.values[i] < most ? station.values[i] : -1);
+      this.byStation = new Groups(count, most, within);
+      const isMove = (i) => result.values[i] === RESULT.moved;
+      this.moves = new Groups(count, most, (i) => (isMove(i) ? within(i) : -1));
+      const giver = this.frames.giver.values;
+      const known = (i) => frame.values[i] < this.frames.length && giver[frame.values[i]] < i;
+      const delivered = (i) => (events.isDelivery(i) && known(i) ? frame.values[i] : -1);
+      this.deliveries = new Groups(count, this.frames.length, delivered);
+      const lost = (i) => (notes.is(i, 'lost') ? notes.frame.values[i] : -1);
+      const isKnown = (i) => lost(i) < this.frames.length;
+      this.lost = new Groups(notes.length, this.frames.length, (i) => (isKnown(i) ? lost(i) : -1));
+      const isPresence = (i) => notes.is(i, 'came') || notes.is(i, 'left');
+      const comer = (i) => (notes.station.values[i] < most ? notes.station.values[i] : -1);
+      this.presence = new Groups(notes.length, most, (i) => (isPresence(i) ? comer(i) : -1));
+      this.times = risingTimes(events);
       return this;
     }
 
     /** A moment's digits. @param {number} index */
     moment(index) {
-      const {moment, exact} = this.events[index];
-      return exact ?? String(moment);
+      return this.events.exact.get(index) ?? String(this.events.moment.values[index]);
     }
 
     /**
@@ -218,35 +271,54 @@
 
     /** Where a station stands once an event was run. @param {number} station @param {number} at */
     placeAt(station, at) {
-      const {moves} = this.stations[station];
+      const moves = this.moves.of(station);
       const count = countUpTo(moves, at);
-      return count === 0 ? this.stations[station] : this.events[moves[count - 1]];
+      return count === 0 ? this.stations[station] : this.place(moves[count - 1]);
+    }
+
+    /** The place of a move. @param {number} event @returns {import('./geo.js').Place} */
+    place(event) {
+      return {lat: this.events.lat.values[event], lon: this.events.lon.values[event]};
     }
 
     /**
-     * The places at which a station stood, its first included.
-     * @param {number} station @param {number} at
+     * The places at which a station stood, its first included, at most so many, the last ones.
+     * @param {number} station @param {number} at @param {number} [most]
      */
-    trail(station, at) {
-      const {moves} = this.stations[station];
-      const moved = moves.slice(0, countUpTo(moves, at));
-      return [this.stations[station], ...moved.map((index) => this.events[index])];
+    trail(station, at, most = Infinity) {
+      const moves = this.moves.of(station);
+      const count = countUpTo(moves, at);
+      const moved = Array.from(moves.subarray(Math.max(0, count - most), count));
+      const places = moved.map((event) => this.place(event));
+      return count < most ? [this.stations[station], ...places] : places;
+    }
+
+    /** Whether a station is there once an event was run. @param {number} station */
+    isPresent(station, at) {
+      const notes = this.presence.of(station);
+      const {after} = this.notes;
+      let told = 0;
+      while (told < notes.length && after.values[notes[told]] <= at) told += 1;
+      if (told > 0) return this.notes.is(notes[told - 1], 'came');
+      if (notes.length > 0) return this.notes.is(notes[0], 'left');
+      return this.stations[station].born <= Math.max(0, at);
+    }
+
+    /** The name that a station is shown by. @param {number} station */
+    name(station) {
+      return this.stations[station]?.id ?? String(station);
     }
   }
 
-  /**
-   * How many of some rising numbers are at most `limit`.
-   * @param {number[]} rising @param {number} limit
-   */
-  function countUpTo(rising, limit) {
-    let low = 0;
-    let high = rising.length;
-    while (low < high) {
-      const middle = (low + high) >> 1;
-      if (rising[middle] <= limit) low = middle + 1;
-      else high = middle;
+  /** The greatest moment up to each event: moments of a scenario without an air may fall. */
+  function risingTimes(events) {
+    const times = new Float64Array(events.length);
+    let latest = 0;
+    for (let i = 0; i < times.length; i += 1) {
+      latest = Math.max(latest, events.moment.values[i]);
+      times[i] = latest;
     }
-    return low;
+    return times;
   }
 
   /** What was done, as `sim` prints it. @param {Event} event */
@@ -287,5 +359,5 @@
     return run.end();
   }
 
-  geostation.run = {Run, RunFault, read, doing, entry, countUpTo};
+  geostation.run = {Run, RunFault, read, doing, entry};
 })(globalThis.geostation ??= {});

@@ -1,9 +1,12 @@
-//! Time: the slider, playing, and steps from event to event.
+//! Time: the slider with the marks of warnings, playing, and steps from event to event.
 
 (function (geostation) {
   'use strict';
 
-  const {byId} = geostation.dom;
+  const {byId, element} = geostation.dom;
+  const {clock} = geostation;
+  /** More marks would be one band. */
+  const MOST_MARKS = 400;
 
   class Timeline {
     /** @param {(at: number) => void} go to an event @param {(step: number) => void} stepBy */
@@ -11,35 +14,83 @@
       this.go = go;
       this.stepBy = stepBy;
       this.playing = false;
-      this.owed = 0;
+      this.times = new Float64Array(0);
+      this.marked = [];
       this.slider = byId('slider');
+      this.slider.max = String(clock.STEPS);
       this.button = byId('play');
-      this.slider.addEventListener('input', () => go(Number(this.slider.value)));
+      this.slider.addEventListener('input', () => this.slide());
       this.button.addEventListener('click', () => this.toggle());
       byId('previous').addEventListener('click', () => this.step(-1));
       byId('next').addEventListener('click', () => this.step(1));
+      byId('speed').addEventListener('change', () => this.change());
       document.addEventListener('keydown', (event) => this.key(event));
     }
 
-    /** @param {number} count of events */
-    begin(count) {
+    /**
+     * Begins with another run.
+     * @param {Float64Array} times of its events
+     * @param {{event: number, name: string}[]} marks of its warnings
+     */
+    begin(times, marks) {
       this.pause();
-      this.count = count;
-      this.slider.max = String(Math.max(0, count - 1));
+      this.times = times;
+      this.marked = marks;
+      this.at = 0;
+      this.drawMarks();
+    }
+
+    get count() {
+      return this.times.length;
+    }
+
+    get speed() {
+      return clock.speed(byId('speed').value);
+    }
+
+    /** Another speed: the slider may go by another measure. */
+    change() {
+      this.drawMarks();
+      this.place();
+      this.changed?.();
+    }
+
+    drawMarks() {
+      const marks = this.marked.slice(0, MOST_MARKS).map(({event, name}) => {
+        const mark = element('button', 'mark');
+        mark.type = 'button';
+        mark.tabIndex = -1;
+        mark.title = name;
+        mark.style.left = `${100 * clock.fraction(this.times, event, this.speed)}%`;
+        mark.addEventListener('click', () => this.step(event - this.at, event));
+        return mark;
+      });
+      byId('marks').replaceChildren(...marks);
+    }
+
+    slide() {
+      this.clock?.set(this.at);
+      this.go(clock.eventAt(this.times, Number(this.slider.value) / clock.STEPS, this.speed));
     }
 
     /** @param {number} at @param {string} words what the event is */
     show(at, words) {
       this.at = at;
-      this.slider.value = String(at);
+      this.clock?.set(at);
       this.slider.setAttribute('aria-valuetext', words);
-      this.slider.style.setProperty('--done', String(at / Math.max(1, this.count - 1)));
+      this.place();
     }
 
-    /** @param {number} by */
-    step(by) {
+    place() {
+      const part = clock.fraction(this.times, this.at, this.speed);
+      this.slider.value = String(Math.round(part * clock.STEPS));
+    }
+
+    /** @param {number} by @param {number} [to] an event */
+    step(by, to) {
       this.pause();
-      this.stepBy(by);
+      if (to === undefined) this.stepBy(by);
+      else this.go(to);
     }
 
     toggle() {
@@ -51,12 +102,12 @@
       if (this.count < 2) return;
       if (this.at >= this.count - 1) this.go(0);
       this.playing = true;
-      this.owed = 0;
+      this.clock = new clock.Clock(this.times, this.at);
       this.mark('⏸', 'Pause');
       let before = performance.now();
       const turn = (now) => {
         if (!this.playing) return;
-        this.advance(Math.min(250, now - before));
+        this.advance(Math.min(250, Math.max(0, now - before)));
         before = now;
         requestAnimationFrame(turn);
       };
@@ -65,16 +116,20 @@
 
     /** @param {number} millis that went by */
     advance(millis) {
-      this.owed += (millis / 1000) * Number(byId('speed').value);
-      const steps = Math.floor(this.owed);
-      this.owed -= steps;
-      if (steps > 0) this.stepBy(steps);
+      const {speed} = this;
+      const before = this.at;
+      const steps = this.clock.advance(millis, speed);
+      if (steps > 0 && speed.by === 'time') this.go(before + steps);
+      else if (steps > 0) this.stepBy(steps);
       if (this.at >= this.count - 1) this.pause();
     }
 
     pause() {
+      const wasPlaying = this.playing;
       this.playing = false;
+      this.clock = undefined;
       this.mark('▶', 'Play');
+      if (wasPlaying) this.paused?.();
     }
 
     /** @param {string} sign @param {string} name */

@@ -1,17 +1,19 @@
 //! The way of a send: from which frame each frame comes, which stations a geobroadcast or a
-//! geoanycast reached and when. The figures are those of `sim --summary`, but for `inside`, which
-//! needs the open ports: they aren't in the output of `sim --json`.
+//! geoanycast reached and when. The figures are those of `sim --summary`.
 
 (function (geostation) {
   'use strict';
+
+  const {DO} = geostation.events;
 
   /**
    * @typedef {object} Send
    * @property {number} event the index of the event that sent it
    * @property {number} first the number of its own frame
-   * @property {number} frames how many frames it made, its own among them
+   * @property {number[]} numbers of the frames that it made, its own first
    * @property {Map<number, number>} reached the event of the first delivery at each station
    * @property {number} hops the most that a delivery took, 1 for the send's own frame
+   * @property {number} duplicates how often a frame of it was ignored as one
    */
 
   /**
@@ -35,31 +37,39 @@
     const depth = new Int32Array(run.frames.length);
     /** @type {Send[]} */
     const sends = [];
-    for (const event of run.events) {
-      if (event.sent !== undefined) {
-        if (event.do === 'deliver') {
-          sendOf[event.sent] = sendOf[event.frame];
-          depth[event.sent] = depth[event.frame] + 1;
-        } else if (event.do === 'gbc' || event.do === 'gac') {
-          sendOf[event.sent] = sends.length;
-          const {index, sent: first} = event;
-          sends.push({event: index, first, frames: 0, reached: new Map(), hops: 0});
-        }
-        const send = sends[sendOf[event.sent]];
-        if (send) send.frames += 1;
+    const {events} = run;
+    const known = run.deliveries;
+    for (let i = 0; i < events.length; i += 1) {
+      const sent = events.sent.values[i];
+      const isDelivery = events.isDelivery(i);
+      const frame = isDelivery ? events.frame.values[i] : -1;
+      if (sent >= 0 && isDelivery) {
+        sendOf[sent] = sendOf[frame];
+        depth[sent] = depth[frame] + 1;
+      } else if (sent >= 0 && hasArea(events.do.values[i])) {
+        sendOf[sent] = sends.length;
+        sends.push({event: i, first: sent, numbers: [], reached: new Map(), hops: 0,
+          duplicates: 0});
       }
-      if (event.do === 'deliver' && event.port !== undefined) {
-        const send = sends[sendOf[event.frame]];
-        if (send) noteDelivery(send, event, depth[event.frame] + 1);
-      }
+      if (sent >= 0) sends[sendOf[sent]]?.numbers.push(sent);
+      const send = frame >= 0 && frame < known.starts.length - 1 && sends[sendOf[frame]];
+      if (send) noteDelivery(send, events, i, depth[frame] + 1);
     }
     return {sends, sendOf, depth};
   }
 
-  /** @param {Send} send @param {import('./run.js').Event} event @param {number} hops */
-  function noteDelivery(send, event, hops) {
+  /** Whether a call is a geobroadcast or a geoanycast. @param {number} what */
+  function hasArea(what) {
+    return what === DO.gbc || what === DO.gac;
+  }
+
+  /** @param {Send} send @param {any} events @param {number} index @param {number} hops */
+  function noteDelivery(send, events, index, hops) {
+    if (events.wordOf(index) === 'duplicate') send.duplicates += 1;
+    if (events.port.values[index] < 0) return;
+    const station = events.station.values[index];
     send.hops = Math.max(send.hops, hops);
-    if (!send.reached.has(event.station)) send.reached.set(event.station, event.index);
+    if (!send.reached.has(station)) send.reached.set(station, index);
   }
 
   /**
@@ -80,23 +90,7 @@
    * @param {import('./run.js').Run} run @param {Send} send
    */
   function packetOf(run, send) {
-    return geostation.frame.decode(run.frames[send.first].octets).packet;
-  }
-
-  /**
-   * How many other stations stood in the area at the send, whatever ports they had open.
-   * @param {import('./run.js').Run} run @param {Send} send
-   */
-  function standing(run, send) {
-    const area = packetOf(run, send)?.area;
-    if (!area) return 0;
-    const sender = run.events[send.event].station;
-    let count = 0;
-    for (let station = 0; station < run.stations.length; station += 1) {
-      if (station === sender) continue;
-      if (geostation.geo.contains(area, run.placeAt(station, send.event))) count += 1;
-    }
-    return count;
+    return geostation.frame.decode(run.frames.octets[send.first]).packet;
   }
 
   /**
@@ -104,14 +98,14 @@
    * @param {import('./run.js').Run} run @param {Send} send
    */
   function figures(run, send) {
-    const {station, do: what} = run.events[send.event];
+    const {station, do: what} = run.events.at(send.event);
     return {
       moment: run.moment(send.event),
       station,
       do: what,
       port: packetOf(run, send)?.port,
       delivered: send.reached.size,
-      frames: send.frames,
+      frames: send.numbers.length,
       hops: send.hops,
       last: String(last(run, send)),
     };
@@ -127,10 +121,10 @@
     const waiting = [{index: send.event, hop: 0}];
     while (waiting.length > 0) {
       const {index, hop} = waiting.pop();
-      const {station, sent, port} = run.events[index];
-      const deliveries = sent === undefined ? [] : run.frames[sent].deliveries;
-      const accepted = deliveries.filter((i) => run.events[i].result === 'accepted');
-      const duplicates = deliveries.filter((i) => run.events[i].why === 'duplicate').length;
+      const {station, sent, port} = run.events.at(index);
+      const deliveries = sent === undefined ? [] : Array.from(run.deliveries.of(sent));
+      const accepted = deliveries.filter((i) => run.events.is(i, 'accepted'));
+      const duplicates = deliveries.filter((i) => run.events.wordOf(i) === 'duplicate').length;
       steps.push({event: index, station, hop, delivered: port !== undefined, sent, duplicates});
       for (const next of accepted.reverse()) waiting.push({index: next, hop: hop + 1});
     }
@@ -139,28 +133,38 @@
 
   /**
    * All deliveries of a send's frames, in the order of the run.
-   * @param {import('./run.js').Run} run @param {Step[]} steps
+   * @param {import('./run.js').Run} run @param {Send} send @returns {Int32Array}
    */
-  function deliveries(run, steps) {
-    const all = [];
-    for (const {sent} of steps) {
-      if (sent !== undefined) for (const index of run.frames[sent].deliveries) all.push(index);
+  function deliveries(run, send) {
+    const parts = send.numbers.map((frame) => run.deliveries.of(frame));
+    const all = new Int32Array(parts.reduce((sum, {length}) => sum + length, 0));
+    let at = 0;
+    for (const part of parts) {
+      all.set(part, at);
+      at += part.length;
     }
-    return all.sort((a, b) => a - b);
+    return all.sort();
+  }
+
+  /** The event at which a send's way ends. @param {import('./run.js').Run} run @param {Send} send */
+  function end(run, send) {
+    return deliveries(run, send).at(-1) ?? send.event;
   }
 
   /** The counts of a whole run, by the summary's names. @param {import('./run.js').Run} run */
   function total(run) {
     const counts = {events: run.events.length, frames: run.frames.length, deliveries: 0,
       duplicates: 0, ignored: 0, refused: 0};
-    for (const event of run.events) {
-      if (event.port !== undefined) counts.deliveries += 1;
-      if (event.why === 'duplicate') counts.duplicates += 1;
-      else if (event.result === 'ignored') counts.ignored += 1;
-      if (event.result === 'refused') counts.refused += 1;
+    const {events} = run;
+    for (let i = 0; i < events.length; i += 1) {
+      if (events.port.values[i] >= 0) counts.deliveries += 1;
+      if (events.is(i, 'refused')) counts.refused += 1;
+      else if (events.is(i, 'ignored')) {
+        counts[events.wordOf(i) === 'duplicate' ? 'duplicates' : 'ignored'] += 1;
+      }
     }
     return counts;
   }
 
-  geostation.way = {follow, figures, standing, tree, deliveries, total, packetOf};
+  geostation.way = {follow, figures, tree, deliveries, end, total, packetOf};
 })(globalThis.geostation ??= {});

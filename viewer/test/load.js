@@ -8,7 +8,8 @@ const path = require('node:path');
 const vm = require('node:vm');
 
 const TOP = path.join(__dirname, '..');
-const NAMES = ['dom', 'geo', 'frame', 'run', 'way', 'map'];
+const NAMES = ['dom', 'geo', 'columns', 'events', 'frame', 'line', 'run', 'way', 'why', 'reason',
+  'clock', 'filter', 'load', 'shape', 'drawn', 'canvas', 'map', 'scene', 'split'];
 
 /** @returns {any} the namespace `geostation`, with the parts that are tested by node */
 function load() {

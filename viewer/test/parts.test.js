@@ -10,7 +10,7 @@ const test = require('node:test');
 const {load, TOP} = require('./load.js');
 const samples = require('./samples.js');
 
-const {frame, geo, map, run: runs, way} = load();
+const {frame, geo, shape, run: runs, way, why} = load();
 const EXAMPLES = path.join(TOP, '..', 'cases', 'data');
 const WARNING = 'ffffffffffff020000000001894711001a0a2040008000060a00000000001400020000000001' +
   '000000000000000000000000000000000000000000000000006400000000000007d200006869';
@@ -108,7 +108,7 @@ test('an area is drawn where the stations have it', () => {
     {shape: 'ellipse', a: 400, b: 90, angle: 338}, {shape: 'rectangle', a: 50, b: 400, angle: 200},
   ];
   for (const area of areas.map((size) => ({...size, lat: 0, lon: 0}))) {
-    for (const {east, north} of map.outline(area, 32)) {
+    for (const {east, north} of shape.outline(area, 32)) {
       const at = (part) => ({lat: Math.round((part * north) / 0.011132),
         lon: Math.round((part * east) / 0.011132)});
       assert.equal(geo.contains(area, at(0.99)), true, `${area.shape} ${area.angle}`);
@@ -120,7 +120,7 @@ test('an area is drawn where the stations have it', () => {
 test('the scale bar is a round length', () => {
   const lengths = [0.3, 1, 1.9, 2, 4.99, 9, 10, 499, 500, 99999];
   const rounded = [0.2, 1, 1, 2, 2, 5, 10, 200, 500, 50000];
-  assert.deepEqual(lengths.map(map.roundLength), rounded);
+  assert.deepEqual(lengths.map(shape.roundLength), rounded);
 });
 
 test('the four stations run as their scenario says', async () => {
@@ -142,14 +142,15 @@ test('the figures of the four stations are those of their summary', async () => 
   assert.deepEqual(others, []);
   assert.deepEqual(way.figures(run, send), {moment: '1000', station: 0, do: 'gbc', port: 2002,
     delivered: 1, frames: 4, hops: 3, last: '3'});
-  assert.equal(way.standing(run, send), 1);
+  assert.deepEqual(why.judge(run, send).inside, [3]);
   assert.deepEqual(way.total(run),
     {events: 8, frames: 4, deliveries: 1, duplicates: 2, ignored: 1, refused: 0});
   const steps = way.tree(run, send);
   assert.deepEqual(steps.map(({station, hop, delivered, duplicates}) =>
     [station, hop, delivered, duplicates]),
   [[0, 0, false, 0], [1, 1, false, 0], [2, 2, false, 1], [3, 3, true, 1]]);
-  assert.deepEqual(way.deliveries(run, steps), [2, 3, 4, 5, 6, 7]);
+  assert.deepEqual(Array.from(way.deliveries(run, send)), [2, 3, 4, 5, 6, 7]);
+  assert.equal(way.end(run, send), 7);
 });
 
 test('a station delivers a send twice, and is counted once', async () => {
@@ -161,7 +162,7 @@ test('a station delivers a send twice, and is counted once', async () => {
   const {delivered, hops, last, frames} = way.figures(run, way.follow(run).sends[0]);
   assert.deepEqual({delivered, hops, last, frames}, {delivered: 1, hops: 1, last: '4', frames: 1});
   assert.equal(way.total(run).deliveries, 2);
-  assert.equal(runs.entry(run.events[1]), 'accepted port 2002 info 0 -');
+  assert.equal(runs.entry(run.events.at(1)), 'accepted port 2002 info 0 -');
 });
 
 test('moments past what a number holds are exact', async () => {
@@ -182,8 +183,8 @@ test('stations stand where they last moved, a refused move aside', async () => {
   const run = await read(text);
   assert.deepEqual([-1, 0, 1, 2].map((at) => run.placeAt(0, at).lat), [0, 10, 10, 30]);
   assert.deepEqual(run.trail(0, 2).map(({lat}) => lat), [0, 10, 30]);
-  assert.equal(runs.entry(run.events[1]), 'refused S1');
-  assert.equal(run.events[1].reason, 'earlier than the clock');
+  assert.equal(runs.entry(run.events.at(1)), 'refused S1');
+  assert.equal(run.events.at(1).reason, 'earlier than the clock');
 });
 
 test('lines are whole wherever the text was cut into pieces', async () => {
@@ -217,6 +218,12 @@ test('what is no run is refused with a sentence', async () => {
     [`${HEAD}\n${open.replace('"moment":0', '"moment":-1')}`, /“moment”/],
     [`${HEAD}\n${open.replace('"station":0', '"station":"0"')}`, /“station”/],
     [`${HEAD}\n${open.replace('open"', 'fly"')}`, /“do”/],
+    [`${HEAD}\n${open.replace('open"', 'constructor"')}`, /“do”/],
+    [`${HEAD}\n{"note":"gone","moment":1}`, /“note” is unknown/],
+    [`${HEAD}\n{"note":"lost","moment":1,"station":0}`, /“frame”/],
+    [`${HEAD}\n{"station":2,"address":"1400020000000003","lat":0,"lon":0}`, /isn't 1/],
+    [HEAD.replace('}]}', '}],"air":{}}'), /air has no range/],
+    [`${HEAD}\n{"send":1,"missed":[1]}`, /“missed”/],
     [`${HEAD}\n${open.replace('opened', 'gone')}`, /“result”/],
     [`${HEAD}\n${open.replace('opened"', 'sent","sent":1')}`, /“sent” isn't 0/],
     [`${HEAD}\n${open.replace('opened"', 'sent","sent":0,"octets":"0"')}`, /“octets”/],

@@ -5,10 +5,12 @@
 
 const fs = require('node:fs');
 const path = require('node:path');
+const {frame} = require('./encode.js');
 const {World} = require('./world.js');
 const {TOP} = require('./load.js');
 
 const DATA = path.join(__dirname, 'data');
+const LOSS = path.join(DATA, 'loss.jsonl');
 
 /** Four stations 400 m apart, and a warning for where the last one stands. */
 function four() {
@@ -90,6 +92,122 @@ function town() {
   return world.run();
 }
 
+/** A city of 100 by 100 stations that move, hear their eight neighbours, and warn some blocks. */
+class City {
+  /** @param {string} file @param {number} most events */
+  constructor(file, most) {
+    this.most = most;
+    this.side = 100;
+    this.file = fs.openSync(file, 'w');
+    this.lines = [];
+    this.events = 0;
+    this.frames = 0;
+    this.numbers = 0;
+    this.stations = Array.from({length: this.side ** 2}, (_, i) => ({
+      address: `1400${(i + 0x20000000001).toString(16).padStart(12, '0')}`,
+      lat: 481000000 + 9000 * Math.floor(i / this.side), lon: 115000000 + 13500 * (i % this.side)}));
+    this.neighbours = this.stations.map((_, i) => this.around(i));
+    const air = {range: 150, delay: 1, loss: 10, seed: 1, beacons: true, until: null};
+    this.lines.push(JSON.stringify({stations: this.stations, air}));
+  }
+
+  around(i) {
+    const [x, y] = [i % this.side, Math.floor(i / this.side)];
+    const near = [[-1, -1], [0, -1], [1, -1], [-1, 0], [1, 0], [-1, 1], [0, 1], [1, 1]];
+    return near.map(([dx, dy]) => [x + dx, y + dy])
+      .filter(([a, b]) => a >= 0 && b >= 0 && a < this.side && b < this.side)
+      .map(([a, b]) => b * this.side + a);
+  }
+
+  event(moment, station, rest) {
+    if (this.events === this.most) return;
+    this.lines.push(`{"event":${this.events},"moment":${moment},"station":${station},${rest}}`);
+    this.events += 1;
+    if (this.lines.length > 20000) this.flush();
+  }
+
+  flush() {
+    fs.writeSync(this.file, this.lines.join('\n') + '\n');
+    this.lines = [];
+  }
+
+  move(moment, i) {
+    const place = this.stations[i];
+    place.lat += (i % 7) * 20 - 60;
+    this.event(moment, i, `"do":"move","lat":${place.lat},"lon":${place.lon},"result":"moved"`);
+  }
+
+  give(packet, i) {
+    const {address, lat, lon} = this.stations[i];
+    const source = {address, tst: 0, lat, lon, pai: true, speed: 0, heading: 0};
+    this.frames += 1;
+    const octets = frame('ffffffffffff', address.slice(4), {lifetime: 26, left: 10, max: 10, tc: 0,
+      source, ...packet});
+    return `"sent":${this.frames - 1},"octets":"${octets}"`;
+  }
+
+  beacon(moment, i) {
+    const given = this.give({kind: 'beacon', left: 1, max: 1}, i);
+    this.event(moment, i, `"do":"tick","result":"sent",${given}`);
+    const number = this.frames - 1;
+    for (const other of this.neighbours[i]) {
+      this.event(moment + 1, other, `"do":"deliver","frame":${number},"result":"accepted"`);
+    }
+  }
+
+  /** A warning for the blocks round a station; who has it relays it. */
+  warn(moment, i) {
+    const {lat, lon} = this.stations[i];
+    const area = {shape: 'circle', lat, lon, a: 1500, b: 0, angle: 0};
+    const packet = {kind: 'gbc', number: this.numbers % 65536, area, port: 2002, info: 0,
+      payload: '6869'};
+    this.numbers += 1;
+    this.event(moment, i, `"do":"gbc","result":"sent",${this.give(packet, i)}`);
+    const known = new Set([i]);
+    let waiting = [[i, this.frames - 1]];
+    for (let hop = 1; hop < 9; hop += 1) {
+      const next = [];
+      for (const [giver, number] of waiting) {
+        for (const other of this.neighbours[giver]) {
+          const start = `"do":"deliver","frame":${number}`;
+          if (known.has(other)) {
+            this.event(moment + hop, other, `${start},"result":"ignored","why":"duplicate"`);
+            continue;
+          }
+          known.add(other);
+          const given = this.give({...packet, left: 10 - hop}, other);
+          next.push([other, this.frames - 1]);
+          this.event(moment + hop, other, `${start},"result":"accepted","port":2002,"info":0,` +
+            `"payload":"6869",${given}`);
+        }
+      }
+      waiting = next;
+    }
+  }
+}
+
+/** Writes the city's run into a file. @param {string} file @param {number} most events */
+function city(file, most) {
+  const made = new City(file, most);
+  const count = made.stations.length;
+  for (let i = 0; i < count; i += 1) made.event(0, i, '"do":"open","result":"opened"');
+  for (let turn = 0; made.events < most; turn += 1) {
+    for (let i = 0; i < count && made.events < most; i += 1) {
+      const moment = 1000 * turn + 10 + Math.floor(i / 10);
+      if (turn % 3 === 0) made.beacon(moment, i);
+      else made.move(moment, i);
+      if (i % 1000 === 500) made.warn(moment, (i * 37 + turn * 911) % count);
+    }
+  }
+  made.flush();
+  fs.closeSync(made.file);
+}
+
+/** The road with losses, as the program ran it, with the notes of what was lost. */
+function loss() {
+  return fs.readFileSync(LOSS, 'utf8');
+}
+
 if (require.main === module) {
   fs.mkdirSync(DATA, {recursive: true});
   fs.writeFileSync(path.join(DATA, 'four.jsonl'), four());
@@ -99,15 +217,16 @@ if (require.main === module) {
 
 /** The script that holds the road for the page's own button. */
 function pageSample() {
-  return `//! A sample run, made by test/samples.js: vehicles on a road, and a warning of ice.
+  return `//! A sample run, made by test/samples.js: twelve vehicles on a road, three in ten frames lost,
+//! and a warning of ice, three times.
 
 (function (geostation) {
   'use strict';
 
   geostation.sample = String.raw\`
-${road()}\`.slice(1);
+${loss()}\`.slice(1);
 })(globalThis.geostation ??= {});
 `;
 }
 
-module.exports = {four, road, town, pageSample, DATA};
+module.exports = {four, road, town, city, loss, pageSample, DATA, LOSS};

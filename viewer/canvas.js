@@ -1,0 +1,213 @@
+//! Stations and frames painted on a canvas, for runs of more stations than a page has elements for.
+
+(function (geostation) {
+  'use strict';
+
+  const {shape} = geostation;
+  /** How near a click has to be, in pixels. */
+  const NEAR = 9;
+  const ROLES = ['idle', 'reached', 'delivered', 'sender'];
+  const COLOURS = {idle: '--idle', reached: '--accepted', delivered: '--delivered',
+    sender: '--sender', missed: '--red', accepted: '--accepted', duplicate: '--duplicate',
+    other: '--duplicate', refused: '--refused', lost: '--red', chosen: '--accent',
+    active: '--text', ground: '--map'};
+
+  class Painted {
+    /** @param {HTMLCanvasElement} canvas @param {any} map that says what is where */
+    constructor(canvas, map) {
+      this.canvas = canvas;
+      this.map = map;
+      this.context = canvas.getContext('2d', {willReadFrequently: true});
+    }
+
+    /** @param {import('./run.js').Run} run */
+    begin(run) {
+      this.run = run;
+      this.xs = new Float32Array(run.stations.length);
+      this.ys = new Float32Array(run.stations.length);
+      this.placedAt = undefined;
+      this.hasPresence = run.presence.members.length > 0 || run.stations.some(({born}) => born > 0);
+      const style = getComputedStyle(document.documentElement);
+      this.colours = Object.fromEntries(Object.entries(COLOURS).map(([name, variable]) =>
+        [name, style.getPropertyValue(variable).trim()]));
+      this.links = [];
+    }
+
+    /** @param {any} scene @param {boolean} isAnew whether all moves on the screen */
+    draw(scene, isAnew) {
+      this.scene = scene;
+      this.size();
+      if (isAnew || this.placedAt === undefined) this.placeAll();
+      else this.placeMoved();
+      this.placedAt = scene.at;
+      this.drawBystanders();
+      this.drawLinks();
+      this.drawRoles();
+    }
+
+    size() {
+      const {width, height} = this.map.box;
+      const dense = window.devicePixelRatio || 1;
+      const [wide, high] = [Math.round(width * dense), Math.round(height * dense)];
+      if (this.canvas.width !== wide || this.canvas.height !== high) {
+        this.canvas.width = wide;
+        this.canvas.height = high;
+        this.image = this.context.createImageData(wide, high);
+        this.pixels = new Uint32Array(this.image.data.buffer);
+      }
+      this.context.setTransform(dense, 0, 0, dense, 0, 0);
+    }
+
+    placeAll() {
+      for (let i = 0; i < this.xs.length; i += 1) this.place(i);
+    }
+
+    /** Those stations alone that moved between the last moment shown and this one. */
+    placeMoved() {
+      const [from, to] = [this.placedAt, this.scene.at].sort((a, b) => a - b);
+      if (to - from > this.xs.length) return void this.placeAll();
+      const {events} = this.run;
+      for (let i = from + 1; i <= to; i += 1) {
+        if (events.is(i, 'moved') && events.station.values[i] < this.xs.length) {
+          this.place(events.station.values[i]);
+        }
+      }
+    }
+
+    /** @param {number} index of a station */
+    place(index) {
+      const {x, y} = this.map.screenOf(this.run.placeAt(index, this.scene.at));
+      this.xs[index] = x;
+      this.ys[index] = y;
+    }
+
+    /** All that have no role: thousands, which go into the picture point by point. */
+    drawBystanders() {
+      const {roles, at} = this.scene;
+      const dense = window.devicePixelRatio || 1;
+      const half = Math.max(1, Math.round(this.radius * dense));
+      const colour = pixelOf(this.colours.idle);
+      this.pixels.fill(0);
+      for (let i = 0; i < this.xs.length; i += 1) {
+        if (roles.has(i) || (this.hasPresence && !this.run.isPresent(i, at))) continue;
+        this.square(Math.round(this.xs[i] * dense), Math.round(this.ys[i] * dense), half, colour);
+      }
+      this.context.putImageData(this.image, 0, 0);
+    }
+
+    /** Fills a square of the picture, as far as it lies inside. */
+    square(x, y, half, colour) {
+      const {width, height} = this.image;
+      const left = Math.max(0, x - half);
+      const right = Math.min(width, x + half);
+      if (left >= right) return;
+      for (let row = Math.max(0, y - half); row < Math.min(height, y + half); row += 1) {
+        this.pixels.fill(colour, row * width + left, row * width + right);
+      }
+    }
+
+    get radius() {
+      return this.run.stations.length > 3000 ? 2 : 3;
+    }
+
+    /** Who has a part in the chosen send, and the present and the chosen station, above all. */
+    drawRoles() {
+      const {roles, active, chosen} = this.scene;
+      const {colours, radius} = this;
+      for (const role of ROLES) {
+        for (const [i, words] of roles) {
+          if (roleOf(words) === role) this.dot(i, radius + 2, colours[role]);
+        }
+      }
+      for (const [i, words] of roles) {
+        if (words.includes('missed')) this.ring(i, radius + 3, colours.missed, 2);
+      }
+      if (active !== undefined) this.ring(active, radius + 3, colours.active, 2);
+      if (chosen !== undefined) this.ring(chosen, radius + 5, colours.chosen, 3);
+    }
+
+    dot(index, radius, colour) {
+      this.context.fillStyle = colour;
+      this.context.beginPath();
+      this.context.arc(this.xs[index], this.ys[index], radius, 0, 7);
+      this.context.fill();
+    }
+
+    ring(index, radius, colour, width) {
+      this.context.strokeStyle = colour;
+      this.context.lineWidth = width;
+      this.context.beginPath();
+      this.context.arc(this.xs[index], this.ys[index], radius, 0, 7);
+      this.context.stroke();
+    }
+
+    drawLinks() {
+      const at = (i) => ({x: this.xs[i], y: this.ys[i]});
+      const count = this.xs.length;
+      this.links = [];
+      for (const link of this.scene.links) {
+        if (link.from >= count || link.to >= count || link.from === link.to) continue;
+        const arc = shape.arc(at(link.from), at(link.to), 4);
+        if (!arc) continue;
+        this.links.push({...link, arc});
+        this.drawLink(link, arc);
+      }
+      this.context.setLineDash([]);
+      this.context.globalAlpha = 1;
+    }
+
+    drawLink({kind, isNew}, {x1, y1, cx, cy, x2, y2}) {
+      const {context} = this;
+      const isThin = kind === 'duplicate' || kind === 'other';
+      context.strokeStyle = this.colours[kind];
+      context.lineWidth = (isThin ? 1 : 2) + (isNew ? 1.2 : 0);
+      context.globalAlpha = isNew ? 1 : 0.75;
+      context.setLineDash(kind === 'lost' ? [7, 5] : []);
+      context.beginPath();
+      context.moveTo(x1, y1);
+      context.quadraticCurveTo(cx, cy, x2, y2);
+      context.stroke();
+    }
+
+    /** What a click is at: the nearest station, else the nearest arc. */
+    hit(_event, {x, y}) {
+      let [best, far] = [-1, NEAR];
+      for (let i = 0; i < this.xs.length; i += 1) {
+        const d = Math.hypot(this.xs[i] - x, this.ys[i] - y);
+        if (d < far) [best, far] = [i, d];
+      }
+      if (best >= 0) return {station: best};
+      for (const {arc, frame, event} of this.links) {
+        for (let t = 0; t <= 1; t += 0.05) {
+          const point = shape.along(arc, t);
+          if (Math.hypot(point.x - x, point.y - y) < NEAR) return {frame, event};
+        }
+      }
+      return undefined;
+    }
+
+    unseen() {
+      const {length} = this.run.stations;
+      return [`the numbers and trails of ${length.toLocaleString('en')} stations`];
+    }
+
+    clear() {
+      this.context.setTransform(1, 0, 0, 1, 0, 0);
+      this.context.clearRect(0, 0, this.canvas.width, this.canvas.height);
+      this.placedAt = undefined;
+    }
+  }
+
+  /** A colour as a picture has it, lowest octet red. @param {string} colour as `#667483` */
+  function pixelOf(colour) {
+    const [r, g, b] = [1, 3, 5].map((at) => parseInt(colour.slice(at, at + 2), 16));
+    return ((255 << 24) | (b << 16) | (g << 8) | r) >>> 0;
+  }
+
+  /** @param {string} words */
+  function roleOf(words) {
+    return words === 'missed' ? 'idle' : words.replace('missed ', '');
+  }
+
+  geostation.canvas = {Painted, pixelOf};
+})(globalThis.geostation ??= {});

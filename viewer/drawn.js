@@ -1,0 +1,160 @@
+//! Stations, trails and frames as elements of the map, for runs of up to some hundred stations.
+
+(function (geostation) {
+  'use strict';
+
+  const {svg, set, Pool} = geostation.dom;
+  const {shape} = geostation;
+  const MOST_LABELS = 60;
+  const LONGEST_TRAIL = 200;
+  /** With more than these, lines have no tips. */
+  const MANY_LINKS = 120;
+  const KINDS = ['accepted', 'duplicate', 'other', 'refused', 'lost'];
+
+  class Drawn {
+    /** @param {Record<string, SVGElement>} layers @param {any} map that says what is where */
+    constructor(layers, map) {
+      this.layers = layers;
+      this.map = map;
+      this.links = new Pool(makeLink, layers.links);
+    }
+
+    /** @param {import('./run.js').Run} run */
+    begin(run) {
+      this.run = run;
+      const isFew = run.stations.length <= MOST_LABELS;
+      const radius = isFew ? 8 : run.stations.length <= 300 ? 5 : 3.5;
+      this.stations = run.stations.map((_, i) => this.makeStation(i, radius, isFew));
+      this.layers.stations.replaceChildren(...this.stations.map(({dot}) => dot));
+      const labels = this.stations.flatMap(({label, name}) => [label, name]);
+      this.layers.labels.replaceChildren(...labels.filter((label) => label));
+      this.layers.trails.replaceChildren();
+    }
+
+    /** @param {number} index @param {number} radius @param {boolean} isLabelled */
+    makeStation(index, radius, isLabelled) {
+      const dot = svg('circle', {class: 'station', r: radius, 'data-station': index});
+      const {id, address} = this.run.stations[index];
+      const title = svg('title');
+      title.textContent = `station ${index}${id === undefined ? '' : `, ${id}`}, ${address}`;
+      dot.append(title);
+      const label = isLabelled ? svg('text', {class: 'label'}) : undefined;
+      if (label) label.textContent = String(index);
+      const name = isLabelled && id !== undefined ? svg('text', {class: 'place-name'}) : undefined;
+      if (name) name.textContent = id;
+      return {dot, label, name, radius, trail: undefined, place: undefined, role: '', x: 0, y: 0};
+    }
+
+    /** @param {any} scene @param {boolean} isAnew whether all moves on the screen */
+    draw(scene, isAnew) {
+      this.scene = scene;
+      this.stations.forEach((station, index) => this.drawStation(station, index, isAnew));
+      this.drawLinks();
+    }
+
+    /** @param {any} station @param {number} index @param {boolean} isAnew */
+    drawStation(station, index, isAnew) {
+      const {at, active, chosen, roles} = this.scene;
+      const place = this.run.placeAt(index, at);
+      if (isAnew || place.lat !== station.place?.lat || place.lon !== station.place?.lon) {
+        station.place = place;
+        Object.assign(station, this.map.screenOf(place));
+        const [x, y] = [station.x.toFixed(1), station.y.toFixed(1)];
+        set(station.dot, {cx: x, cy: y});
+        if (station.label) set(station.label, {x, y, dy: 3.8});
+        if (station.name) set(station.name, {x, y, dy: -station.radius - 5});
+        this.drawTrail(station, index);
+      }
+      const role = [roles.get(index) ?? '', index === active ? 'active' : '',
+        index === chosen ? 'chosen' : '', this.run.isPresent(index, at) ? '' : 'away'].join(' ');
+      if (role === station.role) return;
+      station.role = role;
+      station.dot.setAttribute('class', `station ${role}`);
+      station.label?.setAttribute('class', `label ${role}`);
+      station.name?.setAttribute('class', `place-name ${role}`);
+    }
+
+    /** @param {any} station @param {number} index */
+    drawTrail(station, index) {
+      if (this.run.moves.of(index).length === 0) return;
+      if (!station.trail) {
+        station.trail = svg('polyline', {class: 'trail'});
+        this.layers.trails.append(station.trail);
+      }
+      const places = this.run.trail(index, this.scene.at, LONGEST_TRAIL);
+      const points = places.map((place) => this.map.screenOf(place));
+      const text = points.map(({x, y}) => `${x.toFixed(1)},${y.toFixed(1)}`).join(' ');
+      station.trail.setAttribute('points', points.length > 1 ? text : '');
+    }
+
+    drawLinks() {
+      this.links.begin();
+      const {links} = this.scene;
+      this.layers.links.classList.toggle('many', links.length > MANY_LINKS);
+      for (const link of links) {
+        const from = this.stations[link.from];
+        const to = this.stations[link.to];
+        if (!from || !to || from === to) continue;
+        const arc = shape.arc(from, to, to.radius + 3);
+        if (arc) this.drawLink(link, shape.pathOf(arc));
+      }
+      this.links.finish();
+    }
+
+    /** @param {import('./map.js').Link} link @param {string} path */
+    drawLink(link, path) {
+      const group = this.links.next();
+      const kind = `link ${link.kind}${link.isNew ? ' new' : ''}`;
+      const {frame, event} = group.dataset;
+      if (frame !== String(link.frame)) group.dataset.frame = String(link.frame);
+      if (event !== String(link.event)) group.dataset.event = String(link.event);
+      if (group.getAttribute('class') !== kind) group.setAttribute('class', kind);
+      if (group.firstChild.getAttribute('d') === path) return;
+      for (const line of group.children) line.setAttribute('d', path);
+    }
+
+    /** What a click is at. @param {MouseEvent} event */
+    hit(event) {
+      const target = /** @type {Element} */ (event.target);
+      const station = target.closest('[data-station]');
+      if (station) return {station: Number(station.dataset.station)};
+      const link = target.closest('[data-frame]');
+      if (!link) return undefined;
+      return {frame: Number(link.dataset.frame), event: Number(link.dataset.event)};
+    }
+
+    /** What isn't drawn of a run. */
+    unseen() {
+      const {length} = this.run.stations;
+      return length > MOST_LABELS ? [`the numbers of ${length.toLocaleString('en')} stations`] : [];
+    }
+
+    clear() {
+      for (const name of ['stations', 'labels', 'trails']) this.layers[name].replaceChildren();
+      this.links.begin();
+      this.links.finish();
+    }
+  }
+
+  function makeMarkers() {
+    const defs = svg('defs');
+    for (const kind of KINDS) {
+      const size = kind === 'accepted' ? 10 : 7;
+      const marker = svg('marker', {id: `tip-${kind}`, class: `tip ${kind}`, viewBox: '0 0 8 8',
+        refX: 6.5, refY: 4, markerUnits: 'userSpaceOnUse', orient: 'auto',
+        markerWidth: size, markerHeight: size});
+      marker.append(svg('path', {d: 'M0.5 0.5L7.5 4L0.5 7.5z'}));
+      defs.append(marker);
+    }
+    return defs;
+  }
+
+  /** A line that is seen, and a wider one to click at. */
+  function makeLink() {
+    const group = svg('g', {class: 'link'});
+    group.append(svg('path', {class: 'hit'}), svg('path', {class: 'seen'}));
+    return group;
+  }
+
+  geostation.drawn = {Drawn, makeMarkers};
+})(globalThis.geostation ??= {});

@@ -1,0 +1,82 @@
+//! Ways to open a run: choosing a file, dropping one, the sample, and `?run=NAME` where the page is
+//! served.
+
+(function (geostation) {
+  'use strict';
+
+  const {byId} = geostation.dom;
+  const PIECE = 1 << 20;
+
+  /**
+   * The text of a file, a piece at a time, so that the page stays alive.
+   * @param {Blob} blob @param {(words: string) => void} tell
+   */
+  async function* pieces(blob, tell) {
+    const decoder = new TextDecoder();
+    const take = (at) => blob.slice(at, at + PIECE).arrayBuffer();
+    let next = take(0);
+    for (let at = 0; at < blob.size; at += PIECE) {
+      const octets = await next;
+      // The next piece is fetched while this one is read.
+      next = take(at + PIECE);
+      tell(`Reading: ${Math.round((100 * at) / blob.size)} %`);
+      yield decoder.decode(octets, {stream: at + PIECE < blob.size});
+    }
+  }
+
+  /** @param {(blob: Blob, name: string) => void} open */
+  function shown(open) {
+    const input = byId('file');
+    const pick = () => input.click();
+    byId('open').addEventListener('click', pick);
+    byId('choose').addEventListener('click', pick);
+    byId('sample').addEventListener('click', () =>
+      open(new Blob([geostation.sample]), 'sample: ice on a road'));
+    input.addEventListener('change', () => {
+      const [file] = input.files;
+      if (file) open(file, file.name);
+      input.value = '';
+    });
+  }
+
+  /** @param {(blob: Blob, name: string) => void} open */
+  function dropped(open) {
+    const drop = byId('drop');
+    document.addEventListener('dragover', (event) => {
+      event.preventDefault();
+      drop.hidden = false;
+    });
+    document.addEventListener('dragleave', (event) => {
+      if (event.relatedTarget === null) drop.hidden = true;
+    });
+    document.addEventListener('drop', (event) => {
+      event.preventDefault();
+      drop.hidden = true;
+      const [file] = event.dataTransfer.files;
+      if (file) open(file, file.name);
+    });
+  }
+
+  /**
+   * `?run=NAME` opens a file that is served from where the page is.
+   * @param {(blob: Blob, name: string) => Promise<void>} open
+   * @param {(name: string, fault: any) => void} refuse
+   */
+  async function named(open, refuse) {
+    const name = new URLSearchParams(location.search).get('run');
+    if (name === null) return;
+    try {
+      const address = new URL(name, location.href);
+      if (address.origin !== location.origin || location.protocol === 'file:') {
+        throw new Error('“?run=” opens only what is served beside this page: drop it here');
+      }
+      const answer = await fetch(address);
+      if (!answer.ok) throw new Error(`the server answered ${answer.status}`);
+      await open(await answer.blob(), name);
+    } catch (fault) {
+      refuse(name, fault);
+    }
+  }
+
+  geostation.open = {pieces, shown, dropped, named};
+})(globalThis.geostation ??= {});

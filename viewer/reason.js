@@ -1,0 +1,88 @@
+//! Why a station wasn't reached, in words for a person.
+
+(function (geostation) {
+  'use strict';
+
+  const {why, way} = geostation;
+
+  /** A reason in a few words. @type {Record<string, string>} */
+  const SHORT = {
+    closed: 'port not open', outside: 'had left the area', full: 'table full',
+    refused: 'refused it', ignored: 'ignored it', lost: 'lost on the way',
+    unheard: 'no frame came near',
+  };
+
+  /** @param {import('./why.js').Miss} miss */
+  function short({reason, isLikely}) {
+    return isLikely ? 'likely lost on the way' : SHORT[reason] ?? reason;
+  }
+
+  /**
+   * What happened at a station that a send didn't reach.
+   * @param {import('./run.js').Run} run @param {import('./way.js').Send} send
+   * @param {import('./why.js').Miss} miss
+   */
+  function sentence(run, send, miss) {
+    const {reason, event, frame, isLikely} = miss;
+    const who = `Station ${run.name(miss.station)}`;
+    if (event === undefined || isLikely) return missing(run, send, miss, who);
+    const when = `frame ${frame} at ${run.moment(event)} ms`;
+    const giver = run.name(run.events.station.values[run.frames.giver.values[frame]]);
+    const words = {
+      closed: `accepted ${when} in the area, but its port ` +
+        `${way.packetOf(run, send)?.port} wasn’t open.`,
+      outside: `accepted ${when} outside the area: it had left it.`,
+      full: `refused ${when}: its location table was full (S4).`,
+      refused: `refused ${when} (${run.events.wordOf(event)}).`,
+      ignored: `ignored ${when} (${run.events.wordOf(event)}).`,
+      lost: `was in range of station ${giver}, but ${when} was lost on the way.`,
+    };
+    return `${who} ${words[reason] ?? `wasn’t reached: ${reason}.`}`;
+  }
+
+  /** Where no frame came: the nearest one that was given, and where the way ended. */
+  function missing(run, send, {station, isLikely}, who) {
+    const near = nearest(run, send, station);
+    const {metres, isTold} = why.range(run);
+    const range = isTold ? `they are heard within ${metres} m`
+      : `frames were heard up to ${Math.round(metres)} m in this run`;
+    const likely = isLikely ? ' It was likely lost: the run has no notes that tell.' : '';
+    return `${who} had no frame of it. The nearest, frame ${near.frame}, was given by station ` +
+      `${run.name(near.giver)} ${Math.round(near.metres)} m away; ${range}.${likely}` +
+      `${ending(run, send)}`;
+  }
+
+  /** The frame of a send that was given nearest to a station. */
+  function nearest(run, send, station) {
+    let best = {far: -1n, frame: send.first, giver: 0, metres: 0};
+    for (const frame of send.numbers) {
+      const event = run.frames.giver.values[frame];
+      const giver = run.events.station.values[event];
+      if (!run.stations[giver]) continue;
+      const far = why.distance2(run, giver, station, event);
+      if (best.far < 0n || far < best.far) {
+        best = {far, frame, giver, metres: Math.sqrt(Number(far)) / 100};
+      }
+    }
+    return best;
+  }
+
+  /** Where the way of a send ended by a loss: its last frame that nobody accepted, who lost it. */
+  function ending(run, send) {
+    for (const frame of [...send.numbers].reverse()) {
+      const isAccepted = (event) => run.events.is(event, 'accepted');
+      const lost = run.lost.of(frame);
+      if (lost.length === 0 || run.deliveries.of(frame).some(isAccepted)) continue;
+      const giver = run.events.station.values[run.frames.giver.values[frame]];
+      const at = Array.from(lost.subarray(0, 4), (note) =>
+        run.name(run.notes.station.values[note]));
+      const more = lost.length > at.length ? ' and more' : '';
+      return ` Its way ended at station ${run.name(giver)}, whose frame ${frame} was lost at ` +
+        `${at.join(', ')}${more}.`;
+    }
+    const isAlone = send.numbers.every((frame) => run.deliveries.of(frame).length === 0);
+    return isAlone ? ' Nobody heard any frame of it.' : '';
+  }
+
+  geostation.reason = {short, sentence};
+})(globalThis.geostation ??= {});

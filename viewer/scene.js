@@ -1,0 +1,117 @@
+//! What the map shows of a moment: the frames under way, the ones that were lost, areas, circles of
+//! range, and what had no room.
+
+(function (geostation) {
+  'use strict';
+
+  const {way, why} = geostation;
+  const {countUpTo} = geostation.columns;
+  /** How long a frame stays on the map where no send is chosen, in milliseconds. */
+  const AFTERGLOW = 20;
+  const MOST_AREAS = 8;
+
+  /** How an event is coloured and a delivery is drawn. @param {import('./run.js').Event} event */
+  function kindOf(event) {
+    if (event.result === 'refused') return 'refused';
+    if (event.result === 'ignored') return event.why === 'duplicate' ? 'duplicate' : 'other';
+    if (event.port !== undefined) return 'accepted delivered';
+    return event.result === 'accepted' ? 'accepted' : event.result;
+  }
+
+  /** @param {import('./run.js').Run} run @param {number} index of a delivery */
+  function delivered(run, index, at) {
+    const event = run.events.at(index);
+    if (event.frame >= run.frames.length) return undefined;
+    const giver = run.frames.giver.values[event.frame];
+    const kind = kindOf(event).split(' ')[0];
+    return {from: run.events.station.values[giver], to: event.station, frame: event.frame,
+      event: index, kind, isNew: index === at};
+  }
+
+  /** The lost copies of a frame. @param {import('./run.js').Run} run @param {number} frame */
+  function lost(run, frame, at) {
+    const giver = run.frames.giver.values[frame];
+    const from = run.events.station.values[giver];
+    return Array.from(run.lost.of(frame), (note) => ({from, frame, event: giver, kind: 'lost',
+      to: run.notes.station.values[note], isNew: giver === at}));
+  }
+
+  /** The frames of a chosen send so far: the last ones that have room, and how many there are. */
+  function ofSend(state, most) {
+    const {run, at, deliveries, chosen} = state;
+    const end = countUpTo(deliveries, at);
+    const came = Array.from(deliveries.subarray(Math.max(0, end - most), end), (index) =>
+      delivered(run, index, at));
+    const given = chosen.numbers.filter((frame) => run.frames.giver.values[frame] <= at);
+    const gone = given.flatMap((frame) => lost(run, frame, at));
+    return {links: [...gone, ...came], count: gone.length + end};
+  }
+
+  /** The frames of the last moments, of any kind. */
+  function ofAll(state, most) {
+    const {run, at} = state;
+    const {events} = run;
+    const found = [];
+    let count = 0;
+    for (let i = at; i >= 0 && i > at - 4 * most; i -= 1) {
+      if (Math.abs(events.moment.values[at] - events.moment.values[i]) > AFTERGLOW) break;
+      const sent = events.sent.values[i];
+      const gone = sent < 0 ? [] : lost(run, sent, at);
+      const links = [...gone, ...(events.isDelivery(i) ? [delivered(run, i, at)] : [])];
+      count += links.length;
+      if (found.length < most) found.push(...links);
+    }
+    return {links: found.reverse(), count};
+  }
+
+  /** The stations that gave a frame that is shown, with how far it is heard. */
+  function circles(state) {
+    const {run, at, chosen} = state;
+    const {metres} = why.range(run);
+    const present = run.events.at(at);
+    const frame = present?.sent ?? present?.frame;
+    const numbers = new Set(chosen?.numbers);
+    if (frame !== undefined && frame < run.frames.length) numbers.add(frame);
+    const given = [...numbers].map((number) => [number, run.frames.giver.values[number]])
+      .filter(([, giver]) => giver <= at);
+    return given.map(([number, giver]) => {
+      const station = run.events.station.values[giver];
+      return {metres, isNew: number === frame,
+        place: run.stations[station] && run.placeAt(station, giver)};
+    }).filter(({place}) => place);
+  }
+
+  /** The areas of the sends whose frames are on the map. */
+  function areas({run, chosen, area, sends, sendOf, frames}, links) {
+    if (chosen) return area ? [area] : [];
+    const numbers = new Set(links.map(({frame}) => sendOf[frame]));
+    for (const frame of [frames.came, frames.given]) numbers.add(sendOf[frame] ?? -1);
+    numbers.delete(-1);
+    const packets = [...numbers].slice(-MOST_AREAS).map((i) => way.packetOf(run, sends[i]));
+    return packets.map((packet) => packet?.area).filter((found) => found);
+  }
+
+  /**
+   * @param {any} state of the page
+   * @param {{links: number, circles: number, isRange: boolean}} limits
+   */
+  function scene(state, {links: most, circles: mostCircles, isRange}) {
+    const {run, at, station, chosen, steps, judgement} = state;
+    const isEmpty = run.events.length === 0;
+    const {links, count} = isEmpty ? {links: [], count: 0}
+      : chosen ? ofSend(state, most) : ofAll(state, most);
+    const shown = links.filter((link) => link).slice(-most);
+    const rings = isRange && !isEmpty ? circles(state) : [];
+    const unseen = [];
+    if (count > shown.length) {
+      unseen.push(`${(count - shown.length).toLocaleString('en')} of ` +
+        `${count.toLocaleString('en')} frames`);
+    }
+    if (rings.length > mostCircles) unseen.push(`${rings.length - mostCircles} circles`);
+    return {at, active: run.events.at(at)?.station, chosen: station, links: shown, circles: rings,
+      unseen, areas: isEmpty ? [] : areas(state, shown),
+      roles: chosen ? why.roles(steps, judgement, at) : new Map()};
+  }
+
+  geostation.scene = {scene, kindOf};
+})(globalThis.geostation ??= {});

@@ -1,0 +1,71 @@
+//! Shapes on the map: arcs between stations, the borders of areas, round lengths.
+
+(function (geostation) {
+  'use strict';
+
+  /** @typedef {{east: number, north: number}} Point in metres from the run's origin */
+  /** @typedef {{x1: number, y1: number, cx: number, cy: number, x2: number, y2: number}} Arc */
+
+  /**
+   * An arc between two points of the screen, bent to the left, so that both ways are seen.
+   * @returns {Arc | undefined} nothing where they are too near
+   */
+  function arc(from, to, gap) {
+    const dx = to.x - from.x;
+    const dy = to.y - from.y;
+    const length = Math.hypot(dx, dy);
+    if (length < 2 * gap) return undefined;
+    const bend = Math.min(0.16 * length, 46);
+    const cx = (from.x + to.x) / 2 + (dy / length) * bend;
+    const cy = (from.y + to.y) / 2 - (dx / length) * bend;
+    const start = toward(from, {x: cx, y: cy}, gap - 2);
+    const end = toward(to, {x: cx, y: cy}, gap);
+    return {x1: start.x, y1: start.y, cx, cy, x2: end.x, y2: end.y};
+  }
+
+  /** The point that is some pixels from one to another. */
+  function toward(from, to, by) {
+    const part = by / (Math.hypot(to.x - from.x, to.y - from.y) || 1);
+    return {x: from.x + (to.x - from.x) * part, y: from.y + (to.y - from.y) * part};
+  }
+
+  /**
+   * The border of an area, in metres from its centre.
+   * @param {import('./geo.js').Area} area @param {number} steps of a round one @returns {Point[]}
+   */
+  function outline({shape, a, b, angle}, steps) {
+    const wide = shape === 'circle' ? a : b;
+    const corners = shape === 'rectangle' ? [[a, b], [a, -b], [-a, -b], [-a, b]]
+      : Array.from({length: steps}, (_, i) => {
+        const turn = (2 * Math.PI * i) / steps;
+        return [a * Math.cos(turn), wide * Math.sin(turn)];
+      });
+    const cos = Math.cos((angle * Math.PI) / 180);
+    const sin = Math.sin((angle * Math.PI) / 180);
+    return corners.map(([along, across]) => ({
+      north: along * cos - across * sin,
+      east: along * sin + across * cos,
+    }));
+  }
+
+  /** The greatest of 1, 2, 5, 10, 20 .. that isn't over a length. @param {number} length */
+  function roundLength(length) {
+    const power = 10 ** Math.floor(Math.log10(length));
+    const step = [5, 2, 1].find((digit) => digit * power <= length) ?? 1;
+    return step * power;
+  }
+
+  /** The path of an arc. @param {Arc} arc */
+  function pathOf({x1, y1, cx, cy, x2, y2}) {
+    const text = [x1, y1, cx, cy, x2, y2].map((value) => value.toFixed(1));
+    return `M${text[0]} ${text[1]}Q${text[2]} ${text[3]} ${text[4]} ${text[5]}`;
+  }
+
+  /** A point of an arc. @param {Arc} arc @param {number} t from 0 to 1 */
+  function along({x1, y1, cx, cy, x2, y2}, t) {
+    const [a, b, c] = [(1 - t) ** 2, 2 * t * (1 - t), t * t];
+    return {x: a * x1 + b * cx + c * x2, y: a * y1 + b * cy + c * y2};
+  }
+
+  geostation.shape = {arc, pathOf, along, outline, roundLength};
+})(globalThis.geostation ??= {});

@@ -1,0 +1,144 @@
+//! The clock, the filters, the handles between panels, the load: pure functions on small runs.
+
+'use strict';
+
+const assert = require('node:assert/strict');
+const test = require('node:test');
+const {read} = require('./draws.js');
+const {load: parts} = require('./load.js');
+const samples = require('./samples.js');
+
+const {clock, filter, line, load, split} = parts();
+const TIMES = Float64Array.of(0, 10, 11, 12, 3000);
+const byTime = (rate) => ({by: 'time', rate});
+
+test('a choice of speed is by the clock or by events', () => {
+  assert.deepEqual(clock.speed('x0.01'), {by: 'time', rate: 0.01});
+  assert.deepEqual(clock.speed('40'), {by: 'events', rate: 40});
+});
+
+test('played by its clock a burst goes by at once and a gap takes its time', () => {
+  const fast = new clock.Clock(TIMES, 0);
+  assert.deepEqual([fast.advance(5, byTime(1)), fast.advance(10, byTime(1)), fast.at], [0, 3, 3]);
+  assert.deepEqual([fast.advance(2900, byTime(1)), fast.advance(100, byTime(1))], [0, 1]);
+  const slow = new clock.Clock(TIMES, 1);
+  assert.deepEqual([slow.advance(99, byTime(0.01)), slow.advance(2, byTime(0.01))], [0, 1]);
+  const ten = new clock.Clock(TIMES, 3);
+  assert.equal(ten.advance(299, byTime(10)), 1);
+});
+
+test('played by events each takes as long as the next', () => {
+  const events = new clock.Clock(TIMES, 0);
+  const speed = {by: 'events', rate: 2};
+  assert.deepEqual([events.advance(400, speed), events.advance(100, speed), events.at], [0, 1, 1]);
+  assert.equal(events.advance(1500, speed), 3);
+});
+
+test('places along the slider, and back', () => {
+  assert.deepEqual([0, 1, 4].map((at) => clock.fraction(TIMES, at, byTime(1))), [0, 10 / 3000, 1]);
+  assert.equal(clock.fraction(TIMES, 2, {by: 'events', rate: 2}), 0.5);
+  assert.equal(clock.fraction(Float64Array.of(5, 5, 5), 1, byTime(1)), 0.5);
+  for (const speed of [byTime(1), {by: 'events', rate: 2}]) {
+    const back = [0, 1, 2, 3, 4].map((at) => {
+      const step = Math.round(clock.fraction(TIMES, at, speed) * clock.STEPS) / clock.STEPS;
+      return clock.eventAt(TIMES, step, speed);
+    });
+    assert.deepEqual(back, [0, 1, 2, 3, 4]);
+  }
+  assert.equal(clock.fractionOf(TIMES, 1500, byTime(1)), 0.5);
+  assert.equal(clock.fractionOf(TIMES, 9000, byTime(1)), 1);
+});
+
+test('an address names an event', () => {
+  const hashes = ['#event=104', '#event=0', '', '#event=', '#event=1x', '#event=-1'];
+  assert.deepEqual(hashes.map(clock.eventOf),
+    [104, 0, undefined, undefined, undefined, undefined]);
+});
+
+test('events are listed by station, kind and result', async () => {
+  const run = await read(samples.loss());
+  const list = (chosen) => {
+    const rows = filter.rows(run, chosen);
+    return rows && Array.from(rows);
+  };
+  assert.equal(list({}), undefined);
+  assert.deepEqual(list({kind: 'open'}), [0, 1, 2, 3, 4, 5, 6, 7, 8, 9, 10, 11]);
+  assert.deepEqual(list({kind: 'gbc', result: 'delivered'}), [53, 92, 94, 96]);
+  assert.deepEqual(list({station: 10, kind: 'gbc'}), [94, 97]);
+  assert.deepEqual(list({station: 10, result: 'duplicate'}), [97]);
+  assert.deepEqual(list({station: 0, kind: 'gbc', result: 'sent'}), [39, 55, 77]);
+  assert.deepEqual(list({result: 'refused'}), []);
+});
+
+test('a handle moves room from one panel to the next, and leaves both some', () => {
+  assert.deepEqual(split.move(300, 200, 50), [350, 150]);
+  assert.deepEqual(split.move(300, 200, 500), [410, 90]);
+  assert.deepEqual(split.move(300, 200, -500), [90, 410]);
+  assert.deepEqual(split.move(60, 60, 30), [60, 60]);
+});
+
+test('air time: 40 microseconds and symbols of 48 bits', () => {
+  // A beacon of 50 octets, a warning of 76: (22 + 8 * 74) / 48 is 12.8, (22 + 8 * 100) / 48 is 17.1.
+  assert.deepEqual([50, 76].map(load.airTime), [144, 184]);
+});
+
+test('load of a station and of all: its own frames, those it heard and those it lost', async () => {
+  const run = await read(samples.loss());
+  const {width, bins} = load.bins(run);
+  assert.equal(width, 100);
+  const second = bins.find(({begin}) => begin === 3000);
+  assert.deepEqual([second.frames, second.busy], [1, 0]);
+  // The second warning has 77 octets: 40 + 8 * ceil(830 / 48) is 184 of 100,000 microseconds.
+  assert.equal(second.most, 184 / 100000);
+  const of = (station) => load.bins(run, station).bins.find(({begin}) => begin === 3000);
+  assert.deepEqual([0, 1, 2].map((i) => [of(i).frames, of(i).busy]),
+    [[1, 0.00184], [0, 0.00184], [0, 0]]);
+});
+
+test('a location table: sources that were accepted, for twenty seconds each', async () => {
+  const beacon = (i) => `ffffffffffff02000000000${i}89471100${'1a01001000800000' +
+    '01001400020000000'}00${i}${'0'.repeat(32)}`;
+  const stations = [1, 2, 3].map((i) => ({address: `140002000000000${i}`, lat: 0, lon: 0}));
+  const lines = [{stations}];
+  const add = (moment, station, rest) =>
+    lines.push({event: lines.length - 1, moment, station, ...rest});
+  const tick = (moment, i, sent) =>
+    add(moment, i, {do: 'tick', result: 'sent', sent, octets: beacon(i + 1)});
+  const hear = (moment, frame) => add(moment, 0, {do: 'deliver', frame, result: 'accepted'});
+  tick(0, 1, 0);
+  hear(1, 0);
+  tick(9000, 2, 1);
+  hear(9001, 1);
+  add(22000, 1, {do: 'tick', result: 'quiet'});
+  add(40000, 1, {do: 'tick', result: 'quiet'});
+  const run = await read(lines.map((value) => JSON.stringify(value)).join('\n'));
+  const {width, bins} = load.bins(run, 0);
+  assert.equal(width, 1000);
+  assert.deepEqual(bins.map(({begin, table}) => [begin, table]),
+    [[0, 1], [9000, 2], [22000, 1], [40000, 0]]);
+});
+
+test('duplicates, deliveries and full tables are counted', async () => {
+  const run = await read(samples.four());
+  assert.deepEqual(load.repeats(run), {delivered: 1, duplicates: 2, full: 0});
+  assert.deepEqual(load.repeats(run, 1), {delivered: 0, duplicates: 1, full: 0});
+});
+
+test('the quick reading of a line is that of JSON, or it is left to JSON', () => {
+  const scanner = new line.Scanner();
+  const text = samples.loss().trimEnd().split('\n').slice(1);
+  let quick = 0;
+  for (const one of text) {
+    const value = scanner.read(one);
+    if (value) {
+      quick += 1;
+      assert.deepEqual(value, JSON.parse(one));
+    }
+  }
+  assert.ok(quick > 60, `${quick}`);
+  const start = '{"event":1,"moment":2,"station":3,"do":"tick","result":"quiet"';
+  const others = [start, `${start}} `, `${start},"x":1}`, start.replace(':1', ':01') + '}',
+    start.replace(':2', ':-2') + '}', start.replace('quiet', 'qu\\u0069et') + '}',
+    start.replace(':3', ':3.5') + '}', `${start},"sent":1}`, '', '{}'];
+  for (const other of others) assert.equal(scanner.read(other), undefined, other);
+});

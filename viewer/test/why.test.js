@@ -1,0 +1,196 @@
+//! Why stations weren't reached: the reasons on small runs written by hand, a case a reason, and on
+//! the road with losses, whose lost frames its notes tell.
+
+'use strict';
+
+const assert = require('node:assert/strict');
+const test = require('node:test');
+const {Draws, read} = require('./draws.js');
+const {frame: encode} = require('./encode.js');
+const {load} = require('./load.js');
+const samples = require('./samples.js');
+
+const {reason, scene, way, why} = load();
+const AREA = {shape: 'circle', lat: 0, lon: 0, a: 1000, b: 0, angle: 0};
+
+/** Stations a hundred metres apart along a meridian. */
+function stations(count) {
+  return Array.from({length: count}, (_, i) =>
+    ({address: `140002000000000${i + 1}`, lat: 9000 * i, lon: 0}));
+}
+
+/** The octets of station 0's warning. */
+function warning() {
+  const source = {address: '1400020000000001', tst: 0, lat: 0, lon: 0, pai: 0, speed: 0, heading: 0};
+  return encode('ffffffffffff', '020000000001', {kind: 'gbc', lifetime: 26, left: 10, max: 10, tc: 0,
+    number: 0, source, area: AREA, port: 2002, info: 0, payload: '6869'});
+}
+
+/** A run: events get their numbers, other lines stand as they are. */
+async function run(count, lines, first = {}) {
+  let number = 0;
+  const numbered = lines.map((line) => (line.do ? {event: number++, ...line} : line));
+  return read([{stations: stations(count), ...first}, ...numbered]
+    .map((line) => JSON.stringify(line)).join('\n'));
+}
+
+const open = (station) => ({moment: 0, station, do: 'open', result: 'opened'});
+const send = {moment: 10, station: 0, do: 'gbc', result: 'sent', sent: 0, octets: warning()};
+const came = (station, rest, moment = 11) =>
+  ({moment, station, do: 'deliver', frame: 0, ...rest});
+const lost = (station, frame = 0) => ({note: 'lost', moment: 10, station, frame});
+
+/** The stations that weren't reached, with their reasons. */
+function missed(found) {
+  const [sent] = way.follow(found).sends;
+  return why.judge(found, sent).missed.map(({station, reason: word}) => [station, word]);
+}
+
+test('each reason, the furthest that a frame came', async () => {
+  const away = {moment: 10, station: 2, do: 'move', lat: 900000, lon: 0, result: 'moved'};
+  const close = {moment: 10, station: 1, do: 'close', result: 'closed'};
+  const found = await run(9, [...[1, 2, 3, 4, 5, 6, 7, 8].map(open), send, lost(6), lost(3), close,
+    away, came(1, {result: 'accepted'}), came(2, {result: 'accepted'}),
+    came(3, {result: 'refused', code: 'S4'}), came(4, {result: 'refused', code: 'S5'}),
+    came(5, {result: 'ignored', why: 'not-for-me'}),
+    came(8, {result: 'accepted', port: 2002, info: 0, payload: '6869'})]);
+  assert.deepEqual(missed(found), [[1, 'closed'], [2, 'outside'], [3, 'full'], [4, 'refused'],
+    [5, 'ignored'], [6, 'lost'], [7, 'unheard']]);
+});
+
+test('a later frame that came further counts, an earlier one too', async () => {
+  const refused = {result: 'refused', code: 'S4'};
+  const ignored = {result: 'ignored', why: 'not-for-me'};
+  const found = await run(3, [open(1), open(2), send, came(1, ignored), came(1, refused),
+    came(2, refused), came(2, ignored)]);
+  assert.deepEqual(missed(found), [[1, 'full'], [2, 'full']]);
+});
+
+test('who has no port open, or is not there, is not missed', async () => {
+  const left = (station) => ({note: 'left', moment: 5, station});
+  const back = (station) => ({note: 'came', moment: 5, station});
+  const late = {note: 'came', moment: 12, station: 4};
+  const restart = {moment: 1, station: 5, do: 'restart', result: 'restarted'};
+  const found = await run(6, [open(1), open(2), open(3), open(4), open(5), restart, left(2), left(3),
+    back(3), send, late]);
+  const [sent] = way.follow(found).sends;
+  const {standing, inside, deaf} = why.judge(found, sent);
+  assert.deepEqual([standing, inside, deaf], [[1, 3, 5], [1, 3], [5]]);
+});
+
+test('another port than the warning’s is told by a frame that was accepted', async () => {
+  const found = await run(2, [open(1), send, came(1, {result: 'accepted'})]);
+  assert.deepEqual(why.judge(found, way.follow(found).sends[0]).deaf, [1]);
+  assert.equal(why.portAt(found, 1, 2002, 1), false);
+  const other = await run(2, [open(1), send]);
+  assert.equal(why.portAt(other, 1, 2002, 1), undefined);
+  assert.equal(why.portAt(other, 0, 2002, 1), false);
+});
+
+test('without notes the range of the air tells what was lost', async () => {
+  const air = {range: 250, delay: 1, loss: 50, seed: 0, beacons: false, until: 100};
+  const lines = [1, 2, 3].map(open).concat(send);
+  const reasons = async (keys) => missed(await run(4, lines, {air: {...air, ...keys}}));
+  assert.deepEqual(await reasons({}), [[1, 'lost'], [2, 'lost'], [3, 'unheard']]);
+  assert.deepEqual((await reasons({until: 10})).map(([, word]) => word),
+    ['unheard', 'unheard', 'unheard']);
+  assert.deepEqual((await reasons({until: null})).map(([, word]) => word),
+    ['lost', 'lost', 'unheard']);
+});
+
+test('without an air’s range a frame nearer than others that were heard was likely lost', async () => {
+  const found = await run(4, [open(1), open(2), open(3), send, came(2, {result: 'accepted',
+    port: 2002, info: 0, payload: ''})]);
+  const {missed: misses} = why.judge(found, way.follow(found).sends[0]);
+  assert.deepEqual(misses.map(({station, reason: word, isLikely = false}) =>
+    [station, word, isLikely]), [[1, 'unheard', true], [3, 'unheard', false]]);
+  assert.deepEqual(misses.map(reason.short), ['likely lost on the way', 'no frame came near']);
+});
+
+test('reasons that the summary tells behind the run are taken', async () => {
+  const found = await run(3, [open(1), open(2), send, {send: 2, moment: 10, missed: [[2, 'lost']]},
+    {total: {}}]);
+  assert.deepEqual(missed(found), [[2, 'lost']]);
+});
+
+test('the road with losses: each station without a warning, with its reason', async () => {
+  const found = await read(samples.loss());
+  const {sends} = way.follow(found);
+  const judged = sends.map((sent) => why.judge(found, sent));
+  assert.deepEqual(judged.map(({inside}) => inside), [[9, 10, 11], [9, 10, 11], [9, 10, 11]]);
+  assert.deepEqual(judged.map(({missed: misses}) => misses.map((miss) =>
+    [miss.station, miss.reason])),
+  [[[10, 'lost'], [11, 'unheard']], [[9, 'unheard'], [10, 'unheard'], [11, 'unheard']], []]);
+  const words = reason.sentence(found, sends[1], judged[1].missed[2]);
+  assert.match(words, /^Station 11 had no frame of it\. The nearest, frame 22, was given by station 0/);
+  assert.match(words, /heard within 500 m\. Its way ended at station 0, whose frame 22 was lost at 1/);
+});
+
+test('each frame of that road was delivered or lost at each station in range', async () => {
+  const found = await read(samples.loss());
+  for (let frame = 0; frame < found.frames.length; frame += 1) {
+    const giver = found.frames.giver.values[frame];
+    const from = found.events.station.values[giver];
+    const near = [...found.stations.keys()].filter((i) =>
+      i !== from && why.distance2(found, from, i, giver) <= 50000n ** 2n);
+    const told = [...found.deliveries.of(frame)].map((event) => found.events.station.values[event])
+      .concat([...found.lost.of(frame)].map((note) => found.notes.station.values[note]));
+    assert.deepEqual(told.sort((a, b) => a - b), near);
+  }
+});
+
+test('the draws are those of the program: four stations’ first ticks, a seed of 7', () => {
+  const draws = new Draws(7n);
+  assert.deepEqual(Array.from({length: 4}, () => draws.next(751)), [137, 724, 726, 93]);
+});
+
+test('stations come and go: a row’s station has its name, and is there from its coming on', async () => {
+  const lines = ['{"stations":[],"air":{"range":500,"delay":1,"loss":50,"seed":7,"beacons":false,' +
+    '"until":null}}',
+  '{"station":0,"id":"v1","address":"1400020100000001","lat":0,"lon":0}',
+  '{"event":0,"moment":0,"station":0,"do":"move","lat":0,"lon":0,"result":"moved"}',
+  '{"event":1,"moment":0,"station":0,"do":"open","result":"opened"}',
+  '{"note":"came","moment":0,"station":0}',
+  '{"station":1,"id":"v2","address":"1400020100000002","lat":36000,"lon":0}',
+  '{"event":2,"moment":1000,"station":1,"do":"move","lat":36000,"lon":0,"result":"moved"}',
+  '{"event":3,"moment":1000,"station":1,"do":"open","result":"opened"}',
+  '{"note":"came","moment":1000,"station":1}', '{"note":"left","moment":2500,"station":0}',
+  '{"note":"left","moment":2500,"station":1}', '{"note":"absent","moment":3000,"id":"v1"}'];
+  const found = await read(lines.join('\n'));
+  assert.deepEqual([found.name(0), found.name(1), found.stations[1].born], ['v1', 'v2', 2]);
+  assert.deepEqual([0, 1, 2, 3].map((at) => found.isPresent(0, at)), [false, true, true, false]);
+  assert.equal(found.isPresent(1, 2), false);
+  assert.deepEqual(found.air, {range: 500, delay: 1, loss: 50, until: null});
+});
+
+test('roles of stations so far: sent, accepted, delivered, not reached yet', async () => {
+  const found = await read(samples.loss());
+  const {sends} = way.follow(found);
+  const steps = way.tree(found, sends[0]);
+  const judgement = why.judge(found, sends[0]);
+  const roles = (at) => Object.fromEntries(why.roles(steps, judgement, at));
+  assert.deepEqual(roles(sends[0].event - 1), {});
+  assert.deepEqual(roles(sends[0].event),
+    {0: 'sender', 9: 'missed', 10: 'missed', 11: 'missed'});
+  const last = roles(way.end(found, sends[0]));
+  assert.deepEqual([last[0], last[1], last[9], last[10], last[11]],
+    ['sender', 'reached', 'delivered', 'missed', 'missed']);
+});
+
+test('lost copies are arcs of the map, from the giver to who lost them', async () => {
+  const found = await read(samples.loss());
+  const followed = way.follow(found);
+  const chosen = followed.sends[1];
+  const state = {run: found, at: chosen.event, chosen, ...followed, steps: way.tree(found, chosen),
+    deliveries: way.deliveries(found, chosen), judgement: why.judge(found, chosen), frames: {}};
+  const shown = scene.scene(state, {links: 400, circles: 60, isRange: true});
+  assert.deepEqual(shown.links.map(({from, to, kind, frame}) => [from, to, kind, frame]),
+    [[0, 1, 'lost', 22]]);
+  assert.deepEqual(shown.circles.map(({metres, isNew}) => [metres, isNew]), [[500, true]]);
+  assert.deepEqual(shown.unseen, []);
+  const few = scene.scene({...state, at: way.end(found, followed.sends[2]),
+    chosen: followed.sends[2], deliveries: way.deliveries(found, followed.sends[2])},
+  {links: 5, circles: 3, isRange: true});
+  assert.equal(few.links.length, 5);
+  assert.match(few.unseen.join('; '), /^\d+ of \d+ frames; 9 circles$/);
+});
