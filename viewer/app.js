@@ -61,8 +61,8 @@
 
   /** Shows a run from its first warning on. @param {import('./run.js').Run} run */
   function begin(run, name) {
-    Object.assign(state, {run, name, at: 0, station: undefined, kind: '', result: '', rows: undefined,
-      frames: {}, judgements: new Map(), loads: new Map()}, ways.follow(run));
+    Object.assign(state, {run, name, at: 0, station: undefined, kind: '', result: '',
+      rows: undefined, frames: {}, judgements: new Map(), loads: new Map()}, ways.follow(run));
     state.total = ways.total(run);
     document.body.dataset.state = 'run';
     document.title = `${name}: geostation`;

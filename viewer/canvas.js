@@ -106,8 +106,11 @@
       }
     }
 
+    /** Half the width of a bystander, in pixels: smaller where stations stand close. */
     get radius() {
-      return this.run.stations.length > 3000 ? 2 : 3;
+      const {west, east, south, north} = this.map.bounds;
+      const apart = Math.sqrt(((east - west) * (north - south)) / this.xs.length);
+      return Math.max(0.5, Math.min(3, (apart * this.map.view.scale) / 4));
     }
 
     /** Who has a part in the chosen send, and the present and the chosen station, above all. */
@@ -116,11 +119,13 @@
       const {colours, radius} = this;
       for (const role of ROLES) {
         for (const [i, words] of roles) {
-          if (roleOf(words) === role) this.dot(i, radius + 2, colours[role]);
+          if (roleOf(words) === role) this.dot(i, 1.6 * radius, colours[role]);
         }
       }
       for (const [i, words] of roles) {
-        if (words.includes('missed')) this.ring(i, radius + 3, colours.missed, 2);
+        if (words.includes('missed')) {
+          this.ring(i, 1.7 * radius, colours.missed, Math.max(1, 0.7 * radius));
+        }
       }
       if (active !== undefined) this.ring(active, radius + 3, colours.active, 2);
       if (chosen !== undefined) this.ring(chosen, radius + 5, colours.chosen, 3);

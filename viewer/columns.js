@@ -5,8 +5,8 @@
   'use strict';
 
   /**
-   * Columns of one length, which grow together. A row is taken by `next`, then each column's value is
-   * put where it is: a store of its own for each kind of array is what makes it quick.
+   * Columns of one length, which grow together. A row is taken by `next`, then each column's value
+   * is put where it is: a store of its own for each kind of array is what makes it quick.
    */
   class Table {
     /** @param {Record<string, any>} kinds of the columns, as `Int32Array` */

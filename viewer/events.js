@@ -35,7 +35,8 @@
 
   /** Words to their numbers, and no other keys. @param {string[]} words */
   function numbers(words) {
-    return Object.assign(Object.create(null), Object.fromEntries(words.map((word, i) => [word, i])));
+    const pairs = words.map((word, i) => [word, i]);
+    return Object.assign(Object.create(null), Object.fromEntries(pairs));
   }
 
   class Events extends Table {

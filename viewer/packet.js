@@ -75,8 +75,9 @@
     const deliveries = Array.from(run.deliveries.of(number));
     const count = (result) => deliveries.filter((index) => run.events.is(index, result)).length;
     const lost = run.lost.of(number).length;
-    const words = `Frame ${number}, given by station ${run.name(run.events.at(giver).station)} at ` +
-      `${run.moment(giver)} ms: ${count('accepted')} accepted it, ${count('ignored')} ignored it, ` +
+    const from = run.name(run.events.station.values[giver]);
+    const words = `Frame ${number}, given by station ${from} at ${run.moment(giver)} ms: ` +
+      `${count('accepted')} accepted it, ${count('ignored')} ignored it, ` +
       `${count('refused')} refused it`;
     return lost > 0 ? `${words}, ${lost} lost it.` : `${words}.`;
   }

@@ -1,5 +1,5 @@
-//! A sample run, made by test/samples.js: twelve vehicles on a road, three in ten frames lost,
-//! and a warning of ice, three times.
+//! A sample run, made by test/samples.js: twelve vehicles on a road, three in ten
+//! frames lost, and a warning of ice, three times.
 
 (function (geostation) {
   'use strict';

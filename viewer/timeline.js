@@ -56,7 +56,10 @@
     }
 
     drawMarks() {
-      const marks = this.marked.slice(0, MOST_MARKS).map(({event, name}) => {
+      const {length} = this.marked;
+      const every = Math.ceil(length / MOST_MARKS);
+      byId('marks').title = every > 1 ? `One in ${every} of ${length} warnings is marked` : '';
+      const marks = this.marked.filter((_, i) => i % every === 0).map(({event, name}) => {
         const mark = element('button', 'mark');
         mark.type = 'button';
         mark.tabIndex = -1;

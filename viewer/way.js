@@ -146,7 +146,10 @@
     return all.sort();
   }
 
-  /** The event at which a send's way ends. @param {import('./run.js').Run} run @param {Send} send */
+  /**
+   * The event at which a send's way ends.
+   * @param {import('./run.js').Run} run @param {Send} send
+   */
   function end(run, send) {
     return deliveries(run, send).at(-1) ?? send.event;
   }

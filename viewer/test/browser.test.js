@@ -77,8 +77,8 @@ test('four stations: counts, figures, the tree of hops', async () => {
   assert.equal(await text('#totals'), '4 stations · 8 events · 4 frames · 1 delivery · ' +
     '2 duplicates · 1 ignored otherwise · 0 refused');
   assert.equal(await count('.station'), 4);
-  assert.deepEqual(await figures(), {'delivered at': '1', 'in the area': '1', frames: '4', hops: '3',
-    last: '3 ms', 'dup./delivery': '2.0'});
+  assert.deepEqual(await figures(), {'delivered at': '1', 'in the area': '1', frames: '4',
+    hops: '3', last: '3 ms', 'dup./delivery': '2.0'});
   assert.deepEqual(await rows('tree'), [
     'station 0 sent it +0 ms', 'station 1 accepted, relayed +1 ms',
     'station 2 accepted, relayed, 1 knew it +2 ms',
@@ -214,7 +214,8 @@ test('the sample opens by the keyboard alone', async () => {
 test('why did 11 not get the second warning? two clicks', async () => {
   await page.value('document.getElementById("sample").click()');
   await page.until('document.body.dataset.state === "run"');
-  assert.deepEqual(await rows('missed'), ['10 lost lost on the way', '11 unheard no frame came near']);
+  assert.deepEqual(await rows('missed'),
+    ['10 lost lost on the way', '11 unheard no frame came near']);
   assert.equal(await count('.station.sender'), 1);
   assert.equal(await count('.station.delivered'), 1);
   assert.equal(await count('.station.reached'), 8);
@@ -431,12 +432,13 @@ test('a frame is drawn by what became of it', async () => {
   noFault();
 });
 
-test('a station without events stops playing at once', async () => {
+test('a station without events stops playing by events at once', async () => {
   const file = path.join(room, 'idle.jsonl');
   fs.writeFileSync(file, samples.four().replace('"stations":[',
     '"stations":[{"address":"1400020000000009","lat":0,"lon":9000},')
     .replace(/"station":(\d)/g, (_, i) => `"station":${Number(i) + 1}`));
   await show(file);
+  await page.value('document.getElementById("speed").value = "8"');
   await page.press('Home');
   await page.click('.station[data-station="0"]');
   assert.deepEqual(await rows('events'), []);

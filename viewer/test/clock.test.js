@@ -78,7 +78,8 @@ test('a handle moves room from one panel to the next, and leaves both some', () 
 });
 
 test('air time: 40 microseconds and symbols of 48 bits', () => {
-  // A beacon of 50 octets, a warning of 76: (22 + 8 * 74) / 48 is 12.8, (22 + 8 * 100) / 48 is 17.1.
+  // A beacon of 50 octets: (22 + 8 * 74) / 48 is 12.8; a warning of 76: (22 + 8 * 100) / 48 is
+  // 17.1; both go up.
   assert.deepEqual([50, 76].map(load.airTime), [144, 184]);
 });
 

@@ -19,9 +19,10 @@ async function main(folder) {
     await page.look(width, height, isDark);
     await page.go(pathToFileURL(path.join(TOP, 'index.html')).href);
     await page.picture(path.join(folder, `${name}-empty.png`));
-    await page.click('#sample');
+    await page.value('document.getElementById("sample").click()');
     await page.until('document.body.dataset.state === "run"');
-    await page.value(`geostation.app.go(${process.env.EVENT ?? 104})`);
+    await page.value('document.getElementById("range").click()');
+    await page.click('#missed .row:nth-child(2)');
     await page.picture(path.join(folder, `${name}.png`));
     if (width < 600) {
       await page.value('window.scrollTo(0, 760)');

@@ -79,14 +79,16 @@ for (const name of fs.readdirSync(DATA).filter((file) => file.endsWith('.toml'))
     })());
     const judged = way.follow(run).sends.map((send) => why.judge(run, send));
     const inside = [...print('sim', '--summary', file).matchAll(/ inside (\d+)/g)];
-    assert.deepEqual(judged.map((found) => found.inside.length), inside.map(([, n]) => Number(n)));
+    const counts = inside.map(([, digits]) => Number(digits));
+    assert.deepEqual(judged.map((found) => found.inside.length), counts);
     if (!told) return;
-    const missed = judged.map((found) => found.missed.map(({station, reason}) => [station, reason]));
+    const missed = judged.map((found) =>
+      found.missed.map(({station, reason}) => [station, reason]));
     assert.deepEqual(missed, told);
   });
 }
 
-test('the sample with losses is the program’s run, and its notes are the draws', {skip}, async () => {
+test('the sample with losses is the program’s run, its notes the draws', {skip}, async () => {
   const printed = print('sim', '--json', path.join(DATA, 'road-loss.toml'));
   const air = {range: 500, delay: 1, loss: 30, seed: 56, beacons: true, until: 6000};
   assert.equal(await withNotes(printed, air), samples.loss());

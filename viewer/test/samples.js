@@ -105,7 +105,8 @@ class City {
     this.numbers = 0;
     this.stations = Array.from({length: this.side ** 2}, (_, i) => ({
       address: `1400${(i + 0x20000000001).toString(16).padStart(12, '0')}`,
-      lat: 481000000 + 9000 * Math.floor(i / this.side), lon: 115000000 + 13500 * (i % this.side)}));
+      lat: 481000000 + 9000 * Math.floor(i / this.side), lon: 115000000 + 13500 * (i % this.side),
+    }));
     this.neighbours = this.stations.map((_, i) => this.around(i));
     const air = {range: 150, delay: 1, loss: 10, seed: 1, beacons: true, until: null};
     this.lines.push(JSON.stringify({stations: this.stations, air}));
@@ -217,8 +218,8 @@ if (require.main === module) {
 
 /** The script that holds the road for the page's own button. */
 function pageSample() {
-  return `//! A sample run, made by test/samples.js: twelve vehicles on a road, three in ten frames lost,
-//! and a warning of ice, three times.
+  return `//! A sample run, made by test/samples.js: twelve vehicles on a road, three in ten
+//! frames lost, and a warning of ice, three times.
 
 (function (geostation) {
   'use strict';

@@ -21,9 +21,10 @@ function stations(count) {
 
 /** The octets of station 0's warning. */
 function warning() {
-  const source = {address: '1400020000000001', tst: 0, lat: 0, lon: 0, pai: 0, speed: 0, heading: 0};
-  return encode('ffffffffffff', '020000000001', {kind: 'gbc', lifetime: 26, left: 10, max: 10, tc: 0,
-    number: 0, source, area: AREA, port: 2002, info: 0, payload: '6869'});
+  const source = {address: '1400020000000001', tst: 0, lat: 0, lon: 0, pai: 0, speed: 0,
+    heading: 0};
+  return encode('ffffffffffff', '020000000001', {kind: 'gbc', lifetime: 26, left: 10, max: 10,
+    tc: 0, number: 0, source, area: AREA, port: 2002, info: 0, payload: '6869'});
 }
 
 /** A run: events get their numbers, other lines stand as they are. */
@@ -71,8 +72,8 @@ test('who has no port open, or is not there, is not missed', async () => {
   const back = (station) => ({note: 'came', moment: 5, station});
   const late = {note: 'came', moment: 12, station: 4};
   const restart = {moment: 1, station: 5, do: 'restart', result: 'restarted'};
-  const found = await run(6, [open(1), open(2), open(3), open(4), open(5), restart, left(2), left(3),
-    back(3), send, late]);
+  const found = await run(6, [...[1, 2, 3, 4, 5].map(open), restart, left(2), left(3), back(3),
+    send, late]);
   const [sent] = way.follow(found).sends;
   const {standing, inside, deaf} = why.judge(found, sent);
   assert.deepEqual([standing, inside, deaf], [[1, 3, 5], [1, 3], [5]]);
@@ -98,7 +99,7 @@ test('without notes the range of the air tells what was lost', async () => {
     ['lost', 'lost', 'unheard']);
 });
 
-test('without an air’s range a frame nearer than others that were heard was likely lost', async () => {
+test('without an air’s range what was nearer than others heard was likely lost', async () => {
   const found = await run(4, [open(1), open(2), open(3), send, came(2, {result: 'accepted',
     port: 2002, info: 0, payload: ''})]);
   const {missed: misses} = why.judge(found, way.follow(found).sends[0]);
@@ -122,8 +123,9 @@ test('the road with losses: each station without a warning, with its reason', as
     [miss.station, miss.reason])),
   [[[10, 'lost'], [11, 'unheard']], [[9, 'unheard'], [10, 'unheard'], [11, 'unheard']], []]);
   const words = reason.sentence(found, sends[1], judged[1].missed[2]);
-  assert.match(words, /^Station 11 had no frame of it\. The nearest, frame 22, was given by station 0/);
-  assert.match(words, /heard within 500 m\. Its way ended at station 0, whose frame 22 was lost at 1/);
+  assert.match(words, /^Station 11 had no frame of it\. The nearest, frame 22, was given by /);
+  assert.match(words, /station 0 \d+ m away; they are heard within 500 m\. Its way ended at /);
+  assert.match(words, / station 0, whose frame 22 was lost at 1\.$/);
 });
 
 test('each frame of that road was delivered or lost at each station in range', async () => {
@@ -144,7 +146,7 @@ test('the draws are those of the program: four stations’ first ticks, a seed o
   assert.deepEqual(Array.from({length: 4}, () => draws.next(751)), [137, 724, 726, 93]);
 });
 
-test('stations come and go: a row’s station has its name, and is there from its coming on', async () => {
+test('a station of a row of moves has its name, and is there from its coming on', async () => {
   const lines = ['{"stations":[],"air":{"range":500,"delay":1,"loss":50,"seed":7,"beacons":false,' +
     '"until":null}}',
   '{"station":0,"id":"v1","address":"1400020100000001","lat":0,"lon":0}',
