@@ -2,3 +2,4 @@ pub mod Walks
 pub mod Worlds
 pub mod Logs
 pub mod Giving
+pub mod Apart

@@ -6,6 +6,7 @@ ghost use Rattle.std.specs.Option.{option_map};
 ghost use Rattle.its_model.specs.Calls.{Answer, Call};
 ghost use Rattle.its_model.specs.Station.{StationModel, station_step};
 ghost use Rattle.its_model.specs.World.{WorldModel, opening, world_step, entries};
+ghost use Rattle.its_model.specs.Reach.{HasOwnAddress};
 ghost use Rattle.its_headers.specs.Encoding.{IsBytes};
 ghost use Rattle.its_station.specs.State.{StationState, RepresentsStation};
 ghost use Rattle.its_world.specs.State.{RepresentsWorld};
@@ -23,6 +24,7 @@ use crate::stations::stations_of;
 use its_gnvalue::NoMemory;
 use its_linkframe::laws::{one_frame, one_frame_fault};
 use its_loctable::SortedTable;
+use its_model::laws::addresses_are_own;
 use its_station::Station;
 use std::alloc::Global;
 use std::marker::Model;
@@ -50,14 +52,19 @@ impl Model for World {
 impl World {
     /// The world of these configs, at most 65535, in which nothing happened yet. The capacity of
     /// each is 1 to 4096, and what it remembers 1 to 64. Refused by `SameMid` (M1) exactly where
-    /// two stations share a MID, and else by `NoMemory` (M2) where an allocation failed.
+    /// two stations share a MID, and else by `NoMemory` (M2) where an allocation failed. So each
+    /// has an address of its own, which the law on reaching asks of a sender.
     pub fn new(alloc: Global, configs: &[Config]) -> Result<World, WorldFault>
         requires ranges { All IsConfig configs.now }
         requires count { length configs.now ≤ 65535 }
         ensures opens { IfOk result (λ w. RepresentsWorld w (opening (map config_of configs.now))) }
         ensures apart { OnOk result (AreApart configs.now) }
+        ensures own { OnOk result ((station : ℕ) →
+            HasOwnAddress (map config_of configs.now) station) }
         ensures refused { IfErr result (λ fault. IsMidFault fault configs.now) }
     {
+        // A law, for the proof alone.
+        addresses_are_own();
         refuse_shared(alloc, configs)?;
         World::of_apart(alloc, configs).map_err(|_| WorldFault::NoMemory)
     }
