@@ -5,6 +5,7 @@ use Rattle.std.proofs.Common.{refl, sym, ap, subst, ◌∙◌, arith, eqb}
 use Rattle.std.specs.Prelude.{slice_get}
 use Rattle.its_gnvalue.specs.Values.{mid_of}
 use Rattle.its_model.specs.Packet.{Transmission, number_in}
+use Rattle.its_model.specs.Packet.AreaKind.{geobroadcast}
 use Rattle.its_model.specs.Stations.{is_full, stations_at}
 use Rattle.its_model.specs.Calls.{Refusal}
 use Rattle.its_model.specs.Calls.Refusal.{TableFull}
@@ -218,7 +219,7 @@ chains_reach configs events g delay end chain carried heard enough in_time small
     (record {
       run = of_run configs events;
       own_address = addresses_are_own configs carried.apart g.line.event.station;
-      own_number = numbers_are_own w g carried.never_restarted carried.few;
+      own_number = numbers_are_own w geobroadcast g carried.never_restarted carried.few;
     })
     carried.never_fell carried.in_order small (omega arith) (omega (arith, enough)) (omega arith)
     in_time heard
