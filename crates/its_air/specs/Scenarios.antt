@@ -8,16 +8,16 @@ use Rattle.its_scenario.specs.declared.air.Air.{Air}
 use Rattle.its_scenario.specs.declared.scenario.Scenario.{Scenario}
 use Rattle.its_scenario.specs.Airs.{end_of}
 use Rattle.its_simulation.specs.Simulated.{IsSimulated}
-use Rattle.its_air.specs.AirRun.{IsAirRun}
+use Rattle.its_air.specs.AirTimed.{IsTimedRun, rules_of}
 
--- in no air, just the scenario's events were done; in an air, a list with them among it
+-- in no air, just the scenario's events were done; in an air, just those that its timetable gives
 abbrev pub IsRunIn : Option Air → Scenario → WorldState → (List Event → List Entry → Type 0)
     → Type 0
 IsRunIn None s world Took =
     IsSimulated (map config_of s.stations.items) (map event_of s.events.items) world Took
 IsRunIn (Some air) s world Took =
-    IsAirRun (map config_of s.stations.items) (map event_of s.events.items)
-    (end_of air.until s.events.items) world Took
+    IsTimedRun (rules_of air (end_of air.until s.events.items))
+    (map config_of s.stations.items) (map event_of s.events.items) world Took
 
 -- the world stands at the end of the scenario's run, and this was taken of it
 abbrev pub IsRunOf : Scenario → WorldState → (List Event → List Entry → Type 0) → Type 0

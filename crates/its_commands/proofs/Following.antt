@@ -23,15 +23,13 @@ run_follows None s world Before After follows run =
     }
 run_follows (Some air) s world Before After follows run =
     record {
-      events = run.events;
+      steps = run.steps;
+      over = run.over;
       run = record {
         stands = run.run.stands;
         laws = run.run.laws;
         log = run.run.log;
         told = run.run.told;
-        took = follows run.events run.run.log run.run.took;
+        took = follows _ run.run.log run.run.took;
       };
-      due = run.due;
-      is_due = run.is_due;
-      among = run.among;
     }
