@@ -12,6 +12,7 @@ use Rattle.its_model.specs.Calls.OwnCall.{Tick}
 use Rattle.its_air.specs.Draws.{draws_of}
 use Rattle.its_air.specs.Heard.{air_at, IsDone, IsHeard, draw_of, world_after}
 use Rattle.its_air.specs.Heard.{WhatIsHeardIsDelivered, DeliveriesAreHeard, StepsDoEvents}
+use Rattle.its_air.specs.Timetable.{IsOver}
 use Rattle.its_air.specs.Timetable.{Rules, Put, Timetable, AirModel, put, put_all, draw, of_file}
 use Rattle.its_air.specs.Timetable.{draw_alone, draw_and_put, delivery, send, send_all, given}
 use Rattle.its_air.specs.Timetable.{spread, spread_frame, heard_by, tick_again, follow_tick}
@@ -29,20 +30,13 @@ steps_do_events r configs file n p d =
 
 -- ---- what is heard is delivered
 
-pub what_is_heard_is_delivered : (r : Rules) (configs : List Config) (file : List Event)
-    → WhatIsHeardIsDelivered r configs file
-what_is_heard_is_delivered r configs file end n k j p over h due = by (cases_lt n end)
+-- In a run that is over, what waits after a step is done by a later one, where it is due.
+pub put_is_done : (r : Rules) (configs : List Config) (file : List Event) (end n : ℕ) (p q : Put)
+    → IsDone r configs file n p → IsOver r (air_at r configs file end)
+    → IsIn q (air_at r configs file (suc n)).timetable.waiting → at q ≤ r.until
+    → (m : ℕ) × (n < m) × (m < end) × IsDone r configs file m q
+put_is_done r configs file end n p q done over waits due = by (cases_lt n end)
   where
-    q : Put
-    q = delivery k (at p + r.delay) j
-
-    waits : IsIn q (air_at r configs file (suc n)).timetable.waiting
-    waits =
-        subst (λ (a : AirModel). IsIn q a.timetable.waiting)
-        (sym (step_does r configs file n p h.done))
-        (heard_waits r configs (air_at r configs file n) p h.done.rest k h.place j h.gives
-        h.in_range h.is_kept)
-
     ended : ((m : ℕ) × (suc n ≤ m) × (m < end) × IsDone r configs file m q)
         ⊎ IsIn q (air_at r configs file end).timetable.waiting
         → (m : ℕ) × (n < m) × (m < end) × IsDone r configs file m q
@@ -56,15 +50,24 @@ what_is_heard_is_delivered r configs file end n k j p over h due = by (cases_lt 
     by (inr le) =
         let same : air_at r configs file n ≡ air_at r configs file end =
         later r configs (air_opening r configs file) n end le over in
-        let none : NoneWaits r.until (p ∷ h.done.rest) =
-        subst (NoneWaits r.until) h.done.first
+        let none : NoneWaits r.until (p ∷ done.rest) =
+        subst (NoneWaits r.until) done.first
         (subst (λ (a : AirModel). NoneWaits r.until a.timetable.waiting) (sym same) over) in
-        let in_time = h.done.in_time in
-        absurd (omega (arith, none, in_time))
+        let in_time = done.in_time in absurd (omega (arith, none, in_time))
+
+pub what_is_heard_is_delivered : (r : Rules) (configs : List Config) (file : List Event)
+    → WhatIsHeardIsDelivered r configs file
+what_is_heard_is_delivered r configs file end n k j p over h due =
+    let q = delivery k (at p + r.delay) j in
+    put_is_done r configs file end n p q h.done over
+    (subst (λ (a : AirModel). IsIn q a.timetable.waiting)
+    (sym (step_does r configs file n p h.done))
+    (heard_waits r configs (air_at r configs file n) p h.done.rest k h.place j h.gives h.in_range
+    h.is_kept)) due
 
 -- ---- what is delivered was heard
 
-put_of_is : (q v : Put) (ws : List Put) → IsIn q (put v ws) → (q ≡ v) ⊎ IsIn q ws
+pub put_of_is : (q v : Put) (ws : List Put) → IsIn q (put v ws) → (q ≡ v) ⊎ IsIn q ws
 put_of_is q v [] (inl is) = inl is
 put_of_is q v [] (inr g) = absurd g
 put_of_is q v (w ∷ ws) h = by (λ g. put_of_is q v ws g) (nat_le (at w) (at v)) h
@@ -80,7 +83,7 @@ put_of_is q v (w ∷ ws) h = by (λ g. put_of_is q v ws g) (nat_le (at w) (at v)
     by on false g = g
 
 -- it waited before, or was put for one of these stations, whose draw loses nothing
-abbrev IsSent : Put → ℕ → ℕ → ℕ → List ℕ → Timetable → Type 0
+abbrev pub IsSent : Put → ℕ → ℕ → ℕ → List ℕ → Timetable → Type 0
 IsSent q loss k m js t =
     (i : ℕ) × (j : ℕ) × (slice_get js i ≡ Some j) × (loss ≤ draw_of i t.draws % 100)
     × (q ≡ delivery k m j)
@@ -100,7 +103,7 @@ send_of q loss k m j t h = by (nat_lt (draw t % 100) loss) refl h
         told (inl is) = inr (ltb-false (draw t % 100) loss test, is)
         told (inr x) = inl x
 
-sent_of : (q : Put) (loss k m : ℕ) (js : List ℕ) (t : Timetable)
+pub sent_of : (q : Put) (loss k m : ℕ) (js : List ℕ) (t : Timetable)
     → IsIn q (send_all loss k m js t).waiting → IsIn q t.waiting ⊎ IsSent q loss k m js t
 sent_of q loss k m [] t h = inl h
 sent_of q loss k m (x ∷ js) t h = by (sent_of q loss k m js (send loss k m x t) h)
@@ -160,7 +163,7 @@ ticks_of q k (suc n) t h what =
     by (inl is) = absurd (no_tick q k n 0 0 (draw u % 751) is what)
     by (inr x) = x
 
-file_of : (q : Put) (es : List Event) (ws : List Put) → IsIn q (put_all (map of_file es) ws)
+pub file_of : (q : Put) (es : List Event) (ws : List Put) → IsIn q (put_all (map of_file es) ws)
     → q.own ≡ true → IsIn q ws
 file_of q [] ws h own = h
 file_of q (e ∷ es) ws h own =

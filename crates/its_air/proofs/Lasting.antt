@@ -20,7 +20,7 @@ abbrev pub IsIn : Put → List Put → Type 0
 IsIn p [] = ⊥
 IsIn p (q ∷ ws) = (p ≡ q) ⊎ IsIn p ws
 
-put_self : (p : Put) (ws : List Put) → IsIn p (put p ws)
+pub put_self : (p : Put) (ws : List Put) → IsIn p (put p ws)
 put_self p [] = inl refl
 put_self p (q ∷ ws) = by (put_self p ws) (nat_le (at q) (at p))
   where

@@ -13,3 +13,4 @@ pub mod OneRun
 pub mod Moments
 pub mod Lasting
 pub mod Heard
+pub mod Ticks

@@ -1,12 +1,14 @@
 -- What holds of every run of an air, said of its steps: each does one event.
 use Rattle.std.specs.Prelude.{◌≡◌, ℕ, zero, suc, ◌+◌, ◌%◌, ◌≤◌, ◌<◌, List, [], ◌∷◌, ◌++◌, Some}
-use Rattle.std.specs.Prelude.{true, slice_get}
+use Rattle.std.specs.Prelude.{true, false, slice_get, ◌⊎◌, cond, length}
 use Rattle.std.specs.List.Sorted.{IsNonDecreasingBy}
 use Rattle.rand_core.specs.Stream.{Stream, next_u64}
+use Rattle.its_model.specs.Station.{StationModel}
 use Rattle.its_model.specs.World.{Config, Event, WorldModel, opening, world_run}
 use Rattle.its_model.specs.World.What.{Deliver}
 use Rattle.its_air.specs.Timetable.{Rules, Put, AirModel, air_opening, air_run, IsOver}
-use Rattle.its_air.specs.Timetable.{delivery, given, heard_by}
+use Rattle.its_air.specs.Timetable.{delivery, given, heard_by, spread, draw, tick, is_tick}
+use Rattle.its_air.specs.Timetable.{was_refused}
 
 -- an air after so many steps
 abbrev pub air_at : Rules → List Config → List Event → ℕ → AirModel
@@ -68,3 +70,56 @@ DeliveriesAreHeard r configs file =
     (m k : ℕ) (q : Put) → IsDone r configs file m q → q.own ≡ true → q.event.what ≡ Deliver k
     → (n : ℕ) × (p : Put) × (n < m) × IsHeard r configs file n p k q.event.station
     × (q.event.moment ≡ p.event.moment + r.delay)
+
+-- The step of this number did p, a tick of the air's own that wasn't refused, and this is its
+-- station after it.
+pub record IsTicked (r : Rules) (configs : List Config) (file : List Event) (n : ℕ) (p : Put)
+    (s : StationModel) : Type 0 where
+  pub done : IsDone r configs file n p
+  pub own : p.own ≡ true
+  pub ticks : is_tick p.event.what ≡ true
+  pub answered : was_refused (world_after r configs file n p).log ≡ false
+  pub station : slice_get (world_after r configs file n p).stations p.event.station ≡ Some s
+
+-- the next tick of that station: its jitter is the draw after those for the frame that it gave
+abbrev pub next_tick : (r : Rules) (configs : List Config) (file : List Event) (n : ℕ) (p : Put)
+    (s : StationModel) → List Put → Put
+next_tick r configs file n p s rest =
+    tick p.event.station p.event.moment s.beacon_from
+    (draw (spread r p.event (world_after r configs file n p) (record {
+      waiting = rest;
+      draws = (air_at r configs file n).timetable.draws;
+    })) % 751)
+
+-- In a run that is over, a station that ticked ticks again, by a later step, where that isn't past
+-- the last moment.
+abbrev pub TicksGoOn : Rules → List Config → List Event → Type 0
+TicksGoOn r configs file =
+    (end n : ℕ) (p : Put) (s : StationModel) (h : IsTicked r configs file n p s)
+    → IsOver r (air_at r configs file end)
+    → (next_tick r configs file n p s h.done.rest).event.moment ≤ r.until
+    → (m : ℕ) × (n < m) × (m < end)
+    × IsDone r configs file m (next_tick r configs file n p s h.done.rest)
+
+-- one of the first ticks, where there are beacons: at its jitter
+pub record IsFirstTick (r : Rules) (configs : List Config) (q : Put) : Type 0 where
+  pub station : ℕ
+  pub jitter : ℕ
+  pub among : station < cond r.beacons (length configs) 0
+  pub is : q ≡ tick station 0 0 jitter
+
+-- it is the next one of a station that ticked by an earlier step than this
+pub record IsNextTick (r : Rules) (configs : List Config) (file : List Event) (m : ℕ)
+    (q : Put) : Type 0 where
+  pub n : ℕ
+  pub p : Put
+  pub s : StationModel
+  pub earlier : n < m
+  pub ticked : IsTicked r configs file n p s
+  pub is : q ≡ next_tick r configs file n p s ticked.done.rest
+
+-- Each tick of the air's own is one of the first, or the next of a station that ticked before.
+abbrev pub TicksAreDue : Rules → List Config → List Event → Type 0
+TicksAreDue r configs file =
+    (m : ℕ) (q : Put) → IsDone r configs file m q → q.own ≡ true → is_tick q.event.what ≡ true
+    → IsFirstTick r configs q ⊎ IsNextTick r configs file m q

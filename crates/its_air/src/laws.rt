@@ -3,7 +3,7 @@
 ghost use Rattle.std.specs.Prelude.{◌≡◌, ℕ, List};
 ghost use Rattle.its_model.specs.World.{Config, Event};
 ghost use Rattle.its_air.specs.Heard.{StepsDoEvents, MomentsNeverFall, WhatIsHeardIsDelivered};
-ghost use Rattle.its_air.specs.Heard.{DeliveriesAreHeard};
+ghost use Rattle.its_air.specs.Heard.{DeliveriesAreHeard, TicksGoOn, TicksAreDue};
 ghost use Rattle.its_air.specs.Timetable.{Rules, IsOver, air_opening, air_run};
 
 /// The run of an air is one: where two numbers of steps leave nothing that waits up to the last
@@ -41,4 +41,19 @@ pub fn what_is_heard_is_delivered()
 pub fn deliveries_are_heard()
     ensures { (rules : Rules) (configs : List Config) (file : List Event) →
         DeliveriesAreHeard rules configs file }
+{}
+
+/// In a run that is over, a station whose tick of the air's own wasn't refused ticks again by one of
+/// the steps after: at that moment or, where that is later, when its beacon is due by the jitter
+/// that is drawn then, unless that is past the last moment.
+pub fn ticks_go_on()
+    ensures { (rules : Rules) (configs : List Config) (file : List Event) →
+        TicksGoOn rules configs file }
+{}
+
+/// Each tick of the air's own is the first of its station, where there are beacons, or so follows
+/// a tick of the air's own at that station, by an earlier step, that wasn't refused.
+pub fn ticks_are_due()
+    ensures { (rules : Rules) (configs : List Config) (file : List Event) →
+        TicksAreDue rules configs file }
 {}
