@@ -14,3 +14,4 @@ pub mod Moments
 pub mod Lasting
 pub mod Heard
 pub mod Ticks
+pub mod Logs

@@ -11,3 +11,4 @@ pub mod AirTimed
 pub mod Waits
 pub mod Keeps
 pub mod Heard
+pub mod Carried

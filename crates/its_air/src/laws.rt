@@ -4,6 +4,7 @@ ghost use Rattle.std.specs.Prelude.{◌≡◌, ℕ, List};
 ghost use Rattle.its_model.specs.World.{Config, Event};
 ghost use Rattle.its_air.specs.Heard.{StepsDoEvents, MomentsNeverFall, WhatIsHeardIsDelivered};
 ghost use Rattle.its_air.specs.Heard.{DeliveriesAreHeard, TicksGoOn, TicksAreDue};
+ghost use Rattle.its_air.specs.Carried.{LogsNeverFall};
 ghost use Rattle.its_air.specs.Timetable.{Rules, IsOver, air_opening, air_run};
 
 /// The run of an air is one: where two numbers of steps leave nothing that waits up to the last
@@ -56,4 +57,10 @@ pub fn ticks_go_on()
 pub fn ticks_are_due()
     ensures { (rules : Rules) (configs : List Config) (file : List Event) →
         TicksAreDue rules configs file }
+{}
+
+/// The moments of the lines of an air's log never fall.
+pub fn logs_never_fall()
+    ensures { (rules : Rules) (configs : List Config) (file : List Event) →
+        LogsNeverFall rules configs file }
 {}
