@@ -15,3 +15,4 @@ pub mod Lasting
 pub mod Heard
 pub mod Ticks
 pub mod Logs
+pub mod Carried

@@ -2,8 +2,11 @@
 use Rattle.std.specs.Prelude.{◌≡◌, ◌≢◌, ℕ, ◌+◌, ◌*◌, ◌≤◌, List, [], ◌∷◌, length, Some, true, false}
 use Rattle.std.specs.Prelude.{slice_get}
 use Rattle.its_model.specs.World.{Config, Event, WorldModel, opening, world_run}
-use Rattle.its_model.specs.Chain.{MomentsNeverFall as NeverFalls, IsHeardBy}
-use Rattle.its_model.specs.Reach.{has_moved}
+use Rattle.its_geometry.specs.Area.{area_holds}
+use Rattle.its_model.specs.Chain.{MomentsNeverFall as NeverFalls, IsHeardBy, HaveOwnMids}
+use Rattle.its_model.specs.Log.{has_restarted}
+use Rattle.its_model.specs.Reach.{has_moved, Geobroadcast, ComesInOrder, AreReached, area_sends_of}
+use Rattle.its_model.specs.Station.{last_moment}
 use Rattle.its_air.specs.Heard.{air_at}
 use Rattle.its_air.specs.Reach.{is_within}
 use Rattle.its_air.specs.Timetable.{Rules, IsOver}
@@ -35,3 +38,37 @@ StationsInRangeHear r configs file =
     (end i j : ℕ) → r.loss ≡ 0 → IsOver r (air_at r configs file end)
     → AreInRange r configs (world_at r configs file end) i j
     → IsHeardBy (world_at r configs file end) r.delay r.until i j
+
+-- From station i, which began inside the area of a geobroadcast, it comes to station j, another than
+-- its sender: they are in range, never moved, and j has room for as many sources as there are
+-- stations.
+pub record IsNextInside (r : Rules) (configs : List Config) (w : WorldModel) (g : Geobroadcast w)
+    (i j : ℕ) : Type 0 where
+  pub in_range : AreInRange r configs w i j
+  pub inside : area_holds g.request.area in_range.giver.place ≡ true
+  pub room : length configs ≤ in_range.receiver.capacity
+  pub not_sender : j ≢ g.line.event.station
+
+-- so from station i to the first of these, and from each to the next
+abbrev pub AreNextInside : (r : Rules) (configs : List Config) (w : WorldModel) → Geobroadcast w
+    → ℕ → List ℕ → Type 0
+AreNextInside r configs w g i [] = Unit {0}
+AreNextInside r configs w g i (j ∷ chain) =
+    IsNextInside r configs w g i j × AreNextInside r configs w g j chain
+
+-- In a run that is over and loses nothing, a geobroadcast over as many hops as such a chain from its
+-- sender has links reaches the n-th of the chain n delays after it was sent, at the latest, where
+-- that isn't past the last moment. No two stations share a MID; its sender never restarted, and sent
+-- no more packets for areas than there are numbers; and none of its frames overtook another.
+abbrev pub ReachesInAir : Rules → List Config → List Event → Type 0
+ReachesInAir r configs file =
+    (end : ℕ) (g : Geobroadcast (world_at r configs file end)) (chain : List ℕ)
+    → r.loss ≡ 0 → IsOver r (air_at r configs file end) → r.until ≤ last_moment
+    → HaveOwnMids configs
+    → has_restarted g.line.event.station (world_at r configs file end).log ≡ false
+    → area_sends_of g.line.event.station (world_at r configs file end).log ≤ 65536
+    → ComesInOrder (world_at r configs file end) g
+    → AreNextInside r configs (world_at r configs file end) g g.line.event.station chain
+    → length chain ≤ g.request.max_hops
+    → g.line.event.moment + length chain * r.delay ≤ r.until
+    → AreReached configs (world_at r configs file end) g r.delay g.line.event.moment chain
