@@ -1,7 +1,7 @@
 -- In an air that loses nothing, stations that stand in range hear each other.
 use Rattle.std.proofs.Common.{◌≡◌, ℕ, zero, suc, ◌+◌, ◌≤◌, ◌<◌, List, [], ◌∷◌, ◌++◌, refl, sym, ap}
-use Rattle.std.proofs.Common.{◌∙◌, arith, Bool, true, false, cond, subst, Option, Some, None, ◌⊎◌}
-use Rattle.std.proofs.Common.{inl, inr, length, not, ◌&&◌, eqb}
+use Rattle.std.proofs.Common.{◌∙◌, arith, Bool, true, false, cond, subst, Option, Some, ◌⊎◌}
+use Rattle.std.proofs.Common.{inl, inr, not, ◌&&◌, eqb}
 use Rattle.std.specs.Prelude.{slice_get}
 use Rattle.its_gnvalue.specs.Values.{Position}
 use Rattle.its_model.specs.Calls.{Answer}
@@ -12,19 +12,19 @@ use Rattle.its_model.specs.Log.{moved_by, position_after, position_at}
 use Rattle.its_model.specs.Reach.{has_moved, is_moved, Geobroadcast}
 use Rattle.its_model.specs.Station.{StationModel}
 use Rattle.its_model.specs.World.{Config, Event, LogLine, What, WorldModel, opening, world_run}
-use Rattle.its_model.specs.World.What.{Deliver}
 use Rattle.its_model.proofs.Linked.{chains_reach}
 use Rattle.its_model.proofs.Lists.{get_at, get_within}
 use Rattle.its_model.proofs.NumberTests.{eq_test, eqb_other, or_false}
 use Rattle.its_model.proofs.SoundRuns.{run_sound}
-use Rattle.its_air.specs.Carried.{world_at, AreInRange, StationsInRangeHear, AreNextInside}
+use Rattle.its_air.specs.Carried.{world_at, StationsInRangeHear, AreNextInside}
 use Rattle.its_air.specs.Carried.{ReachesInAir}
 use Rattle.its_air.specs.Heard.{air_at, IsDone, IsHeard, world_after}
 use Rattle.its_air.specs.Reach.{is_within}
 use Rattle.its_air.specs.Timetable.{Rules, Put, AirModel, IsOver, delivery, given, heard_from, hear_it}
 use Rattle.its_air.specs.Timetable.{heard_by}
 use Rattle.its_air.proofs.Heard.{what_is_heard_is_delivered}
-use Rattle.its_air.proofs.Logs.{IsMade, made, step_case, world_next, line_next, logs_never_fall}
+use Rattle.its_air.proofs.InLine.{frames_come_in_order}
+use Rattle.its_air.proofs.Logs.{made, step_case, world_next, line_next, logs_never_fall}
 
 -- ---- where a station stands that never moved
 
@@ -256,15 +256,17 @@ heard_from_inside (j ∷ chain) r configs file end i g lossless over h =
 
 pub reaches_in_air : (r : Rules) (configs : List Config) (file : List Event)
     → ReachesInAir r configs file
-reaches_in_air r configs file end g chain lossless over small apart never_restarted few in_order
-    next enough in_time =
+reaches_in_air r configs file end g chain none lossless over small apart never_restarted few next
+    enough in_time =
     chains_reach configs (air_at r configs file end).done g r.delay r.until chain
     (record {
       apart = apart;
       never_restarted = never_restarted;
       few = few;
       never_fell = logs_never_fall r configs file end;
-      in_order = in_order;
+      in_order = λ later between older first second k m split one two of_k of_m.
+          frames_come_in_order r configs file none end later between older first second k m split
+          one.delivery two.delivery;
     })
     (heard_from_inside chain r configs file end g.line.event.station g lossless over next) enough
     in_time small

@@ -15,4 +15,5 @@ pub mod Lasting
 pub mod Heard
 pub mod Ticks
 pub mod Logs
+pub mod InLine
 pub mod Carried

@@ -37,13 +37,13 @@ put_rises m p (q ∷ ws) h le =
     by on false is =
         let lt = leb-false (at q) (at p) is in (le, (omega (arith, lt), h.1))
 
-put_all_rises : (es : List Event) (ws : List Put) → Rises 0 ws
+pub put_all_rises : (es : List Event) (ws : List Put) → Rises 0 ws
     → Rises 0 (put_all (map of_file es) ws)
 put_all_rises [] ws h = h
 put_all_rises (e ∷ es) ws h =
     put_all_rises es (put (of_file e) ws) (put_rises 0 (of_file e) ws h (omega arith))
 
-send_rises : (low loss k m j : ℕ) (t : Timetable) → Rises low t.waiting → low ≤ m
+pub send_rises : (low loss k m j : ℕ) (t : Timetable) → Rises low t.waiting → low ≤ m
     → Rises low (send loss k m j t).waiting
 send_rises low loss k m j t h le = by (nat_lt (draw t % 100) loss)
   where
@@ -58,7 +58,7 @@ send_all_rises low loss k m [] t h le = h
 send_all_rises low loss k m (j ∷ js) t h le =
     send_all_rises low loss k m js (send loss k m j t) (send_rises low loss k m j t h le) le
 
-spread_rises : (r : Rules) (e : Event) (after : WorldModel) (o : Option ℕ) (t : Timetable)
+pub spread_rises : (r : Rules) (e : Event) (after : WorldModel) (o : Option ℕ) (t : Timetable)
     → Rises e.moment t.waiting → Rises e.moment (spread_frame r e after o t).waiting
 spread_rises r e after None t h = h
 spread_rises r e after (Some k) t h =
@@ -72,7 +72,7 @@ again_rises e (Some s) t h =
     put_rises e.moment (tick e.station e.moment s.beacon_from (draw t % 751)) t.waiting h
     (le-max_left e.moment (s.beacon_from + draw t % 751))
 
-follow_rises : (p : Put) (after : WorldModel) (t : Timetable) → Rises (at p) t.waiting
+pub follow_rises : (p : Put) (after : WorldModel) (t : Timetable) → Rises (at p) t.waiting
     → Rises (at p) (follow_tick p after t).waiting
 follow_rises p after t h =
     by (p.own && (is_tick p.event.what && not (was_refused after.log)))
@@ -82,7 +82,7 @@ follow_rises p after t h =
     by true = again_rises p.event (slice_get after.stations p.event.station) t h
     by false = h
 
-ticks_rise : (n : ℕ) (t : Timetable) → Rises 0 t.waiting → Rises 0 (put_first_ticks n t).waiting
+pub ticks_rise : (n : ℕ) (t : Timetable) → Rises 0 t.waiting → Rises 0 (put_first_ticks n t).waiting
 ticks_rise zero t h = h
 ticks_rise (suc n) t h =
     let u = put_first_ticks n t in

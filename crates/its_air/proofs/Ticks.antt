@@ -1,17 +1,17 @@
 -- The ticks of an air: each is the first of its station, or follows one that wasn't refused.
-use Rattle.std.proofs.Common.{◌≡◌, ℕ, zero, suc, ◌+◌, ◌≤◌, ◌<◌, List, [], ◌∷◌, ◌++◌, refl, sym, ap}
+use Rattle.std.proofs.Common.{◌≡◌, ℕ, zero, suc, ◌+◌, ◌≤◌, List, [], ◌∷◌, refl, sym, ap}
 use Rattle.std.proofs.Common.{◌∙◌, arith, Bool, true, false, cond, subst, Option, Some, None, ◌⊎◌}
 use Rattle.std.proofs.Common.{inl, inr, map, length, true≢false}
-use Rattle.std.specs.Prelude.{nat_le, nat_lt, ◌%◌, slice_get, not, ◌&&◌}
+use Rattle.std.specs.Prelude.{nat_le, ◌%◌, slice_get, not, ◌&&◌}
 use Rattle.std.proofs.lemmas.Bool.{leb-true}
 use Rattle.its_model.specs.Station.{StationModel}
 use Rattle.its_model.specs.World.{Config, Event, WorldModel}
 use Rattle.its_air.specs.Draws.{draws_of}
-use Rattle.its_air.specs.Heard.{air_at, IsDone, IsTicked, IsFirstTick, IsNextTick, world_after}
+use Rattle.its_air.specs.Heard.{air_at, IsDone, IsFirstTick, IsNextTick, world_after}
 use Rattle.its_air.specs.Heard.{next_tick, TicksGoOn, TicksAreDue}
-use Rattle.its_air.specs.Timetable.{Rules, Put, Timetable, AirModel, put, put_all, draw, of_file}
+use Rattle.its_air.specs.Timetable.{Rules, Put, Timetable, AirModel, put_all, draw, of_file}
 use Rattle.its_air.specs.Timetable.{delivery, given, heard_by, spread, spread_frame, tick_again}
-use Rattle.its_air.specs.Timetable.{follow_tick, put_tick, tick, is_tick, was_refused, do_first}
+use Rattle.its_air.specs.Timetable.{follow_tick, tick, is_tick, was_refused, do_first}
 use Rattle.its_air.specs.Timetable.{put_first_ticks}
 use Rattle.its_air.proofs.Heard.{put_is_done, put_of_is, sent_of, file_of, IsSent}
 use Rattle.its_air.proofs.Lasting.{IsIn, step_does, once_done, put_self}

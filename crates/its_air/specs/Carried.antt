@@ -1,11 +1,12 @@
 -- What the log of an air's run shows: what the law on chains of stations asks of a run.
-use Rattle.std.specs.Prelude.{◌≡◌, ◌≢◌, ℕ, ◌+◌, ◌*◌, ◌≤◌, List, [], ◌∷◌, length, Some, true, false}
-use Rattle.std.specs.Prelude.{slice_get}
-use Rattle.its_model.specs.World.{Config, Event, WorldModel, opening, world_run}
+use Rattle.std.specs.Prelude.{◌≡◌, ◌≢◌, ℕ, ◌+◌, ◌*◌, ◌≤◌, List, [], ◌∷◌, ◌++◌, length, Some, true}
+use Rattle.std.specs.Prelude.{false, slice_get}
+use Rattle.its_model.specs.World.{Config, Event, LogLine, WorldModel, opening, world_run}
+use Rattle.its_model.specs.World.What.{Deliver}
 use Rattle.its_geometry.specs.Area.{area_holds}
 use Rattle.its_model.specs.Chain.{MomentsNeverFall as NeverFalls, IsHeardBy, HaveOwnMids}
 use Rattle.its_model.specs.Log.{has_restarted}
-use Rattle.its_model.specs.Reach.{has_moved, Geobroadcast, ComesInOrder, AreReached, area_sends_of}
+use Rattle.its_model.specs.Reach.{has_moved, Geobroadcast, AreReached, area_sends_of}
 use Rattle.its_model.specs.Station.{last_moment}
 use Rattle.its_air.specs.Heard.{air_at}
 use Rattle.its_air.specs.Reach.{is_within}
@@ -39,6 +40,20 @@ StationsInRangeHear r configs file =
     → AreInRange r configs (world_at r configs file end) i j
     → IsHeardBy (world_at r configs file end) r.delay r.until i j
 
+-- The file has no delivery of its own.
+abbrev pub DeliversNone : List Event → Type 0
+DeliversNone [] = Unit {0}
+DeliversNone (e ∷ file) = ((k : ℕ) → e.what ≢ Deliver k) × DeliversNone file
+
+-- Then frames are delivered in the order in which they were given: no delivery is of an earlier
+-- frame than one before it.
+abbrev pub FramesComeInOrder : Rules → List Config → List Event → Type 0
+FramesComeInOrder r configs file =
+    DeliversNone file → (n : ℕ)
+    (later between older : List LogLine) (first second : LogLine) (k m : ℕ)
+    → (world_at r configs file n).log ≡ later ++ second ∷ (between ++ first ∷ older)
+    → first.event.what ≡ Deliver k → second.event.what ≡ Deliver m → k ≤ m
+
 -- From station i, which began inside the area of a geobroadcast, it comes to station j, another than
 -- its sender: they are in range, never moved, and j has room for as many sources as there are
 -- stations.
@@ -56,18 +71,18 @@ AreNextInside r configs w g i [] = Unit {0}
 AreNextInside r configs w g i (j ∷ chain) =
     IsNextInside r configs w g i j × AreNextInside r configs w g j chain
 
--- In a run that is over and loses nothing, a geobroadcast over as many hops as such a chain from its
--- sender has links reaches the n-th of the chain n delays after it was sent, at the latest, where
--- that isn't past the last moment. No two stations share a MID; its sender never restarted, and sent
--- no more packets for areas than there are numbers; and none of its frames overtook another.
+-- In a run that is over and loses nothing, of a file that delivers nothing by itself, a geobroadcast
+-- over as many hops as such a chain from its sender has links reaches the n-th of the chain n delays
+-- after it was sent, at the latest, where that isn't past the last moment. No two stations share a
+-- MID; and its sender never restarted, and sent no more packets for areas than there are numbers.
 abbrev pub ReachesInAir : Rules → List Config → List Event → Type 0
 ReachesInAir r configs file =
     (end : ℕ) (g : Geobroadcast (world_at r configs file end)) (chain : List ℕ)
-    → r.loss ≡ 0 → IsOver r (air_at r configs file end) → r.until ≤ last_moment
+    → DeliversNone file → r.loss ≡ 0 → IsOver r (air_at r configs file end)
+    → r.until ≤ last_moment
     → HaveOwnMids configs
     → has_restarted g.line.event.station (world_at r configs file end).log ≡ false
     → area_sends_of g.line.event.station (world_at r configs file end).log ≤ 65536
-    → ComesInOrder (world_at r configs file end) g
     → AreNextInside r configs (world_at r configs file end) g g.line.event.station chain
     → length chain ≤ g.request.max_hops
     → g.line.event.moment + length chain * r.delay ≤ r.until

@@ -4,7 +4,8 @@ ghost use Rattle.std.specs.Prelude.{◌≡◌, ℕ, List};
 ghost use Rattle.its_model.specs.World.{Config, Event};
 ghost use Rattle.its_air.specs.Heard.{StepsDoEvents, MomentsNeverFall, WhatIsHeardIsDelivered};
 ghost use Rattle.its_air.specs.Heard.{DeliveriesAreHeard, TicksGoOn, TicksAreDue};
-ghost use Rattle.its_air.specs.Carried.{LogsNeverFall, StationsInRangeHear, ReachesInAir};
+ghost use Rattle.its_air.specs.Carried.{LogsNeverFall, FramesComeInOrder, StationsInRangeHear};
+ghost use Rattle.its_air.specs.Carried.{ReachesInAir};
 ghost use Rattle.its_air.specs.Timetable.{Rules, IsOver, air_opening, air_run};
 
 /// The run of an air is one: where two numbers of steps leave nothing that waits up to the last
@@ -72,10 +73,16 @@ pub fn stations_in_range_hear()
         StationsInRangeHear rules configs file }
 {}
 
-/// In a run that is over and loses nothing, a geobroadcast reaches each station that a chain from
-/// its sender leads to, over as many hops as there are links: stations that stand still inside the
-/// area, each in range of the one before and with room for all. It comes a delay a link after the
-/// send, at the latest, up to the last moment, where none of its frames overtook another.
+/// In an air no frame overtakes another, where the file delivers none by itself.
+pub fn frames_come_in_order()
+    ensures { (rules : Rules) (configs : List Config) (file : List Event) →
+        FramesComeInOrder rules configs file }
+{}
+
+/// In a run that is over and loses nothing, of a file that delivers nothing by itself, a
+/// geobroadcast reaches each station that a chain from its sender leads to, over as many hops as
+/// there are links: stations that stand still inside the area, each in range of the one before and
+/// with room for all. It comes a delay a link after the send, at the latest, up to the last moment.
 pub fn reaches_in_air()
     ensures { (rules : Rules) (configs : List Config) (file : List Event) →
         ReachesInAir rules configs file }
