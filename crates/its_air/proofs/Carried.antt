@@ -20,7 +20,8 @@ use Rattle.its_air.specs.Carried.{world_at, StationsInRangeHear, AreNextInside}
 use Rattle.its_air.specs.Carried.{ReachesInAir}
 use Rattle.its_air.specs.Heard.{air_at, IsDone, IsHeard, world_after}
 use Rattle.its_air.specs.Reach.{is_within}
-use Rattle.its_air.specs.Timetable.{Rules, Put, AirModel, IsOver, delivery, given, heard_from, hear_it}
+use Rattle.its_air.specs.Timetable.{Rules, Put, AirModel, IsOver, delivery, given, heard_from}
+use Rattle.its_air.specs.Timetable.{hear_it}
 use Rattle.its_air.specs.Timetable.{heard_by}
 use Rattle.its_air.proofs.Heard.{what_is_heard_is_delivered}
 use Rattle.its_air.proofs.InLine.{frames_come_in_order}

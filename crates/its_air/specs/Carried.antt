@@ -32,8 +32,9 @@ pub record AreInRange (r : Rules) (configs : List Config) (w : WorldModel)
   pub other : j ≢ i
   pub near : is_within r.range giver.place receiver.place ≡ true
 
--- In a run that is over and loses nothing, each frame that a station gave is delivered to each other
--- one in range, the delay after, where neither ever moved and that isn't past the last moment.
+-- In a run that is over and loses nothing, each frame that a station gave is delivered to each
+-- other one in range, the delay after, where neither ever moved and that isn't past the last
+-- moment.
 abbrev pub StationsInRangeHear : Rules → List Config → List Event → Type 0
 StationsInRangeHear r configs file =
     (end i j : ℕ) → r.loss ≡ 0 → IsOver r (air_at r configs file end)
@@ -54,8 +55,8 @@ FramesComeInOrder r configs file =
     → (world_at r configs file n).log ≡ later ++ second ∷ (between ++ first ∷ older)
     → first.event.what ≡ Deliver k → second.event.what ≡ Deliver m → k ≤ m
 
--- From station i, which began inside the area of a geobroadcast, it comes to station j, another than
--- its sender: they are in range, never moved, and j has room for as many sources as there are
+-- From station i, which began inside the area of a geobroadcast, it comes to station j, another
+-- than its sender: they are in range, never moved, and j has room for as many sources as there are
 -- stations.
 pub record IsNextInside (r : Rules) (configs : List Config) (w : WorldModel) (g : Geobroadcast w)
     (i j : ℕ) : Type 0 where
@@ -71,10 +72,11 @@ AreNextInside r configs w g i [] = Unit {0}
 AreNextInside r configs w g i (j ∷ chain) =
     IsNextInside r configs w g i j × AreNextInside r configs w g j chain
 
--- In a run that is over and loses nothing, of a file that delivers nothing by itself, a geobroadcast
--- over as many hops as such a chain from its sender has links reaches the n-th of the chain n delays
--- after it was sent, at the latest, where that isn't past the last moment. No two stations share a
--- MID; and its sender never restarted, and sent no more packets for areas than there are numbers.
+-- In a run that is over and loses nothing, of a file that delivers nothing by itself, a
+-- geobroadcast over as many hops as such a chain from its sender has links reaches the n-th of the
+-- chain n delays after it was sent, at the latest, where that isn't past the last moment. No two
+-- stations share a MID; and its sender never restarted, and sent no more packets for areas than
+-- there are numbers.
 abbrev pub ReachesInAir : Rules → List Config → List Event → Type 0
 ReachesInAir r configs file =
     (end : ℕ) (g : Geobroadcast (world_at r configs file end)) (chain : List ℕ)

@@ -45,8 +45,8 @@ pub fn deliveries_are_heard()
         DeliveriesAreHeard rules configs file }
 {}
 
-/// In a run that is over, a station whose tick of the air's own wasn't refused ticks again by one of
-/// the steps after: at that moment or, where that is later, when its beacon is due by the jitter
+/// In a run that is over, a station whose tick of the air's own wasn't refused ticks again by one
+/// of the steps after: at that moment or, where that is later, when its beacon is due by the jitter
 /// that is drawn then, unless that is past the last moment.
 pub fn ticks_go_on()
     ensures { (rules : Rules) (configs : List Config) (file : List Event) →
