@@ -42,11 +42,28 @@
     const mine = state.opening;
     byId('fault').hidden = true;
     try {
+      if (await isLoad(blob)) return void openLoad(await blob.text(), name);
       const run = await runs.read(geostation.open.pieces(blob, tell));
       if (mine === state.opening) begin(run, name);
     } catch (fault) {
       if (mine === state.opening) refuse(name, fault);
     }
+  }
+
+  /** Whether a file is what `sim --load` writes. @param {Blob} blob */
+  async function isLoad(blob) {
+    return (await blob.slice(0, load.HEAD.length).text()) === load.HEAD;
+  }
+
+  /** Takes the load of all stations from a file of `sim --load`. @param {string} text */
+  function openLoad(text, name) {
+    if (!state.run) throw new runs.RunFault('A file of “--load” goes with a run: open that first.');
+    const told = load.told(text, load.bins(state.run).bins);
+    if (!told) throw new runs.RunFault('It begins as a file of “--load”, but isn’t one.');
+    state.loads.set(undefined, told);
+    byId('load').title = `Of all stations as ${name} tells`;
+    showTotals();
+    showLoad();
   }
 
   /** @param {string} name @param {any} fault */
@@ -68,6 +85,7 @@
     document.title = `${name}: geostation`;
     byId('name').textContent = name;
     for (const id of ['station', 'kind', 'result']) byId(id).value = '';
+    byId('load').title = '';
     byId('station').max = String(Math.max(0, run.stations.length - 1));
     byId('all').hidden = true;
     showTotals();

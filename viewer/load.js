@@ -5,6 +5,7 @@
   'use strict';
 
   const {DO} = geostation.events;
+  const {countUpTo} = geostation.columns;
   /** How long an entry of a location table lives, in milliseconds. */
   const ENTRY_LIFE = 20000;
   /** A run up to so long is shown in tenths of a second, a longer one in seconds. */
@@ -194,5 +195,27 @@
     return counts;
   }
 
-  geostation.load = {airTime, bins, inTurns, repeats, width, sourceOf};
+  /** The head of what `sim --load` writes. */
+  const HEAD = 'second,stations,frames,octets,busy_p50,busy_p95,busy_most';
+
+  /**
+   * The bins of a file of `sim --load`, whose shares are thousandths of a second.
+   * @param {string} text @param {Bin[]} own bins, for what the file doesn't tell
+   * @returns {{width: number, bins: Bin[]} | undefined} undefined where it is no such file
+   */
+  function told(text, own) {
+    const [head, ...lines] = text.trimEnd().split('\n');
+    const rows = lines.map((line) => line.split(',').map(Number));
+    if (head !== HEAD || rows.some((row) => row.length !== 7 || row.some(Number.isNaN))) {
+      return undefined;
+    }
+    const begins = own.map(({begin}) => begin);
+    const tableAt = (end) => own[countUpTo(begins, end - 1) - 1]?.table ?? 0;
+    return {width: 1000, bins: rows.map(([second, , frames, , p50, , most]) => ({
+      begin: 1000 * second, frames, busy: p50 / 1000, most: most / 1000,
+      table: tableAt(1000 * second + 1000),
+    }))};
+  }
+
+  geostation.load = {airTime, bins, inTurns, repeats, width, sourceOf, told, HEAD};
 })(globalThis.geostation ??= {});

@@ -294,6 +294,20 @@ test('marks of warnings lead to them; the load stands under the slider', async (
   noFault();
 });
 
+test('a file of --load is shown with the run it goes with', async () => {
+  const file = path.join(room, 'load.csv');
+  fs.writeFileSync(file, 'second,stations,frames,octets,busy_p50,busy_p95,busy_most\n' +
+    '2,12,10,770,3,7,9\n');
+  await page.choose(file);
+  await page.until('!document.getElementById("fault").hidden');
+  assert.match(await text('#fault'), /goes with a run/);
+  await show(samples.LOSS);
+  await page.choose(file);
+  await page.until('document.getElementById("load").title.includes("load.csv")');
+  assert.match(await text('#load'), /^All · 10 frames\/s · air busy 0\.30 % \(median\), 0\.90 % /);
+  noFault();
+});
+
 test('handles resize the panels, by drag and by key', async () => {
   await show(FOUR);
   const wide = () => page.value('document.querySelector(".side").getBoundingClientRect().width');

@@ -119,6 +119,18 @@ test('a location table: sources that were accepted, for twenty seconds each', as
     [[0, 1], [9000, 2], [22000, 1], [40000, 0]]);
 });
 
+test('a file of --load tells the load of all, the tables stay the run’s', () => {
+  const head = 'second,stations,frames,octets,busy_p50,busy_p95,busy_most';
+  const own = [{begin: 1000, table: 2}, {begin: 4000, table: 5}];
+  const found = load.told(`${head}\n1,2,3,202,0,1,4\n7,2,1,76,1,1,1\n`, own);
+  assert.deepEqual(found, {width: 1000, bins: [
+    {begin: 1000, frames: 3, busy: 0, most: 0.004, table: 2},
+    {begin: 7000, frames: 1, busy: 0.001, most: 0.001, table: 5},
+  ]});
+  assert.equal(load.told(`${head}\n1,2\n`, own), undefined);
+  assert.equal(load.told(`${head}\n1,2,3,202,0,1,x\n`, own), undefined);
+});
+
 test('duplicates, deliveries and full tables are counted', async () => {
   const run = await read(samples.four());
   assert.deepEqual(load.repeats(run), {delivered: 1, duplicates: 2, full: 0});
