@@ -9,9 +9,12 @@
   const {kindOf} = geostation.scene;
   const LIMITS = {links: geostation.map.MOST_LINKS, circles: geostation.map.MOST_CIRCLES};
 
+  /** How long lists stay as they are while it plays, in milliseconds. */
+  const LISTING = 120;
+
   /** All that is shown. */
   const state = {run: undefined, at: 0, station: undefined, kind: '', result: '', send: -1,
-    chosen: undefined, rows: undefined, frames: {}, opening: 0};
+    chosen: undefined, rows: undefined, frames: {}, opening: 0, listed: 0};
 
   const map = new geostation.map.RunMap(byId('map'), byId('canvas'), toggleStation, showFrame);
   const timeline = new geostation.timeline.Timeline(go, stepBy);
@@ -138,12 +141,20 @@
     const words = event ? presentWords(event) : 'This run has no events.';
     byId('present').textContent = words;
     timeline.show(state.at, words);
+    drawMap();
+    // While it plays, nobody reads lists that change at each frame.
+    if (timeline.playing && performance.now() - state.listed < LISTING) return;
+    showLists();
+    if (!timeline.playing) nameEvent();
+  }
+
+  /** Shows the present event in the lists, its packet and the load. */
+  function showLists() {
+    state.listed = performance.now();
     events.mark(presentRow());
     tree.mark(state.steps.findIndex((step) => step.event === state.at));
-    geostation.packet.show(byId('packet'), run, state.frames);
+    geostation.packet.show(byId('packet'), state.run, state.frames);
     showPresentLoad();
-    drawMap();
-    if (!timeline.playing) nameEvent();
   }
 
   /** Puts the present event into the page's address, once steps have ended. */
@@ -388,7 +399,10 @@
       else state.wanted = wanted;
     });
     timeline.changed = () => state.run && showLoad();
-    timeline.paused = () => state.run && nameEvent();
+    timeline.paused = () => {
+      showLists();
+      nameEvent();
+    };
     for (const handle of document.querySelectorAll('.handle')) geostation.split.listen(handle);
   }
 

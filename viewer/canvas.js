@@ -87,22 +87,25 @@
       const dense = window.devicePixelRatio || 1;
       const half = Math.max(1, Math.round(this.radius * dense));
       const colour = pixelOf(this.colours.idle);
+      const {xs, ys} = this;
       this.pixels.fill(0);
-      for (let i = 0; i < this.xs.length; i += 1) {
+      for (let i = 0; i < xs.length; i += 1) {
         if (roles.has(i) || (this.hasPresence && !this.run.isPresent(i, at))) continue;
-        this.square(Math.round(this.xs[i] * dense), Math.round(this.ys[i] * dense), half, colour);
+        this.square(Math.round(xs[i] * dense), Math.round(ys[i] * dense), half, colour);
       }
       this.context.putImageData(this.image, 0, 0);
     }
 
     /** Fills a square of the picture, as far as it lies inside. */
     square(x, y, half, colour) {
-      const {width, height} = this.image;
+      const {pixels} = this;
+      const {width, height} = this.canvas;
       const left = Math.max(0, x - half);
       const right = Math.min(width, x + half);
-      if (left >= right) return;
-      for (let row = Math.max(0, y - half); row < Math.min(height, y + half); row += 1) {
-        this.pixels.fill(colour, row * width + left, row * width + right);
+      const low = Math.min(height, y + half);
+      for (let row = Math.max(0, y - half); row < low; row += 1) {
+        const end = row * width + right;
+        for (let at = row * width + left; at < end; at += 1) pixels[at] = colour;
       }
     }
 

@@ -371,6 +371,7 @@ test('10,000 stations and a million events: painted, and what is not is said', a
   await page.clickAt(x, y);
   assert.equal(await page.value('geostation.app.state.station'), station);
   await page.value('document.getElementById("all").click()');
+  await page.until('document.getElementById("load").textContent.startsWith("All")');
   const rate = await page.value(`new Promise((done) => {
     const {timeline} = geostation.app;
     let frames = 0;

@@ -146,8 +146,35 @@ test('the draws are those of the program: four stations’ first ticks, a seed o
   assert.deepEqual(Array.from({length: 4}, () => draws.next(751)), [137, 724, 726, 93]);
 });
 
-test('a station of a row of moves has its name, and is there from its coming on', async () => {
-  const lines = ['{"stations":[],"air":{"range":500,"delay":1,"loss":50,"seed":7,"beacons":false,' +
+/** The octets of a frame of a station, as an air's `every` or a scenario's `gbc` gives it. */
+function given(address, lat, packet) {
+  const source = {address, tst: 0, lat, lon: 0, pai: 1, speed: 0, heading: 0};
+  return encode('ffffffffffff', address.slice(4), {lifetime: 26, tc: 0, source, port: 2002, info: 0,
+    payload: '6869', ...packet});
+}
+
+test('a station that comes and leaves is there between its notes alone', async () => {
+  const shb = {kind: 'shb', left: 1, max: 1};
+  const send = (moment, station, sent) => ({moment, station, do: 'shb', result: 'sent', sent,
+    octets: given(`140002000000000${station + 1}`, 36000 * station, shb)});
+  const deliver = (moment, station, frame) =>
+    ({moment, station, do: 'deliver', frame, result: 'accepted'});
+  const found = await run(2, [
+    {moment: 500, station: 1, do: 'move', lat: 36000, lon: 0, result: 'moved'},
+    {note: 'came', moment: 500, station: 1}, send(661, 0, 0), deliver(662, 1, 0),
+    send(1416, 1, 1), deliver(1417, 0, 1), send(1661, 0, 2), deliver(1662, 1, 2),
+    {note: 'left', moment: 2000, station: 1}, send(2661, 0, 3)]);
+  assert.deepEqual([-1, 0, 5, 6, 7].map((at) => found.isPresent(1, at)),
+    [false, true, true, false, false]);
+  assert.equal(found.isPresent(0, 7), true);
+  assert.equal(found.deliveries.of(3).length, 0);
+});
+
+test('stations that rows of moves make: names, presence, a frame that was lost', async () => {
+  const area = {shape: 'circle', lat: 36000, lon: 0, a: 500, b: 0, angle: 0};
+  const packet = (left) => given('1400020100000002', 36000,
+    {kind: 'gbc', number: 0, area, left, max: 10});
+  const text = ['{"stations":[],"air":{"range":500,"delay":1,"loss":50,"seed":7,"beacons":false,' +
     '"until":null}}',
   '{"station":0,"id":"v1","address":"1400020100000001","lat":0,"lon":0}',
   '{"event":0,"moment":0,"station":0,"do":"move","lat":0,"lon":0,"result":"moved"}',
@@ -156,13 +183,24 @@ test('a station of a row of moves has its name, and is there from its coming on'
   '{"station":1,"id":"v2","address":"1400020100000002","lat":36000,"lon":0}',
   '{"event":2,"moment":1000,"station":1,"do":"move","lat":36000,"lon":0,"result":"moved"}',
   '{"event":3,"moment":1000,"station":1,"do":"open","result":"opened"}',
-  '{"note":"came","moment":1000,"station":1}', '{"note":"left","moment":2500,"station":0}',
-  '{"note":"left","moment":2500,"station":1}', '{"note":"absent","moment":3000,"id":"v1"}'];
-  const found = await read(lines.join('\n'));
+  '{"note":"came","moment":1000,"station":1}',
+  '{"event":4,"moment":1000,"station":0,"do":"move","lat":1000,"lon":0,"result":"moved"}',
+  '{"event":5,"moment":1000,"station":1,"do":"gbc","result":"sent","sent":0,' +
+    `"octets":"${packet(10)}"}`,
+  '{"event":6,"moment":1001,"station":0,"do":"deliver","frame":0,"result":"accepted","port":2002,' +
+    `"info":0,"payload":"6869","sent":1,"octets":"${packet(9)}"}`,
+  '{"note":"lost","moment":1001,"station":1,"frame":1}',
+  '{"note":"left","moment":2500,"station":0}', '{"note":"left","moment":2500,"station":1}',
+  '{"note":"absent","moment":3000,"id":"v1"}'];
+  const found = await read(text.join('\n'));
   assert.deepEqual([found.name(0), found.name(1), found.stations[1].born], ['v1', 'v2', 2]);
-  assert.deepEqual([0, 1, 2, 3].map((at) => found.isPresent(0, at)), [false, true, true, false]);
-  assert.equal(found.isPresent(1, 2), false);
+  assert.deepEqual([0, 1, 5, 6].map((at) => found.isPresent(0, at)), [false, true, true, false]);
   assert.deepEqual(found.air, {range: 500, delay: 1, loss: 50, until: null});
+  const [sent] = way.follow(found).sends;
+  const {inside, reached} = why.judge(found, sent);
+  assert.deepEqual([inside, reached, sent.numbers, sent.hops], [[0], [0], [0, 1], 1]);
+  assert.equal(way.figures(found, sent).last, '1');
+  assert.deepEqual([...found.lost.of(1)].map((note) => found.notes.station.values[note]), [1]);
 });
 
 test('roles of stations so far: sent, accepted, delivered, not reached yet', async () => {
