@@ -81,6 +81,7 @@
 
   /** Shows a run from its first warning on. @param {import('./run.js').Run} run */
   function begin(run, name) {
+    timeline.pause();
     Object.assign(state, {run, name, at: 0, station: undefined, kind: '', result: '',
       rows: undefined, frames: {}, judgements: new Map(), loads: new Map()}, ways.follow(run));
     state.total = ways.total(run);
@@ -251,6 +252,7 @@
     const deaf = judgement?.deaf ?? [];
     byId('missed-box').hidden = !judgement;
     byId('why').textContent = '';
+    missed.show(count, -1);
     if (!judgement) return;
     const few = deaf.slice(0, 6).map((station) => run.name(station)).join(', ');
     const closed = deaf.length === 0 ? '' : ` Its port wasn’t open at ` +
@@ -258,7 +260,6 @@
     byId('missed-title').textContent = count === 0
       ? `All in its area have it.${closed}` : `In its area without it: ${count}.${closed}`;
     byId('missed').hidden = count === 0;
-    missed.show(count, -1);
   }
 
   /** @param {number} row @returns {import('./list.js').Row} */

@@ -237,6 +237,23 @@ test('why did 11 not get the second warning? two clicks', async () => {
   noFault();
 });
 
+test('all frames in place of a warning, and another run while one plays', async () => {
+  await page.value('document.getElementById("sample").click()');
+  await page.until('document.body.dataset.state === "run"');
+  await page.value('document.getElementById("sends").scrollTop = 0');
+  await page.click('#sends [data-index="0"]');
+  assert.equal(await page.value('document.getElementById("missed-box").hidden'), true);
+  await page.value('geostation.app.go(77)');
+  await page.until('document.querySelectorAll("g.link").length > 0');
+  await page.click('#events .row:nth-child(2)');
+  await page.press(' ');
+  assert.equal(await page.value('geostation.app.timeline.playing'), true);
+  await show(FOUR);
+  assert.equal(await page.value('geostation.app.timeline.playing'), false);
+  assert.match(await text('#present'), /^Event 7,/);
+  noFault();
+});
+
 test('the address names the event, and leads there', async () => {
   await page.go(`${URL_OF_PAGE}?leads#event=3`);
   await show(FOUR);
