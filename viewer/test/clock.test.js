@@ -113,6 +113,10 @@ test('a location table: sources that were accepted, for twenty seconds each', as
   add(22000, 1, {do: 'tick', result: 'quiet'});
   add(40000, 1, {do: 'tick', result: 'quiet'});
   const run = await read(lines.map((value) => JSON.stringify(value)).join('\n'));
+  const border = [lines[0], lines[1], {...lines[2], moment: 0}, {...lines[5], event: 2,
+    moment: 19950}, {...lines[5], event: 3, moment: 20000}];
+  const short = await read(border.map((value) => JSON.stringify(value)).join('\n'));
+  assert.deepEqual(load.bins(short, 0).bins.map(({table}) => table).slice(-2), [1, 0]);
   const {width, bins} = load.bins(run, 0);
   assert.equal(width, 1000);
   assert.deepEqual(bins.map(({begin, table}) => [begin, table]),

@@ -245,6 +245,9 @@ test('a frame that no station gave, and a station that is not there, are no trou
   const text = [HEAD,
     '{"event":0,"moment":0,"station":0,"do":"deliver","frame":9,"result":"refused","code":"M3"}',
     '{"event":1,"moment":0,"station":9,"do":"tick","result":"refused","code":"M4"}'].join('\n');
+  const early = text.replace('"frame":9', '"frame":0') + '\n{"event":2,"moment":1,"station":0,' +
+    `"do":"gbc","result":"sent","sent":0,"octets":"${WARNING}"}`;
+  assert.equal((await read(early)).deliveries.of(0).length, 0);
   const run = await read(text);
   assert.deepEqual(way.follow(run).sends, []);
   assert.equal(way.total(run).refused, 2);

@@ -95,8 +95,18 @@ test('without notes the range of the air tells what was lost', async () => {
   assert.deepEqual(await reasons({}), [[1, 'lost'], [2, 'lost'], [3, 'unheard']]);
   assert.deepEqual((await reasons({until: 10})).map(([, word]) => word),
     ['unheard', 'unheard', 'unheard']);
+  assert.deepEqual((await reasons({until: 11}))[0], [1, 'lost']);
   assert.deepEqual((await reasons({until: null})).map(([, word]) => word),
     ['lost', 'lost', 'unheard']);
+});
+
+test('a range holds up to its last centimetre', async () => {
+  // 8984 tenths of a microdegree are 10000.98 cm, cut to 10000; 8985 are 10002.
+  const air = {range: 100, delay: 1, loss: 50, seed: 0, beacons: false, until: null};
+  const at = (lat) => ({moment: 1, station: 1, do: 'move', lat, lon: 0, result: 'moved'});
+  const reasons = async (lat) => missed(await run(2, [open(1), at(lat), send], {air}));
+  assert.deepEqual(await reasons(8984), [[1, 'lost']]);
+  assert.deepEqual(await reasons(8985), [[1, 'unheard']]);
 });
 
 test('without an air’s range what was nearer than others heard was likely lost', async () => {
@@ -228,6 +238,9 @@ test('lost copies are arcs of the map, from the giver to who lost them', async (
     [[0, 1, 'lost', 22]]);
   assert.deepEqual(shown.circles.map(({metres, isNew}) => [metres, isNew]), [[500, true]]);
   assert.deepEqual(shown.unseen, []);
+  const before = scene.scene({...state, at: chosen.event - 1}, {links: 400, circles: 60,
+    isRange: true});
+  assert.deepEqual(before.links, []);
   const few = scene.scene({...state, at: way.end(found, followed.sends[2]),
     chosen: followed.sends[2], deliveries: way.deliveries(found, followed.sends[2])},
   {links: 5, circles: 3, isRange: true});
