@@ -1,0 +1,4 @@
+pub mod Fields
+pub mod Decimals
+pub mod Columns
+pub mod Rows
