@@ -9,16 +9,16 @@ ghost use Rattle.its_headers.specs.Written.{WritesEncoding};
 
 use crate::kind::Kind;
 use crate::packet::{AreaPacket, Header, Packet, SingleHopBroadcast};
-use crate::wire::area::put_area;
-use crate::wire::basic::put_basic;
-use crate::wire::common::put_common;
+use crate::wire::area::write_area;
+use crate::wire::basic::write_basic;
+use crate::wire::common::write_common;
 use crate::wire::fields::{
     AREA_PAYLOAD, AREA_RESERVED, AREA_VECTOR, BEACON_END, NUMBER, NUMBER_RESERVED, SHB_PAYLOAD,
-    VECTOR, put_u16,
+    VECTOR, write_u16,
 };
-use crate::wire::media::put_media;
-use crate::wire::payload::put_payload;
-use crate::wire::position::put_vector;
+use crate::wire::media::write_media;
+use crate::wire::payload::write_payload;
+use crate::wire::position::write_vector;
 use its_geometry::Shape;
 use its_gnvalue::NoRoom;
 
@@ -36,27 +36,27 @@ pub fn encode_into(packet: &Packet, out: &mut [u8]) -> Result<usize, NoRoom>
         return Err(NoRoom);
     }
     Ok(match packet {
-        Packet::Beacon(header) => put_beacon(header, out),
-        Packet::Shb(packet) => put_shb(packet, out),
-        Packet::Gbc(packet) => put_area_packet(Kind::Gbc, packet, out),
-        Packet::Gac(packet) => put_area_packet(Kind::Gac, packet, out),
+        Packet::Beacon(header) => write_beacon(header, out),
+        Packet::Shb(packet) => write_shb(packet, out),
+        Packet::Gbc(packet) => write_area_packet(Kind::Gbc, packet, out),
+        Packet::Gac(packet) => write_area_packet(Kind::Gac, packet, out),
     })
 }
 
 /// Writes a beacon into a slice with room for it, and returns its length.
-fn put_beacon(header: &Header, out: &mut [u8]) -> usize
+fn write_beacon(header: &Header, out: &mut [u8]) -> usize
     requires { 36 ≤ length out.old }
     ensures { WritesEncoding
         (with_body header.now beacon) header.now.hops.left out.old out.new result }
 {
-    put_basic(out, header);
-    put_common(out, header, Kind::Beacon, Shape::Circle, 0);
-    put_vector(out, VECTOR, header.vector);
+    write_basic(out, header);
+    write_common(out, header, Kind::Beacon, Shape::Circle, 0);
+    write_vector(out, VECTOR, header.vector);
     BEACON_END
 }
 
 /// Writes a single-hop broadcast into a slice with room for it, and returns its length.
-fn put_shb(packet: &SingleHopBroadcast, out: &mut [u8]) -> usize
+fn write_shb(packet: &SingleHopBroadcast, out: &mut [u8]) -> usize
     requires { length
         (encoding (with_body packet.now.header
         (shb packet.now.media (message_of packet.now.payload)))
@@ -66,16 +66,16 @@ fn put_shb(packet: &SingleHopBroadcast, out: &mut [u8]) -> usize
         packet.now.header.hops.left out.old out.new result }
 {
     let size = packet.payload.octets().len() as u16;
-    put_basic(out, &packet.header);
-    put_common(out, &packet.header, Kind::Shb, Shape::Circle, size);
-    put_vector(out, VECTOR, packet.header.vector);
-    put_media(out, packet.media);
-    put_payload(out, SHB_PAYLOAD, &packet.payload)
+    write_basic(out, &packet.header);
+    write_common(out, &packet.header, Kind::Shb, Shape::Circle, size);
+    write_vector(out, VECTOR, packet.header.vector);
+    write_media(out, packet.media);
+    write_payload(out, SHB_PAYLOAD, &packet.payload)
 }
 
 /// Writes a packet for an area, of this kind, into a slice with room for it, and returns its
 /// length.
-fn put_area_packet(kind: Kind, packet: &AreaPacket, out: &mut [u8]) -> usize
+fn write_area_packet(kind: Kind, packet: &AreaPacket, out: &mut [u8]) -> usize
     requires { 56 + length packet.now.payload ≤ length out.old }
     ensures gbc { kind ≡ Kind.Gbc → WritesEncoding (pdu_for_area geobroadcast packet.now)
         packet.now.header.hops.left out.old out.new result }
@@ -83,12 +83,12 @@ fn put_area_packet(kind: Kind, packet: &AreaPacket, out: &mut [u8]) -> usize
         packet.now.header.hops.left out.old out.new result }
 {
     let size = packet.payload.octets().len() as u16;
-    put_basic(out, &packet.header);
-    put_common(out, &packet.header, kind, packet.area.shape(), size);
-    put_u16(out, NUMBER, packet.number);
-    put_u16(out, NUMBER_RESERVED, 0);
-    put_vector(out, AREA_VECTOR, packet.header.vector);
-    put_area(out, packet.area);
-    put_u16(out, AREA_RESERVED, 0);
-    put_payload(out, AREA_PAYLOAD, &packet.payload)
+    write_basic(out, &packet.header);
+    write_common(out, &packet.header, kind, packet.area.shape(), size);
+    write_u16(out, NUMBER, packet.number);
+    write_u16(out, NUMBER_RESERVED, 0);
+    write_vector(out, AREA_VECTOR, packet.header.vector);
+    write_area(out, packet.area);
+    write_u16(out, AREA_RESERVED, 0);
+    write_payload(out, AREA_PAYLOAD, &packet.payload)
 }

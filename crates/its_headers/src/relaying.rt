@@ -5,7 +5,7 @@ ghost use Rattle.its_headers.specs.Encoding.{encoding};
 ghost use Rattle.its_headers.specs.Written.{WritesEncoding};
 
 use crate::view::PacketView;
-use crate::wire::fields::{HOPS_LEFT, put_slice};
+use crate::wire::fields::{HOPS_LEFT, write_octets};
 use its_gnvalue::NoRoom;
 
 /// Writes the packet that was read, with one hop fewer left, at the beginning of the slice, and
@@ -23,7 +23,7 @@ pub fn relay_into(view: &PacketView<'_>, out: &mut [u8]) -> Result<usize, NoRoom
     if out.len() < octets.len() {
         return Err(NoRoom);
     }
-    put_slice(out, 0, octets);
+    write_octets(out, 0, octets);
     out[HOPS_LEFT] = octets[HOPS_LEFT] - 1;
     Ok(octets.len())
 }

@@ -4,5 +4,6 @@ pub mod FrameLaws
 pub mod Fronts
 pub mod Heads
 pub mod Makings
+pub mod Paddings
 pub mod Pieces
 pub mod Stages

@@ -3,6 +3,7 @@ pub mod Codes
 pub mod Devices
 pub mod FrameFaults
 pub mod Frames
+pub mod Padding
 pub mod Reading
 pub mod Writing
 pub use Rattle.its_headers.specs.Encoding

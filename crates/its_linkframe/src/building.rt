@@ -18,7 +18,7 @@ pub fn write_frame(alloc: Global, to: Mac, from: Mac, packet: &Packet) -> Result
     ensures { IfOk result (λ frame. EncodesFrame (sent_packet from to packet.now) frame.items) }
 {
     let mut frame = Vec::from_elem(alloc, 0, PACKET + packet.length())?;
-    put_frame(frame.as_mut_slice(), to, from, packet);
+    write_parts(frame.as_mut_slice(), to, from, packet);
     Ok(frame)
 }
 
@@ -37,13 +37,13 @@ pub fn relay_frame(
 {
     let packet = &frame.packet;
     let mut relayed = Vec::with_capacity(alloc, PACKET + packet.octets().len())?;
-    put_relayed(&mut relayed, to, from, packet);
+    write_relayed(&mut relayed, to, from, packet);
     Ok(relayed)
 }
 
 /// Writes the frame in which a packet goes on into an empty vector that has the room: it takes no
 /// memory, and nothing of it can fail.
-fn put_relayed(relayed: &mut Vec<u8>, to: Mac, from: Mac, packet: &PacketView<'_>)
+fn write_relayed(relayed: &mut Vec<u8>, to: Mac, from: Mac, packet: &PacketView<'_>)
     requires left { 2 ≤ packet.now.left }
     requires empty { relayed.old.items ≡ [] }
     requires room { 14 + length (encoding packet.now.pdu packet.now.left)
@@ -72,7 +72,7 @@ pub fn retarget(frame: &mut [u8], to: Mac)
 }
 
 /// Writes the frame of a packet, which has just the room that it needs.
-fn put_frame(frame: &mut [u8], to: Mac, from: Mac, packet: &Packet)
+fn write_parts(frame: &mut [u8], to: Mac, from: Mac, packet: &Packet)
     requires { length frame.old
         ≡ 14 + length (encoding (pdu_of_packet packet.now) (hops_left packet.now)) }
     ensures { EncodesFrame (sent_packet from to packet.now) frame.new }

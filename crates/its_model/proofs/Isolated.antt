@@ -39,6 +39,7 @@ like a clock history =
       remember = a.remember;
       clock = clock;
       vector = a.vector;
+      mobile = a.mobile;
       next_number = a.next_number;
       ports = a.ports;
       beacon_from =
@@ -574,6 +575,7 @@ later_alike (x ∷ past) done s moment a c le le' falls full =
 
 -- all calls of a new station
 pub sources_are_isolated : SourcesAreIsolated
-sources_are_isolated address place capacity remember past done source falls full =
-    later_alike past done source 0 (new_station address place capacity remember) 0 (omega arith)
+sources_are_isolated address place capacity remember mobile past done source falls full =
+    later_alike past done source 0
+    (record (new_station address place capacity remember) { mobile = mobile }) 0 (omega arith)
     (omega arith) falls full

@@ -118,6 +118,7 @@ elsewhere configs log line j s stays silent deaf h =
       address = h.address;
       capacity = h.capacity;
       remember = h.remember;
+      mobile = h.mobile;
       source = h.source;
       place = h.place ∙ sym (stays (position_at h.config.place j log));
       number = h.number ∙ sym (silent (sequence_number_at j log));
@@ -142,6 +143,7 @@ here configs w e s delivered step f h =
       address = f.address ∙ h.address;
       capacity = f.capacity ∙ h.capacity;
       remember = f.remember ∙ h.remember;
+      mobile = f.mobile ∙ h.mobile;
       source = f.source (h.source ∙ sym h.address) ∙ h.address;
       place = f.place ∙ ap (λ p. moved_by entry e.what p) h.place
           ∙ ap (λ b. cond b (moved_by entry e.what (position_at h.config.place e.station w.log))

@@ -126,6 +126,7 @@ pub record StationSound (configs : List Config) (log : List LogLine) (j : ℕ)
   pub address : s.address ≡ config.address
   pub capacity : s.capacity ≡ config.capacity
   pub remember : s.remember ≡ config.remember
+  pub mobile : s.mobile ≡ true
   pub source : s.vector.address ≡ config.address
   pub place : s.vector.place ≡ position_at config.place j log
   pub number : s.next_number ≡ sequence_number_at j log
@@ -196,6 +197,7 @@ pub record Fits (configs : List Config) (w : WorldModel) (e : Event) (what : Wha
   pub address : step.station.address ≡ s.address
   pub capacity : step.station.capacity ≡ s.capacity
   pub remember : step.station.remember ≡ s.remember
+  pub mobile : step.station.mobile ≡ s.mobile
   pub source : s.vector.address ≡ s.address → step.station.vector.address ≡ s.address
   pub place : step.station.vector.place
       ≡ moved_by (entry_of (length w.air) step.answer) what s.vector.place

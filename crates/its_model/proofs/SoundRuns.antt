@@ -81,6 +81,7 @@ opening_sound configs =
             address = refl;
             capacity = refl;
             remember = refl;
+            mobile = refl;
             source = refl;
             place = refl;
             number = refl;

@@ -71,12 +71,13 @@ IsNeverFull [] = Unit {0}
 IsNeverFull (answer ∷ answers) = (answer ≢ Refused TableFull) × IsNeverFull answers
 
 -- What a source and the applications see of the calls that are done, after others that were, is
--- what they see where all frames of others were left out, before and now.
+-- what they see where all frames of others were left out, before and now. The station was new, and
+-- is mobile or not.
 abbrev pub SourcesAreIsolated : Type 0
 SourcesAreIsolated =
-    (address : ℕ) (place : Position) (capacity remember : ℕ) (past done : List TimedCall)
-    (source : ℕ)
-    → let new = new_station address place capacity remember in
+    (address : ℕ) (place : Position) (capacity remember : ℕ) (mobile : Bool)
+    (past done : List TimedCall) (source : ℕ)
+    → let new = record (new_station address place capacity remember) { mobile = mobile } in
     NeverFalls 0 (past ++ done) → IsNeverFull (answers_of new (past ++ done))
     → answers_for source done (answers_of (station_run new past) done)
     ≡ answers_for source (calls_for source done)

@@ -36,8 +36,8 @@ pub record IsGivenBy (log : List LogLine) (k : ℕ) : Type 0 where
   pub gives : frame_of line.entry ≡ Some k
 
 -- Station j is what its log makes it: it keeps its address, its capacity and how many numbers it
--- remembers, stands where its last move took it, has its next number, and its history is what it
--- accepted since its last restart.
+-- remembers, is mobile, stands where its last move took it, has its next number, and its history is
+-- what it accepted since its last restart.
 pub record IsAsLogged (configs : List Config) (log : List LogLine) (j : ℕ)
     (s : StationModel) : Type 0 where
   pub config : Config
@@ -45,6 +45,7 @@ pub record IsAsLogged (configs : List Config) (log : List LogLine) (j : ℕ)
   pub address : s.address ≡ config.address
   pub capacity : s.capacity ≡ config.capacity
   pub remember : s.remember ≡ config.remember
+  pub mobile : s.mobile ≡ true
   pub own_vector : s.vector.address ≡ config.address
   pub place : s.vector.place ≡ position_at config.place j log
   pub number : s.next_number ≡ sequence_number_at j log

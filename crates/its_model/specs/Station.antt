@@ -31,13 +31,14 @@ pub record StationModel : Type 0 where
   pub remember : ℕ  -- how many numbers of a source it remembers
   pub clock : ℕ
   pub vector : PositionVector  -- its own
+  pub mobile : Bool  -- whether its own packets say that it is mobile
   pub next_number : ℕ
   pub ports : List ℕ  -- those that are open, each once
   pub beacon_from : ℕ
   -- every packet that it accepted since its last restart, the newest first
   pub history : List Reception
 
--- a station to which nothing happened yet
+-- a station to which nothing happened yet; it is mobile (profile)
 abbrev pub new_station : ℕ → Position → ℕ → ℕ → StationModel
 new_station address place capacity remember =
     record {
@@ -53,6 +54,7 @@ new_station address place capacity remember =
         speed = pos 0;
         heading = 0;
       };
+      mobile = true;
       next_number = 0;
       ports = [];
       beacon_from = 0;
@@ -124,8 +126,8 @@ own_refusal s (SendGbc r) = area_refusal r
 own_refusal s (SendGac r) = area_refusal r
 own_refusal s (Restart number) = None
 
--- a beacon: over one hop, to all, with the lifetime octet of 60 s; every station says that it is
--- mobile (profile)
+-- a beacon: over one hop, to all, with the lifetime octet of 60 s (profile); as each packet of its
+-- own it says whether the station is mobile
 abbrev pub beacon_of : StationModel → Transmission
 beacon_of s =
     record {
@@ -133,7 +135,7 @@ beacon_of s =
         vector = s.vector;
         lifetime = 26;
         class = 0;
-        mobile = true;
+        mobile = s.mobile;
         max_hops = 1;
         body = beacon;
       };
@@ -150,7 +152,7 @@ shb_of s r =
         vector = s.vector;
         lifetime = 26;
         class = r.class;
-        mobile = true;
+        mobile = s.mobile;
         max_hops = 1;
         body = shb (0 ∷ 0 ∷ 0 ∷ 0 ∷ []) r.message;
       };
@@ -179,7 +181,7 @@ area_packet s moment r body =
         vector = s.vector;
         lifetime = r.lifetime;
         class = r.class;
-        mobile = true;
+        mobile = s.mobile;
         max_hops = r.max_hops;
         body = body;
       };

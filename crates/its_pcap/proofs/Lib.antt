@@ -1,6 +1,5 @@
 pub mod Cuts
 pub mod Firsts
-pub mod Frames
 pub mod Given
 pub mod Layouts
 pub mod OptionChains

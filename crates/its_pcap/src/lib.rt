@@ -3,19 +3,22 @@
 
 mod begun;
 mod blocks;
+mod ethernet;
 mod fault;
 mod field;
 mod format;
+mod ieee80211;
 mod interface;
+mod link;
 mod octets;
 mod options;
 mod output;
-mod padding;
 mod pcap;
 mod pcap_writer;
 mod pcapng;
 mod pcapng_writer;
 mod put_fault;
+mod radiotap;
 mod record;
 mod sink;
 mod source;
@@ -23,8 +26,9 @@ mod transfer;
 
 pub use fault::SourceFault;
 pub use format::{Format, format_of};
+pub use its_linkframe::without_padding;
+pub use link::{LinkFault, LinkLayer, frame_start, link_layer};
 pub use octets::Order;
-pub use padding::without_padding;
 pub use pcap::{LONGEST_CAPTURED, Mark, PcapReader, Unit};
 pub use pcap_writer::PcapWriter;
 pub use pcapng::PcapngReader;

@@ -1,6 +1,8 @@
 -- Which counts go up.
 use Rattle.std.specs.Prelude.{ℕ, ◌+◌, ◌-◌, ◌^◌, min, Bool}
-use Rattle.std.specs.Prelude.{Result, Ok, Err, is_some, if◌then◌else◌}
+use Rattle.std.specs.Prelude.{Result, Ok, Err, Option, Some, None, Vec, is_some, if◌then◌else◌}
+use Rattle.std.specs.declared.alloc.Global.{Global}
+use Rattle.its_gnvalue.specs.declared.fault.NoMemory.{NoMemory}
 use Rattle.its_headers.specs.declared.kind.Kind.{Kind}
 use Rattle.its_headers.specs.declared.kind.Kind.TheVariants as kinds
 use Rattle.its_station.specs.declared.counts.Counts.{Counts}
@@ -11,6 +13,10 @@ use Rattle.its_station.specs.declared.outcome.Outcome.{Outcome}
 use Rattle.its_station.specs.declared.outcome.Outcome.TheVariants as outcomes
 use Rattle.its_station.specs.declared.outcome.Why.{Why}
 use Rattle.its_station.specs.declared.outcome.Why.TheVariants as why
+use Rattle.its_station.specs.declared.run.Call.{Call}
+use Rattle.its_station.specs.declared.run.Call.TheVariants as calls
+use Rattle.its_station.specs.declared.run.Reply.{Reply}
+use Rattle.its_station.specs.declared.run.Reply.TheVariants as replies
 use Rattle.its_station.specs.declared.refused.Refused.{Refused}
 use Rattle.its_station.specs.declared.refused.Refused.TheVariants as refused
 
@@ -57,6 +63,10 @@ counted_refused (refused.Port fault) c = record c { other = one_more c.other }
 counted_refused refused.PayloadTooLong c = record c { other = one_more c.other }
 counted_refused refused.HopLimitZero c = record c { other = one_more c.other }
 
+-- one more call that was refused
+abbrev pub counted_refusal : Refused → Counts → Counts
+counted_refusal r c = record c { refused = counted_refused r c.refused }
+
 -- one more accepted, and one more delivered and relayed where it was
 abbrev pub counted_accepted : Bool → Bool → Counts → Counts
 counted_accepted delivered relayed c =
@@ -72,7 +82,7 @@ counted_outcome (Ok (outcomes.Ignored why)) c =
     record c { ignored = counted_ignored why c.ignored }
 counted_outcome (Ok (outcomes.Accepted handed sent)) c =
     counted_accepted (is_some handed) (is_some sent) c
-counted_outcome (Err refused) c = record c { refused = counted_refused refused c.refused }
+counted_outcome (Err refused) c = counted_refusal refused c
 
 -- one more received, and what became of it
 abbrev pub counted : Result Outcome Refused → Counts → Counts
@@ -87,3 +97,48 @@ counted_kind kinds.Gac c = record c { geoanycasts = one_more c.geoanycasts }
 
 abbrev pub counted_sent : Kind → Counts → Counts
 counted_sent kind c = record c { sent = counted_kind kind c.sent }
+
+-- by what came of a call that tells nothing but that it was done
+abbrev pub counted_done : {T : Type 0} → Result T Refused → Counts → Counts
+counted_done (Ok x) c = c
+counted_done (Err refused) c = counted_refusal refused c
+
+-- by what came of a call that sends a packet of this kind
+abbrev pub counted_send : Kind → Result (Vec ℕ Global) Refused → Counts → Counts
+counted_send kind (Ok frame) c = counted_sent kind c
+counted_send kind (Err refused) c = counted_refusal refused c
+
+-- by what came of a call for a beacon
+abbrev pub counted_tick : Result (Option (Vec ℕ Global)) Refused → Counts → Counts
+counted_tick (Ok None) c = c
+counted_tick (Ok (Some frame)) c = counted_sent kinds.Beacon c
+counted_tick (Err refused) c = counted_refusal refused c
+
+-- the kind of packet that a call sends, if it sends one
+abbrev pub kind_sent : Call → Option Kind
+kind_sent (calls.Tick jitter) = Some kinds.Beacon
+kind_sent (calls.SendShb r) = Some kinds.Shb
+kind_sent (calls.SendGeobroadcast r) = Some kinds.Gbc
+kind_sent (calls.SendGeoanycast r) = Some kinds.Gac
+kind_sent call = None
+
+-- one more sent, of the kind if there is one
+abbrev pub counted_kind_sent : Option Kind → Counts → Counts
+counted_kind_sent None c = c
+counted_kind_sent (Some kind) c = counted_sent kind c
+
+-- by the reply to a call that sends packets of this kind
+abbrev pub counted_reply : Option Kind → Result Reply NoMemory → Counts → Counts
+counted_reply kind (Ok (replies.Sent frame)) c = counted_kind_sent kind c
+counted_reply kind (Ok (replies.Ignored why)) c =
+    record c { ignored = counted_ignored why c.ignored }
+counted_reply kind (Ok (replies.Accepted handed sent)) c =
+    counted_accepted (is_some handed) (is_some sent) c
+counted_reply kind (Ok (replies.Refused refused)) c = counted_refusal refused c
+counted_reply kind (Ok reply) c = c
+counted_reply kind (Err no_memory) c = counted_refusal refused.NoMemory c
+
+-- one more received where a frame came
+abbrev pub counted_call : Call → Counts → Counts
+counted_call (calls.Receive frame) c = record c { received = one_more c.received }
+counted_call call c = c

@@ -1,5 +1,5 @@
 -- What is asked of a station, in the model; and what it gives.
-use Rattle.std.specs.Prelude.{◌≡◌, ℕ, Vec, Option, Some, None, true}
+use Rattle.std.specs.Prelude.{◌≡◌, ℕ, Vec, Option, Some, None, Bool}
 use Rattle.std.specs.declared.alloc.Global.{Global}
 use Rattle.its_gnvalue.specs.Values.{PositionVector}
 use Rattle.its_model.specs.Packet.{Pdu, Transmission, AreaKind, geobroadcast, geoanycast, area_body}
@@ -54,14 +54,14 @@ abbrev pub kind_of_cast : AreaCast → AreaKind
 kind_of_cast casts.Geobroadcast = geobroadcast
 kind_of_cast casts.Geoanycast = geoanycast
 
--- the packet of a station with this vector, for an area
-abbrev pub area_pdu : PositionVector → ℕ → AreaKind → ModelGbc → Pdu
-area_pdu vector number kind r =
+-- the packet of a station with this vector, mobile or not, for an area
+abbrev pub area_pdu : PositionVector → Bool → ℕ → AreaKind → ModelGbc → Pdu
+area_pdu vector mobile number kind r =
     record {
       vector = vector;
       lifetime = r.lifetime;
       class = r.class;
-      mobile = true;
+      mobile = mobile;
       max_hops = r.max_hops;
       body = area_body kind number r.area r.message;
     }

@@ -1,6 +1,6 @@
 -- What many calls of a station are in the model.
 use Rattle.std.specs.Prelude.{◌≡◌, ℕ, ◌≤◌, ◌++◌, List, [], ◌∷◌, length, Option, Some, None}
-use Rattle.std.specs.Prelude.{IsSomeAnd}
+use Rattle.std.specs.Prelude.{IsSomeAnd, Bool}
 use Rattle.std.specs.Option.{option_map}
 use Rattle.its_gnvalue.specs.Values.{Position, IsSpeed}
 use Rattle.its_model.specs.Packet.{Message, Transmission}
@@ -90,12 +90,14 @@ pub record IsRunOf (s : StationModel) (calls : List (ℕ × Call)) (replies : Li
   pub answers : AreReplies replies (answers_of s done)
   pub station : RepresentsStation new (station_run s done)
 
--- Of a station that was new before some past: what a source and the applications see of the answers
--- to what was done is what they see where all frames of others were left out, before and now.
+-- Of a station that was new before some past, mobile or not: what a source and the applications see
+-- of the answers to what was done is what they see where all frames of others were left out, before
+-- and now.
 abbrev pub AreIsolated : StationModel → List TimedCall → Type 0
 AreIsolated s done =
-    (address : ℕ) (place : Position) (capacity remember : ℕ) (past : List TimedCall) (source : ℕ)
-    → let new = new_station address place capacity remember in
+    (address : ℕ) (place : Position) (capacity remember : ℕ) (mobile : Bool)
+    (past : List TimedCall) (source : ℕ)
+    → let new = record (new_station address place capacity remember) { mobile = mobile } in
     s ≡ station_run new past → NeverFalls 0 (past ++ done)
     → IsNeverFull (answers_of new (past ++ done))
     → answers_for source done (answers_of s done)

@@ -1,5 +1,5 @@
 -- What a station has, and the stations of the model that it represents.
-use Rattle.std.specs.Prelude.{◌≡◌, ℕ, List}
+use Rattle.std.specs.Prelude.{◌≡◌, ℕ, List, Bool}
 use Rattle.its_gnvalue.specs.Values.{PositionVector}
 use Rattle.its_model.specs.History.{Reception, is_among}
 use Rattle.its_model.specs.Stations.{AreDistinct}
@@ -12,6 +12,7 @@ pub record StationState : Type 0 where
   pub capacity : ℕ  -- of how many sources the table has room for
   pub remember : ℕ  -- how many numbers of a source it remembers
   pub clock : ℕ
+  pub mobile : Bool
   pub next_number : ℕ
   pub beacon_from : ℕ
   pub ports : List ℕ
@@ -32,6 +33,7 @@ model_of st ports history =
       remember = st.remember;
       clock = st.clock;
       vector = st.vector;
+      mobile = st.mobile;
       next_number = st.next_number;
       ports = ports;
       beacon_from = st.beacon_from;

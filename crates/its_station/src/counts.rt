@@ -1,11 +1,15 @@
-//! Counts of what a station heard and sent, beside it: an embedding program keeps them.
+//! Counts of what a station heard, sent and refused, beside it: an embedding program keeps them.
 
 ghost use Rattle.std.specs.Prelude.{◌≡◌};
 ghost use Rattle.its_station.specs.Counting.{nothing, counted, counted_sent, counted_accepted};
-ghost use Rattle.its_station.specs.Counting.{counted_ignored, counted_refused};
+ghost use Rattle.its_station.specs.Counting.{counted_ignored, counted_refused, counted_refusal};
+ghost use Rattle.its_station.specs.Counting.{counted_done, counted_send, counted_tick};
+ghost use Rattle.its_station.specs.Counting.{counted_call, counted_reply, kind_sent};
 
 use crate::outcome::{Outcome, Why};
 use crate::refused::Refused;
+use crate::run::{Call, Reply};
+use its_gnvalue::NoMemory;
 use its_headers::Kind;
 
 /// How often each thing happened. A count stays at 2^64 - 1 once it is there.
@@ -21,7 +25,7 @@ pub struct Counts {
     pub relayed: u64,
     /// Frames that were ignored, by reason.
     pub ignored: IgnoredCounts,
-    /// Frames that were refused, by code.
+    /// Calls that were refused, by code: for a frame that came, and any others that are noted.
     pub refused: RefusedCounts,
     /// Frames of the station's own that were sent, by kind.
     pub sent: SentCounts,
@@ -40,7 +44,7 @@ pub struct IgnoredCounts {
     pub duplicate: u64,
 }
 
-/// How many frames were refused by each code that `receive` has.
+/// How many calls were refused by each code that `receive` has, and by others.
 #[derive(Clone, Copy, Debug, PartialEq, Eq)]
 pub struct RefusedCounts {
     /// S1: the moment was below the clock.
@@ -53,7 +57,7 @@ pub struct RefusedCounts {
     pub table_full: u64,
     /// S5: an allocation failed.
     pub no_memory: u64,
-    /// Any other refusal: `receive` gives none.
+    /// S6 to S9, of which `receive` gives none.
     pub other: u64,
 }
 
@@ -115,7 +119,7 @@ impl Counts {
                 self.note_accepted(handed.is_some(), sent.is_some());
             }
             Ok(Outcome::Ignored(why)) => self.ignored.note(*why),
-            Err(refused) => self.refused.note(*refused),
+            Err(refused) => self.note_refused(*refused),
         }
     }
 
@@ -131,6 +135,77 @@ impl Counts {
         }
     }
 
+    /// What came of `tick`: a BEACON was sent, none was due, or the call was refused.
+    pub fn note_tick(&mut self, answer: &Result<Option<Vec<u8>>, Refused>)
+        ensures { self.new ≡ counted_tick answer.now self.old }
+    {
+        match answer {
+            Ok(Some(_)) => self.note_sent(Kind::Beacon),
+            Ok(None) => {}
+            Err(refused) => self.note_refused(*refused),
+        }
+    }
+
+    /// What came of `send_shb`, `send_geobroadcast` or `send_geoanycast`: a packet of this kind was
+    /// sent, or the call was refused.
+    pub fn note_send(&mut self, kind: Kind, answer: &Result<Vec<u8>, Refused>)
+        ensures { self.new ≡ counted_send kind answer.now self.old }
+    {
+        match answer {
+            Ok(_) => self.note_sent(kind),
+            Err(refused) => self.note_refused(*refused),
+        }
+    }
+
+    /// What came of `move_to`, `move_at`, `open`, `close` or `restart`: only a refusal counts.
+    pub fn note_done(&mut self, answer: &Result<(), Refused>)
+        ensures { self.new ≡ counted_done answer.now self.old }
+    {
+        if let Err(refused) = answer {
+            self.note_refused(*refused);
+        }
+    }
+
+    /// A call was refused, whichever it was.
+    pub fn note_refused(&mut self, refused: Refused)
+        ensures { self.new ≡ counted_refusal refused self.old }
+    {
+        self.refused.note(refused);
+    }
+
+    /// What came of any call, as `answer` of the station gave it: the same as the other notes of
+    /// that call. Where memory ran out it is a call refused by S5, and of a frame one that came.
+    pub fn note_reply(&mut self, call: &Call, answer: &Result<Reply, NoMemory>)
+        ensures { self.new
+            ≡ counted_reply (kind_sent call.now) answer.now (counted_call call.now self.old) }
+    {
+        self.note_call(call);
+        match answer {
+            Ok(Reply::Done | Reply::Quiet) => {}
+            Ok(Reply::Sent(_)) => {
+                if let Some(kind) = kind_sent(call) {
+                    self.note_sent(kind);
+                }
+            }
+            Ok(Reply::Ignored(why)) => self.ignored.note(*why),
+            Ok(Reply::Accepted { handed, sent }) => {
+                let delivered = handed.is_some();
+                self.note_accepted(delivered, sent.is_some());
+            }
+            Ok(Reply::Refused(refused)) => self.note_refused(*refused),
+            Err(_) => self.note_refused(Refused::NoMemory),
+        }
+    }
+
+    /// A frame that comes is counted whatever becomes of it.
+    fn note_call(&mut self, call: &Call)
+        ensures { self.new ≡ counted_call call.now self.old }
+    {
+        if let Call::Receive(_) = call {
+            self.received = self.received.saturating_add(1);
+        }
+    }
+
     fn note_accepted(&mut self, delivered: bool, relayed: bool)
         ensures { self.new ≡ counted_accepted delivered relayed self.old }
     {
@@ -141,6 +216,23 @@ impl Counts {
         if relayed {
             self.relayed = self.relayed.saturating_add(1);
         }
+    }
+}
+
+/// The kind of packet that a call sends, if it sends one.
+fn kind_sent(call: &Call) -> Option<Kind>
+    ensures { result ≡ kind_sent call.now }
+{
+    match call {
+        Call::Tick(_) => Some(Kind::Beacon),
+        Call::SendShb(_) => Some(Kind::Shb),
+        Call::SendGeobroadcast(_) => Some(Kind::Gbc),
+        Call::SendGeoanycast(_) => Some(Kind::Gac),
+        Call::MoveTo { .. }
+        | Call::Open(_)
+        | Call::Close(_)
+        | Call::Restart(_)
+        | Call::Receive(_) => None,
     }
 }
 

@@ -31,6 +31,13 @@ impl<S: LocationStore> Station<S> {
         self.vector
     }
 
+    /// Whether the station's packets say that it is mobile. A new station's do.
+    pub fn is_mobile(&self) -> bool
+        ensures { result ≡ self.now.mobile }
+    {
+        self.mobile
+    }
+
     /// The moment of the last call that wasn't refused, in milliseconds. No call may be earlier.
     pub fn clock(&self) -> u64
         ensures { result ≡ self.now.clock }

@@ -143,7 +143,7 @@ impl<S: LocationStore> Station<S> {
                     out_of_memory: true,
                 };
             }
-            let Ok(reply) = self.make_call(call.0, &call.1) else {
+            let Ok(reply) = self.answer(call.0, &call.1) else {
                 return Ran {
                     replies,
                     out_of_memory: true,
@@ -163,8 +163,10 @@ impl<S: LocationStore> Station<S> {
         self.alloc
     }
 
-    /// One call.
-    fn make_call(&mut self, moment: u64, call: &Call) -> Result<Reply, NoMemory>
+    /// Makes one call at its moment: what the call of that name answers, as a reply that owns its
+    /// octets. The speed of a `MoveTo` has to be in its range. `NoMemory` where an allocation
+    /// failed: the station stands as before.
+    pub fn answer(&mut self, moment: u64, call: &Call) -> Result<Reply, NoMemory>
         requires { IsInRange call.now }
         ensures step { IfOk result (λ reply. (c : ModelCall) × IsCall call.now c
             × ((s : StationModel) → RepresentsStation self.old s →

@@ -252,7 +252,7 @@ impl<S: LocationStore> Station<S> {
         requires size { length r.now.payload.now ≤ 1394 }
         requires hops { 0 < r.now.max_hops }
         ensures pdu { IfOk result (λ packet. pdu_of_packet packet
-            ≡ area_pdu self.now.vector self.now.next_number (kind_of_cast cast)
+            ≡ area_pdu self.now.vector self.now.mobile self.now.next_number (kind_of_cast cast)
             (gbc_request r.now)) }
         ensures hops { IfOk result (λ packet. hops_left packet ≡ r.now.max_hops) }
     {
@@ -292,7 +292,7 @@ impl<S: LocationStore> Station<S> {
           hops = record { left = 1; max = 1 };
           lifetime = lifetime;
           class = class;
-          mobile = true;
+          mobile = self.now.mobile;
           vector = self.now.vector;
         } }
     {
@@ -302,13 +302,13 @@ impl<S: LocationStore> Station<S> {
         self.header(hops, lifetime, class)
     }
 
-    /// The header of a packet of the station's own: it says that the station is mobile (profile).
+    /// The header of a packet of the station's own: it says whether the station is mobile.
     fn header(&self, hops: Hops, lifetime: Lifetime, class: TrafficClass) -> Header
         ensures { result ≡ record {
           hops = hops;
           lifetime = lifetime;
           class = class;
-          mobile = true;
+          mobile = self.now.mobile;
           vector = self.now.vector;
         } }
     {
@@ -316,7 +316,7 @@ impl<S: LocationStore> Station<S> {
             hops,
             lifetime,
             class,
-            mobile: true,
+            mobile: self.mobile,
             vector: self.vector,
         }
     }

@@ -31,6 +31,7 @@ pub struct Station<S: LocationStore> {
     pub(crate) alloc: Global,
     pub(crate) vector: LongPv,
     pub(crate) clock: u64,
+    pub(crate) mobile: bool,
     pub(crate) next_number: u16,
     pub(crate) beacon_from: u64,
     pub(crate) ports: Ports,
@@ -48,6 +49,7 @@ impl<S: LocationStore> Model for Station<S> {
       capacity = S.limit s.store;
       remember = S.remember s.store;
       clock = s.clock;
+      mobile = s.mobile;
       next_number = s.next_number;
       beacon_from = s.beacon_from;
       ports = s.ports;
@@ -72,7 +74,7 @@ impl<S: LocationStore> fmt::Debug for Station<S> {
 impl<S: LocationStore> Station<S> {
     /// A station to which nothing happened yet: at a place, with a location table for `capacity`
     /// sources, 1 to 4096, that remembers the last `remember` sequence numbers of each, 1 to 64.
-    /// `NoMemory` (S5) is the one refusal.
+    /// It is mobile. `NoMemory` (S5) is the one refusal.
     pub fn new(
         alloc: Global,
         address: GnAddress,
@@ -94,6 +96,7 @@ impl<S: LocationStore> Station<S> {
             alloc,
             vector,
             clock: 0,
+            mobile: true,
             next_number: 0,
             beacon_from: 0,
             ports: Ports::new(),
@@ -146,6 +149,19 @@ impl<S: LocationStore> Station<S> {
         self.check_moment(now)?;
         self.set_vector(now, fix, place, pai, speed, heading);
         Ok(())
+    }
+
+    /// Whether the packets that the station originates say that it is mobile, from now on: the
+    /// first of the Common Header's flags (EN 302 636-4-1), 1 for a mobile station and 0 for a
+    /// stationary one, as a road-side unit. It is set beside the calls: it has no moment, is never
+    /// refused, changes nothing else and takes no memory. What was sent, and what is passed on of
+    /// others, keeps its flag; `restart` keeps it too.
+    pub fn set_mobile(&mut self, mobile: bool)
+        ensures fields { self.new ≡ record self.old { mobile = mobile } }
+        ensures represents { (s : StationModel) → RepresentsStation self.old s →
+            RepresentsStation self.new (record s { mobile = mobile }) }
+    {
+        self.mobile = mobile;
     }
 
     /// The moment of a call is checked first: S1, then S2.

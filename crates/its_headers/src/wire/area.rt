@@ -7,8 +7,8 @@ ghost use Rattle.its_headers.specs.Layout.{area_format, area_at, is_second, is_a
 ghost use Rattle.its_headers.specs.Puts.{Puts};
 
 use crate::wire::fields::{
-    ANGLE, AREA_LATITUDE, AREA_LONGITUDE, DISTANCE_A, DISTANCE_B, fault, put_u16, put_u32, u16_at,
-    u16_in, u32_at, u32_in,
+    ANGLE, AREA_LATITUDE, AREA_LONGITUDE, DISTANCE_A, DISTANCE_B, fault, u16_at, u16_in, u32_at,
+    u32_in, write_u16, write_u32,
 };
 use crate::wire::position::{is_latitude, is_longitude};
 use its_faults::{Fault, FaultKind};
@@ -75,14 +75,14 @@ pub(crate) fn area_in(octets: &[u8], shape: Shape) -> Area
 }
 
 /// Writes an area, 14 octets.
-pub(crate) fn put_area(out: &mut [u8], a: Area)
+pub(crate) fn write_area(out: &mut [u8], a: Area)
     requires { 54 ≤ length out.old }
     ensures puts { Puts out.old out.new 40 (area_octets a) }
     ensures fits { IsArea a }
 {
-    put_u32(out, AREA_LATITUDE, a.centre().lat().cast_unsigned());
-    put_u32(out, AREA_LONGITUDE, a.centre().lon().cast_unsigned());
-    put_u16(out, DISTANCE_A, a.a());
-    put_u16(out, DISTANCE_B, a.b());
-    put_u16(out, ANGLE, a.angle());
+    write_u32(out, AREA_LATITUDE, a.centre().lat().cast_unsigned());
+    write_u32(out, AREA_LONGITUDE, a.centre().lon().cast_unsigned());
+    write_u16(out, DISTANCE_A, a.a());
+    write_u16(out, DISTANCE_B, a.b());
+    write_u16(out, ANGLE, a.angle());
 }

@@ -8,7 +8,7 @@ ghost use Rattle.its_headers.specs.Puts.{Puts};
 
 use crate::packet::Header;
 use crate::wire::fields::{
-    BASIC_RESERVED, HOPS_LEFT, LIFETIME, VERSION, fault, octet_at, pass_number, put_slice,
+    BASIC_RESERVED, HOPS_LEFT, LIFETIME, VERSION, fault, octet_at, pass_number, write_octets,
 };
 use its_faults::{Fault, FaultKind};
 
@@ -45,7 +45,7 @@ pub(crate) fn check_basic(octets: &[u8]) -> Result<u8, Fault>
 }
 
 /// Writes the Basic Header, four octets.
-pub(crate) fn put_basic(out: &mut [u8], header: &Header)
+pub(crate) fn write_basic(out: &mut [u8], header: &Header)
     requires { 4 ≤ length out.old }
     ensures puts { Puts out.old out.new 0
         (17 ∷ 0 ∷ header.now.lifetime ∷ header.now.hops.left ∷ []) }
@@ -58,5 +58,5 @@ pub(crate) fn put_basic(out: &mut [u8], header: &Header)
         header.lifetime.octet(),
         header.hops.left(),
     ];
-    put_slice(out, VERSION, &octets);
+    write_octets(out, VERSION, &octets);
 }

@@ -17,7 +17,7 @@ use crate::packet::Header;
 use crate::payload::{LONGEST_PAYLOAD, SHORTEST_PAYLOAD};
 use crate::wire::fields::{
     CLASS, COMMON_RESERVED, FLAGS, LENGTH, MAX_HOPS, NEXT, TYPE, fault, octet_at, pass_number,
-    put_slice, u16_at,
+    u16_at, write_octets,
 };
 use its_faults::{Fault, FaultKind};
 use its_geometry::Shape;
@@ -187,7 +187,7 @@ pub(crate) fn is_mobile(flags: u8) -> bool
 
 /// Writes the Common Header, eight octets, of a packet of a kind for a shape, with a payload of
 /// this length.
-pub(crate) fn put_common(out: &mut [u8], header: &Header, kind: Kind, shape: Shape, size: u16)
+pub(crate) fn write_common(out: &mut [u8], header: &Header, kind: Kind, shape: Shape, size: u16)
     requires { 12 ≤ length out.old }
     ensures puts { Puts out.old out.new 4
         ((16 * next_of kind) ∷ (16 * type_of kind + shape_code shape)
@@ -208,7 +208,7 @@ pub(crate) fn put_common(out: &mut [u8], header: &Header, kind: Kind, shape: Sha
         header.hops.max(),
         0,
     ];
-    put_slice(out, NEXT, &octets);
+    write_octets(out, NEXT, &octets);
 }
 
 /// The next header of a kind.

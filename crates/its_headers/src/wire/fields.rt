@@ -233,7 +233,7 @@ pub(crate) fn check_octets(octets: &[u8], at: usize, count: usize) -> Result<(),
 // Writing.
 
 /// Writes these octets.
-pub(crate) fn put_slice(out: &mut [u8], at: usize, from: &[u8])
+pub(crate) fn write_octets(out: &mut [u8], at: usize, from: &[u8])
     requires { at + length from.now ≤ length out.old }
     ensures puts { Puts out.old out.new at from.now }
     ensures bytes { IsBytes from.now }
@@ -242,31 +242,31 @@ pub(crate) fn put_slice(out: &mut [u8], at: usize, from: &[u8])
 }
 
 /// Writes a number of two octets.
-pub(crate) fn put_u16(out: &mut [u8], at: usize, v: u16)
+pub(crate) fn write_u16(out: &mut [u8], at: usize, v: u16)
     requires { at + 2 ≤ length out.old }
     ensures { Puts out.old out.new at (big_bytes 2 v) }
 {
     let mut octets = [0; 2];
     BigEndian::write_u16(&mut octets, v);
-    put_slice(out, at, &octets);
+    write_octets(out, at, &octets);
 }
 
 /// Writes a number of four octets.
-pub(crate) fn put_u32(out: &mut [u8], at: usize, v: u32)
+pub(crate) fn write_u32(out: &mut [u8], at: usize, v: u32)
     requires { at + 4 ≤ length out.old }
     ensures { Puts out.old out.new at (big_bytes 4 v) }
 {
     let mut octets = [0; 4];
     BigEndian::write_u32(&mut octets, v);
-    put_slice(out, at, &octets);
+    write_octets(out, at, &octets);
 }
 
 /// Writes a number of eight octets.
-pub(crate) fn put_u64(out: &mut [u8], at: usize, v: u64)
+pub(crate) fn write_u64(out: &mut [u8], at: usize, v: u64)
     requires { at + 8 ≤ length out.old }
     ensures { Puts out.old out.new at (big_bytes 8 v) }
 {
     let mut octets = [0; 8];
     BigEndian::write_u64(&mut octets, v);
-    put_slice(out, at, &octets);
+    write_octets(out, at, &octets);
 }

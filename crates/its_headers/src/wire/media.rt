@@ -4,7 +4,7 @@ ghost use Rattle.std.specs.Prelude.{◌≡◌, ◌≤◌, ◌+◌, length, take,
 ghost use Rattle.its_headers.specs.Encoding.{IsMedia};
 ghost use Rattle.its_headers.specs.Puts.{Puts};
 
-use crate::wire::fields::{MEDIA, put_slice};
+use crate::wire::fields::{MEDIA, write_octets};
 
 /// The media-dependent data, which was checked to be there.
 pub(crate) fn media_in(octets: &[u8]) -> [u8; 4]
@@ -20,10 +20,10 @@ pub(crate) fn media_in(octets: &[u8]) -> [u8; 4]
 }
 
 /// Writes the media-dependent data, four octets.
-pub(crate) fn put_media(out: &mut [u8], media: [u8; 4])
+pub(crate) fn write_media(out: &mut [u8], media: [u8; 4])
     requires { 40 ≤ length out.old }
     ensures puts { Puts out.old out.new 36 media }
     ensures fits { IsMedia media }
 {
-    put_slice(out, MEDIA, &media);
+    write_octets(out, MEDIA, &media);
 }

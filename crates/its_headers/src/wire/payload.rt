@@ -7,7 +7,7 @@ ghost use Rattle.its_headers.specs.Format.{Gives, octets_at};
 ghost use Rattle.its_headers.specs.Puts.{Puts};
 
 use crate::payload::Payload;
-use crate::wire::fields::{check_octets, put_slice};
+use crate::wire::fields::{check_octets, write_octets};
 use its_faults::Fault;
 
 /// Checks that a payload of this length is there.
@@ -19,7 +19,7 @@ pub(crate) fn check_payload(octets: &[u8], at: usize, size: u16) -> Result<(), F
 }
 
 /// Writes the payload, and gives where it ends.
-pub(crate) fn put_payload(out: &mut [u8], at: usize, payload: &Payload) -> usize
+pub(crate) fn write_payload(out: &mut [u8], at: usize, payload: &Payload) -> usize
     requires { at + length payload.now ≤ length out.old }
     ensures puts { Puts out.old out.new at payload.now }
     ensures low { 4 ≤ length payload.now }
@@ -28,6 +28,6 @@ pub(crate) fn put_payload(out: &mut [u8], at: usize, payload: &Payload) -> usize
     ensures end { result ≡ at + length payload.now }
 {
     let octets = payload.octets();
-    put_slice(out, at, octets);
+    write_octets(out, at, octets);
     at + octets.len()
 }

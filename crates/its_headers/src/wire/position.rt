@@ -10,8 +10,8 @@ ghost use Rattle.its_headers.specs.Layout.{latitude_test, longitude_test, is_ind
 ghost use Rattle.its_headers.specs.Puts.{Puts};
 
 use crate::wire::fields::{
-    ADDRESS, HEADING, LATITUDE, LONGITUDE, MOTION, TIMESTAMP, fault, pass_number, put_u16, put_u32,
-    put_u64, u16_in, u32_at, u32_in, u64_at, u64_in,
+    ADDRESS, HEADING, LATITUDE, LONGITUDE, MOTION, TIMESTAMP, fault, pass_number, u16_in, u32_at,
+    u32_in, u64_at, u64_in, write_u16, write_u32, write_u64,
 };
 use its_faults::{Fault, FaultKind};
 use its_gnvalue::{GnAddress, LongPv, Place};
@@ -107,17 +107,17 @@ fn speed_of(bits: u16) -> i16
 }
 
 /// Writes a vector, 24 octets.
-pub(crate) fn put_vector(out: &mut [u8], at: usize, v: LongPv)
+pub(crate) fn write_vector(out: &mut [u8], at: usize, v: LongPv)
     requires { at + 24 ≤ length out.old }
     ensures puts { Puts out.old out.new at (vector_octets v) }
     ensures fits { IsVector v }
 {
-    put_u64(out, at + ADDRESS, v.address().as_u64());
-    put_u32(out, at + TIMESTAMP, v.tst());
-    put_u32(out, at + LATITUDE, v.place().lat().cast_unsigned());
-    put_u32(out, at + LONGITUDE, v.place().lon().cast_unsigned());
-    put_u16(out, at + MOTION, motion_of(v.pai(), v.speed()));
-    put_u16(out, at + HEADING, v.heading());
+    write_u64(out, at + ADDRESS, v.address().as_u64());
+    write_u32(out, at + TIMESTAMP, v.tst());
+    write_u32(out, at + LATITUDE, v.place().lat().cast_unsigned());
+    write_u32(out, at + LONGITUDE, v.place().lon().cast_unsigned());
+    write_u16(out, at + MOTION, motion_of(v.pai(), v.speed()));
+    write_u16(out, at + HEADING, v.heading());
 }
 
 /// The accuracy bit (PAI), then the speed in 15 bits as two's complement.

@@ -30,7 +30,7 @@ pub fn start_of(row: u16, remembered: u8) -> usize
 }
 
 /// Puts a number before so many others, which begin at a place. What stood behind them goes.
-pub fn put_first(numbers: &mut Vec<u16>, start: usize, kept: usize, number: u16)
+pub fn insert_first(numbers: &mut Vec<u16>, start: usize, kept: usize, number: u16)
     requires { start + kept < vec_len numbers.old }
     ensures items { numbers.new.items ≡ put_before numbers.old.items start kept number }
     ensures len { vec_len numbers.new ≡ vec_len numbers.old }

@@ -7,7 +7,7 @@ ghost use Rattle.its_loctable.specs.Heard.{reception, shown, has_number, is_note
 ghost use Rattle.its_loctable.specs.Rows.{numbers_at, IsRow, HasRow, AreOthersKept};
 ghost use Rattle.its_loctable.specs.Sorted.{known_by, live_part_by, bare_known};
 
-use super::rows::{put_first, start_of};
+use super::rows::{insert_first, start_of};
 use crate::heard::{Heard, Known};
 use crate::renewal::{end_after, fresher};
 use its_gnvalue::{GnAddress, LongPv};
@@ -77,7 +77,7 @@ impl SortedSlot {
         if let Some(number) = number {
             let kept = self.count.min(remembered - 1);
             let start = start_of(self.row, remembered);
-            put_first(numbers, start, kept as usize, number);
+            insert_first(numbers, start, kept as usize, number);
             self.count = kept + 1;
         }
     }

@@ -1,4 +1,4 @@
 use Rattle.its_linkframe.proofs.building.relay_frame.Goals as goal
 
 pub returns : goal.returns
-returns c = c.put_relayed.ensures
+returns c = c.write_relayed.ensures

@@ -13,6 +13,7 @@ returns-clause-each c = λ configs events j s at. (
       address = h.address;
       capacity = h.capacity;
       remember = h.remember;
+      mobile = h.mobile;
       own_vector = h.source;
       place =
           h.place;

@@ -8,8 +8,8 @@ returns-clause-run g c = λ s rep.
     let run = c.run_all.ensures.run s rep in
     record {
       run = run;
-      isolated = λ address place capacity remember past source was falls full.
+      isolated = λ address place capacity remember mobile past source was falls full.
           ap (λ (m : StationModel). answers_for source run.done (answers_of m run.done)) was
-          ∙ c.sources_are_isolated.ensures address place capacity remember past run.done source
-          falls full;
+          ∙ c.sources_are_isolated.ensures address place capacity remember mobile past run.done
+          source falls full;
     }

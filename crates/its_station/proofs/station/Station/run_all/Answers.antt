@@ -23,12 +23,12 @@ loop-call-preserved g c =
       count = ap length items
           ∙ omega (arith, length-append old (c.in-Ok.reply ∷ []), c.loop-call.invariant.count);
       run = λ s rep.
-          subst (λ (l : List (ℕ × Call)). IsRunOf s l c.push.new.self.items c.make_call.new.self)
+          subst (λ (l : List (ℕ × Call)). IsRunOf s l c.push.new.self.items c.answer.new.self)
           (sym front)
-          (subst (λ (l : List Reply). IsRunOf s (take i calls ++ x ∷ []) l c.make_call.new.self)
+          (subst (λ (l : List Reply). IsRunOf s (take i calls ++ x ∷ []) l c.answer.new.self)
           (sym items)
           (run_more s
-          (take i calls) old c.loop-call.self c.make_call.new.self x c.in-Ok.reply
+          (take i calls) old c.loop-call.self c.answer.new.self x c.in-Ok.reply
           c.calls_go_on.ensures.station c.calls_go_on.ensures.answers
           (c.loop-call.invariant.run s rep) c.in-Ok.ensures.step));
     }

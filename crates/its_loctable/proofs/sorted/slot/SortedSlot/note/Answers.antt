@@ -13,7 +13,7 @@ returns-in-Some-clause-noted c =
     let kept = c.min-kept.result in
     let n = c.in-Some.number in
     ap (λ (l : List ℕ). take (kept + 1) (drop (self.row * remember) l))
-    (c.put_first.ensures.items ∙ ap (λ m. put_before flat m kept n) c.start_of-start.ensures)
+    (c.insert_first.ensures.items ∙ ap (λ m. put_before flat m kept n) c.start_of-start.ensures)
     ∙ noted flat (self.row * remember) self.count kept remember n
     (omega (arith, c.requires.row.0, c.args.numbers.now.ok.0)) c.requires.row.1 c.requires.some
     (omega (arith, c.min-kept.ensures)) (omega (arith, c.min-kept.ensures))
@@ -31,6 +31,6 @@ returns-in-Some-clause-others c = λ s other few.
     let fits : IsRow remember (length flat) self.row =
     omega (arith, c.requires.row.0, c.args.numbers.now.ok.0) in
     ap (λ (l : List ℕ). numbers_at remember l s)
-    (c.put_first.ensures.items ∙ ap (λ m. put_before flat m kept n) c.start_of-start.ensures)
+    (c.insert_first.ensures.items ∙ ap (λ m. put_before flat m kept n) c.start_of-start.ensures)
     ∙ others_kept flat self.row kept remember n fits
     (omega (arith, c.min-kept.ensures, c.requires.some)) s other few

@@ -1,0 +1,79 @@
+-- The frame of a record of each link layer, and the first rule of its layer that doesn't hold.
+use Rattle.std.specs.Prelude.{◌≡◌, ℕ, ◌+◌, ◌-◌, ◌<◌, ◌≤◌, ◌⊎◌, Bool, true, false}
+use Rattle.std.specs.Prelude.{List, [], ◌∷◌, ◌++◌, length, take, drop}
+use Rattle.its_linkframe.specs.Frames.{IsFrame}
+use Rattle.its_pcap.specs.Ethernet.{IsTypeAt, EndsInTag}
+use Rattle.its_pcap.specs.Ieee80211.{IsHeader, IsHeaderFault, has_bit}
+use Rattle.its_pcap.specs.Radiotap.{IsRadiotap, IsRadiotapFault}
+use Rattle.its_pcap.specs.declared.ieee80211.DataHeader.{DataHeader}
+use Rattle.its_pcap.specs.declared.link.LinkFault.{LinkFault}
+use Rattle.its_pcap.specs.declared.link.LinkFault.TheVariants as faults
+use Rattle.its_pcap.specs.declared.link.LinkLayer.{LinkLayer}
+use Rattle.its_pcap.specs.declared.link.LinkLayer.TheVariants as layers
+use Rattle.its_pcap.specs.declared.radiotap.RadiotapHeader.{RadiotapHeader}
+
+-- the number of a link layer in pcap and pcapng
+abbrev pub layer_number : LinkLayer → ℕ
+layer_number layers.Ethernet = 1
+layer_number layers.Ieee80211 = 105
+layer_number layers.Radiotap = 127
+
+-- L1 and L2, as ASCII text
+abbrev pub link_code_of : LinkFault → List ℕ
+link_code_of faults.Short = 76 ∷ 49 ∷ []
+link_code_of faults.Kind = 76 ∷ 50 ∷ []
+
+-- target and source of a header, and the type with what follows it
+abbrev pub joined : DataHeader → List ℕ → List ℕ
+joined h w = (take 6 (drop h.target w) ++ take 6 (drop h.source w)) ++ drop h.kind w
+
+-- Octets, which are a frame and four octets behind it, are read without these: a check sequence,
+-- whatever its value. Others stay.
+abbrev pub IsUnchecked : List ℕ → List ℕ → Type 0
+IsUnchecked w r =
+    ((4 ≤ length w) × IsFrame (take (length w - 4) w) × (r ≡ take (length w - 4) w))
+    ⊎ ((¬ ((4 ≤ length w) × IsFrame (take (length w - 4) w))) × (r ≡ w))
+
+-- a radiotap header's flags: the record ends with a check sequence; the header of IEEE 802.11 is
+-- filled up
+abbrev pub is_checked : RadiotapHeader → Bool
+is_checked h = has_bit 16 h.flags
+
+abbrev pub is_filled : RadiotapHeader → Bool
+is_filled h = has_bit 32 h.flags
+
+-- the frame of IEEE 802.11 from an octet on, and the same without a check sequence behind it
+abbrev pub IsData : Bool → ℕ → List ℕ → List ℕ → Type 0
+IsData filled at w f = (h : DataHeader) × IsHeader filled w at h × (f ≡ joined h w)
+
+abbrev pub IsUncheckedData : Bool → ℕ → List ℕ → List ℕ → Type 0
+IsUncheckedData filled at w f =
+    (h : DataHeader) × IsHeader filled w at h × IsUnchecked (joined h w) f
+
+-- A record's octets behind a radiotap header: where they end with a check sequence, its four octets
+-- go first; else one may still stand behind the frame.
+abbrev pub IsFrameBehind : RadiotapHeader → List ℕ → List ℕ → Type 0
+IsFrameBehind r w f =
+    ((is_checked r ≡ true) × (r.length + 4 ≤ length w)
+    × IsData (is_filled r) r.length (take (length w - 4) w) f)
+    ⊎ ((is_checked r ≡ false) × IsUncheckedData (is_filled r) r.length w f)
+
+-- the frame of a record
+abbrev pub IsFrameIn : LinkLayer → List ℕ → List ℕ → Type 0
+IsFrameIn layers.Ethernet w f = (at : ℕ) × IsTypeAt w at × (f ≡ take 12 w ++ drop at w)
+IsFrameIn layers.Ieee80211 w f = IsUncheckedData false 0 w f
+IsFrameIn layers.Radiotap w f = (r : RadiotapHeader) × IsRadiotap w r × IsFrameBehind r w f
+
+abbrev pub IsFaultBehind : RadiotapHeader → List ℕ → LinkFault → Type 0
+IsFaultBehind r w f =
+    ((is_checked r ≡ true) × (length w < r.length + 4) × (f ≡ faults.Short))
+    ⊎ ((is_checked r ≡ true) × (r.length + 4 ≤ length w)
+    × IsHeaderFault (is_filled r) (take (length w - 4) w) r.length f)
+    ⊎ ((is_checked r ≡ false) × IsHeaderFault (is_filled r) w r.length f)
+
+-- The first rule that doesn't hold.
+abbrev pub IsLinkFault : LinkLayer → List ℕ → LinkFault → Type 0
+IsLinkFault layers.Ethernet w f = (f ≡ faults.Short) × EndsInTag w
+IsLinkFault layers.Ieee80211 w f = IsHeaderFault false w 0 f
+IsLinkFault layers.Radiotap w f =
+    IsRadiotapFault w f ⊎ ((r : RadiotapHeader) × IsRadiotap w r × IsFaultBehind r w f)
