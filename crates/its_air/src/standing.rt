@@ -118,7 +118,7 @@ fn place_in(order: &[Standing], number: usize) -> Option<usize>
 }
 
 /// One station in so many is few, and worth putting in order.
-const FEW: usize = 8;
+const FEW: usize = 2;
 
 /// Those of these standings that hear what a station gives at this place, by their numbers, in the
 /// order in which they stand here.

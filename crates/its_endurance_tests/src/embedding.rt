@@ -2,6 +2,7 @@
 
 mod counts;
 mod known;
+mod mobile;
 
 use its_gnvalue::{GnAddress, Place};
 use its_loctable::SortedTable;

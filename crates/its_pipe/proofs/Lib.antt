@@ -1,4 +1,5 @@
-pub mod Asked
 pub mod Calls
 pub mod Kept
+pub mod Neighbours
+pub mod Read
 pub mod Served

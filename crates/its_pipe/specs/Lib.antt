@@ -1,4 +1,4 @@
-pub mod Answers
 pub mod Lines
-pub mod Asking
+pub mod Requests
+pub mod Knowing
 pub mod Serving

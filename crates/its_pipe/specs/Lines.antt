@@ -1,5 +1,5 @@
 -- The lines of the input.
-use Rattle.std.specs.Prelude.{◌≡◌, ◌⊎◌, ℕ, List, Bool, All}
+use Rattle.std.specs.Prelude.{◌≡◌, ◌⊎◌, ℕ, List, Bool, All, length, nat_lt}
 use Rattle.its_pipe.specs.declared.line.Line.{Line}
 
 -- A line, without its line feed: its octets, the first 65536 of a longer one, and whether there are
@@ -11,6 +11,10 @@ pub record LineText : Type 0 where
 -- the line that was read
 abbrev pub text_of : Line → LineText
 text_of line = record { octets = line.start.items; longer = line.longer }
+
+-- a line of these octets: of a longer one than may be read they aren't looked at
+abbrev pub whole_line : List ℕ → LineText
+whole_line octets = record { octets = octets; longer = nat_lt 65536 (length octets) }
 
 -- nothing but spaces, tabs and carriage returns
 abbrev pub IsBlank : List ℕ → Type 0

@@ -1,62 +1,109 @@
--- What is told of the lines of the input, and the station afterwards.
-use Rattle.std.specs.Prelude.{◌≡◌, ◌++◌, ◌∷◌, ◌+◌, [], ℕ, List, Option, Some, None}
+-- What is answered to the lines of the input, and the station afterwards.
+use Rattle.std.specs.Prelude.{◌≡◌, ◌++◌, ◌∷◌, ◌+◌, [], ℕ, List, Option, Some, None, Ok}
 use Rattle.its_pipe.specs.declared.ended.Ended.{Ended}
 use Rattle.its_pipe.specs.declared.ended.Ended.TheVariants as ends
 use Rattle.its_model.specs.Calls as model
-use Rattle.its_model.specs.Station.{StationModel, station_step}
-use Rattle.its_station.specs.Runs.{IsCall}
+use Rattle.its_model.specs.Station.{station_step}
+use Rattle.its_station.specs.Counting.{counted_call, counted_reply, kind_sent}
+use Rattle.its_station.specs.Runs.{IsCall, TellsReply}
+use Rattle.its_station.specs.declared.counts.Counts.{Counts}
 use Rattle.its_station.specs.declared.run.Call.{Call}
+use Rattle.its_station.specs.declared.run.Call.TheVariants as calls
+use Rattle.its_station.specs.declared.run.Reply.{Reply}
 use Rattle.its_station.specs.State.{StationState, RepresentsStation}
-use Rattle.its_pipe.specs.Answers.{TellsAnswer}
-use Rattle.its_pipe.specs.Asking.{Asks}
+use Rattle.its_pipe.specs.Knowing.{Counted, TellsQuery}
 use Rattle.its_pipe.specs.Lines.{LineText}
-use Rattle.its_pipe.specs.declared.answers.Answer.{Answer}
-use Rattle.its_pipe.specs.declared.asking.Asked.{Asked}
-use Rattle.its_pipe.specs.declared.asking.Asked.TheVariants as asked_by
-use Rattle.its_pipe.specs.declared.told.Told.{Told}
-use Rattle.its_pipe.specs.declared.told.Told.TheVariants as tolds
+use Rattle.its_pipe.specs.Requests.{Asks}
+use Rattle.its_pipe.specs.declared.request.Asked.{Asked}
+use Rattle.its_pipe.specs.declared.request.Asked.TheVariants as asked_by
+use Rattle.its_pipe.specs.declared.request.Id.{Id}
+use Rattle.its_pipe.specs.declared.request.Query.{Query}
+use Rattle.its_pipe.specs.declared.response.Done.{Done}
+use Rattle.its_pipe.specs.declared.response.Done.TheVariants as does
+use Rattle.its_pipe.specs.declared.response.Known.{Known}
+use Rattle.its_pipe.specs.declared.response.Response.{Response}
+use Rattle.its_pipe.specs.declared.response.Response.TheVariants as responses
 
--- The call is made at the moment: what is told is the answer of that very step of the model, and
--- the station is the one after it.
-pub record TellsCall (s : StationModel) (moment : ℕ) (call : Call) (told : List Told)
-    (next : StationModel) : Type 0 where
+-- what a call does that is answered by a word alone
+abbrev pub done_by : Call → Done
+done_by (calls.MoveTo place pai speed heading) = does.Moved
+done_by (calls.Open port) = does.Opened
+done_by (calls.Close port) = does.Closed
+done_by (calls.Restart number) = does.Restarted
+done_by call = does.Other
+
+-- the counts after the reply to a call
+abbrev pub counts_after : Call → Reply → Counts → Counts
+counts_after call reply c = counted_reply (kind_sent call) (Ok reply) (counted_call call c)
+
+-- the answer is this reply to this call, at this moment
+abbrev pub IsReplyOf : Option Id → ℕ → Call → Reply → Response → Type 0
+IsReplyOf id moment call reply (responses.Reply name at done source told) =
+    (name ≡ id) × (at ≡ moment) × (done ≡ done_by call) × (told ≡ reply)
+IsReplyOf id moment call reply response = ⊥
+
+-- The call is made at the moment: what is answered is the answer of that very step of the model,
+-- the station is the one after it, and it is counted.
+pub record TellsCall (s : Counted) (id : Option Id) (moment : ℕ) (call : Call)
+    (told : List Response) (next : Counted) : Type 0 where
   pub made : model.Call
   pub is : IsCall call made
-  pub answer : Answer
-  pub tells : TellsAnswer answer (station_step s moment made).answer
-  pub told_is : told ≡ tolds.Answer moment answer ∷ []
-  pub next_is : next ≡ (station_step s moment made).station
+  pub reply : Reply
+  pub tells : TellsReply reply (station_step s.station moment made).answer
+  pub response : Response
+  pub response_is : IsReplyOf id moment call reply response
+  pub told_is : told ≡ response ∷ []
+  pub station_is : next.station ≡ (station_step s.station moment made).station
+  pub counts_are : next.counts ≡ counts_after call reply s.counts
 
--- what is told of line n that asks for this, and the station afterwards, which only a call changes
-abbrev pub TellsAsked : StationModel → ℕ → Asked → List Told → StationModel → Type 0
-TellsAsked s n asked_by.Nothing told next = (told ≡ []) × (next ≡ s)
-TellsAsked s n (asked_by.Call moment call) told next = TellsCall s moment call told next
-TellsAsked s n (asked_by.Bad fault) told next = (told ≡ tolds.Fault n fault ∷ []) × (next ≡ s)
+-- What is asked is answered as the station knows it, and nothing changes.
+pub record TellsKnown (s : Counted) (id : Option Id) (at : Option ℕ) (query : Query)
+    (told : List Response) (next : Counted) : Type 0 where
+  pub known : Known
+  pub tells : TellsQuery s at query known
+  pub told_is : told ≡ responses.Known id at known ∷ []
+  pub next_is : next ≡ s
 
--- what is told of line n
-pub record TellsLine (s : StationModel) (n : ℕ) (line : LineText) (told : List Told)
-    (next : StationModel) : Type 0 where
+-- what is answered to line n that asks for this, and the station afterwards, which only a call
+-- changes
+abbrev pub TellsAsked : Counted → ℕ → Option Id → Asked → List Response → Counted → Type 0
+TellsAsked s n id asked_by.Nothing told next = (told ≡ []) × (next ≡ s)
+TellsAsked s n id (asked_by.Call moment call) told next = TellsCall s id moment call told next
+TellsAsked s n id (asked_by.Query at query) told next = TellsKnown s id at query told next
+TellsAsked s n id (asked_by.Bad fault) told next =
+    (told ≡ responses.Fault id n fault ∷ []) × (next ≡ s)
+
+-- what is answered to line n; where `now` is given it is its moment
+pub record TellsLine (now : Option ℕ) (s : Counted) (n : ℕ) (line : LineText)
+    (told : List Response) (next : Counted) : Type 0 where
+  pub id : Option Id
   pub asked : Asked
-  pub asks : Asks line asked
-  pub tells : TellsAsked s n asked told next
+  pub asks : Asks now line id asked
+  pub tells : TellsAsked s n id asked told next
 
--- what is told of these lines, the first of which is line n, one after the other
-abbrev pub TellsLines : StationModel → ℕ → List LineText → List Told → StationModel → Type 0
+-- what is answered to these lines, the first of which is line n, one after the other
+abbrev pub TellsLines : Counted → ℕ → List LineText → List Response → Counted → Type 0
 TellsLines s n [] told end = (told ≡ []) × (end ≡ s)
 TellsLines s n (line ∷ lines) told end =
-    (first : List Told) × (rest : List Told) × (mid : StationModel) × (told ≡ first ++ rest)
-    × TellsLine s n line first mid × TellsLines mid (n + 1) lines rest end
+    (first : List Response) × (rest : List Response) × (mid : Counted) × (told ≡ first ++ rest)
+    × TellsLine None s n line first mid × TellsLines mid (n + 1) lines rest end
+
+-- the station represents that of the model, and its counts are these
+abbrev pub RepresentsCounted : StationState → Counts → Counted → Type 0
+RepresentsCounted station counts s = RepresentsStation station s.station × (counts ≡ s.counts)
 
 -- refused where a line could not be read
-abbrev pub ended_of : List Told → Ended
+abbrev pub ended_of : List Response → Ended
 ended_of [] = ends.Done
-ended_of (tolds.Answer at answer ∷ told) = ended_of told
-ended_of (tolds.Fault line fault ∷ told) = ends.Refused
+ended_of (responses.Reply id at done source reply ∷ told) = ended_of told
+ended_of (responses.Known id at known ∷ told) = ended_of told
+ended_of (responses.Fault id line fault ∷ told) = ends.Refused
 
 -- the same after one more
-abbrev pub then_ended : Ended → Told → Ended
-then_ended ended (tolds.Answer at answer) = ended
-then_ended ended (tolds.Fault line fault) = ends.Refused
+abbrev pub then_ended : Ended → Response → Ended
+then_ended ended (responses.Reply id at done source reply) = ended
+then_ended ended (responses.Known id at known) = ended
+then_ended ended (responses.Fault id line fault) = ends.Refused
 
 -- the number with which the process ends
 abbrev pub exit_code : Ended → ℕ
@@ -64,29 +111,30 @@ exit_code ends.Done = 0
 exit_code ends.Refused = 1
 exit_code ends.Failed = 3
 
--- what is told of one line: one answer at most
-abbrev pub told_in : Option Told → List Told
+-- what is answered to one line: one answer at most
+abbrev pub told_in : Option Response → List Response
 told_in None = []
 told_in (Some told) = told ∷ []
 
--- Line n was served by a station that was this one, after others of which this was told.
-pub record IsServedLine (s : StationModel) (n : ℕ) (line : LineText) (log : List Told)
-    (station : StationState) (ended : Ended) (Took : List Told → Type 0) : Type 0 where
-  pub told : List Told
-  pub after : StationModel
-  pub tells : TellsLine s n line told after
+-- Line n was served by a station that was this one, after others to which this was answered.
+pub record IsServedLine (s : Counted) (n : ℕ) (line : LineText) (log : List Response)
+    (station : StationState) (counts : Counts) (ended : Ended) (Took : List Response → Type 0)
+    : Type 0 where
+  pub told : List Response
+  pub after : Counted
+  pub tells : TellsLine None s n line told after
   pub took : Took (log ++ told)
   pub ended_is : ended ≡ ended_of (log ++ told)
-  pub stands : RepresentsStation station after
+  pub stands : RepresentsCounted station counts after
 
--- A station that was this one has served the lines that were read: what was told of them, in order,
--- was taken, and it represents the station of the model after the calls of these lines.
-pub record IsServed (s : StationModel) (station : StationState) (ended : Ended)
-    (Took : List Told → Type 0) : Type 0 where
+-- A station that was this one has served the lines that were read: what was answered to them, in
+-- order, was taken, and it represents the station of the model after the calls of these lines.
+pub record IsServed (s : Counted) (station : StationState) (counts : Counts) (ended : Ended)
+    (Took : List Response → Type 0) : Type 0 where
   pub lines : List LineText
-  pub told : List Told
-  pub after : StationModel
+  pub told : List Response
+  pub after : Counted
   pub tells : TellsLines s 1 lines told after
   pub took : Took told
   pub ended_is : ended ≡ ended_of told
-  pub stands : RepresentsStation station after
+  pub stands : RepresentsCounted station counts after

@@ -11,12 +11,12 @@ use crate::printing::Printer;
 use crate::serving::serve;
 use its_gnvalue::NoMemory;
 use its_loctable::SortedTable;
-use its_station::Station;
+use its_station::{Counts, Station};
 use its_world::Config;
 use std::alloc::Global;
 use std::io::{BufReader, Read, Write};
 
-/// Runs one station, which begins as the config says, on the lines of the input. What is told of a
+/// Runs one station, which begins as the config says, on the lines of the input. What is answered to a
 /// line is written on `out` as one line, and flushed, before the next is read.
 ///
 /// `Refused` where a line could not be read, `Failed` where the input could not be read, `out` not
@@ -49,11 +49,13 @@ fn serve_input<R: Read + Drop, W: Write>(
 {
     let mut station = begin(alloc, config)?;
     let mut reader = BufReader::new(alloc, input).map_err(|error| PipeFault::of_read(&error))?;
+    let mut printer = Printer::new(alloc, out)?;
     serve(
         alloc,
         &mut station,
+        &mut Counts::new(),
         &mut reader,
-        &mut Printer::new(alloc, out),
+        &mut printer,
     )
 }
 

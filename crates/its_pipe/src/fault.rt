@@ -1,6 +1,7 @@
 //! What ends a station on a pipe before its input ends.
 
 use its_gnvalue::NoMemory;
+use its_json::JsonFault;
 use std::alloc::AllocError;
 use std::io;
 use std::io::Write;
@@ -40,5 +41,15 @@ impl PipeFault {
 impl From<NoMemory> for PipeFault {
     fn from(_: NoMemory) -> PipeFault {
         PipeFault::OutOfMemory(AllocError)
+    }
+}
+
+impl From<JsonFault> for PipeFault {
+    fn from(fault: JsonFault) -> PipeFault {
+        match fault {
+            JsonFault::OutOfMemory => PipeFault::OutOfMemory(AllocError),
+            // No answer has a part of such a kind.
+            JsonFault::Kind => PipeFault::NoOutput(io::Error::from(io::ErrorKind::InvalidData)),
+        }
     }
 }

@@ -1,162 +1,450 @@
-//! What is told, as JSON lines.
+//! What is answered, as JSON lines.
 
-use crate::answers::Answer;
-use crate::asking::LineFault;
 use crate::fault::PipeFault;
-use crate::told::{Told, ToldSink};
-use its_station::{Delivery, Refused, Why};
-use serde::Serialize;
+use crate::reason::{LineReason, RefusedReason};
+use crate::request::{Id, LineFault};
+use crate::response::{Done, Known, Response, ResponseSink};
+use its_frame_text::FrameKeys;
+use its_gnvalue::{GnAddress, LongPv};
+use its_json::{Digits, JsonFault, JsonLine, Octets, Printed};
+use its_linkframe::{FrameCode, FrameFault, read_frame};
+use its_station::{Counts, Delivery, Refused, RefusedCode, Reply, Why};
+use serde::{Described, Serialize, Serializer};
 use std::alloc::{AllocError, Global};
 use std::io::Write;
 
-/// Writes what is told as JSON lines, each in one piece, and hands it on at once.
+/// Writes what is answered as JSON lines, each in one piece, and hands it on at once.
 #[derive(Drop)]
 pub struct Printer<'a, W> {
-    alloc: Global,
+    line: JsonLine,
     out: &'a mut W,
 }
 
 impl<'a, W: Write> Printer<'a, W> {
     /// A printer that writes there.
-    pub fn new(alloc: Global, out: &'a mut W) -> Printer<'a, W> {
-        Printer { alloc, out }
+    pub fn new(alloc: Global, out: &'a mut W) -> Result<Printer<'a, W>, AllocError> {
+        let line = JsonLine::new(alloc)?;
+        Ok(Printer { line, out })
     }
+}
 
-    /// Writes a line and flushes it.
-    fn write<T: Serialize>(&mut self, line: &T) -> Result<(), PipeFault> {
-        // What is written here fails for want of memory alone.
-        let mut text = serde_json::to_vec(self.alloc, line).map_err(|_| AllocError)?;
-        text.push(b'\n')?;
-        self.out.write_all(text.as_slice())?;
+impl<W: Write> ResponseSink for Printer<'_, W> {
+    ghost Took = { λ _ _. Unit {0} };
+
+    fn put(&mut self, response: Response) -> Result<(), PipeFault> {
+        let octets = print_response(&mut self.line, &response)?;
+        self.out.write_all(octets)?;
         self.out.flush()?;
         Ok(())
     }
 }
 
-impl<W: Write> ToldSink for Printer<'_, W> {
-    ghost Took = { λ _ _. Unit {0} };
+/// The line of what is answered, with its line feed.
+///
+/// `OutOfMemory` where an allocation failed.
+pub fn print_response<'l>(
+    line: &'l mut JsonLine,
+    response: &Response,
+) -> Result<&'l [u8], JsonFault> {
+    match response {
+        Response::Reply {
+            id,
+            at,
+            done,
+            source,
+            reply,
+        } => {
+            let head = Head::new(id, Some(*at), reply_word(*done, reply));
+            line.of(&ReplyLine::new(head, source, reply))
+        }
+        Response::Known { id, at, known } => print_known(line, id, *at, known),
+        Response::Fault {
+            id,
+            line: number,
+            fault,
+        } => line.of(&FaultLine {
+            id: id.as_ref().map(IdText),
+            line: *number,
+            error: Printed(*fault),
+            reason: LineReason::of(*fault).map(Printed),
+        }),
+    }
+}
 
-    fn put(&mut self, told: Told) -> Result<(), PipeFault> {
-        match &told {
-            Told::Answer { at, answer } => {
-                let line = AnswerLine::new(self.alloc, *at, answer)?;
-                self.write(&line)
-            }
-            Told::Fault { line, fault } => {
-                let line = FaultLine::new(self.alloc, *line, *fault)?;
-                self.write(&line)
-            }
+/// What each answer that has a `result` begins with.
+#[derive(Clone, Copy, Serialize)]
+struct Head<'a> {
+    #[serde(skip_serializing_if = "Option::is_none")]
+    id: Option<IdText<'a>>,
+    #[serde(skip_serializing_if = "Option::is_none")]
+    at: Option<u64>,
+    result: &'static str,
+}
+
+impl<'a> Head<'a> {
+    fn new(id: &'a Option<Id>, at: Option<u64>, word: &'static str) -> Head<'a> {
+        Head {
+            id: id.as_ref().map(IdText),
+            at,
+            result: word,
+        }
+    }
+}
+
+/// What a bench calls a line by.
+#[derive(Clone, Copy)]
+struct IdText<'a>(&'a Id);
+
+impl Described for IdText<'_> {}
+
+impl Serialize for IdText<'_> {
+    fn serialize<S: Serializer>(&self, out: &mut S) -> Result<(), S::Error> {
+        match self.0 {
+            Id::Text(text) => out.str(text.as_str()),
+            Id::Number(number) => out.i64(*number),
         }
     }
 }
 
 /// The line of a call that was made: its keys in this order.
-#[derive(Drop, Serialize)]
-struct AnswerLine {
-    at: u64,
-    result: &'static str,
+#[derive(Clone, Copy, Serialize)]
+struct ReplyLine<'a> {
+    #[serde(flatten)]
+    head: Head<'a>,
+    #[serde(skip_serializing_if = "Option::is_none")]
+    source: Option<Digits<8>>,
     #[serde(skip_serializing_if = "Option::is_none")]
     why: Option<&'static str>,
     #[serde(skip_serializing_if = "Option::is_none")]
-    code: Option<String>,
+    code: Option<Printed<RefusedCode>>,
+    #[serde(flatten)]
+    delivered: Option<Delivered<'a>>,
     #[serde(skip_serializing_if = "Option::is_none")]
-    port: Option<u16>,
+    frame: Option<Octets<'a>>,
     #[serde(skip_serializing_if = "Option::is_none")]
-    info: Option<u16>,
-    #[serde(skip_serializing_if = "Option::is_none")]
-    payload: Option<String>,
-    #[serde(skip_serializing_if = "Option::is_none")]
-    frame: Option<String>,
+    reason: Option<Printed<RefusedReason>>,
 }
 
-impl AnswerLine {
-    /// The line of what came of a call at a moment.
-    fn new(alloc: Global, at: u64, answer: &Answer) -> Result<AnswerLine, AllocError> {
-        let line = AnswerLine::of_word(at, result_word(answer));
-        match answer {
-            Answer::Sent(frame) => line.with_frame(alloc, frame),
-            Answer::Ignored(why) => Ok(AnswerLine {
-                why: Some(why_word(*why)),
-                ..line
-            }),
-            Answer::Accepted { handed, sent } => line.with_accepted(alloc, handed, sent),
-            Answer::Refused(refused) => line.with_code(alloc, refused),
-            Answer::Moved | Answer::Opened | Answer::Closed | Answer::Restarted | Answer::Quiet =>
-                Ok(line),
+/// What was delivered to a port.
+#[derive(Clone, Copy, Serialize)]
+struct Delivered<'a> {
+    port: u16,
+    info: u16,
+    payload: Octets<'a>,
+}
+
+impl<'a> Delivered<'a> {
+    fn of(delivery: &'a Delivery) -> Delivered<'a> {
+        Delivered {
+            port: delivery.port,
+            info: delivery.info,
+            payload: Octets(delivery.payload.as_slice()),
         }
     }
+}
 
-    /// A line of no more than its moment and its word.
-    fn of_word(at: u64, word: &'static str) -> AnswerLine {
-        AnswerLine {
-            at,
-            result: word,
+impl<'a> ReplyLine<'a> {
+    fn new(head: Head<'a>, source: &Option<GnAddress>, reply: &'a Reply) -> ReplyLine<'a> {
+        let line = ReplyLine {
+            head,
+            source: source.as_ref().map(digits_of),
             why: None,
             code: None,
-            port: None,
-            info: None,
-            payload: None,
+            delivered: None,
             frame: None,
+            reason: None,
+        };
+        match reply {
+            Reply::Done | Reply::Quiet => line,
+            Reply::Sent(frame) => ReplyLine {
+                frame: Some(Octets(frame.as_slice())),
+                ..line
+            },
+            Reply::Ignored(why) => ReplyLine {
+                why: Some(why_word(*why)),
+                ..line
+            },
+            Reply::Accepted { handed, sent } => ReplyLine {
+                delivered: handed.as_ref().map(Delivered::of),
+                frame: sent.as_ref().map(octets_of),
+                ..line
+            },
+            Reply::Refused(refused) => ReplyLine {
+                code: Some(Printed(refused.code())),
+                reason: Some(Printed(RefusedReason(*refused))),
+                ..line
+            },
         }
     }
+}
 
-    fn with_code(self, alloc: Global, refused: &Refused) -> Result<AnswerLine, AllocError> {
-        let mut line = self;
-        line.code = Some(format!(in alloc; "{}", refused.code())?);
-        Ok(line)
+fn octets_of(frame: &Vec<u8>) -> Octets<'_> {
+    Octets(frame.as_slice())
+}
+
+fn digits_of(address: &GnAddress) -> Digits<8> {
+    Digits(address.as_u64().to_be_bytes())
+}
+
+/// The line of what is known.
+fn print_known<'l>(
+    line: &'l mut JsonLine,
+    id: &Option<Id>,
+    at: Option<u64>,
+    known: &Known,
+) -> Result<&'l [u8], JsonFault> {
+    match known {
+        Known::NextBeacon(moment) => line.of(&BeaconLine {
+            head: Head::new(id, at, "next_beacon"),
+            moment: *moment,
+        }),
+        Known::Neighbours { vectors, more } => line.of(&NeighboursLine {
+            head: Head::new(id, at, "neighbours"),
+            vectors: VectorList(vectors.as_slice()),
+            more: *more,
+        }),
+        Known::Found(vector) => line.of(&FoundLine {
+            head: Head::new(id, at, "found"),
+            vector: VectorKeys::of(vector),
+        }),
+        Known::Unknown => line.of(&Head::new(id, at, "unknown")),
+        Known::Frame(octets) => print_frame(line, id, at, octets.as_slice()),
+        Known::NoFrame(fault) => line.of(&NoFrameLine::new(Head::new(id, at, REFUSED), *fault)),
+        Known::Counts(counts) => line.of(&CountsLine {
+            head: Head::new(id, at, "counts"),
+            counts: CountKeys::of(counts),
+        }),
+        Known::Refused(refused) => line.of(&RefusedLine {
+            head: Head::new(id, at, REFUSED),
+            code: Printed(refused.code()),
+            reason: Printed(RefusedReason(*refused)),
+        }),
     }
+}
 
-    fn with_frame(self, alloc: Global, frame: &[u8]) -> Result<AnswerLine, AllocError> {
-        let mut line = self;
-        line.frame = Some(hex::encode(alloc, frame)?);
-        Ok(line)
+/// The line of a frame's fields.
+fn print_frame<'l>(
+    line: &'l mut JsonLine,
+    id: &Option<Id>,
+    at: Option<u64>,
+    octets: &[u8],
+) -> Result<&'l [u8], JsonFault> {
+    match read_frame(octets) {
+        Ok(frame) => line.of(&FrameLine {
+            head: Head::new(id, at, "read"),
+            frame: FrameKeys::of(&frame),
+        }),
+        Err(fault) => line.of(&NoFrameLine::new(Head::new(id, at, REFUSED), fault)),
     }
+}
 
-    fn with_accepted(
-        self,
-        alloc: Global,
-        handed: &Option<Delivery>,
-        sent: &Option<Vec<u8>>,
-    ) -> Result<AnswerLine, AllocError> {
-        let mut line = self;
-        if let Some(delivery) = handed {
-            line.port = Some(delivery.port);
-            line.info = Some(delivery.info);
-            line.payload = Some(hex::encode(alloc, delivery.payload.as_slice())?);
+/// The word of what isn't done.
+const REFUSED: &str = "refused";
+
+#[derive(Clone, Copy, Serialize)]
+struct BeaconLine<'a> {
+    #[serde(flatten)]
+    head: Head<'a>,
+    moment: u64,
+}
+
+#[derive(Clone, Copy, Serialize)]
+struct NeighboursLine<'a> {
+    #[serde(flatten)]
+    head: Head<'a>,
+    vectors: VectorList<'a>,
+    more: bool,
+}
+
+#[derive(Clone, Copy, Serialize)]
+struct FoundLine<'a> {
+    #[serde(flatten)]
+    head: Head<'a>,
+    #[serde(flatten)]
+    vector: VectorKeys,
+}
+
+#[derive(Clone, Copy, Serialize)]
+struct FrameLine<'a> {
+    #[serde(flatten)]
+    head: Head<'a>,
+    #[serde(flatten)]
+    frame: FrameKeys<'a>,
+}
+
+#[derive(Clone, Copy, Serialize)]
+struct NoFrameLine<'a> {
+    #[serde(flatten)]
+    head: Head<'a>,
+    code: Printed<FrameCode>,
+    reason: Printed<RefusedReason>,
+}
+
+impl<'a> NoFrameLine<'a> {
+    fn new(head: Head<'a>, fault: FrameFault) -> NoFrameLine<'a> {
+        NoFrameLine {
+            head,
+            code: Printed(fault.code()),
+            reason: Printed(RefusedReason(Refused::Frame(fault))),
         }
-        match sent {
-            Some(frame) => line.with_frame(alloc, frame.as_slice()),
-            None => Ok(line),
+    }
+}
+
+#[derive(Clone, Copy, Serialize)]
+struct CountsLine<'a> {
+    #[serde(flatten)]
+    head: Head<'a>,
+    #[serde(flatten)]
+    counts: CountKeys,
+}
+
+#[derive(Clone, Copy, Serialize)]
+struct RefusedLine<'a> {
+    #[serde(flatten)]
+    head: Head<'a>,
+    code: Printed<RefusedCode>,
+    reason: Printed<RefusedReason>,
+}
+
+/// Position vectors, as an array.
+#[derive(Clone, Copy)]
+struct VectorList<'a>(&'a [LongPv]);
+
+impl Described for VectorList<'_> {}
+
+impl Serialize for VectorList<'_> {
+    fn serialize<S: Serializer>(&self, out: &mut S) -> Result<(), S::Error> {
+        out.begin_seq(Some(self.0.len()))?;
+        for vector in self.0 {
+            VectorKeys::of(vector).serialize(out)?;
+        }
+        out.end_seq()
+    }
+}
+
+/// What is told of a position vector: its keys in this order.
+#[derive(Clone, Copy, Serialize)]
+struct VectorKeys {
+    address: Digits<8>,
+    tst: u32,
+    lat: i32,
+    lon: i32,
+    pai: bool,
+    speed: i16,
+    heading: u16,
+}
+
+impl VectorKeys {
+    fn of(vector: &LongPv) -> VectorKeys {
+        let place = vector.place();
+        VectorKeys {
+            address: Digits(vector.address().as_u64().to_be_bytes()),
+            tst: vector.tst(),
+            lat: place.lat(),
+            lon: place.lon(),
+            pai: vector.pai(),
+            speed: vector.speed(),
+            heading: vector.heading(),
+        }
+    }
+}
+
+/// What is told of counts: their keys in this order.
+#[derive(Clone, Copy, Serialize)]
+struct CountKeys {
+    received: u64,
+    accepted: u64,
+    delivered: u64,
+    relayed: u64,
+    ignored: IgnoredKeys,
+    refused: RefusedKeys,
+    sent: SentKeys,
+}
+
+#[derive(Clone, Copy, Serialize)]
+struct IgnoredKeys {
+    not_for_me: u64,
+    own_source: u64,
+    sender_mismatch: u64,
+    duplicate: u64,
+}
+
+#[derive(Clone, Copy, Serialize)]
+struct RefusedKeys {
+    moment_earlier: u64,
+    moment_too_late: u64,
+    frame: u64,
+    table_full: u64,
+    no_memory: u64,
+    other: u64,
+}
+
+#[derive(Clone, Copy, Serialize)]
+struct SentKeys {
+    beacons: u64,
+    single_hop: u64,
+    geobroadcasts: u64,
+    geoanycasts: u64,
+}
+
+impl CountKeys {
+    fn of(counts: &Counts) -> CountKeys {
+        let (ignored, refused, sent) = (counts.ignored, counts.refused, counts.sent);
+        CountKeys {
+            received: counts.received,
+            accepted: counts.accepted,
+            delivered: counts.delivered,
+            relayed: counts.relayed,
+            ignored: IgnoredKeys {
+                not_for_me: ignored.not_for_me,
+                own_source: ignored.own_source,
+                sender_mismatch: ignored.sender_mismatch,
+                duplicate: ignored.duplicate,
+            },
+            refused: RefusedKeys {
+                moment_earlier: refused.moment_earlier,
+                moment_too_late: refused.moment_too_late,
+                frame: refused.frame,
+                table_full: refused.table_full,
+                no_memory: refused.no_memory,
+                other: refused.other,
+            },
+            sent: SentKeys {
+                beacons: sent.beacons,
+                single_hop: sent.single_hop,
+                geobroadcasts: sent.geobroadcasts,
+                geoanycasts: sent.geoanycasts,
+            },
         }
     }
 }
 
 /// The line of a line that can't be read: its keys in this order.
-#[derive(Drop, Serialize)]
-struct FaultLine {
+#[derive(Clone, Copy, Serialize)]
+struct FaultLine<'a> {
+    #[serde(skip_serializing_if = "Option::is_none")]
+    id: Option<IdText<'a>>,
     line: u64,
-    error: String,
+    error: Printed<LineFault>,
+    #[serde(skip_serializing_if = "Option::is_none")]
+    reason: Option<Printed<LineReason>>,
 }
 
-impl FaultLine {
-    fn new(alloc: Global, line: u64, fault: LineFault) -> Result<FaultLine, AllocError> {
-        let error = format!(in alloc; "{fault}")?;
-        Ok(FaultLine { line, error })
-    }
-}
-
-/// The word of an answer.
-fn result_word(answer: &Answer) -> &'static str {
-    match answer {
-        Answer::Moved => "moved",
-        Answer::Opened => "opened",
-        Answer::Closed => "closed",
-        Answer::Restarted => "restarted",
-        Answer::Quiet => "quiet",
-        Answer::Sent(_) => "sent",
-        Answer::Ignored(_) => "ignored",
-        Answer::Accepted { .. } => "accepted",
-        Answer::Refused(_) => "refused",
+/// The word of a reply.
+fn reply_word(done: Done, reply: &Reply) -> &'static str {
+    match reply {
+        Reply::Done => match done {
+            Done::Moved => "moved",
+            Done::Opened => "opened",
+            Done::Closed => "closed",
+            Done::Restarted => "restarted",
+            Done::Other => "done",
+        },
+        Reply::Quiet => "quiet",
+        Reply::Sent(_) => "sent",
+        Reply::Ignored(_) => "ignored",
+        Reply::Accepted { .. } => "accepted",
+        Reply::Refused(_) => REFUSED,
     }
 }
 

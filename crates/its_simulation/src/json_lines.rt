@@ -1,9 +1,12 @@
 //! The lines of a simulation, as JSON.
 
 use crate::fault::SimulationFault;
+use crate::note::{Note, NoteLine};
 use crate::record::{EventLine, EventRecord};
 use crate::sink::EventSink;
+use its_gnvalue::{GnAddress, Place};
 use its_json::{Digits, JsonLine};
+use its_scenario::Air;
 use its_world::{Config, World};
 use serde::{Described, Serialize, Serializer};
 use std::alloc::{AllocError, Global};
@@ -16,6 +19,7 @@ use std::io::Write;
 pub struct JsonLines<'a, W> {
     line: JsonLine,
     out: &'a mut W,
+    notes: bool,
 }
 
 impl<'a, W: Write> JsonLines<'a, W> {
@@ -24,7 +28,14 @@ impl<'a, W: Write> JsonLines<'a, W> {
         Ok(JsonLines {
             line: JsonLine::new(alloc)?,
             out,
+            notes: false,
         })
+    }
+
+    /// The same objects and, where it is asked for, those of notes among them, as
+    /// `{"note":"came","moment":500,"station":1}`.
+    pub fn noting(self, notes: bool) -> JsonLines<'a, W> {
+        JsonLines { notes, ..self }
     }
 
     /// Writes the line of the stations, which stands before those of the events:
@@ -34,6 +45,32 @@ impl<'a, W: Write> JsonLines<'a, W> {
     pub fn stations(&mut self, configs: &[Config]) -> Result<(), SimulationFault> {
         let stations = StationList(configs);
         self.write(&StationsLine { stations })
+    }
+
+    /// Writes the line of the stations of an air and of the air itself: `{"stations":[..],"air":{..}}`,
+    /// with `range`, `delay`, `loss`, `seed`, `beacons` and `until`, the last moment that is run,
+    /// which is null where no one knows it yet.
+    ///
+    /// `OutOfMemory` where an allocation failed, `Output` where a write did.
+    pub fn stations_in_air(
+        &mut self,
+        configs: &[Config],
+        air: &Air,
+        until: Option<u64>,
+    ) -> Result<(), SimulationFault> {
+        let stations = StationList(configs);
+        let air = AirText::of(air, until);
+        self.write(&AirLine { stations, air })
+    }
+
+    /// Writes the line of a station that was made in a run.
+    fn made(&mut self, world: &World, station: usize, id: &str) -> Result<(), SimulationFault> {
+        let Some(made) = world.station(station) else {
+            return Ok(());
+        };
+        let vector = made.vector();
+        let at = StationText::new(vector.address(), vector.place());
+        self.write(&MadeLine { station, id, at })
     }
 
     fn write<T: Serialize>(&mut self, value: &T) -> Result<(), SimulationFault> {
@@ -50,12 +87,62 @@ impl<W: Write> EventSink for JsonLines<'_, W> {
     fn put(&mut self, _world: &World, done: &EventRecord<'_>) -> Result<(), SimulationFault> {
         self.write(&EventLine::of(done))
     }
+
+    fn note(&mut self, world: &World, moment: u64, note: &Note<'_>) -> Result<(), SimulationFault> {
+        if let Note::Made { station, id } = *note {
+            return self.made(world, station, id);
+        }
+        match NoteLine::of(moment, note) {
+            Some(line) if self.notes => self.write(&line),
+            _ => Ok(()),
+        }
+    }
 }
 
 /// What is told of the stations.
 #[derive(Clone, Copy, Serialize)]
 struct StationsLine<'a> {
     stations: StationList<'a>,
+}
+
+/// What is told of the stations of an air and of the air.
+#[derive(Clone, Copy, Serialize)]
+struct AirLine<'a> {
+    stations: StationList<'a>,
+    air: AirText,
+}
+
+/// What is told of an air.
+#[derive(Clone, Copy, Serialize)]
+struct AirText {
+    range: u16,
+    delay: u16,
+    loss: u8,
+    seed: u64,
+    beacons: bool,
+    until: Option<u64>,
+}
+
+impl AirText {
+    fn of(air: &Air, until: Option<u64>) -> AirText {
+        AirText {
+            range: air.range,
+            delay: air.delay,
+            loss: air.loss,
+            seed: air.seed,
+            beacons: air.beacons,
+            until,
+        }
+    }
+}
+
+/// What is told of a station that was made in a run.
+#[derive(Clone, Copy, Serialize)]
+struct MadeLine<'a> {
+    station: usize,
+    id: &'a str,
+    #[serde(flatten)]
+    at: StationText,
 }
 
 /// The stations, as an array.
@@ -84,10 +171,14 @@ struct StationText {
 
 impl StationText {
     fn of(config: &Config) -> StationText {
+        StationText::new(config.address, config.place)
+    }
+
+    fn new(address: GnAddress, place: Place) -> StationText {
         StationText {
-            address: Digits(config.address.as_u64().to_be_bytes()),
-            lat: config.place.lat(),
-            lon: config.place.lon(),
+            address: Digits(address.as_u64().to_be_bytes()),
+            lat: place.lat(),
+            lon: place.lon(),
         }
     }
 }

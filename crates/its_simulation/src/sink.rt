@@ -5,6 +5,7 @@ ghost use Rattle.its_model.specs.World.{Event as Happening};
 ghost use Rattle.its_simulation.specs.Records.{happening_in};
 
 use crate::fault::SimulationFault;
+use crate::note::Note;
 use crate::record::EventRecord;
 use its_world::World;
 
@@ -23,4 +24,19 @@ pub trait EventSink {
         ensures { (events : List Happening) (log : List Entry) → Took self.old events log
             → OnOk result (Took self.new (events ++ happening_in done.now ∷ [])
             (log ++ done.now.entry.now ∷ [])) };
+    /// Takes a note of this moment, in milliseconds, with the world as it stands then. Of the events
+    /// and entries it says what it said before.
+    ///
+    /// `OutOfMemory` where an allocation failed, `Output` where a write did.
+    fn note(
+        &mut self,
+        _world: &World,
+        _moment: u64,
+        _note: &Note<'_>,
+    ) -> Result<(), SimulationFault>
+        ensures { (events : List Happening) (log : List Entry) → Took self.old events log
+            → OnOk result (Took self.new events log) }
+    {
+        Ok(())
+    }
 }

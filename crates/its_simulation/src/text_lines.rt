@@ -3,6 +3,7 @@
 use crate::action::Action;
 use crate::entry::EntryText;
 use crate::fault::SimulationFault;
+use crate::note::{Note, NoteText};
 use crate::record::EventRecord;
 use crate::sink::EventSink;
 use its_world::World;
@@ -15,6 +16,7 @@ pub struct TextLines<'a, W> {
     out: &'a mut W,
     explain: bool,
     actions: bool,
+    notes: bool,
 }
 
 impl<'a, W: Write> TextLines<'a, W> {
@@ -25,6 +27,7 @@ impl<'a, W: Write> TextLines<'a, W> {
             out,
             explain,
             actions: false,
+            notes: false,
         }
     }
 
@@ -35,7 +38,13 @@ impl<'a, W: Write> TextLines<'a, W> {
             out,
             explain,
             actions: true,
+            notes: false,
         }
+    }
+
+    /// The same lines and, where it is asked for, those of notes among them, as `- 500 1 came`.
+    pub fn noting(self, notes: bool) -> TextLines<'a, W> {
+        TextLines { notes, ..self }
     }
 }
 
@@ -58,6 +67,18 @@ impl<W: Write> EventSink for TextLines<'_, W> {
         }
         let explain = self.explain;
         writeln!(self.out, "{}", EntryText { entry, explain })?;
+        Ok(())
+    }
+
+    fn note(
+        &mut self,
+        _world: &World,
+        moment: u64,
+        note: &Note<'_>,
+    ) -> Result<(), SimulationFault> {
+        if self.notes && note.is_told() {
+            writeln!(self.out, "{}", NoteText { moment, note })?;
+        }
         Ok(())
     }
 }

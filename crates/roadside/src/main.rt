@@ -6,30 +6,74 @@
 //! counted.
 //!
 //! A moment is milliseconds of any clock that doesn't fall; for the standard's time stamps, of TAI
-//! since 2004-01-01. After a step back calls are refused (S1) until the clock has caught up. A real
-//! unit draws a jitter of 0 to 750 ms once for each beacon, not for each `tick`; this one has none.
+//! since 2004-01-01. After a step back calls are refused (S1) until the clock has caught up.
+//!
+//! The unit is stationary, and its packets say so. It draws a jitter of 0 to 750 ms once for each
+//! beacon, not for each `tick`, and begins at a sequence number that it drew: where numbers began at
+//! 0 at each start, stations that remember some of them would take what it sends for duplicates.
+//! Each run here draws the same; a real unit takes its seed from the system's random numbers.
 #![tactic(auto)]
 
 use its_gnvalue::{GnAddress, Place};
-use its_headers::Kind;
 use its_linkframe::read_frame;
 use its_loctable::SortedTable;
 use its_station::{Counts, Outcome, Refused, Station};
+use rand_core::{Rng, SeedableRng};
+use rand_xoshiro::Xoshiro256PlusPlus;
+
+/// What the draws begin with.
+const SEED: u64 = 3;
+
+/// A station and what stands beside it.
+#[derive(Drop)]
+struct Unit {
+    station: Station<SortedTable>,
+    counts: Counts,
+    draws: Xoshiro256PlusPlus,
+    /// How much later than due the next beacon goes out, in milliseconds.
+    jitter: u16,
+}
+
+impl Unit {
+    /// A jitter for the next beacon: 0 to 750 ms, each as likely as the others.
+    fn draw_jitter(&mut self) {
+        self.jitter = (self.draws.next_u64() % 751) as u16;
+    }
+}
+
+/// A unit that stands still, with port 2002, that of hazard warnings, open from a moment on. It
+/// knows up to 64 stations, and 8 numbers of each.
+fn begin(rt: &impl AllocGlobal, now: u64) -> anyhow::Result<Unit> {
+    let address = GnAddress::from_u64(0x3c00_0200_0000_0010)?;
+    let mut draws = Xoshiro256PlusPlus::seed_from_u64(SEED);
+    let first_number = (draws.next_u64() % 65536) as u16;
+    let mut station = Station::new(rt.alloc(), address, Place::new(449, 0)?, 64, 8)?;
+    station.set_mobile(false);
+    station.restart(now, first_number)?;
+    station.open(now, 2002)?;
+    let mut unit = Unit {
+        station,
+        counts: Counts::new(),
+        draws,
+        jitter: 0,
+    };
+    unit.draw_jitter();
+    Ok(unit)
+}
 
 /// A frame came: delivers its payload and passes the frame on, where the station says so.
 fn hear(
     rt: &(impl Print + AllocGlobal),
-    station: &mut Station<SortedTable>,
-    counts: &mut Counts,
+    unit: &mut Unit,
     now: u64,
     octets: &[u8],
 ) -> anyhow::Result<()> {
     let read = read_frame(octets);
     let answer = match &read {
-        Ok(frame) => station.receive_frame(now, frame),
+        Ok(frame) => unit.station.receive_frame(now, frame),
         Err(fault) => Err(Refused::Frame(*fault)),
     };
-    counts.note_received(&answer);
+    unit.counts.note_received(&answer);
     match answer {
         Ok(Outcome::Accepted { handed, sent }) => {
             if let (Some(message), Ok(frame)) = (handed, read) {
@@ -50,40 +94,39 @@ fn hear(
 /// Sends each beacon that is due until a moment, with its place as handed in just before.
 fn sleep_until(
     rt: &(impl Print + AllocGlobal),
-    station: &mut Station<SortedTable>,
-    counts: &mut Counts,
+    unit: &mut Unit,
     moment: u64,
 ) -> anyhow::Result<()> {
     for _ in 0..u64::MAX {
-        let wakes = station.next_beacon();
+        let wakes = unit.station.beacon_at(unit.jitter);
         if wakes > moment {
             return Ok(());
         }
-        station.move_to(wakes, station.vector().place(), true, 0, 0)?;
-        if let Some(beacon) = station.tick(wakes, 0)? {
-            counts.note_sent(Kind::Beacon);
+        let place = unit.station.vector().place();
+        unit.station.move_to(wakes, place, true, 0, 0)?;
+        let answer = unit.station.tick(wakes, unit.jitter);
+        unit.counts.note_tick(&answer);
+        if let Some(beacon) = answer? {
             println!(rt; "send {}", hex::encode(rt.alloc(), beacon)?)?;
+            unit.draw_jitter();
         }
     }
     Ok(())
 }
 
 fn main(rt: HostRuntime) -> anyhow::Result<()> {
-    // The unit knows up to 64 stations; port 2002 is that of hazard warnings.
-    let address = GnAddress::from_u64(0x3c00_0200_0000_0010)?;
-    let mut station = Station::new(rt.alloc(), address, Place::new(449, 0)?, 64, 8)?;
-    station.open(1000, 2002)?;
-    let mut counts = Counts::new();
+    let mut unit = begin(&rt, 0)?;
     for line in rt.lines(rt.alloc()) {
         let line = line?;
         let Some((moment, digits)) = line.split_once(' ') else {
             continue;
         };
         let now = moment.parse::<u64>()?;
-        sleep_until(&rt, &mut station, &mut counts, now)?;
+        sleep_until(&rt, &mut unit, now)?;
         let frame = hex::decode(rt.alloc(), digits)?;
-        hear(&rt, &mut station, &mut counts, now, frame.as_slice())?;
+        hear(&rt, &mut unit, now, frame.as_slice())?;
     }
+    let counts = unit.counts;
     println!(rt;
         "received {} delivered {}",
         counts.received, counts.delivered

@@ -153,7 +153,8 @@ fn conversation(alloc: Global) -> Result<(String, String), AllocError> {
     )?;
     let answers = format!(in alloc;
         "{OPENED}{}{}",
-        "{\"line\":2,\"error\":\"not JSON\"}\n", "{\"at\":1,\"result\":\"accepted\"}\n"
+        "{\"line\":2,\"error\":\"not JSON\"}\n",
+        "{\"at\":1,\"result\":\"accepted\",\"source\":\"1400020000000002\"}\n"
     )?;
     Ok((lines, answers))
 }

@@ -21,12 +21,13 @@ fn it_runs_short_of_memory(rt: HostRuntime) -> Result<(), Fail> {
     )?;
     let answers = format!(in alloc;
         "{OPENED}{}{RELAYED}{}{}{}",
-        "{\"at\":1,\"result\":\"accepted\",\"port\":2002,\"info\":0,\"payload\":\"6869\",\"frame\":\"",
+        "{\"at\":1,\"result\":\"accepted\",\"source\":\"1400020000000001\",\"port\":2002,\
+            \"info\":0,\"payload\":\"6869\",\"frame\":\"",
         "\"}\n",
         "{\"at\":2,\"result\":\"sent\",\"frame\":\"ffffffffffff020000000002894711001a01\
             2050008000060100140002000000000200000000000001c10000000000000000\
             0000000000010000aaff\"}\n",
-        "{\"line\":4,\"error\":\"do\"}\n"
+        "{\"line\":4,\"error\":\"do\",\"reason\":\"missing\"}\n"
     )?;
     let mut shortage = Shortage::new(alloc)?;
     let (mut failed, mut done) = (0u64, 0u64);

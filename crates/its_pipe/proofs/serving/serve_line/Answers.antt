@@ -1,26 +1,39 @@
-use Rattle.std.proofs.Common.{Option, subst}
-use Rattle.its_model.specs.Station.{StationModel}
-use Rattle.its_station.specs.State.{RepresentsStation}
-use Rattle.its_pipe.specs.Lines.{text_of}
-use Rattle.its_pipe.specs.Serving.{TellsLine, told_in}
-use Rattle.its_pipe.specs.declared.told.Told.{Told}
+use Rattle.std.proofs.Common.{Option, None, subst, sym, ◌≡◌, refl, ap, ◌∙◌}
+use Rattle.its_pipe.specs.Knowing.{Counted}
+use Rattle.its_pipe.specs.Lines.{LineText, text_of}
+use Rattle.its_pipe.specs.Requests.{line_of}
+use Rattle.its_pipe.specs.Serving.{RepresentsCounted, TellsLine, told_in}
+use Rattle.its_pipe.specs.declared.response.Response.{Response}
 use Rattle.its_pipe.proofs.Served.{line_told, line_quiet}
 use Rattle.its_pipe.proofs.serving.serve_line.Goals as goal
 
 pub returns-in-Some : goal.returns-in-Some
 returns-in-Some g c = λ s log rep took was.
-    line_told c.tell.result s c.args.number (text_of c.args.line.now) log c.in-Some.told
-    c.told_of.new.station c.args.ended (g.S.ToldSink.Took c.tell.new.sink)
-    (subst (λ (o : Option Told). (next : StationModel)
-    × TellsLine s c.args.number (text_of c.args.line.now) (told_in o) next
-    × RepresentsStation c.told_of.new.station next) c.in-Some.is
-    (c.in_ok-told.ensures.tells s rep)) was (c.tell.ensures.took log took) c.tell.ensures.ended
+    let line : line_of c.octets-octets.result.now c.is_longer-longer.result ≡ text_of c.args.line.now =
+    ap (λ o. line_of o c.is_longer-longer.result) c.octets-octets.ensures
+    ∙ ap (λ l. line_of (text_of c.args.line.now).octets l) c.is_longer-longer.ensures in
+    line_told c.hand_on.result s c.args.number (text_of c.args.line.now) log c.in-Some.response
+    c.respond.new.station c.respond.new.counts c.args.ended (g.S.ResponseSink.Took c.hand_on.new.sink)
+    (subst (λ (o : Option Response). (next : Counted)
+    × TellsLine None s c.args.number (text_of c.args.line.now) (told_in o) next
+    × RepresentsCounted c.respond.new.station c.respond.new.counts next) c.in-Some.is
+    (subst (λ (l : LineText). (next : Counted)
+    × TellsLine None s c.args.number l (told_in c.in_ok-response.field-0) next
+    × RepresentsCounted c.respond.new.station c.respond.new.counts next) line
+    (c.in_ok-response.ensures.tells s rep))) was (c.hand_on.ensures.took log took)
+    c.hand_on.ensures.ended
 
 pub returns-in-None : goal.returns-in-None
 returns-in-None g c = λ s log rep took was.
-    line_quiet s c.args.number (text_of c.args.line.now) log c.told_of.new.station c.args.ended
-    (g.S.ToldSink.Took c.args.sink.now)
-    (subst (λ (o : Option Told). (next : StationModel)
-    × TellsLine s c.args.number (text_of c.args.line.now) (told_in o) next
-    × RepresentsStation c.told_of.new.station next) c.in-None.is
-    (c.in_ok-told.ensures.tells s rep)) was took
+    let line : line_of c.octets-octets.result.now c.is_longer-longer.result ≡ text_of c.args.line.now =
+    ap (λ o. line_of o c.is_longer-longer.result) c.octets-octets.ensures
+    ∙ ap (λ l. line_of (text_of c.args.line.now).octets l) c.is_longer-longer.ensures in
+    line_quiet s c.args.number (text_of c.args.line.now) log c.respond.new.station
+    c.respond.new.counts c.args.ended (g.S.ResponseSink.Took c.args.sink.now)
+    (subst (λ (o : Option Response). (next : Counted)
+    × TellsLine None s c.args.number (text_of c.args.line.now) (told_in o) next
+    × RepresentsCounted c.respond.new.station c.respond.new.counts next) c.in-None.is
+    (subst (λ (l : LineText). (next : Counted)
+    × TellsLine None s c.args.number l (told_in c.in_ok-response.field-0) next
+    × RepresentsCounted c.respond.new.station c.respond.new.counts next) line
+    (c.in_ok-response.ensures.tells s rep))) was took

@@ -1,0 +1,84 @@
+-- What a line asks for by the members of its object.
+use Rattle.std.proofs.Common.{ℕ, Ok, Err, Option, None, Some, refl, ◌≡◌, sym, ◌∙◌}
+use Rattle.std.specs.Prelude.{Result, IfOk, IfErr, IsFalse, IsSome, codes}
+use Rattle.std.specs.declared.alloc.AllocError.{AllocError}
+use Rattle.serde_json.specs.Data.{Data}
+use Rattle.serde_json.specs.Find.{get}
+use Rattle.its_scenario.specs.declared.key.Key.{Key}
+use Rattle.its_scenario.specs.declared.key.Key.TheVariants as keys
+use Rattle.its_pipe.specs.Requests.{Asks, AsksIn, AsksOf, IsBadCallKey, IsBadKey, IsBadOf, IsId}
+use Rattle.its_pipe.specs.Requests.{IsIdFault, IsMomentOf, IsObject, IsOfQuery, IsQueryFault}
+use Rattle.its_pipe.specs.Requests.{IsQueryWord}
+use Rattle.its_pipe.specs.Lines.{IsBlank, LineText}
+use Rattle.its_pipe.specs.declared.reading.ReadFault.{ReadFault}
+use Rattle.its_pipe.specs.declared.reading.ReadFault.TheVariants as read_faults
+use Rattle.its_pipe.specs.declared.request.Asked.{Asked}
+use Rattle.its_pipe.specs.declared.request.Asked.TheVariants as asked_by
+use Rattle.its_pipe.specs.declared.request.Id.{Id}
+use Rattle.its_pipe.specs.declared.request.LineFault.{LineFault}
+use Rattle.its_pipe.specs.declared.request.LineFault.TheVariants as faults
+use Rattle.its_pipe.specs.declared.request.Request.{Request}
+
+-- what is asked for, beside an `id` that is read
+pub asks_of : (now : Option ℕ) (members : Data) (id : Option Id) (asked : Asked)
+    → IsId members id → AsksIn now members asked → AsksOf now members id asked
+asks_of now members id asked_by.Nothing is asks = absurd asks
+asks_of now members id (asked_by.Call moment call) is asks = (is, asks)
+asks_of now members id (asked_by.Query at query) is asks = (is, asks)
+asks_of now members id (asked_by.Bad faults.NotJson) is asks = absurd asks
+asks_of now members id (asked_by.Bad faults.Id) is asks = absurd asks
+asks_of now members id (asked_by.Bad (faults.Key key wrong)) is asks = (is, asks)
+asks_of now members id (asked_by.Bad (faults.Query key wrong)) is asks = (is, asks)
+
+-- a bad `id`
+pub asks_no_id : (now : Option ℕ) (members : Data) (fault : LineFault)
+    → IsIdFault members (read_faults.Bad fault)
+    → AsksOf now members None (asked_by.Bad fault)
+asks_no_id now members faults.NotJson is = absurd is
+asks_no_id now members faults.Id is = (refl, is)
+asks_no_id now members (faults.Key key wrong) is = absurd is
+asks_no_id now members (faults.Query key wrong) is = absurd is
+
+asks_whole : (now : Option ℕ) (line : LineText) (members : Data) (id : Option Id) (asked : Asked)
+    → AsksOf now members id asked → IsFalse line.longer → ¬ IsBlank line.octets
+    → IsObject line.octets members → Asks now line id asked
+asks_whole now line members id asked_by.Nothing asks short some is = absurd asks.1
+asks_whole now line members id (asked_by.Call moment call) asks short some is =
+    (short, some, members, is, asks)
+asks_whole now line members id (asked_by.Query at query) asks short some is =
+    (short, some, members, is, asks)
+asks_whole now line members id (asked_by.Bad faults.NotJson) asks short some is = absurd asks.1
+asks_whole now line members id (asked_by.Bad faults.Id) asks short some is =
+    (short, some, members, is, asks)
+asks_whole now line members id (asked_by.Bad (faults.Key key wrong)) asks short some is =
+    (short, some, members, is, asks)
+asks_whole now line members id (asked_by.Bad (faults.Query key wrong)) asks short some is =
+    (short, some, members, is, asks)
+
+pub asks_members : (r : Result Request AllocError) (now : Option ℕ) (line : LineText)
+    (members : Data) → IfOk r (λ q. AsksOf now members q.id q.asked) → IsFalse line.longer
+    → ¬ IsBlank line.octets → IsObject line.octets members → IfOk r (λ q. Asks now line q.id q.asked)
+asks_members (Err e) now line members asks short some is = tt
+asks_members (Ok q) now line members asks short some is =
+    asks_whole now line members q.id q.asked asks short some is
+
+-- where there is no moment, the first bad key is that
+pub bad_moment : (now : Option ℕ) (members : Data)
+    → ((moment : ℕ) → ¬ IsMomentOf now members moment) → IsBadKey now members keys.At
+bad_moment now members none =
+    record { moment = λ _. refl; call = λ moment is. absurd (none moment is) }
+
+-- where there is one, it is that of the call
+pub bad_call : (now : Option ℕ) (members : Data) (moment : ℕ) (key : Key)
+    → IsMomentOf now members moment → IsBadCallKey members key → IsBadKey now members key
+bad_call now members moment key is bad =
+    record { moment = λ none. absurd (none moment is); call = λ _ _. bad }
+
+-- the fault of a key of what is asked
+pub bad_query : (now : Option ℕ) (members : Data) (fault : ReadFault)
+    → IsQueryFault members fault → IsBadOf now members fault
+bad_query now members (read_faults.Bad faults.NotJson) is = absurd is.0
+bad_query now members (read_faults.Bad faults.Id) is = absurd is.0
+bad_query now members (read_faults.Bad (faults.Key key wrong)) is = absurd is.0
+bad_query now members (read_faults.Bad (faults.Query key wrong)) is = is.1
+bad_query now members read_faults.OutOfMemory is = tt

@@ -1,0 +1,344 @@
+//! Reading what a line asks for.
+
+ghost use Rattle.std.specs.Prelude.{◌≡◌, ◌↔◌, ◌⊎◌, ℕ, List, IfOk, IfErr, IfSome, IsSome, IfNone};
+ghost use Rattle.std.specs.Prelude.{IsSomeAnd, OnErr, None, Some};
+ghost use Rattle.its_model.specs.Calls.{OwnCall};
+ghost use Rattle.its_model.specs.Calls.Call.{Own};
+ghost use Rattle.its_model.specs.World.What.{Calls};
+ghost use Rattle.serde_json.specs.View.{view};
+ghost use Rattle.its_station.specs.Runs.{IsCall, IsInRange};
+ghost use Rattle.its_world.specs.Events.{what_of};
+ghost use Rattle.its_world.specs.Events as events;
+ghost use Rattle.its_pipe.specs.Requests.{Asks, AsksCall, AsksIn, AsksOf, AsksQuery, IsAskedIn};
+ghost use Rattle.its_pipe.specs.Requests.{IsAskedAt, IsBadOf, IsBadCallKeyOf, IsFrameKey, IsFrameText, IsId};
+ghost use Rattle.its_pipe.specs.Requests.{IsIdFault, IsJitter, IsJsonObject, IsMomentFault, IsMomentOf, IsObject};
+ghost use Rattle.its_pipe.specs.Requests.{IsOfQuery, IsOwn, IsQueryFault, line_of};
+
+use crate::lines::is_blank;
+use crate::members::Members;
+use crate::request::{Asked, Id, LineFault, Query, QueryKey, Request};
+use its_gnvalue::GnAddress;
+use its_scenario::{Fields, Key, KeyFault, Wrong, read_action};
+use its_station::Call;
+use its_world::What;
+use serde_json::Value;
+use std::alloc::{AllocError, Global};
+
+/// The longest text of an `id`, in octets.
+const LONGEST_ID: usize = 128;
+
+/// A number of an `id` is nearer to 0 than this: others aren't exact in every reader of JSON.
+const ID_BOUND: u64 = 1 << 53;
+
+/// Why a line isn't read.
+#[derive(Clone, Copy)]
+pub(crate) enum ReadFault {
+    Bad(LineFault),
+    OutOfMemory,
+}
+
+impl From<KeyFault> for ReadFault {
+    ghost use Rattle.its_pipe.specs.Requests.{read_fault_of};
+
+    ghost from_gives = { λ fault read. read ≡ read_fault_of fault };
+
+    fn from(fault: KeyFault) -> ReadFault {
+        match fault {
+            KeyFault::Refused(key, wrong) => ReadFault::Bad(LineFault::Key(key, wrong)),
+            KeyFault::OutOfMemory => ReadFault::OutOfMemory,
+        }
+    }
+}
+
+/// Reads what a line asks for: its octets, the first of a `longer` one. Where `now` is given it is
+/// the moment of the line, whatever stands under `at`. A blank line asks for nothing; a line that
+/// is longer than is kept is never blank.
+pub(crate) fn read_request(
+    alloc: Global,
+    octets: &[u8],
+    longer: bool,
+    now: Option<u64>,
+) -> Result<Request, AllocError>
+    ensures asks { IfOk result (λ r. Asks now (line_of octets.now longer) r.id r.asked) }
+    ensures range { IfOk result (λ r. IsAskedIn IsInRange r.asked) }
+{
+    if longer {
+        return Ok(Request {
+            id: None,
+            asked: Asked::Bad(LineFault::NotJson),
+        });
+    }
+    if is_blank(octets) {
+        return Ok(Request {
+            id: None,
+            asked: Asked::Nothing,
+        });
+    }
+    match read_object(alloc, octets)? {
+        Some(object) => read_members(alloc, &Members(&object), now),
+        None => Ok(Request {
+            id: None,
+            asked: Asked::Bad(LineFault::NotJson),
+        }),
+    }
+}
+
+/// Reads one JSON object. `None` where the octets are none.
+fn read_object(alloc: Global, octets: &[u8]) -> Result<Option<Value>, AllocError>
+    ensures found { IfOk result (λ found. IsSome found ↔ IsJsonObject octets.now) }
+    ensures value { IfOk result (λ found.
+        IfSome found (λ value. IsObject octets.now (view value))) }
+{
+    match Value::from_slice(alloc, octets) {
+        Ok(value) => Ok(if value.is_object() { Some(value) } else { None }),
+        Err(error) if error.is_memory() => Err(AllocError),
+        Err(_) => Ok(None),
+    }
+}
+
+/// Reads the members of a line: `id`, `at`, `do`, and then the keys of the word, checked in this
+/// order.
+fn read_members(
+    alloc: Global,
+    members: &Members<'_>,
+    now: Option<u64>,
+) -> Result<Request, AllocError>
+    ensures asks { IfOk result (λ r. AsksOf now (view members.now.0.now) r.id r.asked) }
+    ensures range { IfOk result (λ r. IsAskedIn IsInRange r.asked) }
+{
+    match read_id(alloc, members) {
+        Ok(id) => match read_asked(alloc, members, now) {
+            Ok(asked) => Ok(Request { id, asked }),
+            Err(ReadFault::Bad(fault)) => Ok(Request {
+                id,
+                asked: Asked::Bad(fault),
+            }),
+            Err(ReadFault::OutOfMemory) => Err(AllocError),
+        },
+        Err(ReadFault::Bad(fault)) => Ok(Request {
+            id: None,
+            asked: Asked::Bad(fault),
+        }),
+        Err(ReadFault::OutOfMemory) => Err(AllocError),
+    }
+}
+
+/// Reads what a bench calls the line by, if it does.
+fn read_id(alloc: Global, members: &Members<'_>) -> Result<Option<Id>, ReadFault>
+    ensures id { IfOk result (IsId (view members.now.0.now)) }
+    ensures fault { IfErr result (IsIdFault (view members.now.0.now)) }
+{
+    if !members.has("id") {
+        return Ok(None);
+    }
+    if let Some(text) = members.text("id") {
+        if text.len() <= LONGEST_ID {
+            return match String::from_str(alloc, text) {
+                Ok(text) => Ok(Some(Id::Text(text))),
+                Err(_) => Err(ReadFault::OutOfMemory),
+            };
+        }
+    }
+    match members.integer("id") {
+        Some(number) if number.unsigned_abs() < ID_BOUND => Ok(Some(Id::Number(number))),
+        _ => Err(ReadFault::Bad(LineFault::Id)),
+    }
+}
+
+/// Reads the moment, `do` and the keys of the word. What is asked of what the station knows needs
+/// no moment.
+fn read_asked(alloc: Global, members: &Members<'_>, now: Option<u64>) -> Result<Asked, ReadFault>
+    ensures asks { IfOk result (AsksIn now (view members.now.0.now)) }
+    ensures range { IfOk result (IsAskedIn IsInRange) }
+    ensures fault { IfErr result (IsBadOf now (view members.now.0.now)) }
+{
+    let at = read_moment(members, now)?;
+    if let Some(query) = read_query(alloc, members)? {
+        return Ok(Asked::Query(at, query));
+    }
+    match at {
+        Some(moment) => Ok(Asked::Call(moment, read_call(alloc, members)?)),
+        None => Err(ReadFault::Bad(LineFault::Key(Key::At, Wrong::Missing))),
+    }
+}
+
+/// Reads the moment under `at`, if something stands there; `now` stands in its place.
+fn read_moment(members: &Members<'_>, now: Option<u64>) -> Result<Option<u64>, KeyFault>
+    ensures at { IfOk result (IsAskedAt now (view members.now.0.now)) }
+    ensures moment { IfOk result (λ at. IfSome at (IsMomentOf now (view members.now.0.now))) }
+    ensures none { IfOk result (λ at. IfNone at
+        ((moment : ℕ) → ¬ IsMomentOf now (view members.now.0.now) moment)) }
+    ensures bad { OnErr result ((moment : ℕ) → ¬ IsMomentOf now (view members.now.0.now) moment) }
+    ensures key { IfErr result IsMomentFault }
+{
+    if now.is_some() {
+        return Ok(now);
+    }
+    if !members.has("at") {
+        return Ok(None);
+    }
+    match members.integer("at") {
+        Some(moment) if moment >= 0 => Ok(Some(moment as u64)),
+        Some(_) => Err(KeyFault::Refused(Key::At, Wrong::Value)),
+        None => Err(KeyFault::Refused(Key::At, Wrong::Kind)),
+    }
+}
+
+/// Reads what is asked of what the station knows. `None` where the word is none of these.
+fn read_query(alloc: Global, members: &Members<'_>) -> Result<Option<Query>, ReadFault>
+    ensures query { IfOk result (λ query. IfSome query (AsksQuery (view members.now.0.now))) }
+    ensures fault { IfErr result (IsQueryFault (view members.now.0.now)) }
+{
+    Ok(match members.text("do") {
+        Some("next_beacon") => Some(Query::NextBeacon(read_jitter(members)?)),
+        Some("neighbours") => Some(Query::Neighbours(read_after(members)?)),
+        Some("look_up") => Some(Query::LookUp(read_address(members, QueryKey::Address)?)),
+        Some("read_frame") => Some(Query::ReadFrame(read_octets(alloc, members)?)),
+        Some("counts") => Some(Query::Counts),
+        _ => None,
+    })
+}
+
+/// Reads the jitter that is asked with.
+fn read_jitter(members: &Members<'_>) -> Result<u16, ReadFault>
+    ensures value { IfOk result (IsJitter (view members.now.0.now)) }
+    ensures fault { IfErr result IsOfQuery }
+{
+    match members.integer("jitter") {
+        Some(jitter) if 0 <= jitter && jitter <= 65535 => Ok(jitter as u16),
+        Some(_) => Err(bad(QueryKey::Jitter, Wrong::Value)),
+        None => Err(unlike(members, "jitter", QueryKey::Jitter)),
+    }
+}
+
+/// Reads the address above which neighbours are asked for, if there is one.
+fn read_after(members: &Members<'_>) -> Result<Option<GnAddress>, ReadFault>
+    ensures fault { IfErr result IsOfQuery }
+{
+    if !members.has("after") {
+        return Ok(None);
+    }
+    Ok(Some(read_address(members, QueryKey::After)?))
+}
+
+/// Reads an address of 16 hexadecimal digits, whose MID is no group.
+fn read_address(members: &Members<'_>, key: QueryKey) -> Result<GnAddress, ReadFault>
+    ensures fault { IfErr result IsOfQuery }
+{
+    let word = match key {
+        QueryKey::After => "after",
+        _ => "address",
+    };
+    let Some(digits) = members.text(word) else {
+        return Err(unlike(members, word, key));
+    };
+    let mut octets = [0u8; 8];
+    if hex::decode_to_slice(digits, &mut octets).is_err() {
+        return Err(bad(key, Wrong::Value));
+    }
+    match GnAddress::from_u64(u64::from_be_bytes(octets)) {
+        Ok(address) => Ok(address),
+        Err(_) => Err(bad(key, Wrong::Value)),
+    }
+}
+
+/// Reads the octets that are asked about.
+fn read_octets(alloc: Global, members: &Members<'_>) -> Result<Vec<u8>, ReadFault>
+    ensures frame { IfOk result (λ frame. IsFrameText (view members.now.0.now) frame.items) }
+    ensures fault { IfErr result IsOfQuery }
+{
+    match read_frame(alloc, members) {
+        Ok(octets) => Ok(octets),
+        Err(KeyFault::OutOfMemory) => Err(ReadFault::OutOfMemory),
+        Err(KeyFault::Refused(_, wrong)) => Err(bad(QueryKey::Frame, wrong)),
+    }
+}
+
+/// The fault of a key of what is asked.
+fn bad(key: QueryKey, wrong: Wrong) -> ReadFault
+    ensures { IsOfQuery result }
+{
+    ReadFault::Bad(LineFault::Query(key, wrong))
+}
+
+/// The fault of a key that has no value of the kind that it takes.
+fn unlike(members: &Members<'_>, word: &str, key: QueryKey) -> ReadFault
+    ensures { IsOfQuery result }
+{
+    let wrong = if members.has(word) {
+        Wrong::Kind
+    } else {
+        Wrong::Missing
+    };
+    bad(key, wrong)
+}
+
+/// Reads the call of a line. It has the keys of a scenario's event but for `deliver`, and beside
+/// these a frame that came.
+fn read_call(alloc: Global, members: &Members<'_>) -> Result<Call, KeyFault>
+    ensures call { IfOk result (AsksCall (view members.now.0.now)) }
+    ensures range { IfOk result IsInRange }
+    ensures fault { IfErr result (IsBadCallKeyOf (view members.now.0.now)) }
+{
+    match members.text("do") {
+        Some("receive") => Ok(Call::Receive(read_frame(alloc, members)?)),
+        Some("deliver") => Err(KeyFault::Refused(Key::Do, Wrong::Value)),
+        _ => call_of(read_action(alloc, members)?.1).ok_or(KeyFault::Refused(
+            Key::Do,
+            Wrong::Value,
+        )),
+    }
+}
+
+/// Reads the octets of the hexadecimal digits under `frame`, in either letter case.
+fn read_frame(alloc: Global, members: &Members<'_>) -> Result<Vec<u8>, KeyFault>
+    ensures frame { IfOk result (λ frame. IsFrameText (view members.now.0.now) frame.items) }
+    ensures fault { IfErr result (λ fault. (fault ≡ KeyFault.OutOfMemory)
+        ⊎ (IsFrameKey fault × ((frame : List ℕ)
+        → ¬ IsFrameText (view members.now.0.now) frame))) }
+{
+    let Some(digits) = members.text("frame") else {
+        let wrong = if members.has("frame") {
+            Wrong::Kind
+        } else {
+            Wrong::Missing
+        };
+        return Err(KeyFault::Refused(Key::Frame, wrong));
+    };
+    match hex::decode(alloc, digits) {
+        Ok(octets) => Ok(octets),
+        Err(hex::FromHexError::OutOfMemory) => Err(KeyFault::OutOfMemory),
+        Err(_) => Err(KeyFault::Refused(Key::Frame, Wrong::Value)),
+    }
+}
+
+/// The call that an event asks of its station: none where it delivers a frame.
+fn call_of(what: What) -> Option<Call>
+    requires { events.IsInRange what }
+    ensures call { (own : OwnCall) → what_of what ≡ Calls own
+        → IsSomeAnd result (λ call. IsCall call (Own own)) }
+    ensures own { IfSome result IsOwn }
+    ensures range { IfSome result IsInRange }
+{
+    match what {
+        What::MoveTo {
+            place,
+            pai,
+            speed,
+            heading,
+        } => Some(Call::MoveTo {
+            place,
+            pai,
+            speed,
+            heading,
+        }),
+        What::Open(port) => Some(Call::Open(port)),
+        What::Close(port) => Some(Call::Close(port)),
+        What::Tick(jitter) => Some(Call::Tick(jitter)),
+        What::SendShb(request) => Some(Call::SendShb(request)),
+        What::SendGeobroadcast(request) => Some(Call::SendGeobroadcast(request)),
+        What::SendGeoanycast(request) => Some(Call::SendGeoanycast(request)),
+        What::Restart(number) => Some(Call::Restart(number)),
+        What::Deliver(_) => None,
+    }
+}
