@@ -3,11 +3,11 @@
 use crate::arguments;
 use crate::station::StationWords;
 use crate::subcommand::Subcommand;
-use its_commands::{
-    Fault, RunOptions, Status, check_file, convert_file, import_file, show_file, simulate_file,
-};
+use its_commands::{check_file, convert_file, import_file, show_file};
 use its_mesh::mesh_file;
 use its_pipe::{Ended, run_station};
+use its_reporting::{Fault, Status};
+use its_runs::{RunOptions, simulate_file};
 use its_scenario::{KeyFault, WrongOf, read_station};
 use std::alloc::{AllocError, Global};
 use std::env::Args;

@@ -2,9 +2,10 @@
 
 use crate::station::StationWords;
 use clap::ArgMatches;
-use its_commands::{Lines, RunOptions, Target};
 use its_mesh::MeshOptions;
 use its_pcap::Format;
+use its_reporting::{OutputFormat, Target};
+use its_runs::RunOptions;
 
 /// What the program is to do.
 #[derive(Clone, Copy, Debug, PartialEq, Eq)]
@@ -13,26 +14,26 @@ pub enum Subcommand<'a> {
     Show {
         file: &'a str,
         format: Option<Format>,
-        lines: Lines,
+        lines: OutputFormat,
     },
     /// To check the capture in the file.
     Check {
         file: &'a str,
         format: Option<Format>,
-        lines: Lines,
+        lines: OutputFormat,
     },
     /// To write the records of the capture in the file to `out`.
     Convert {
         file: &'a str,
         out: Target<'a>,
         format: Option<Format>,
-        lines: Lines,
+        lines: OutputFormat,
     },
     /// To make the capture `out` of the lines in the file.
     Import {
         file: &'a str,
         out: &'a str,
-        lines: Lines,
+        lines: OutputFormat,
     },
     /// To run the scenario in the file, and to write its frames to `frames`.
     Sim {
@@ -57,7 +58,7 @@ pub(crate) fn subcommand_of<'a>(matches: &ArgMatches<'a>) -> Option<Subcommand<'
         return Some(Subcommand::Station(StationWords::of(inner)?));
     }
     // An option that a command doesn't have was not given.
-    let lines = Lines {
+    let lines = OutputFormat {
         json: inner.get_flag("json"),
         explain: inner.get_flag("explain"),
     };

@@ -5,7 +5,8 @@ mod large;
 mod lines;
 pub(crate) mod memory;
 
-use its_commands::{Lines, Status, check, show};
+use its_commands::{check, show};
+use its_reporting::{OutputFormat, Status};
 use std::alloc::{AllocError, Global};
 use std::io::Read;
 use std::process::Abort;
@@ -67,20 +68,20 @@ impl Left {
 }
 
 fn show_of<R: Read + Drop>(alloc: Global, reader: R) -> Left {
-    show_with(alloc, Lines::default(), reader)
+    show_with(alloc, OutputFormat::default(), reader)
 }
 
-fn show_with<R: Read + Drop>(alloc: Global, lines: Lines, reader: R) -> Left {
+fn show_with<R: Read + Drop>(alloc: Global, lines: OutputFormat, reader: R) -> Left {
     let (mut out, mut err) = (Vec::new(alloc), Vec::new(alloc));
     let status = show(alloc, "a.cap", reader, None, lines, &mut out, &mut err);
     Left { status, out, err }
 }
 
 fn check_of<R: Read + Drop>(alloc: Global, reader: R) -> Left {
-    check_with(alloc, Lines::default(), reader)
+    check_with(alloc, OutputFormat::default(), reader)
 }
 
-fn check_with<R: Read + Drop>(alloc: Global, lines: Lines, reader: R) -> Left {
+fn check_with<R: Read + Drop>(alloc: Global, lines: OutputFormat, reader: R) -> Left {
     let (mut out, mut err) = (Vec::new(alloc), Vec::new(alloc));
     let status = check(alloc, "a.cap", reader, None, lines, &mut out, &mut err);
     Left { status, out, err }

@@ -5,7 +5,8 @@ mod frame_file;
 mod objects;
 mod progress;
 
-use its_commands::{RunOptions, Status, simulate};
+use its_reporting::Status;
+use its_runs::{RunOptions, simulate};
 use std::alloc::{AllocError, Global};
 use std::io::Read;
 use std::process::Abort;

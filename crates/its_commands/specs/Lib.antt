@@ -1,5 +1,2 @@
-pub mod Statuses
 pub mod Lines
-pub mod Runs
-pub mod FrameFiles
-pub mod FileNames
+pub mod Walks

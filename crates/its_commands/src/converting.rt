@@ -1,21 +1,17 @@
 //! The command `convert`.
 
 ghost use Rattle.std.specs.Prelude.{IfOk};
-ghost use Rattle.its_commands.specs.Statuses.{IsCommandStatus};
+ghost use Rattle.its_reporting.specs.Statuses.{IsCommandStatus};
 
-use crate::fault::{Fault, status_of};
-use crate::options::Lines;
 use crate::refusal::FileFault;
-use crate::status::Status;
 use crate::told::RefusedCapture;
 use its_linkframe::Counted;
 use its_pcap::{
     AnySink, AnySource, Format, LONGEST_CAPTURED, RecordSink, RecordSource, SinkFault, SourceFault,
     Step,
 };
-use its_simulation::Explanation;
+use its_reporting::{Fault, LeftOut, OutputFormat, Status, status_of};
 use std::alloc::Global;
-use std::fmt;
 use std::io::{Read, Write};
 
 /// What is converted, and to what.
@@ -30,7 +26,7 @@ pub struct Conversion<'a> {
     /// Its format.
     pub to: Format,
     /// How lines on standard error are printed: only `explain` counts.
-    pub lines: Lines,
+    pub lines: OutputFormat,
 }
 
 /// Writes the records of the file that the reader gives to the one that the writer makes, one by
@@ -49,7 +45,7 @@ pub fn convert<R: Read + Drop, W: Write + Drop, E: Write>(
     ensures { IsCommandStatus result }
 {
     let ended = convert_records(alloc, conversion, reader, writer, err);
-    status_of(ended, conversion.lines, err)
+    status_of(ended, err)
 }
 
 fn convert_records<'a, R: Read + Drop, W: Write + Drop, E: Write>(
@@ -122,35 +118,6 @@ fn leave_out<'a, E: Write>(
     let left_out = LeftOut::new("record", record, fault, conversion.lines);
     let _ = writeln!(err, "{left_out}");
     Ok(())
-}
-
-/// What is told of a record, or a frame, that has no place in a file: its line on standard error.
-#[derive(Clone, Copy)]
-pub(crate) struct LeftOut {
-    noun: &'static str,
-    number: u64,
-    fault: SinkFault,
-    explain: bool,
-}
-
-impl LeftOut {
-    pub(crate) fn new(noun: &'static str, number: u64, fault: SinkFault, lines: Lines) -> LeftOut {
-        LeftOut {
-            noun,
-            number,
-            fault,
-            explain: lines.explain,
-        }
-    }
-}
-
-impl fmt::Display for LeftOut {
-    fn fmt<W: fmt::Write>(&self, f: &mut fmt::Formatter<W>) -> fmt::Result {
-        let (noun, number) = (self.noun, self.number);
-        let word = self.fault.word().unwrap_or("");
-        let reason = Explanation(self.explain.then_some(self.fault));
-        write!(f, "geostation: {noun} {number}: {word}{reason}")
-    }
 }
 
 /// Tells the fault of the file after so many records, or says why it was not read on.

@@ -1,45 +1,20 @@
 //! The commands over named files. A file that is read is standard input where its name is `-`.
 
-ghost use Rattle.std.specs.Prelude.{◌≡◌, ◌⊎◌, IfOk, IfErr, IfSome, None, true};
-ghost use Rattle.its_commands.specs.FileNames.{format_of_file, format_of_output};
-ghost use Rattle.its_commands.specs.FileNames.{is_standard as names_standard};
-ghost use Rattle.its_commands.specs.Statuses.{IsCommandStatus, IsWriterStatus};
+ghost use Rattle.std.specs.Prelude.{◌≡◌, IfOk, IfErr, None, true};
+ghost use Rattle.its_reporting.specs.FileNames.{format_of_output};
+ghost use Rattle.its_reporting.specs.FileNames.{is_standard as names_standard};
+ghost use Rattle.its_reporting.specs.Statuses.{IsCommandStatus, IsWriterStatus};
 
 use crate::checking::check;
 use crate::converting::{Conversion, convert};
-use crate::fault::Fault;
 use crate::importing::{read_lines, write_records};
-use crate::options::{Lines, RunOptions};
-use crate::outputs::{Target, is_standard, refuse_same};
 use crate::showing::show;
-use crate::simulating::{MOST_STATIONS, read_scenario, simulate, simulate_with_frames};
-use crate::status::Status;
 use its_pcap::Format;
-use std::alloc::AllocError;
-use std::io::{BufReader, BufWriter, Read, Write};
+use its_reporting::{
+    OutputFormat, Status, Target, create, create_apart, is_standard, keep_apart, open,
+};
+use std::io::{Read, Write};
 use std::rt::Files;
-use std::{fs, io};
-
-/// How many octets of a file are read or written at a time.
-const FILE_BUFFER: usize = 32 * 1024;
-
-/// What a command reads.
-#[derive(Drop)]
-pub enum Opened<F, I> {
-    /// The file that was named.
-    File(F),
-    /// Standard input.
-    Standard(I),
-}
-
-impl<F: Read, I: Read> Read for Opened<F, I> {
-    fn read(&mut self, buf: &mut [u8]) -> io::Result<usize> {
-        match self {
-            Opened::File(file) => file.read(buf),
-            Opened::Standard(input) => input.read(buf),
-        }
-    }
-}
 
 /// Prints a line for each record of the file. `input` is standard input. The first four octets tell
 /// the format, unless one is given.
@@ -51,7 +26,7 @@ pub fn show_file<R: Files + AllocGlobal, I: Read + Drop, W: Write, E: Write>(
     file: &str,
     input: I,
     format: Option<Format>,
-    lines: Lines,
+    lines: OutputFormat,
     out: &mut W,
     err: &mut E,
 ) -> Status
@@ -75,7 +50,7 @@ pub fn check_file<R: Files + AllocGlobal, I: Read + Drop, W: Write, E: Write>(
     file: &str,
     input: I,
     format: Option<Format>,
-    lines: Lines,
+    lines: OutputFormat,
     out: &mut W,
     err: &mut E,
 ) -> Status
@@ -89,88 +64,6 @@ where
     }
 }
 
-/// Runs the scenario in the file and prints a line for each event. `input` is standard input. With
-/// `frames` each frame that a station gives is also written to that file, which is created once the
-/// scenario is read.
-///
-/// `BadArguments`, before anything is opened, where nothing says that file's format or its name is
-/// `-`, and before it is created where it is the scenario's own file. `Refused` for a text that is
-/// no scenario, where a frame has no place in its file, and, with `strict`, where an event was
-/// refused; `Failed` where a file could not be read, created or written or standard output not
-/// written, or memory ran out.
-pub fn simulate_file<R: Files + AllocGlobal, I: Read + Drop, W: Write, E: Write>(
-    rt: &R,
-    file: &str,
-    input: I,
-    frames: Option<Target<'_>>,
-    options: RunOptions,
-    out: &mut W,
-    err: &mut E,
-) -> Status
-where
-    R::File: Read + Write + Drop,
-    ensures alone { frames.entry ≡ None → IsCommandStatus result }
-    ensures format { IfSome frames.entry (λ target. format_of_file target.to target.name.now ≡ None
-        → result ≡ Status.BadArguments) }
-{
-    let Some(target) = frames else {
-        return simulate_opened(rt, file, input, options, out, err);
-    };
-    let ended = match target.file_format() {
-        Ok(format) => simulate_to(rt, file, input, target.name, format, options, out, err),
-        Err(fault) => Err(fault.report(err)),
-    };
-    match ended {
-        Ok(status) => status,
-        Err(status) => status,
-    }
-}
-
-/// Runs the scenario in the file, and writes no file.
-fn simulate_opened<R: Files + AllocGlobal, I: Read + Drop, W: Write, E: Write>(
-    rt: &R,
-    file: &str,
-    input: I,
-    options: RunOptions,
-    out: &mut W,
-    err: &mut E,
-) -> Status
-where
-    R::File: Read + Write + Drop,
-    ensures { IsCommandStatus result }
-{
-    match open(rt, file, input, err) {
-        Ok(reader) => simulate(rt.alloc(), file, reader, options, out, err),
-        Err(status) => status,
-    }
-}
-
-/// Reads the scenario, and only then creates the file of frames. An `Err` is the status of what
-/// stopped it before the first event.
-fn simulate_to<R: Files + AllocGlobal, I: Read + Drop, W: Write, E: Write>(
-    rt: &R,
-    file: &str,
-    input: I,
-    target: &str,
-    format: Format,
-    options: RunOptions,
-    out: &mut W,
-    err: &mut E,
-) -> Result<Status, Status>
-where
-    R::File: Read + Write + Drop,
-    ensures { IfOk result IsCommandStatus }
-{
-    let alloc = rt.alloc();
-    let reader = open(rt, file, input, err)?;
-    let scenario = match read_scenario(alloc, file, reader, MOST_STATIONS) {
-        Ok(scenario) => scenario,
-        Err(fault) => return Err(fault.report_as(options.lines, err)),
-    };
-    let created = create_apart(rt, target, file, err)?;
-    Ok(simulate_with_frames(alloc, &scenario, target, format, created, options, out, err))
-}
-
 /// Makes the capture `target` of the lines in the file. All lines are read before it is created; a
 /// target `-` is standard output. `input` is standard input. Of `lines` only `explain` counts.
 ///
@@ -181,7 +74,7 @@ pub fn import_file<R: Files + AllocGlobal, I: Read + Drop, W: Write, E: Write>(
     file: &str,
     input: I,
     target: &str,
-    lines: Lines,
+    lines: OutputFormat,
     out: &mut W,
     err: &mut E,
 ) -> Status
@@ -207,7 +100,7 @@ fn import_to_output<R: Files + AllocGlobal, I: Read + Drop, W: Write, E: Write>(
     file: &str,
     input: I,
     target: &str,
-    lines: Lines,
+    lines: OutputFormat,
     out: &mut W,
     err: &mut E,
 ) -> Result<Status, Status>
@@ -228,7 +121,7 @@ fn import_to_file<R: Files + AllocGlobal, I: Read + Drop, E: Write>(
     file: &str,
     input: I,
     target: &str,
-    lines: Lines,
+    lines: OutputFormat,
     err: &mut E,
 ) -> Result<Status, Status>
 where
@@ -255,7 +148,7 @@ pub fn convert_file<R: Files + AllocGlobal, I: Read + Drop, W: Write, E: Write>(
     input: I,
     target: Target<'_>,
     format: Option<Format>,
-    lines: Lines,
+    lines: OutputFormat,
     out: &mut W,
     err: &mut E,
 ) -> Status
@@ -320,84 +213,4 @@ where
     let reader = open(rt, conversion.file, input, err)?;
     let created = create_apart(rt, conversion.target, conversion.file, err)?;
     Ok(convert(rt.alloc(), conversion, reader, created, err))
-}
-
-/// Refuses the arguments where the file that would be written is the one that is read.
-fn keep_apart<R: Files, E: Write>(
-    rt: &R,
-    written: &str,
-    read: &str,
-    err: &mut E,
-) -> Result<(), Status>
-    ensures { IfErr result (λ status. status ≡ Status.BadArguments) }
-{
-    refuse_same(rt, &[written], &[read]).map_err(|fault| fault.report(err))
-}
-
-/// Creates a file that isn't the one that is read: `create`, or `BadArguments`.
-pub fn create_apart<R: Files + AllocGlobal, E: Write>(
-    rt: &R,
-    written: &str,
-    read: &str,
-    err: &mut E,
-) -> Result<BufWriter<R::File>, Status>
-where
-    R::File: Write + Drop,
-    ensures { IfErr result (λ status. (status ≡ Status.BadArguments) ⊎ (status ≡ Status.Failed)) }
-{
-    keep_apart(rt, written, read, err)?;
-    create(rt, written, err)
-}
-
-/// Opens a file for reading, with a buffer, or reports that it cannot be read or memory ran out.
-/// `input` is standard input.
-pub fn open<R: Files + AllocGlobal, I: Read + Drop, E: Write>(
-    rt: &R,
-    file: &str,
-    input: I,
-    err: &mut E,
-) -> Result<BufReader<Opened<R::File, I>>, Status>
-where
-    R::File: Read + Drop,
-    ensures { IfErr result (λ status. status ≡ Status.Failed) }
-{
-    match named(rt, file, input) {
-        Ok(opened) => {
-            BufReader::with_capacity(rt.alloc(), FILE_BUFFER, opened).map_err(
-                |_| Fault::OutOfMemory(AllocError).report(err),
-            )
-        }
-        Err(error) => Err(Fault::of_read(&error, file).report(err)),
-    }
-}
-
-/// What the name stands for, opened for reading.
-fn named<R: Files, I: Read + Drop>(rt: &R, file: &str, input: I) -> io::Result<Opened<R::File, I>>
-where
-    R::File: Read + Drop,
-{
-    if is_standard(file) {
-        return Ok(Opened::Standard(input));
-    }
-    Ok(Opened::File(fs::open(rt, file)?))
-}
-
-/// Creates a file, with a buffer, or reports that it cannot be written or memory ran out.
-pub fn create<R: Files + AllocGlobal, E: Write>(
-    rt: &R,
-    file: &str,
-    err: &mut E,
-) -> Result<BufWriter<R::File>, Status>
-where
-    R::File: Write + Drop,
-    ensures { IfErr result (λ status. status ≡ Status.Failed) }
-{
-    match fs::create(rt, file) {
-        Ok(created) => {
-            BufWriter::with_capacity(rt.alloc(), FILE_BUFFER, created).map_err(
-                |_| Fault::OutOfMemory(AllocError).report(err),
-            )
-        }
-        Err(error) => Err(Fault::of_write(&error, file).report(err)),
-    }
 }

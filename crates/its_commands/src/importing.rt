@@ -4,18 +4,21 @@ ghost use Rattle.std.specs.Prelude.{◌≡◌, ◌+◌, ◌%◌, ◌==◌, ℕ, 
 ghost use Rattle.std.specs.Prelude.{length, vec_len};
 ghost use Rattle.std.specs.Char.{IsAsciiHexdigit};
 ghost use Rattle.its_linkframe.specs.Captures.{IsFrameLength};
-ghost use Rattle.its_commands.specs.Lines.{HasFrame};
-ghost use Rattle.its_commands.specs.Statuses.{IsStopped, IsWriterStatus};
+ghost use Rattle.its_commands.specs.Lines.{HasFrame, lines_fault_status};
+ghost use Rattle.its_reporting.specs.Statuses.{IsStopped, IsWriterStatus};
 
-use crate::fault::Fault;
-use crate::lines::{LONGEST_MOMENT, Line, Passed, are_digits};
-use crate::options::Lines;
-use crate::status::Status;
 use its_linkframe::{CaptureWriter, Counted, LONGEST_FRAME, Record};
-use std::alloc::{AllocError, Global};
+use its_reporting::{Explanation, Fault, Line, OutputFormat, Passed, Status, are_digits};
+use std::alloc::{AllocError, AllocFailed, Global};
 use std::io::{BufRead, Write};
 use std::str;
 use thiserror::Error;
+
+/// The most digits of a moment.
+const LONGEST_MOMENT: usize = 20;
+
+/// The most octets of a line that is a record: a moment, a space, and the digits of a frame.
+const LONGEST_LINE: usize = LONGEST_MOMENT + 1 + 2 * LONGEST_FRAME;
 
 /// Why a line is no record, in the order in which it is checked.
 #[derive(Clone, Copy, Debug, PartialEq, Eq, Error)]
@@ -53,11 +56,52 @@ enum LineError {
 
 impl LineError {
     /// The fault of the line of this number, from 1.
-    fn at_line<'a>(self, number: u64) -> Fault<'a> {
+    fn at_line<'a>(self, number: u64) -> LinesFault<'a> {
         match self {
-            LineError::Refused(fault) => Fault::Line(number, fault),
-            LineError::OutOfMemory(error) => Fault::OutOfMemory(error),
+            LineError::Refused(fault) => LinesFault::Line(number, fault),
+            LineError::OutOfMemory(error) => LinesFault::Stopped(Fault::OutOfMemory(error)),
         }
+    }
+}
+
+/// Why lines were not read to their end. Its text is the line on standard error.
+#[derive(Debug, Drop, Error)]
+enum LinesFault<'a> {
+    /// A line, counted from 1, is no record.
+    #[error("geostation: line {0}: {1}")]
+    Line(u64, LineFault),
+    /// What ends any command.
+    #[error("{0}")]
+    Stopped(Fault<'a>),
+}
+
+impl LinesFault<'_> {
+    /// Writes the line on standard error, and gives the exit status: `Refused` for a bad line. With
+    /// `explain` that line goes on with its sentence in parentheses. What fails there is passed
+    /// over.
+    fn report_as<E: Write>(self, lines: OutputFormat, err: &mut E) -> Status
+        ensures { result ≡ lines_fault_status self.entry }
+    {
+        match self {
+            LinesFault::Line(_, fault) => {
+                let reason = lines.explain.then_some(fault.sentence());
+                let _ = writeln!(err, "{self}{}", Explanation(reason));
+                Status::Refused
+            }
+            LinesFault::Stopped(fault) => fault.report(err),
+        }
+    }
+}
+
+impl From<AllocError> for LinesFault<'_> {
+    fn from(error: AllocError) -> Self {
+        LinesFault::Stopped(Fault::OutOfMemory(error))
+    }
+}
+
+impl<T: Drop> From<AllocFailed<T>> for LinesFault<'_> {
+    fn from(_: AllocFailed<T>) -> Self {
+        LinesFault::Stopped(Fault::OutOfMemory(AllocError))
     }
 }
 
@@ -136,7 +180,7 @@ pub fn read_lines<R: BufRead + Drop, E: Write>(
     alloc: Global,
     file: &str,
     reader: R,
-    lines: Lines,
+    lines: OutputFormat,
     err: &mut E,
 ) -> Result<Vec<Record>, Status>
     ensures frames { IfOk result (λ records. All HasFrame records.items) }
@@ -152,16 +196,16 @@ fn records_of<'a, R: BufRead + Drop>(
     alloc: Global,
     file: &'a str,
     mut reader: R,
-) -> Result<Vec<Record>, Fault<'a>>
+) -> Result<Vec<Record>, LinesFault<'a>>
     ensures { IfOk result (λ records. All HasFrame records.items) }
 {
-    let mut line = Line::new(alloc)?;
+    let mut line = Line::new(alloc, LONGEST_LINE)?;
     let mut records = Vec::new(alloc);
     for number in 1..u64::MAX {
         match line.read(&mut reader) {
             Ok(true) => add_record(alloc, number, &line, &mut records)?,
             Ok(false) => break,
-            Err(error) => return Err(Fault::of_read(&error, file)),
+            Err(error) => return Err(LinesFault::Stopped(Fault::of_read(&error, file))),
         }
     }
     Ok(records)
@@ -173,7 +217,7 @@ fn add_record<'a>(
     number: u64,
     line: &Line,
     records: &mut Vec<Record>,
-) -> Result<(), Fault<'a>>
+) -> Result<(), LinesFault<'a>>
     requires { All HasFrame records.old.items }
     ensures { All HasFrame records.new.items }
 {

@@ -1,10 +1,9 @@
 //! Lines of a command, as words or as objects in JSON.
 
-use crate::fault::Fault;
 use crate::frame_line::FrameLine;
-use crate::options::Lines;
 use crate::text::Text;
 use its_json::JsonLine;
+use its_reporting::{Fault, OutputFormat};
 use serde::Serialize;
 use std::alloc::{AllocError, Global};
 use std::fmt::Display;
@@ -27,7 +26,7 @@ pub(crate) struct Output {
 
 impl Output {
     /// No line yet, and room for one.
-    pub(crate) fn new(alloc: Global, lines: Lines) -> Result<Output, AllocError> {
+    pub(crate) fn new(alloc: Global, lines: OutputFormat) -> Result<Output, AllocError> {
         let buffer = if lines.json {
             Buffer::Object(JsonLine::new(alloc)?)
         } else {

@@ -1,9 +1,8 @@
 //! Why a record or a capture is refused: a code, and a sentence for a person.
 
-use crate::fault::Fault;
 use its_linkframe::{CaptureFault, FrameFault};
 use its_pcap::SourceFault;
-use its_simulation::FrameReason;
+use its_reporting::{Fault, FrameReason};
 use std::alloc::AllocError;
 use std::fmt;
 

@@ -1,18 +1,16 @@
 //! The command `show`.
 
 ghost use Rattle.std.specs.Prelude.{IfOk};
-ghost use Rattle.its_commands.specs.Statuses.{IsCommandStatus};
+ghost use Rattle.its_reporting.specs.Statuses.{IsCommandStatus};
 
-use crate::fault::{Fault, status_of};
 use crate::frame_line::FrameLine;
-use crate::options::Lines;
 use crate::output::Output;
 use crate::refusal::RecordFault;
-use crate::status::Status;
 use crate::told::RefusedAt;
 use crate::walk::{RecordLines, each_record};
 use its_linkframe::FrameView;
 use its_pcap::Format;
+use its_reporting::{Fault, OutputFormat, Status, status_of};
 use std::alloc::Global;
 use std::io::{Read, Write};
 
@@ -45,14 +43,14 @@ pub fn show<R: Read + Drop, W: Write, E: Write>(
     file: &str,
     reader: R,
     format: Option<Format>,
-    lines: Lines,
+    lines: OutputFormat,
     out: &mut W,
     err: &mut E,
 ) -> Status
     ensures { IsCommandStatus result }
 {
     let ended = show_capture(alloc, file, reader, format, lines, out);
-    status_of(ended, lines, err)
+    status_of(ended, err)
 }
 
 fn show_capture<'a, R: Read + Drop, W: Write>(
@@ -60,7 +58,7 @@ fn show_capture<'a, R: Read + Drop, W: Write>(
     file: &'a str,
     reader: R,
     format: Option<Format>,
-    lines: Lines,
+    lines: OutputFormat,
     out: &mut W,
 ) -> Result<Status, Fault<'a>>
     ensures { IfOk result IsCommandStatus }

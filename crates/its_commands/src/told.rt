@@ -3,7 +3,7 @@
 
 use crate::refusal::{FileFault, RecordCode, RecordFault};
 use its_json::Printed;
-use its_simulation::Explanation;
+use its_reporting::Explanation;
 use serde::Serialize;
 use std::fmt;
 

@@ -1,15 +1,14 @@
 //! The walk over the records of a file, for `show` and `check`.
 
 ghost use Rattle.std.specs.Prelude.{◌≡◌, ◌≤◌, IfOk};
-ghost use Rattle.its_commands.specs.Statuses.{walk_status};
+ghost use Rattle.its_commands.specs.Walks.{walk_status};
 
-use crate::fault::Fault;
 use crate::output::Output;
 use crate::refusal::{FileFault, RecordFault};
-use crate::status::Status;
 use crate::told::RefusedCapture;
 use its_linkframe::{Counted, FrameFault, FrameView, LONGEST_FRAME, read_frame};
 use its_pcap::{AnySource, Format, Head, RecordSource, SourceFault, Step, without_padding};
+use its_reporting::{Fault, Status};
 use std::alloc::Global;
 use std::io::{Read, Write};
 

@@ -1,8 +1,8 @@
 -- How a mesh ends.
 use Rattle.std.specs.Prelude.{◌≡◌, ◌≢◌, Bool, IsTrue, if◌then◌else◌}
-use Rattle.its_commands.specs.declared.status.Status.{Status}
-use Rattle.its_commands.specs.declared.status.Status.TheVariants.{Done, Refused, Failed}
-use Rattle.its_commands.specs.declared.status.Status.TheVariants.{BadArguments}
+use Rattle.its_reporting.specs.declared.status.Status.{Status}
+use Rattle.its_reporting.specs.declared.status.Status.TheVariants.{Done, Refused, Failed}
+use Rattle.its_reporting.specs.declared.status.Status.TheVariants.{BadArguments}
 
 -- failed where a socket failed; else refused where a refusal counts; else done
 abbrev pub mesh_status : Bool → Bool → Status

@@ -1,16 +1,16 @@
 //! The command `mesh`.
 
-ghost use Rattle.std.specs.Prelude.{◌≡◌, IfOk, IfErr, IfSome, IsErr, None};
-ghost use Rattle.its_commands.specs.FileNames.{format_of_file};
-ghost use Rattle.its_commands.specs.Statuses.{IsCommandStatus};
+ghost use Rattle.std.specs.Prelude.{◌≡◌, IfOk, IfErr, IfSome, None};
+ghost use Rattle.its_reporting.specs.FileNames.{format_of_file};
+ghost use Rattle.its_reporting.specs.Statuses.{IsCommandStatus};
 ghost use Rattle.its_mesh.specs.Statuses.{IsMeshStatus};
 
+use crate::fault::MeshFault;
 use crate::mesh::Mesh;
 use crate::sockets::Sockets;
 use crate::udp::UdpSockets;
-use its_commands::{
-    Fault, FrameFile, Lines, Status, Target, create_apart, open, read_scenario_without_air,
-};
+use its_reporting::{OutputFormat, Status, Target, create_apart, open};
+use its_runs::{FrameFile, FrameTarget, frame_target, read_scenario_without_air};
 use its_scenario::Scenario;
 use std::alloc::Global;
 use std::io::{Read, Write};
@@ -32,8 +32,8 @@ pub struct MeshOptions {
 
 impl MeshOptions {
     /// How its lines are printed.
-    fn lines(self) -> Lines {
-        Lines {
+    fn lines(self) -> OutputFormat {
+        OutputFormat {
             json: false,
             explain: self.explain,
         }
@@ -67,9 +67,10 @@ where
     ensures format { IfSome frames.entry (λ target.
         format_of_file target.to target.name.now ≡ None → result ≡ Status.BadArguments) }
 {
-    let ended = match frames {
-        Some(target) => mesh_to(rt, file, input, target, options, out, err),
-        None => mesh_opened(rt, file, input, options, out, err),
+    let ended = match frame_target(frames, err) {
+        Ok(Some(target)) => mesh_to(rt, file, input, target, options, out, err),
+        Ok(None) => mesh_opened(rt, file, input, options, out, err),
+        Err(status) => Err(status),
     };
     match ended {
         Ok(status) => status,
@@ -102,23 +103,15 @@ fn mesh_to<R: Files + Net + AllocGlobal, I: Read + Drop, W: Write, E: Write>(
     rt: &R,
     file: &str,
     input: I,
-    target: Target<'_>,
+    target: FrameTarget<'_>,
     options: MeshOptions,
     out: &mut W,
     err: &mut E,
 ) -> Result<Status, Status>
 where
     R::File: Read + Write + Drop,
-    ensures done { IfOk result IsCommandStatus }
-    ensures format { format_of_file target.entry.to target.entry.name.now ≡ None
-        → IfErr result (λ status. status ≡ Status.BadArguments) }
-    ensures formatless { format_of_file target.entry.to target.entry.name.now ≡ None
-        → IsErr result }
+    ensures { IfOk result IsCommandStatus }
 {
-    let format = match target.file_format() {
-        Ok(format) => format,
-        Err(fault) => return Err(fault.report(err)),
-    };
     let reader = open(rt, file, input, err)?;
     let scenario = match read_scenario_without_air(rt.alloc(), file, reader, MOST_STATIONS) {
         Ok(scenario) => scenario,
@@ -127,11 +120,12 @@ where
     let created = create_apart(rt, target.name, file, err)?;
     let mut sockets = UdpSockets::new(rt, rt.alloc());
     let stations = scenario.stations.len();
-    let ended = match FrameFile::start(rt.alloc(), created, target.name, format, stations) {
+    let (name, format) = (target.name, target.format);
+    let ended = match FrameFile::start(rt.alloc(), created, name, format, stations) {
         Ok(file) => {
             mesh_with_frames(rt.alloc(), scenario, file, options, &mut sockets, out, err)
         }
-        Err(fault) => Err(fault),
+        Err(fault) => Err(MeshFault::Stopped(fault)),
     };
     ended.map_err(|fault| fault.report(err))
 }
@@ -168,7 +162,7 @@ pub(crate) fn mesh_with_frames<'t, F: Write + Drop, S: Sockets, W: Write, E: Wri
     sockets: &mut S,
     out: &mut W,
     err: &mut E,
-) -> Result<Status, Fault<'t>>
+) -> Result<Status, MeshFault<'t>>
     ensures { IfOk result IsCommandStatus }
 {
     let Scenario {
@@ -179,14 +173,19 @@ pub(crate) fn mesh_with_frames<'t, F: Write + Drop, S: Sockets, W: Write, E: Wri
     let stations = stations.as_slice();
     let mut mesh = match Mesh::new(alloc, stations, options.explain, sockets, out, err) {
         Ok(mesh) => mesh,
-        Err(fault) => return file.end(Err(fault)),
+        Err(fault) => {
+            // What the file begins with is written out, and the fault is told.
+            let _ = file.end(Ok(Status::Failed));
+            return Err(fault);
+        }
     };
     mesh.file = Some(file);
     let ran = mesh.run(events, options.strict);
-    match mesh.file.take() {
+    let ended = match mesh.file.take() {
         Some(file) => file.end(ran),
         None => ran,
-    }
+    };
+    Ok(ended?)
 }
 
 fn run_mesh<'f, S: Sockets, W: Write, E: Write>(
@@ -196,7 +195,7 @@ fn run_mesh<'f, S: Sockets, W: Write, E: Write>(
     sockets: &mut S,
     out: &mut W,
     err: &mut E,
-) -> Result<Status, Fault<'f>>
+) -> Result<Status, MeshFault<'f>>
     ensures { IfOk result (IsMeshStatus options.strict) }
 {
     let Scenario {
@@ -213,5 +212,5 @@ fn run_mesh<'f, S: Sockets, W: Write, E: Write>(
         out,
         err,
     )?;
-    mesh.run(events, options.strict)
+    Ok(mesh.run(events, options.strict)?)
 }

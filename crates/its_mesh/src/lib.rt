@@ -5,6 +5,7 @@
 
 mod answers;
 mod command;
+mod fault;
 mod mesh;
 mod rounds;
 #[cfg(test)]

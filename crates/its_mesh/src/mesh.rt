@@ -1,9 +1,9 @@
 //! Stations that talk by sockets, and what is printed of them.
 
 ghost use Rattle.std.specs.Prelude.{◌≡◌, ◌&&◌, ◌||◌, not, ℕ, All, IfOk, OnOk, List, map, slice_get};
-ghost use Rattle.its_commands.specs.Runs.{was_done};
 ghost use Rattle.its_model.specs.Station.{StationModel};
 ghost use Rattle.its_model.specs.World.{opening};
+ghost use Rattle.its_runs.specs.Runs.{was_done};
 ghost use Rattle.its_station.specs.Runs.{IsInRange};
 ghost use Rattle.its_world.specs.Events as happenings;
 ghost use Rattle.its_world.specs.Events.{IsConfig, config_of};
@@ -12,10 +12,12 @@ ghost use Rattle.its_mesh.specs.Stations.{AreStations, IsCalled};
 ghost use Rattle.its_mesh.specs.Statuses.{mesh_status};
 
 use crate::answers::{CallOutcome, answer, call_of, done_entry, no_station, outcome_of};
+use crate::fault::{MeshFault, SocketFault};
 use crate::sockets::{Sent, Sockets};
-use its_commands::{Fault, FrameFile, Lines, Status, is_done};
 use its_gnvalue::NoMemory;
 use its_loctable::SortedTable;
+use its_reporting::{Fault, OutputFormat, Status};
+use its_runs::{FrameFile, is_done};
 use its_simulation::EntryText;
 use its_station::{Call, Station};
 use its_world::{Config, Entry, Event, stations_of};
@@ -54,7 +56,7 @@ impl<'a, 't, S: Sockets, W: Write, E: Write, F: Write + Drop> Mesh<'a, 't, S, W,
         sockets: &'a mut S,
         out: &'a mut W,
         err: &'a mut E,
-    ) -> Result<Mesh<'a, 't, S, W, E, F>, Fault<'f>>
+    ) -> Result<Mesh<'a, 't, S, W, E, F>, MeshFault<'f>>
         requires { All IsConfig configs.now }
         ensures { IfOk result (λ mesh. RepresentStations mesh.stations.items
             (opening (map config_of configs.now)).stations) }
@@ -136,7 +138,7 @@ impl<'a, 't, S: Sockets, W: Write, E: Write, F: Write + Drop> Mesh<'a, 't, S, W,
         ensures stations { self.new.stations ≡ self.old.stations }
         ensures sockets { self.new.sockets.now ≡ self.old.sockets.now }
     {
-        let lines = Lines {
+        let lines = OutputFormat {
             json: false,
             explain: self.explain,
         };
@@ -189,26 +191,28 @@ impl<'a, 't, S: Sockets, W: Write, E: Write, F: Write + Drop> Mesh<'a, 't, S, W,
     {
         for to in 0..self.stations.len() {
             if to != from && self.sockets.send(from, to, frame) != Sent::Done {
-                self.fail(Fault::SendFailed(from));
+                self.fail(SocketFault::SendFailed(from));
             }
         }
     }
 
     /// Tells of a socket that failed, and goes on.
-    pub(crate) fn fail(&mut self, fault: Fault<'_>)
+    pub(crate) fn fail(&mut self, fault: SocketFault)
         ensures stations { self.new.stations ≡ self.old.stations }
         ensures sockets { self.new.sockets.now ≡ self.old.sockets.now }
     {
-        let _ = fault.report(self.err);
+        let _ = writeln!(self.err, "{fault}");
         self.failed = true;
     }
 }
 
 /// Makes the socket of the station of this number.
-fn make_socket<'f, S: Sockets>(sockets: &mut S, number: usize) -> Result<(), Fault<'f>> {
+fn make_socket<'f, S: Sockets>(sockets: &mut S, number: usize) -> Result<(), MeshFault<'f>> {
     match sockets.make() {
         Ok(()) => Ok(()),
-        Err(error) if error.kind() == ErrorKind::OutOfMemory => Err(Fault::OutOfMemory(AllocError)),
-        Err(_) => Err(Fault::NoSocket(number)),
+        Err(error) if error.kind() == ErrorKind::OutOfMemory => {
+            Err(MeshFault::Stopped(Fault::OutOfMemory(AllocError)))
+        }
+        Err(_) => Err(MeshFault::Socket(SocketFault::NoSocket(number))),
     }
 }

@@ -3,10 +3,11 @@
 ghost use Rattle.std.specs.Prelude.{ℕ, ◌+◌, ◌≤◌, OnOk};
 ghost use Rattle.its_mesh.specs.Stations.{AreStations};
 
+use crate::fault::SocketFault;
 use crate::mesh::Mesh;
 use crate::sockets::{Received, Sockets};
-use its_commands::Fault;
 use its_linkframe::LONGEST_FRAME;
+use its_reporting::Fault;
 use its_station::Call;
 use std::io::Write;
 
@@ -67,7 +68,7 @@ impl<'a, 't, S: Sockets, W: Write, E: Write, F: Write + Drop> Mesh<'a, 't, S, W,
                 }
                 Received::WouldBlock => return Ok(count),
                 Received::Failed => {
-                    self.fail(Fault::ReceiveFailed(station));
+                    self.fail(SocketFault::ReceiveFailed(station));
                     return Ok(count);
                 }
             }

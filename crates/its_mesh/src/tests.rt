@@ -9,7 +9,7 @@ mod scenarios;
 use crate::command::{MeshOptions, mesh};
 use crate::scripted::Scripted;
 use crate::sockets::Sockets;
-use its_commands::Status;
+use its_reporting::Status;
 use std::alloc::{AllocError, Global};
 use std::io::Read;
 use std::test::Fail;

@@ -2,7 +2,7 @@
 
 use super::Given;
 use crate::program;
-use its_commands::Status;
+use its_reporting::Status;
 use its_shortage::{STEP, Shortage, written};
 use std::alloc::AllocError;
 use std::io::Write;

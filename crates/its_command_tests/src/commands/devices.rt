@@ -1,8 +1,9 @@
 //! Readers and writers that fail.
 
 use super::{BEACON, BEACON_LINE, EMPTY, SHORT, check_of, joined, show_of};
-use its_commands::{Lines, Status, check, read_lines, show, write_records};
+use its_commands::{check, read_lines, show, write_records};
 use its_linkframe::Record;
+use its_reporting::{OutputFormat, Status};
 use std::alloc::Global;
 use std::io;
 use std::io::{BufReader, Read, Write};
@@ -67,7 +68,7 @@ fn an_import_ends_at_the_read_that_fails(rt: HostRuntime) -> Result<(), Fail> {
         };
         let mut err = Vec::new(alloc);
         let reader = BufReader::new(alloc, Failing { octets, fails_at })?;
-        let read = read_lines(alloc, "a.txt", reader, Lines::default(), &mut err).err();
+        let read = read_lines(alloc, "a.txt", reader, OutputFormat::default(), &mut err).err();
         let status = if is_read { None } else { Some(Status::Failed) };
         assert_eq!(rt; read, status, "{fails_at}");
         assert_eq!(rt; err.as_slice(), said.as_bytes(), "{fails_at}");
@@ -145,7 +146,7 @@ fn show_ends_at_the_write_that_fails(rt: HostRuntime) -> Result<(), Fail> {
             "a.cap",
             capture.as_slice(),
             None,
-            Lines::default(),
+            OutputFormat::default(),
             &mut out,
             &mut err,
         );
@@ -169,7 +170,7 @@ fn check_ends_at_the_write_that_fails(rt: HostRuntime) -> Result<(), Fail> {
             "a.cap",
             capture.as_slice(),
             None,
-            Lines::default(),
+            OutputFormat::default(),
             &mut out,
             &mut err,
         );
@@ -184,7 +185,7 @@ fn check_ends_at_the_write_that_fails(rt: HostRuntime) -> Result<(), Fail> {
 fn two_records(alloc: Global) -> Result<(Vec<Record>, Vec<u8>), Fail> {
     let lines = b"7 00ff\n8 aabbcc\n".as_slice();
     let mut err: Vec<u8> = Vec::new(alloc);
-    let Ok(records) = read_lines(alloc, "a.txt", lines, Lines::default(), &mut err) else {
+    let Ok(records) = read_lines(alloc, "a.txt", lines, OutputFormat::default(), &mut err) else {
         return Err("refused")?;
     };
     let capture = hex::decode(alloc, "0000000000000007000200ff00000000000000080003aabbcc")?;

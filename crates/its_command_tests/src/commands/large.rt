@@ -1,7 +1,8 @@
 //! A capture of a million records.
 
 use super::SHORT;
-use its_commands::{Lines, Status, check, show};
+use its_commands::{check, show};
+use its_reporting::{OutputFormat, Status};
 use its_shortage::{MOST, Shortage};
 use std::io;
 use std::io::{Read, Write};
@@ -72,7 +73,7 @@ fn memory_does_not_grow_with_a_capture(rt: HostRuntime) -> Result<(), Fail> {
         "a.cap",
         capture,
         None,
-        Lines::default(),
+        OutputFormat::default(),
         &mut shown,
         &mut err,
     );
@@ -87,7 +88,7 @@ fn memory_does_not_grow_with_a_capture(rt: HostRuntime) -> Result<(), Fail> {
         "a.cap",
         capture,
         None,
-        Lines::default(),
+        OutputFormat::default(),
         &mut checked,
         &mut err,
     );

@@ -3,7 +3,8 @@
 
 use super::memory::Budgets;
 use super::{NOTHING, joined};
-use its_commands::{Lines, Status, import_file, read_lines};
+use its_commands::{import_file, read_lines};
+use its_reporting::{OutputFormat, Status};
 use its_shortage::{STEP, Shortage};
 use std::alloc::{AllocError, Global};
 use std::io::{BufReader, Read};
@@ -83,7 +84,7 @@ fn reads_lines_in_pieces(rt: HostRuntime) -> Result<(), Fail> {
             };
             let mut err = Vec::new(alloc);
             let reader = BufReader::new(alloc, halting)?;
-            let read = read_lines(alloc, "a.txt", reader, Lines::default(), &mut err);
+            let read = read_lines(alloc, "a.txt", reader, OutputFormat::default(), &mut err);
             assert_eq!(rt; err.as_slice(), said_of(fault).as_bytes(), "{most}");
             assert_eq!(rt; read.map_or(0, |records| records.len()), records, "{most}");
         }
@@ -102,7 +103,7 @@ fn keeps_little_of_a_long_line(rt: HostRuntime) -> Result<(), Fail> {
     for (octets, fault) in [(long.as_bytes(), "length"), (no_space.as_bytes(), "moment")] {
         let mut said = [0u8; 64];
         let mut err = said.as_mut_slice();
-        let read = read_lines(alloc, "a.txt", octets, Lines::default(), &mut err);
+        let read = read_lines(alloc, "a.txt", octets, OutputFormat::default(), &mut err);
         assert!(rt; read.err() == Some(Status::Refused), "{fault}");
         assert!(rt; said.starts_with(said_of(fault).as_bytes()), "{fault}");
     }
@@ -121,7 +122,15 @@ fn creates_no_capture_before_all_lines_are_read(rt: HostRuntime) -> Result<(), F
     let bad = text(alloc, "7 00\n8 ", MANY, "\n")?;
     fs::write(&rt, from, bad.as_str())?;
     let (mut out, mut err) = (Vec::new(alloc), Vec::new(alloc));
-    let refused = import_file(&rt, from, NOTHING, to, Lines::default(), &mut out, &mut err);
+    let refused = import_file(
+        &rt,
+        from,
+        NOTHING,
+        to,
+        OutputFormat::default(),
+        &mut out,
+        &mut err,
+    );
     assert_eq!(rt; refused, Status::Refused);
     assert!(rt; fs::metadata(&rt, to).is_err());
     fs::write(&rt, from, "7 00ff\n8 aabbcc\n")?;
@@ -131,7 +140,15 @@ fn creates_no_capture_before_all_lines_are_read(rt: HostRuntime) -> Result<(), F
         assert!(rt; shortage.leave(step * STEP));
         let mut said = [0u8; 64];
         let mut err = said.as_mut_slice();
-        let status = import_file(&rt, from, NOTHING, to, Lines::default(), &mut out, &mut err);
+        let status = import_file(
+            &rt,
+            from,
+            NOTHING,
+            to,
+            OutputFormat::default(),
+            &mut out,
+            &mut err,
+        );
         let is_made = fs::metadata(&rt, to).is_ok();
         assert_eq!(rt; is_made, budgets.count(&rt, status, &said));
         let _ = fs::remove_file(&rt, to);

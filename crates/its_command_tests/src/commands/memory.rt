@@ -1,9 +1,8 @@
 //! Each command with every budget of memory from none to enough.
 
 use super::{BEACON, BEACON_LINE, GBC, GBC_LINE, NOTHING, joined};
-use its_commands::{
-    Lines, Status, check, check_file, create, import_file, read_lines, show, show_file,
-};
+use its_commands::{check, check_file, import_file, read_lines, show, show_file};
+use its_reporting::{OutputFormat, Status, create};
 use its_shortage::{MOST, STEP, Shortage, written};
 use std::process::Abort;
 use std::test::Fail;
@@ -69,7 +68,7 @@ fn shows_short_of_memory(rt: HostRuntime) -> Result<(), Fail> {
             "a.cap",
             capture.as_slice(),
             None,
-            Lines::default(),
+            OutputFormat::default(),
             &mut out,
             &mut err,
         );
@@ -97,7 +96,7 @@ fn checks_short_of_memory(rt: HostRuntime) -> Result<(), Fail> {
             "a.cap",
             capture.as_slice(),
             None,
-            Lines::default(),
+            OutputFormat::default(),
             &mut out,
             &mut err,
         );
@@ -119,7 +118,13 @@ fn imports_short_of_memory(rt: HostRuntime) -> Result<(), Fail> {
         assert!(rt; shortage.leave(step * STEP));
         let mut said = [0u8; 64];
         let mut err = said.as_mut_slice();
-        let read = read_lines(alloc, "a.txt", lines.as_slice(), Lines::default(), &mut err);
+        let read = read_lines(
+            alloc,
+            "a.txt",
+            lines.as_slice(),
+            OutputFormat::default(),
+            &mut err,
+        );
         let count = read.as_ref().map_or(0, |records| records.len());
         let status = read.err().unwrap_or(Status::Done);
         let is_done = budgets.count(&rt, status, &said);
@@ -149,7 +154,7 @@ fn shows_and_checks_a_file_short_of_memory(rt: HostRuntime) -> Result<(), Fail> 
                 made.as_str(),
                 NOTHING,
                 None,
-                Lines::default(),
+                OutputFormat::default(),
                 &mut out,
                 &mut err,
             ),
@@ -158,7 +163,7 @@ fn shows_and_checks_a_file_short_of_memory(rt: HostRuntime) -> Result<(), Fail> 
                 made.as_str(),
                 NOTHING,
                 None,
-                Lines::default(),
+                OutputFormat::default(),
                 &mut out,
                 &mut err,
             ),
@@ -191,7 +196,15 @@ fn imports_a_file_short_of_memory(rt: HostRuntime) -> Result<(), Fail> {
         let _ = fs::remove_file(&rt, to);
         let mut said = [0u8; 64];
         let (mut out, mut err) = (Vec::new(alloc), said.as_mut_slice());
-        let status = import_file(&rt, from, NOTHING, to, Lines::default(), &mut out, &mut err);
+        let status = import_file(
+            &rt,
+            from,
+            NOTHING,
+            to,
+            OutputFormat::default(),
+            &mut out,
+            &mut err,
+        );
         let size = fs::metadata(&rt, to).ok().map(|made| made.len());
         if budgets.count(&rt, status, &said) {
             assert_eq!(rt; size, Some(25));

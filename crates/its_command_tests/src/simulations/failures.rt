@@ -1,7 +1,8 @@
 //! A reader or an output that fails, and every budget of memory from none to enough.
 
 use super::{DELIVER, OPEN, SEND, STATIONS, scenario, simulation_of};
-use its_commands::{RunOptions, Status, simulate};
+use its_reporting::Status;
+use its_runs::{RunOptions, simulate};
 use its_shortage::{MOST, STEP, Shortage, written};
 use std::io;
 use std::io::Read;

@@ -1,7 +1,8 @@
 //! The file of the frames that stations give.
 
-use its_commands::{FrameFile, Lines, Status};
 use its_pcap::Format;
+use its_reporting::{OutputFormat, Status};
+use its_runs::FrameFile;
 use std::test::Fail;
 
 /// A device with room for less than a header, an interface and a frame fails at the first octet
@@ -17,7 +18,7 @@ fn a_device_that_fails_ends_the_file(rt: HostRuntime) -> Result<(), Fail> {
             continue;
         };
         let mut err = Vec::new(alloc);
-        let put = file.put(0, 5, b"four", Lines::default(), &mut err);
+        let put = file.put(0, 5, b"four", OutputFormat::default(), &mut err);
         assert!(rt; put.is_err(), "{room}");
         assert!(rt; file.end(Ok(Status::Done)).is_err(), "{room}");
         assert!(rt; room >= 28 + 48 && err.is_empty(), "{room}");

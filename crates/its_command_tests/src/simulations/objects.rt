@@ -1,13 +1,14 @@
 //! The objects that `sim` prints in JSON, where its output fails or memory runs out.
 
 use super::{DELIVER, OPEN, SEND, STATIONS, scenario, simulation_with};
-use its_commands::{Lines, RunOptions, Status};
+use its_reporting::{OutputFormat, Status};
+use its_runs::RunOptions;
 use its_shortage::{MOST, STEP, Shortage, written};
 use std::alloc::Global;
 use std::test::Fail;
 
 static OBJECTS: RunOptions = RunOptions {
-    lines: Lines {
+    lines: OutputFormat {
         json: true,
         explain: false,
     },
@@ -27,14 +28,7 @@ fn a_write_that_fails_ends_it(rt: HostRuntime) -> Result<(), Fail> {
         let mut err = Vec::new(rt.alloc());
         let mut out = &mut printed[..room];
         let reader = text.as_bytes();
-        let status = its_commands::simulate(
-            rt.alloc(),
-            "a.toml",
-            reader,
-            OBJECTS,
-            &mut out,
-            &mut err,
-        );
+        let status = its_runs::simulate(rt.alloc(), "a.toml", reader, OBJECTS, &mut out, &mut err);
         assert_eq!(rt; status, Status::Failed, "{room}");
         assert!(rt; err.is_empty(), "{room}");
         assert_eq!(rt; &printed[..room], &whole.out.as_slice()[..room], "{room}");
@@ -45,7 +39,7 @@ fn a_write_that_fails_ends_it(rt: HostRuntime) -> Result<(), Fail> {
 /// What `sim` prints of a text in such a budget of memory: its status.
 fn short_of_memory(alloc: Global, text: &str, printed: &mut [u8], said: &mut [u8]) -> Status {
     let (mut out, mut err) = (printed, said);
-    its_commands::simulate(
+    its_runs::simulate(
         alloc,
         "a.toml",
         text.as_bytes(),

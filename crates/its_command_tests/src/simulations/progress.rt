@@ -1,6 +1,7 @@
 //! The line that tells how far a run is.
 
-use its_commands::{RunOptions, Status, simulate};
+use its_reporting::Status;
+use its_runs::{RunOptions, simulate};
 use std::test::Fail;
 
 /// Four stations in a row, each some 400 m from the next. Station 3 opens port 2002, and station 0

@@ -2,7 +2,7 @@
 
 use super::{AFTER, BEFORE, DELIVER, FRAME, SEND, STATIONS, left_of, left_with, scenario};
 use crate::scripted::Scripted;
-use its_commands::Status;
+use its_reporting::Status;
 use std::alloc::Global;
 use std::test::Fail;
 

@@ -4,7 +4,7 @@ use super::{BEFORE, DELIVER, LINES, OPEN, SEND, STATIONS, left_of, scenario};
 use crate::command::{MeshOptions, mesh};
 use crate::scripted::{Scripted, Trouble};
 use crate::sockets::{Received, Sent, Sockets};
-use its_commands::Status;
+use its_reporting::Status;
 use its_shortage::{MOST, STEP, Shortage, written};
 use std::io;
 use std::test::Fail;

@@ -3,7 +3,7 @@
 use super::{Left, OPEN, STATIONS, scenario};
 use crate::command::{MeshOptions, mesh};
 use crate::scripted::{Scripted, Trouble};
-use its_commands::Status;
+use its_reporting::Status;
 use std::alloc::Global;
 use std::test::Fail;
 

@@ -2,7 +2,7 @@
 
 use super::{OPEN, STATIONS, left_of, scenario};
 use crate::scripted::Scripted;
-use its_commands::Status;
+use its_reporting::Status;
 use std::alloc::{AllocError, Global};
 use std::test::Fail;
 

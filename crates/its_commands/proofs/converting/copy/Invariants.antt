@@ -1,5 +1,5 @@
 use Rattle.std.proofs.Common.{◌≤◌}
-use Rattle.its_commands.specs.Statuses.{IsCommandStatus}
+use Rattle.its_reporting.specs.Statuses.{IsCommandStatus}
 use Rattle.its_commands.proofs.converting.copy.Given as goal
 
 -- no more records than steps were gone

@@ -1,0 +1,21 @@
+//! What all commands of the program have in common: how they end, what they tell then, the files
+//! that they read and write, and the lines of a text.
+#![tactic(auto)]
+
+mod explanation;
+mod fault;
+mod files;
+mod left_out;
+mod lines;
+mod options;
+mod outputs;
+mod status;
+
+pub use explanation::{Explanation, FrameReason};
+pub use fault::{Fault, status_of};
+pub use files::{Opened, create, create_apart, keep_apart, open};
+pub use left_out::LeftOut;
+pub use lines::{Line, Passed, are_digits};
+pub use options::OutputFormat;
+pub use outputs::{OutputFault, Target, is_standard, refuse_same};
+pub use status::Status;

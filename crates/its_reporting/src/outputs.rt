@@ -1,0 +1,184 @@
+//! The files that a command writes: what their names say, and that none of them is one that is
+//! read.
+
+ghost use Rattle.std.specs.Prelude.{◌≡◌, MatchResult, None, Some};
+ghost use Rattle.std.specs.Str.{str_eq_ignore_ascii_case};
+ghost use Rattle.its_reporting.specs.FileNames.{ends_in, format_of_file, format_of_name};
+ghost use Rattle.its_reporting.specs.FileNames.{format_of_output};
+ghost use Rattle.its_reporting.specs.FileNames.{is_standard as names_standard};
+
+use crate::status::Status;
+use its_pcap::Format;
+use std::fs;
+use std::io::Write;
+use std::os::unix::fs::MetadataExt;
+use std::rt::Files;
+use thiserror::Error;
+
+/// The name of standard input among the files that are read, and of standard output among those
+/// that are written. A file of that name is `./-`.
+const STANDARD: &str = "-";
+
+/// A file that is to be written.
+#[derive(Clone, Copy, Debug, PartialEq, Eq)]
+pub struct Target<'a> {
+    /// Its name. `-` is standard output, where the command takes it.
+    pub name: &'a str,
+    /// Its format, where one is given in place of what its name says.
+    pub to: Option<Format>,
+}
+
+impl<'a> Target<'a> {
+    /// The file of this name, in the format that the name says.
+    pub fn named(name: &'a str) -> Target<'a>
+        ensures { result ≡ record { name = name.entry; to = None } }
+    {
+        Target { name, to: None }
+    }
+
+    /// The format in which it is written: the one that is given, else by the end of its name, in
+    /// either case of letters: pcapng where that is `.pcapng`, classic pcap where it is `.pcap`,
+    /// and a capture where it is `.cap` or the name is `-`.
+    ///
+    /// `NoFormat` where nothing says one.
+    pub fn format(self) -> Result<Format, OutputFault<'a>>
+        ensures { MatchResult result
+            (λ format. format_of_output self.entry.to self.entry.name.now ≡ Some format)
+            (λ _. format_of_output self.entry.to self.entry.name.now ≡ None) }
+    {
+        let format = match self.to {
+            Some(format) => Some(format),
+            None => format_named(self.name),
+        };
+        format.ok_or(OutputFault::NoFormat(self.name))
+    }
+
+    /// The same of a file beside standard output, whose name may not be `-`.
+    pub fn file_format(self) -> Result<Format, OutputFault<'a>>
+        ensures { MatchResult result
+            (λ format. format_of_file self.entry.to self.entry.name.now ≡ Some format)
+            (λ _. format_of_file self.entry.to self.entry.name.now ≡ None) }
+    {
+        if is_standard(self.name) {
+            Err(OutputFault::NoFormat(self.name))
+        } else {
+            self.format()
+        }
+    }
+}
+
+/// The format that a name says, if it says one.
+fn format_named(name: &str) -> Option<Format>
+    ensures { result ≡ format_of_name name.now }
+{
+    if has_ending(name, ".pcapng") {
+        Some(Format::Pcapng)
+    } else if has_ending(name, ".pcap") {
+        Some(Format::Pcap)
+    } else if has_ending(name, ".cap") || is_standard(name) {
+        Some(Format::Capture)
+    } else {
+        None
+    }
+}
+
+/// Whether a name ends in these letters, each in either case.
+fn has_ending(name: &str, ending: &str) -> bool
+    ensures { result ≡ ends_in name.now ending.now }
+{
+    let (name, ending) = (name.as_bytes(), ending.as_bytes());
+    let start = name.len().saturating_sub(ending.len());
+    are_alike(&name[start..], ending)
+}
+
+/// Whether these are the same letters, each in either case.
+fn are_alike(some: &[u8], others: &[u8]) -> bool
+    ensures { result ≡ str_eq_ignore_ascii_case some.now others.now }
+{
+    some.eq_ignore_ascii_case(others)
+}
+
+/// Whether a name is that of standard input or output.
+pub fn is_standard(name: &str) -> bool
+    ensures { result ≡ names_standard name.now }
+{
+    name == STANDARD
+}
+
+/// Why a file is not written. Its text is the line on standard error.
+#[derive(Clone, Copy, Debug, PartialEq, Eq, Error)]
+pub enum OutputFault<'a> {
+    /// Neither its name nor an argument says a format.
+    #[error("geostation: {0}: no format")]
+    NoFormat(&'a str),
+    /// It is a file that is read, or another one that is written: their names, its own first.
+    #[error("geostation: {0} is {1}")]
+    SameFile(&'a str, &'a str),
+}
+
+impl OutputFault<'_> {
+    /// Writes the line on standard error, and gives the exit status. What fails there is passed
+    /// over.
+    pub fn report<E: Write>(self, err: &mut E) -> Status
+        ensures { result ≡ Status.BadArguments }
+    {
+        let _ = writeln!(err, "{self}");
+        Status::BadArguments
+    }
+}
+
+/// What tells a file from all others of the system, whatever its name.
+#[derive(Clone, Copy, Debug, PartialEq, Eq)]
+struct Identity {
+    device: u64,
+    inode: u64,
+}
+
+/// The identity of the regular file of this name. `None` where there is none, and on a system that
+/// tells no inode.
+fn identity_of<R: Files>(rt: &R, name: &str) -> Option<Identity> {
+    if is_standard(name) {
+        return None;
+    }
+    match fs::metadata(rt, name) {
+        Ok(metadata) if metadata.is_file() && metadata.ino() != 0 => Some(Identity {
+            device: metadata.dev(),
+            inode: metadata.ino(),
+        }),
+        _ => None,
+    }
+}
+
+/// The first of these files that has this identity.
+fn find_same<'a, R: Files>(rt: &R, identity: Identity, names: &[&'a str]) -> Option<&'a str> {
+    for name in names {
+        if identity_of(rt, name) == Some(identity) {
+            return Some(name);
+        }
+    }
+    None
+}
+
+/// Refuses the first file that would be written and is one of those that are read, or one of those
+/// to be written before it: by device and inode, whatever the names. Only regular files that are
+/// there are compared, and standard input and output are not.
+pub fn refuse_same<'a, R: Files>(
+    rt: &R,
+    written: &[&'a str],
+    read: &[&'a str],
+) -> Result<(), OutputFault<'a>> {
+    for (place, name) in written.iter().enumerate() {
+        let Some(identity) = identity_of(rt, name) else {
+            continue;
+        };
+        let same = find_same(rt, identity, read).or_else(|| find_same(
+            rt,
+            identity,
+            &written[..place],
+        ));
+        if let Some(other) = same {
+            return Err(OutputFault::SameFile(name, other));
+        }
+    }
+    Ok(())
+}

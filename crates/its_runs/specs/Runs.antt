@@ -1,0 +1,32 @@
+-- How a command ends that ran a scenario.
+use Rattle.std.specs.Prelude.{◌≡◌, ◌&&◌, List, Bool, true, false, not, if◌then◌else◌}
+use Rattle.std.specs.List.{list_all}
+use Rattle.its_world.specs.declared.entry.Entry.{Entry}
+use Rattle.its_world.specs.declared.entry.Entry.TheVariants as entries
+use Rattle.its_world.specs.State.{WorldState}
+use Rattle.its_scenario.specs.declared.scenario.Scenario.{Scenario}
+use Rattle.its_air.specs.Scenarios.{IsRunOf}
+use Rattle.its_reporting.specs.declared.status.Status.{Status}
+use Rattle.its_reporting.specs.declared.status.Status.TheVariants.{Done, Refused, Failed}
+use Rattle.its_runs.specs.declared.fault.RunFault.{RunFault}
+use Rattle.its_runs.specs.declared.fault.RunFault.TheVariants.{Scenario as NoScenario, Stopped}
+
+-- whether the event was done: it was not refused
+abbrev pub was_done : Entry → Bool
+was_done (entries.Refused fault) = false
+was_done entry = true
+
+-- how a run with these entries ends: refused where it is strict and one of them is a refusal, and
+-- else done
+abbrev pub run_status : Bool → List Entry → Status
+run_status strict log = if strict && not (list_all was_done log) then Refused else Done
+
+-- the scenario was run, and its run ends so
+abbrev pub IsRunStatus : Bool → Scenario → Status → Type 0
+IsRunStatus strict scenario status =
+    (world : WorldState) × IsRunOf scenario world (λ events log. status ≡ run_status strict log)
+
+-- the status of what kept a scenario from being run: a bad scenario is refused, all else failed
+abbrev pub run_fault_status : RunFault → Status
+run_fault_status (NoScenario _) = Refused
+run_fault_status (Stopped _) = Failed

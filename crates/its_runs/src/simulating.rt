@@ -1,0 +1,246 @@
+//! The command `sim`.
+
+ghost use Rattle.std.specs.Prelude.{◌≡◌, ◌≤◌, IfOk, None, true, vec_len};
+ghost use Rattle.its_reporting.specs.Statuses.{IsCommandStatus};
+ghost use Rattle.its_runs.specs.Runs.{IsRunStatus};
+
+use crate::fault::{RunFault, fault_of_air};
+use crate::frames::{Both, FrameFile, Frames, NoFrames};
+use crate::options::RunOptions;
+use crate::progress::Progress;
+use crate::summary::print_summary;
+use crate::target::FrameTarget;
+use crate::watched::Watched;
+use its_air::{AirFault, Tally, run_scenario};
+use its_reporting::{Fault, Status, status_of};
+use its_scenario::Scenario;
+use its_simulation::{EventSink, JsonLines, TextLines};
+use std::alloc::Global;
+use std::io::{Read, Write};
+
+/// The most stations of a scenario.
+pub(crate) const MOST_STATIONS: usize = 65535;
+
+/// Runs the scenario that the reader gives and prints a line for each event: its place, its moment,
+/// its station and what is told of it. In JSON the stations have a line before. `file` is its name.
+/// An event that is refused has its line, and is no refusal of the scenario.
+///
+/// `Refused` for a text that is no scenario, before any line, and with `strict` where an event was
+/// refused; `Failed` where a read or a write failed or memory ran out.
+pub fn simulate<R: Read + Drop, W: Write, E: Write>(
+    alloc: Global,
+    file: &str,
+    reader: R,
+    options: RunOptions,
+    out: &mut W,
+    err: &mut E,
+) -> Status
+    ensures { IsCommandStatus result }
+{
+    match read_scenario(alloc, file, reader, MOST_STATIONS) {
+        Ok(scenario) => {
+            let ended = run_without_frames(alloc, &scenario, options, out, err);
+            status_of(ended, err)
+        }
+        Err(fault) => fault.report_as(options.lines, err),
+    }
+}
+
+fn run_without_frames<'a, W: Write, E: Write>(
+    alloc: Global,
+    scenario: &Scenario,
+    options: RunOptions,
+    out: &mut W,
+    err: &mut E,
+) -> Result<Status, Fault<'a>>
+    requires { vec_len scenario.now.stations ≤ 65535 }
+    ensures { IfOk result IsCommandStatus }
+{
+    let mut progress = Progress::of(scenario, options);
+    let frames = NoFrames {
+        progress: &mut progress,
+        err: &mut *err,
+    };
+    let ran = run(alloc, scenario, options, frames, out);
+    progress.end(err);
+    ran
+}
+
+/// Runs a scenario, and also writes each frame that a station gives to the file `target`.
+///
+/// `Refused` where a frame was left out and, with `strict`, where an event was refused; `Failed`
+/// where the file or standard output could not be written or memory ran out.
+pub(crate) fn simulate_with_frames<F: Write + Drop, W: Write, E: Write>(
+    alloc: Global,
+    scenario: &Scenario,
+    target: FrameTarget<'_>,
+    writer: F,
+    options: RunOptions,
+    out: &mut W,
+    err: &mut E,
+) -> Status
+    requires { vec_len scenario.now.stations ≤ 65535 }
+    ensures { IsCommandStatus result }
+{
+    let stations = scenario.stations.len();
+    let ended = match FrameFile::start(alloc, writer, target.name, target.format, stations) {
+        Ok(file) => run_with_frames(alloc, scenario, file, options, out, err),
+        Err(fault) => Err(fault),
+    };
+    status_of(ended, err)
+}
+
+fn run_with_frames<'a, F: Write + Drop, W: Write, E: Write>(
+    alloc: Global,
+    scenario: &Scenario,
+    file: FrameFile<'a, F>,
+    options: RunOptions,
+    out: &mut W,
+    err: &mut E,
+) -> Result<Status, Fault<'a>>
+    requires { vec_len scenario.now.stations ≤ 65535 }
+    ensures { IfOk result IsCommandStatus }
+{
+    let mut file = file;
+    let mut progress = Progress::of(scenario, options);
+    let frames = Frames {
+        file: &mut file,
+        lines: options.lines,
+        progress: &mut progress,
+        err: &mut *err,
+    };
+    let ran = run(alloc, scenario, options, frames, out);
+    progress.end(err);
+    file.end(ran)
+}
+
+/// Runs a scenario and prints its lines, or what came of it, with a sink for its frames: how `sim`
+/// ends then.
+fn run<'a, F: EventSink + Drop, W: Write>(
+    alloc: Global,
+    scenario: &Scenario,
+    options: RunOptions,
+    frames: F,
+    out: &mut W,
+) -> Result<Status, Fault<'a>>
+    requires { vec_len scenario.now.stations ≤ 65535 }
+    ensures { IfOk result (IsRunStatus options.strict scenario.now) }
+{
+    let ran = if options.summary {
+        run_summed_up(alloc, scenario, options, frames, out)
+    } else {
+        run_printed(alloc, scenario, options, frames, out)
+    };
+    ran.map_err(|fault| fault_of_air(fault))
+}
+
+/// Runs a scenario and prints the lines of its events: how `sim` ends then.
+fn run_printed<F: EventSink + Drop, W: Write>(
+    alloc: Global,
+    scenario: &Scenario,
+    options: RunOptions,
+    frames: F,
+    out: &mut W,
+) -> Result<Status, AirFault>
+    requires { vec_len scenario.now.stations ≤ 65535 }
+    ensures { IfOk result (IsRunStatus options.strict scenario.now) }
+{
+    if options.lines.json {
+        let mut objects = JsonLines::new(alloc, out)?;
+        objects.stations(scenario.stations.as_slice())?;
+        let mut watched = Watched::new(Both {
+            lines: objects,
+            frames,
+        });
+        return run_watched(alloc, scenario, &mut watched, options.strict);
+    }
+    let explain = options.lines.explain;
+    let words = match &scenario.air {
+        Some(_) => TextLines::with_actions(out, explain),
+        None => TextLines::new(out, explain),
+    };
+    let mut watched = Watched::new(Both {
+        lines: words,
+        frames,
+    });
+    run_watched(alloc, scenario, &mut watched, options.strict)
+}
+
+/// Runs a scenario and prints what came of it: how `sim` ends then.
+fn run_summed_up<F: EventSink + Drop, W: Write>(
+    alloc: Global,
+    scenario: &Scenario,
+    options: RunOptions,
+    frames: F,
+    out: &mut W,
+) -> Result<Status, AirFault>
+    requires { vec_len scenario.now.stations ≤ 65535 }
+    ensures { IfOk result (IsRunStatus options.strict scenario.now) }
+{
+    let mut watched = Watched::new(Both {
+        lines: Tally::new(alloc),
+        frames,
+    });
+    let status = run_watched(alloc, scenario, &mut watched, options.strict)?;
+    print_summary(alloc, &watched.sink.lines, options.lines, out)?;
+    Ok(status)
+}
+
+/// Runs a scenario into a sink in which nothing was refused yet: how `sim` ends then.
+fn run_watched<S: EventSink>(
+    alloc: Global,
+    scenario: &Scenario,
+    watched: &mut Watched<S>,
+    strict: bool,
+) -> Result<Status, AirFault>
+    requires stations { vec_len scenario.now.stations ≤ 65535 }
+    requires fresh { watched.old.all_done ≡ true }
+    ensures { IfOk result (IsRunStatus strict scenario.now) }
+{
+    run_scenario(alloc, scenario, watched)?;
+    Ok(watched.status(strict))
+}
+
+/// Reads to the end of the reader, and what it gave as a scenario of at most so many stations.
+/// `file` is its name.
+///
+/// The fault is that of the scenario, or that a read failed or memory ran out.
+pub fn read_scenario<'a, R: Read + Drop>(
+    alloc: Global,
+    file: &'a str,
+    reader: R,
+    most_stations: usize,
+) -> Result<Scenario, RunFault<'a>>
+    ensures { IfOk result (λ scenario. vec_len scenario.stations ≤ most_stations) }
+{
+    let text = read_text(alloc, file, reader)?;
+    Ok(Scenario::from_toml(alloc, text.as_slice(), most_stations)?)
+}
+
+/// The same, but that whatever stands under `air` is passed over.
+pub fn read_scenario_without_air<'a, R: Read + Drop>(
+    alloc: Global,
+    file: &'a str,
+    reader: R,
+    most_stations: usize,
+) -> Result<Scenario, RunFault<'a>>
+    ensures few { IfOk result (λ scenario. vec_len scenario.stations ≤ most_stations) }
+    ensures none { IfOk result (λ scenario. scenario.air ≡ None) }
+{
+    let text = read_text(alloc, file, reader)?;
+    Ok(Scenario::from_toml_without_air(alloc, text.as_slice(), most_stations)?)
+}
+
+/// All that the reader gives. `file` is its name.
+fn read_text<'a, R: Read + Drop>(
+    alloc: Global,
+    file: &'a str,
+    reader: R,
+) -> Result<Vec<u8>, Fault<'a>> {
+    let mut reader = reader;
+    let mut text = Vec::new(alloc);
+    match reader.read_to_end(&mut text) {
+        Ok(_) => Ok(text),
+        Err(error) => Err(Fault::of_read(&error, file)),
+    }
+}

@@ -1,0 +1,44 @@
+//! The file of a run's frames.
+
+ghost use Rattle.std.specs.Prelude.{◌≡◌, IfOk, IfSome, IsSomeAnd, Err, None, Ok, Some};
+ghost use Rattle.its_pcap.specs.declared.format.Format.{Format as FileFormat};
+ghost use Rattle.its_reporting.specs.FileNames.{format_of_file};
+
+use its_pcap::Format;
+use its_reporting::{Status, Target};
+use std::io::Write;
+
+/// A file of frames that is to be made.
+#[derive(Clone, Copy, Debug, PartialEq, Eq)]
+pub struct FrameTarget<'a> {
+    /// Its name.
+    pub name: &'a str,
+    /// Its format.
+    pub format: Format,
+}
+
+/// The file of frames that the arguments ask for, if they do.
+///
+/// `BadArguments`, and told on standard error, where nothing says its format or its name is `-`.
+pub fn frame_target<'a, E: Write>(
+    frames: Option<Target<'a>>,
+    err: &mut E,
+) -> Result<Option<FrameTarget<'a>>, Status>
+    ensures alone { frames.entry ≡ None → result ≡ Ok None }
+    ensures format { IfSome frames.entry (λ target. format_of_file target.to target.name.now ≡ None
+        → result ≡ Err Status.BadArguments) }
+    ensures made { IfSome frames.entry (λ target. (format : FileFormat)
+        → format_of_file target.to target.name.now ≡ Some format
+        → result ≡ Ok (Some (record { name = target.name; format = format }))) }
+{
+    let Some(target) = frames else {
+        return Ok(None);
+    };
+    match target.file_format() {
+        Ok(format) => Ok(Some(FrameTarget {
+            name: target.name,
+            format,
+        })),
+        Err(fault) => Err(fault.report(err)),
+    }
+}

@@ -1,0 +1,61 @@
+//! A run that is watched for refusals.
+
+ghost use Rattle.std.specs.Prelude.{◌≡◌, List, true};
+ghost use Rattle.std.specs.List.{list_all};
+ghost use Rattle.its_world.specs.declared.entry.Entry.{Entry as Told};
+ghost use Rattle.its_runs.specs.Runs.{run_status, was_done};
+
+use its_reporting::Status;
+use its_simulation::{EventRecord, EventSink, SimulationFault};
+use its_world::{Entry, World};
+
+/// A sink, and whether an event was refused.
+#[derive(Drop)]
+pub(crate) struct Watched<S> {
+    pub(crate) sink: S,
+    /// Whether no event was refused so far.
+    all_done: bool,
+}
+
+impl<S: EventSink> Watched<S> {
+    /// A sink before the first event.
+    pub(crate) fn new(sink: S) -> Watched<S>
+        ensures { result ≡ record { sink = sink; all_done = true } }
+    {
+        Watched {
+            sink,
+            all_done: true,
+        }
+    }
+
+    /// How a command ends whose run went to its last event: `Refused` where it is strict and an
+    /// event was refused.
+    pub(crate) fn status(&self, strict: bool) -> Status
+        ensures { (log : List Told) → self.now.all_done ≡ list_all was_done log
+            → result ≡ run_status strict log }
+    {
+        if strict && !self.all_done {
+            Status::Refused
+        } else {
+            Status::Done
+        }
+    }
+}
+
+impl<S: EventSink> EventSink for Watched<S> {
+    // What is below takes the entries in its own way; here is known whether one is a refusal.
+    ghost Took = { λ watched events log. watched.all_done ≡ list_all was_done log };
+
+    fn put(&mut self, world: &World, done: &EventRecord<'_>) -> Result<(), SimulationFault> {
+        self.sink.put(world, done)?;
+        self.all_done &= is_done(done.entry);
+        Ok(())
+    }
+}
+
+/// Whether an event was done: it was not refused.
+pub fn is_done(entry: &Entry) -> bool
+    ensures { result ≡ was_done entry.now }
+{
+    !matches!(entry, Entry::Refused(_))
+}
