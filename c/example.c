@@ -61,7 +61,8 @@ static int fail(const char *what, int status) {
     return 1;
 }
 
-/* Reads one datagram and does what the station says. */
+/* Reads one datagram and does what the station says. A frame that an Ethernet filled up with zeros
+ * is taken too. */
 static void hear(struct geostation *s, int link, const struct sockaddr_in *peer) {
     uint8_t got[GEOSTATION_FRAME_MAX + 1];
     struct geostation_reception r;
@@ -102,10 +103,17 @@ int main(int argc, char **argv) {
         return 1;
     }
 
-    /* a road-side unit (station type 15) at its place, with room for 64 neighbours */
+    /* a road-side unit (station type 15) at its place, which isn't mobile, with room for 64
+     * neighbours; others still remember the numbers of a unit that was started anew */
     struct geostation *s = NULL;
-    uint64_t address = UINT64_C(0x3c00020000000000) | (uint64_t)(atoi(argv[3]) & 0xff);
-    int status = geostation_new(&s, address, 514776500, -10000, 64, 8);
+    struct geostation_config config;
+    geostation_config_init(&config);
+    config.address = UINT64_C(0x3c00020000000000) | (uint64_t)(atoi(argv[3]) & 0xff);
+    config.latitude = 514776500;
+    config.longitude = -10000;
+    config.mobile = 0;
+    config.number = (uint16_t)drawn();
+    int status = geostation_new_with(&s, &config);
     if (status != GEOSTATION_OK) {
         return fail("new", status);
     }
@@ -115,11 +123,6 @@ int main(int argc, char **argv) {
         .latitude = 514776500, .longitude = -10000, .a = 500,
     };
     const char *warning = "road works";
-    /* others still remember the numbers of a unit that was started anew */
-    status = geostation_restart(s, now, (uint16_t)drawn());
-    if (status != GEOSTATION_OK) {
-        return fail("restart", status);
-    }
     status = geostation_open_port(s, now, 2002);
     if (status != GEOSTATION_OK) {
         return fail("open_port", status);

@@ -5,11 +5,12 @@
  * are in milliseconds and never go back; coordinates are in 0.1 microdegree. A call that doesn't
  * return GEOSTATION_OK changed nothing of the station.
  *
- * The caller's duties, which the library can't check: no pointer is NULL but where that is said;
- * objects that one call is given don't overlap, so that `frame` and `relay` are two buffers; a
- * buffer has as many octets as its length says, at most PTRDIFF_MAX; what a call writes to is
- * aligned as its type asks; a handle comes from geostation_new, isn't used after geostation_free,
- * and is in one call at a time: a call with a const handle is a call too.
+ * The caller's duties, which the library can't check: no pointer is NULL but where that is said,
+ * and of octets that a call reads (a payload, a frame) where their length is 0; objects that one
+ * call is given don't overlap, so that `frame` and `relay` are two buffers; a buffer has as many
+ * octets as its length says, at most PTRDIFF_MAX; what a call writes to is aligned as its type
+ * asks; a handle comes from geostation_new or geostation_new_with, isn't used after
+ * geostation_free, and is in one call at a time: a call with a const handle is a call too.
  */
 #ifndef GEOSTATION_H
 #define GEOSTATION_H
@@ -24,7 +25,7 @@ extern "C" {
 /* The library's version, and that of its layouts and calls. A program that loads the library, or
  * that copies these layouts, compares geostation_abi() with GEOSTATION_ABI first. */
 #define GEOSTATION_VERSION "0.1.0"
-#define GEOSTATION_ABI 1
+#define GEOSTATION_ABI 2
 
 /* The longest frame, in octets: a call that may write one wants a buffer with room for it. */
 #define GEOSTATION_FRAME_MAX 1468
@@ -91,6 +92,40 @@ struct geostation_reception {
     uint32_t fault;        /* of GEOSTATION_BAD_FRAME: 1 to 5, for L1 to L5 */
     uint32_t fault_kind;   /* at 5 (L5): 1 to 12, for G1 to G12 */
     size_t fault_at;       /* at 5 (L5): the octet of the packet at which the field begins */
+    /* Of each frame for which the status is 0, ignored or not: */
+    uint64_t source;       /* the address of the station that made the packet */
+    uint32_t kind;         /* an enum geostation_kind */
+    uint16_t number;       /* of a GBC or GAC: its sequence number */
+    uint8_t traffic_class; /* its octet, which the relay has too */
+    uint8_t hops_left;     /* RHL, from 1 */
+};
+
+/* What a station is made of: geostation_config_init writes it, then a caller what differs. */
+struct geostation_config {
+    uint64_t size;               /* sizeof(struct geostation_config) */
+    uint64_t address;            /* the station's; 0 */
+    int32_t latitude, longitude; /* in 0.1 microdegree; 0 */
+    uint16_t capacity;           /* room for so many sources, 1 to 4096; 64 */
+    uint16_t remember;           /* sequence numbers of each, 1 to 64; 8 */
+    uint16_t mobile;             /* whether its packets say that it is mobile (0 or not); 1 */
+    uint16_t number;             /* the sequence number of its first packet for an area; 0 */
+};
+
+/* How often each thing happened since the station was made. A count stays at UINT64_MAX. */
+struct geostation_counts {
+    uint64_t received;  /* frames that came, whatever became of them */
+    uint64_t accepted;  /* those whose packet was accepted */
+    uint64_t delivered; /* payloads */
+    uint64_t relayed;   /* frames that were written to a relay buffer */
+    struct {
+        uint64_t not_for_me, own_source, sender_mismatch, duplicate;
+    } ignored; /* frames, by an enum geostation_why */
+    struct {
+        uint64_t moment_earlier, moment_too_late, frame, table_full, no_memory, other;
+    } refused; /* calls, by S1 to S5, and S6 to S9 together */
+    struct {
+        uint64_t beacons, single_hop, geobroadcasts, geoanycasts;
+    } sent; /* frames of its own */
 };
 
 /* A payload for all stations in reach. */
@@ -154,6 +189,111 @@ struct geostation_packet {
     size_t fault_at;                   /* at 5 (L5): the octet of the packet */
 };
 
+/* The library's structs have the same layout: fields in this order, each at its own alignment, for
+ * pointers of 64 and of 32 bits. */
+#if !defined(__cplusplus) || __cplusplus >= 201103L
+#ifdef __cplusplus
+#define GEOSTATION_ASSERT(fact, text) static_assert(fact, text)
+#else
+#define GEOSTATION_ASSERT(fact, text) _Static_assert(fact, text)
+#endif
+#define GEOSTATION_BY_WIDTH(of_64, of_32) (sizeof(size_t) == 8 ? (of_64) : (of_32))
+/* How a uint64_t is aligned in a struct: to 8 octets but on few machines of 32 bits, to 4 there. */
+#define GEOSTATION_WIDE (sizeof(struct geostation_vector) == 32 ? 8 : 4)
+#define GEOSTATION_SIZE(type, of_64, of_32) \
+    GEOSTATION_ASSERT(sizeof(struct geostation_##type) == GEOSTATION_BY_WIDTH(of_64, of_32), #type)
+#define GEOSTATION_AT(type, field, of_64, of_32) \
+    GEOSTATION_ASSERT(offsetof(struct geostation_##type, field) \
+                      == GEOSTATION_BY_WIDTH(of_64, of_32), #type "." #field)
+
+GEOSTATION_ASSERT(sizeof(size_t) == sizeof(void *) && sizeof(int) == 4, "size_t");
+GEOSTATION_SIZE(vector, 32, GEOSTATION_WIDE == 8 ? 32 : 28);
+GEOSTATION_AT(vector, timestamp, 8, 8);
+GEOSTATION_AT(vector, latitude, 12, 12);
+GEOSTATION_AT(vector, longitude, 16, 16);
+GEOSTATION_AT(vector, speed, 20, 20);
+GEOSTATION_AT(vector, heading, 22, 22);
+GEOSTATION_AT(vector, accurate, 24, 24);
+GEOSTATION_SIZE(config, 32, 32);
+GEOSTATION_AT(config, address, 8, 8);
+GEOSTATION_AT(config, latitude, 16, 16);
+GEOSTATION_AT(config, longitude, 20, 20);
+GEOSTATION_AT(config, capacity, 24, 24);
+GEOSTATION_AT(config, remember, 26, 26);
+GEOSTATION_AT(config, mobile, 28, 28);
+GEOSTATION_AT(config, number, 30, 30);
+GEOSTATION_SIZE(counts, 144, 144);
+GEOSTATION_AT(counts, accepted, 8, 8);
+GEOSTATION_AT(counts, delivered, 16, 16);
+GEOSTATION_AT(counts, relayed, 24, 24);
+GEOSTATION_AT(counts, ignored.own_source, 40, 40);
+GEOSTATION_AT(counts, ignored.duplicate, 56, 56);
+GEOSTATION_AT(counts, refused.moment_earlier, 64, 64);
+GEOSTATION_AT(counts, refused.other, 104, 104);
+GEOSTATION_AT(counts, sent.beacons, 112, 112);
+GEOSTATION_AT(counts, sent.geoanycasts, 136, 136);
+GEOSTATION_SIZE(shb_request, 6, 6);
+GEOSTATION_AT(shb_request, info, 2, 2);
+GEOSTATION_AT(shb_request, traffic_class, 4, 4);
+GEOSTATION_SIZE(area_request, 24, 24);
+GEOSTATION_AT(area_request, traffic_class, 4, 4);
+GEOSTATION_AT(area_request, lifetime, 5, 5);
+GEOSTATION_AT(area_request, max_hops, 6, 6);
+GEOSTATION_AT(area_request, shape, 7, 7);
+GEOSTATION_AT(area_request, latitude, 8, 8);
+GEOSTATION_AT(area_request, longitude, 12, 12);
+GEOSTATION_AT(area_request, a, 16, 16);
+GEOSTATION_AT(area_request, b, 18, 18);
+GEOSTATION_AT(area_request, angle, 20, 20);
+GEOSTATION_SIZE(area, 16, 16);
+GEOSTATION_AT(area, longitude, 4, 4);
+GEOSTATION_AT(area, a, 8, 8);
+GEOSTATION_AT(area, b, 10, 10);
+GEOSTATION_AT(area, angle, 12, 12);
+GEOSTATION_AT(area, shape, 14, 14);
+GEOSTATION_SIZE(message, 24, 12);
+GEOSTATION_AT(message, payload_length, 8, 4);
+GEOSTATION_AT(message, port, 16, 8);
+GEOSTATION_AT(message, info, 18, 10);
+GEOSTATION_SIZE(reception, 72, GEOSTATION_WIDE == 8 ? 56 : 52);
+GEOSTATION_AT(reception, delivered, 4, 4);
+GEOSTATION_AT(reception, port, 8, 8);
+GEOSTATION_AT(reception, info, 10, 10);
+GEOSTATION_AT(reception, payload_start, 16, 12);
+GEOSTATION_AT(reception, payload_length, 24, 16);
+GEOSTATION_AT(reception, relay_length, 32, 20);
+GEOSTATION_AT(reception, fault, 40, 24);
+GEOSTATION_AT(reception, fault_kind, 44, 28);
+GEOSTATION_AT(reception, fault_at, 48, 32);
+GEOSTATION_AT(reception, source, 56, GEOSTATION_WIDE == 8 ? 40 : 36);
+GEOSTATION_AT(reception, kind, 64, GEOSTATION_WIDE == 8 ? 48 : 44);
+GEOSTATION_AT(reception, number, 68, GEOSTATION_WIDE == 8 ? 52 : 48);
+GEOSTATION_AT(reception, traffic_class, 70, GEOSTATION_WIDE == 8 ? 54 : 50);
+GEOSTATION_AT(reception, hops_left, 71, GEOSTATION_WIDE == 8 ? 55 : 51);
+GEOSTATION_SIZE(packet, 120, GEOSTATION_WIDE == 8 ? 104 : 96);
+GEOSTATION_AT(packet, source, 6, 6);
+GEOSTATION_AT(packet, kind, 12, 12);
+GEOSTATION_AT(packet, vector, 16, 16);
+GEOSTATION_AT(packet, hops_left, 48, GEOSTATION_WIDE == 8 ? 48 : 44);
+GEOSTATION_AT(packet, max_hops, 49, GEOSTATION_WIDE == 8 ? 49 : 45);
+GEOSTATION_AT(packet, lifetime, 50, GEOSTATION_WIDE == 8 ? 50 : 46);
+GEOSTATION_AT(packet, traffic_class, 51, GEOSTATION_WIDE == 8 ? 51 : 47);
+GEOSTATION_AT(packet, mobile, 52, GEOSTATION_WIDE == 8 ? 52 : 48);
+GEOSTATION_AT(packet, media, 53, GEOSTATION_WIDE == 8 ? 53 : 49);
+GEOSTATION_AT(packet, number, 58, GEOSTATION_WIDE == 8 ? 58 : 54);
+GEOSTATION_AT(packet, area, 60, GEOSTATION_WIDE == 8 ? 60 : 56);
+GEOSTATION_AT(packet, message, 80, GEOSTATION_WIDE == 8 ? 76 : 72);
+GEOSTATION_AT(packet, fault, 104, GEOSTATION_WIDE == 8 ? 88 : 84);
+GEOSTATION_AT(packet, fault_kind, 108, GEOSTATION_WIDE == 8 ? 92 : 88);
+GEOSTATION_AT(packet, fault_at, 112, GEOSTATION_WIDE == 8 ? 96 : 92);
+
+#undef GEOSTATION_AT
+#undef GEOSTATION_SIZE
+#undef GEOSTATION_WIDE
+#undef GEOSTATION_BY_WIDTH
+#undef GEOSTATION_ASSERT
+#endif
+
 /* What the library was built as: GEOSTATION_ABI and GEOSTATION_VERSION of its header. */
 uint32_t geostation_abi(void);
 const char *geostation_version(void);
@@ -163,6 +303,11 @@ const char *geostation_version(void);
  * its handle, or NULL where the status isn't 0 (BAD_ARGUMENT, NO_MEMORY). */
 int geostation_new(geostation_handle **out, uint64_t address, int32_t latitude, int32_t longitude,
                    uint16_t capacity, uint8_t remember);
+
+/* The same of a struct, which geostation_config_init fills. A struct of another size than the
+ * library's is BAD_ARGUMENT too. */
+void geostation_config_init(struct geostation_config *config);
+int geostation_new_with(geostation_handle **out, const struct geostation_config *config);
 
 /* Gives a station's memory back. NULL is passed over. */
 void geostation_free(geostation_handle *s);
@@ -215,7 +360,13 @@ int geostation_send_shb_for(geostation_handle *s, uint64_t now,
 /* The sequence number of the station's next packet for an area. */
 uint16_t geostation_next_number(const geostation_handle *s);
 
-/* Takes a frame that came. What is to be sent on is written to `relay`. S1 to S5, NO_ROOM. */
+/* How many of the octets are a frame: its length where a beginning of them is a frame (there is
+ * one at most), else 0. */
+size_t geostation_frame_length(const uint8_t *octets, size_t length);
+
+/* Takes a frame that came. What is to be sent on is written to `relay`. Of at most 60 octets the
+ * zeros behind the frame's packet are left out: Ethernet fills a short frame up with them. S1 to
+ * S5, NO_ROOM. */
 int geostation_receive(geostation_handle *s, uint64_t now, const uint8_t *frame, size_t length,
                        struct geostation_reception *out, uint8_t *relay, size_t room);
 
@@ -253,7 +404,12 @@ int geostation_neighbour(const geostation_handle *s, uint64_t now, uint64_t afte
 int geostation_look_up(const geostation_handle *s, uint64_t now, uint64_t address,
                        struct geostation_vector *out);
 
-/* Reads the octets of a frame, without a station. S3. */
+/* Writes the counts of the station. What returned BAD_ARGUMENT or NO_ROOM isn't counted; a restart
+ * keeps the counts. */
+void geostation_counts(const geostation_handle *s, struct geostation_counts *out);
+
+/* Reads the octets of a frame, without a station: all of them, zeros behind it are no part of a
+ * frame. S3. */
 int geostation_read_frame(const uint8_t *frame, size_t length, struct geostation_packet *out);
 
 /* A sentence for a status, and for the fault of a bad frame. */

@@ -36,12 +36,9 @@ inline const char *text(Status status) noexcept {
     return geostation_status_text(static_cast<int>(status));
 }
 
-/// What a pointer to no octets points to, since the library takes no NULL.
-inline constexpr std::uint8_t no_octets[1] = {};
-
-/// Octets that someone else owns: a pointer, which isn't NULL, and a length.
+/// Octets that someone else owns: a pointer, which may be null where there are none, and a length.
 struct Octets {
-    const std::uint8_t *data = no_octets;
+    const std::uint8_t *data = nullptr;
     std::size_t size = 0;
 };
 
@@ -76,6 +73,18 @@ inline Packet read_frame(Octets frame) noexcept {
     return got;
 }
 
+/// How many of the octets are a frame: its length where a beginning of them is one, else 0.
+inline std::size_t frame_length(Octets octets) noexcept {
+    return geostation_frame_length(octets.data, octets.size);
+}
+
+/// What a station is usually made of: a caller writes its address and its place, and what differs.
+inline geostation_config usual_config() noexcept {
+    geostation_config config;
+    geostation_config_init(&config);
+    return config;
+}
+
 /// A station. One thread at a time uses it; after a move from it only its end and a move to it are
 /// left.
 class Station {
@@ -84,8 +93,20 @@ class Station {
     static std::optional<Station> make(std::uint64_t address, std::int32_t latitude,
                                        std::int32_t longitude, std::uint16_t capacity,
                                        std::uint8_t remember, Status *status = nullptr) noexcept {
+        geostation_config config = usual_config();
+        config.address = address;
+        config.latitude = latitude;
+        config.longitude = longitude;
+        config.capacity = capacity;
+        config.remember = remember;
+        return make(config, status);
+    }
+
+    /// The same of a struct, with whether the station is mobile and its first sequence number.
+    static std::optional<Station> make(const geostation_config &config,
+                                       Status *status = nullptr) noexcept {
         geostation_handle *handle = nullptr;
-        const int got = geostation_new(&handle, address, latitude, longitude, capacity, remember);
+        const int got = geostation_new_with(&handle, &config);
         if (status != nullptr) {
             *status = static_cast<Status>(got);
         }
@@ -165,6 +186,13 @@ class Station {
                            got.reception.payload_length};
         }
         return got;
+    }
+
+    /// How often each thing happened since the station was made.
+    struct ::geostation_counts counts() const noexcept {
+        struct ::geostation_counts told;
+        ::geostation_counts(handle_, &told);
+        return told;
     }
 
     /// The least moment at which `tick` with this jitter gives a beacon.

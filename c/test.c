@@ -40,7 +40,15 @@ static struct geostation *station(uint64_t address, int32_t longitude, uint16_t 
 static int is_nothing(void) {
     return r.ignored == 0 && r.delivered == 0 && r.port == 0 && r.info == 0
         && r.payload_start == 0 && r.payload_length == 0 && r.relay_length == 0
-        && r.fault == 0 && r.fault_kind == 0 && r.fault_at == 0;
+        && r.fault == 0 && r.fault_kind == 0 && r.fault_at == 0 && r.source == 0 && r.kind == 0
+        && r.number == 0 && r.traffic_class == 0 && r.hops_left == 0;
+}
+
+/* What is told of each frame that isn't refused. */
+static int is_of(uint64_t source, uint32_t kind, uint16_t number, uint8_t traffic_class,
+                 uint8_t hops_left) {
+    return r.source == source && r.kind == kind && r.number == number
+        && r.traffic_class == traffic_class && r.hops_left == hops_left;
 }
 
 static void test_new(void) {
@@ -108,7 +116,8 @@ static void test_beacons(void) {
     CHECK(geostation_tick(a, 10, 0, frame, ROOM, &n) == GEOSTATION_OK && n == 50);
     CHECK(frame[12] == 0x89 && frame[13] == 0x47);
     CHECK(geostation_tick(a, 3009, 0, frame, ROOM, &m) == GEOSTATION_OK && m == 0);
-    CHECK(geostation_receive(b, 12, frame, n, &r, relay, ROOM) == GEOSTATION_OK && is_nothing());
+    CHECK(geostation_receive(b, 12, frame, n, &r, relay, ROOM) == GEOSTATION_OK);
+    CHECK(is_of(A_ADDRESS, GEOSTATION_BEACON, 0, 0, 1) && r.delivered == 0 && r.relay_length == 0);
     CHECK(geostation_tick(a, 3010, 1, frame, ROOM, &m) == GEOSTATION_OK && m == 0);
     CHECK(geostation_tick(a, 3011, 1, frame, ROOM, &m) == GEOSTATION_OK && m == 50);
     geostation_free(a);
@@ -403,8 +412,152 @@ static void test_frames(void) {
     geostation_free(a);
 }
 
+/* A station of a struct: its size, its ranges, whether it is mobile, and its first number. */
+static void test_config(void) {
+    struct geostation_config c;
+    struct geostation_packet p;
+    struct geostation *s = NULL;
+    size_t n;
+    memset(&c, 0xff, sizeof c);
+    geostation_config_init(&c);
+    CHECK(c.size == sizeof c && c.address == 0 && c.latitude == 0 && c.longitude == 0);
+    CHECK(c.capacity == 64 && c.remember == 8 && c.mobile == 1 && c.number == 0);
+    c.address = A_ADDRESS;
+    c.latitude = 449;
+    c.mobile = 0;
+    c.number = 65535;
+    static const struct { uint64_t size; uint16_t capacity, remember; } bad[] = {
+        { 0, 64, 8 }, { sizeof c - 1, 64, 8 }, { sizeof c + 8, 64, 8 }, { sizeof c, 0, 8 },
+        { sizeof c, 4097, 8 }, { sizeof c, 64, 0 }, { sizeof c, 64, 65 }, { sizeof c, 64, 256 + 8 },
+    };
+    for (size_t i = 0; i < sizeof bad / sizeof bad[0]; i++) {
+        struct geostation_config b = c;
+        b.size = bad[i].size, b.capacity = bad[i].capacity, b.remember = bad[i].remember;
+        s = (struct geostation *)frame;
+        CHECK(geostation_new_with(&s, &b) == GEOSTATION_BAD_ARGUMENT && s == NULL);
+    }
+    c.latitude = 900000001;
+    CHECK(geostation_new_with(&s, &c) == GEOSTATION_BAD_ARGUMENT && s == NULL);
+    c.latitude = 449;
+    CHECK(geostation_new_with(&s, &c) == GEOSTATION_OK && s != NULL);
+    CHECK(geostation_next_number(s) == 65535);
+    CHECK(geostation_tick(s, 0, 0, frame, ROOM, &n) == GEOSTATION_OK && n == 50);
+    CHECK(geostation_read_frame(frame, n, &p) == GEOSTATION_OK && p.mobile == 0);
+    CHECK(p.vector.address == A_ADDRESS && p.vector.latitude == 449 && p.vector.timestamp == 0);
+    CHECK(geostation_send_gbc(s, 1, &AREA, HI, 2, frame, ROOM, &n) == GEOSTATION_OK);
+    CHECK(geostation_read_frame(frame, n, &p) == GEOSTATION_OK);
+    CHECK(p.number == 65535 && p.mobile == 0 && geostation_next_number(s) == 0);
+    geostation_free(s);
+}
+
+/* Frames that Ethernet filled up; octets that are NULL; and what is told of each frame. */
+static void test_padding(void) {
+    struct geostation *a = station(A_ADDRESS, 0, 64), *b = station(B_ADDRESS, 900, 64);
+    uint8_t padded[ROOM];
+    size_t n;
+    CHECK(geostation_frame_length(NULL, 0) == 0 && geostation_frame_length(HI, 2) == 0);
+    CHECK(geostation_tick(a, 0, 0, frame, ROOM, &n) == GEOSTATION_OK && n == 50);
+    memset(padded, 0, sizeof padded);
+    memcpy(padded, frame, n);
+    for (size_t most = 0; most < 50; most++)
+        CHECK(geostation_frame_length(padded, most) == 0);
+    for (size_t most = 50; most < 100; most++) {
+        CHECK(geostation_frame_length(padded, most) == 50);
+        int status = geostation_receive(b, most, padded, most, &r, relay, ROOM);
+        CHECK(status == (most <= 60 ? GEOSTATION_OK : GEOSTATION_BAD_FRAME));
+        CHECK(status == GEOSTATION_OK ? is_of(A_ADDRESS, GEOSTATION_BEACON, 0, 0, 1)
+                                      : r.fault == 4 && r.source == 0);
+    }
+    padded[55] = 1; /* not zeros: no filling */
+    CHECK(geostation_frame_length(padded, 60) == 50);
+    CHECK(geostation_receive(b, 60, padded, 60, &r, relay, ROOM) == GEOSTATION_BAD_FRAME);
+    CHECK(r.fault == 4);
+    padded[13] = 0x48; /* another type */
+    CHECK(geostation_frame_length(padded, 60) == 0);
+    CHECK(geostation_receive(b, 60, NULL, 0, &r, relay, ROOM) == GEOSTATION_BAD_FRAME);
+    CHECK(r.fault == 1 && r.fault_kind == 0 && r.fault_at == 0);
+
+    /* an SHB with no payload, 58 octets: its payload begins where the filling did */
+    const struct geostation_shb_request shb = { .port = 2001, .info = 9, .traffic_class = 3 };
+    CHECK(geostation_open_port(b, 60, 2001) == GEOSTATION_OK);
+    CHECK(geostation_send_shb(a, 61, &shb, NULL, 0, frame, ROOM, &n) == GEOSTATION_OK && n == 58);
+    memset(padded, 0, sizeof padded);
+    memcpy(padded, frame, n);
+    CHECK(geostation_receive(b, 61, padded, 60, &r, relay, ROOM) == GEOSTATION_OK);
+    CHECK(r.delivered == 1 && r.payload_length == 0 && r.payload_start == 58);
+    CHECK(r.port == 2001 && r.info == 9 && is_of(A_ADDRESS, GEOSTATION_SHB, 0, 3, 1));
+    CHECK(r.fault == 0 && r.fault_kind == 0 && r.fault_at == 0);
+
+    /* a GBC goes on; its second copy is ignored, and is told of all the same */
+    CHECK(geostation_send_gbc(a, 62, &AREA, NULL, 0, frame, ROOM, &n) == GEOSTATION_OK);
+    CHECK(geostation_receive(b, 62, frame, n, &r, relay, ROOM) == GEOSTATION_OK);
+    CHECK(r.relay_length == n && is_of(A_ADDRESS, GEOSTATION_GBC, 0, 2, 5));
+    CHECK(geostation_receive(b, 63, frame, n, &r, relay, ROOM) == GEOSTATION_OK);
+    CHECK(r.ignored == GEOSTATION_DUPLICATE && r.relay_length == 0);
+    CHECK(is_of(A_ADDRESS, GEOSTATION_GBC, 0, 2, 5));
+    CHECK(geostation_receive(b, 62, frame, n, &r, relay, ROOM) == GEOSTATION_MOMENT_EARLIER);
+    CHECK(is_nothing());
+    geostation_free(a);
+    geostation_free(b);
+}
+
+/* What is counted, and what isn't. */
+static void test_counts(void) {
+    struct geostation *a = station(A_ADDRESS, 0, 64), *b = station(B_ADDRESS, 900, 1);
+    struct geostation *c = station(C_ADDRESS, 1800, 64);
+    const struct geostation_shb_request shb = { .port = 2001 };
+    struct geostation_counts k, zero;
+    size_t n;
+    memset(&zero, 0, sizeof zero);
+    memset(&k, 0xff, sizeof k);
+    geostation_counts(a, &k);
+    CHECK(memcmp(&k, &zero, sizeof k) == 0);
+
+    CHECK(geostation_open_port(b, 1, 2002) == GEOSTATION_OK);
+    CHECK(geostation_open_port(b, 1, 2002) == GEOSTATION_PORT_ALREADY_OPEN);
+    CHECK(geostation_send_gbc(a, 1, &AREA, HI, 2, frame, ROOM, &n) == GEOSTATION_OK);
+    CHECK(geostation_receive(b, 1, frame, n, &r, relay, ROOM) == GEOSTATION_OK);
+    CHECK(geostation_receive(b, 2, frame, n, &r, relay, ROOM) == GEOSTATION_OK);
+    CHECK(geostation_receive(b, 2, frame, n, &r, relay, ROOM - 1) == GEOSTATION_NO_ROOM);
+    CHECK(geostation_receive(b, 1, frame, n, &r, relay, ROOM) == GEOSTATION_MOMENT_EARLIER);
+    CHECK(geostation_receive(b, 2, frame, 13, &r, relay, ROOM) == GEOSTATION_BAD_FRAME);
+    CHECK(geostation_tick(c, 2, 0, frame, ROOM, &n) == GEOSTATION_OK && n == 50);
+    CHECK(geostation_receive(b, 2, frame, n, &r, relay, ROOM) == GEOSTATION_TABLE_FULL);
+    CHECK(geostation_send_gac(a, 2, &AREA, HI, 2, frame, ROOM, &n) == GEOSTATION_OK);
+    CHECK(geostation_send_shb(a, 2, &shb, HI, 2, frame, ROOM, &n) == GEOSTATION_OK);
+    CHECK(geostation_send_shb_for(a, 2, &shb, 5, HI, 2, frame, ROOM, &n) == GEOSTATION_OK);
+    CHECK(geostation_tick(a, 2, 0, frame, ROOM, &n) == GEOSTATION_OK && n == 0);
+    CHECK(geostation_tick(a, 3002, 0, frame, ROOM, &n) == GEOSTATION_OK && n == 50);
+    CHECK(geostation_tick(a, 3002, 751, frame, ROOM, &n) == GEOSTATION_JITTER_RANGE);
+    CHECK(geostation_move(a, GEOSTATION_LAST_MOMENT + 1, 0, 0, 1, 0, 0)
+          == GEOSTATION_MOMENT_TOO_LATE);
+    CHECK(geostation_move(a, 3002, 900000001, 0, 1, 0, 0) == GEOSTATION_BAD_ARGUMENT);
+    until_fail = 0;
+    CHECK(geostation_send_shb(a, 3002, &shb, HI, 2, frame, ROOM, &n) == GEOSTATION_NO_MEMORY);
+    until_fail = -1;
+
+    memset(&k, 0xff, sizeof k);
+    geostation_counts(b, &k);
+    CHECK(k.received == 5 && k.accepted == 1 && k.delivered == 1 && k.relayed == 1);
+    CHECK(k.ignored.duplicate == 1 && k.ignored.not_for_me == 0 && k.ignored.own_source == 0);
+    CHECK(k.refused.moment_earlier == 1 && k.refused.frame == 1 && k.refused.table_full == 1);
+    CHECK(k.refused.other == 1 && k.refused.no_memory == 0 && k.sent.beacons == 0);
+    CHECK(geostation_restart(a, 3002, 0) == GEOSTATION_OK);
+    geostation_counts(a, &k);
+    CHECK(k.received == 0 && k.sent.beacons == 1 && k.sent.single_hop == 2);
+    CHECK(k.sent.geobroadcasts == 1 && k.sent.geoanycasts == 1);
+    CHECK(k.refused.other == 1 && k.refused.moment_too_late == 1 && k.refused.no_memory == 1);
+    CHECK(k.refused.moment_earlier == 0 && k.refused.frame == 0 && k.refused.table_full == 0);
+    geostation_free(a);
+    geostation_free(b);
+    geostation_free(c);
+}
+
 int main(int argc, char **argv) {
     test_new();
+    test_config();
+    test_padding();
+    test_counts();
     test_calls();
     test_beacons();
     test_beacon_moments();

@@ -2,64 +2,6 @@
  * part of the library that is C, and no part of any proof. */
 #include "geostation.h"
 
-/* The library's structs have the same layout: fields in this order, each at its own alignment. */
-_Static_assert(sizeof(struct geostation_shb_request) == 6, "shb_request");
-_Static_assert(offsetof(struct geostation_shb_request, info) == 2, "shb_request.info");
-_Static_assert(offsetof(struct geostation_shb_request, traffic_class) == 4, "traffic_class");
-_Static_assert(sizeof(struct geostation_area_request) == 24, "area_request");
-_Static_assert(offsetof(struct geostation_area_request, traffic_class) == 4, "traffic_class");
-_Static_assert(offsetof(struct geostation_area_request, lifetime) == 5, "lifetime");
-_Static_assert(offsetof(struct geostation_area_request, max_hops) == 6, "max_hops");
-_Static_assert(offsetof(struct geostation_area_request, shape) == 7, "shape");
-_Static_assert(offsetof(struct geostation_area_request, latitude) == 8, "latitude");
-_Static_assert(offsetof(struct geostation_area_request, longitude) == 12, "longitude");
-_Static_assert(offsetof(struct geostation_area_request, a) == 16, "a");
-_Static_assert(offsetof(struct geostation_area_request, b) == 18, "b");
-_Static_assert(offsetof(struct geostation_area_request, angle) == 20, "angle");
-_Static_assert(sizeof(size_t) == 8 && sizeof(struct geostation_reception) == 56, "reception");
-_Static_assert(offsetof(struct geostation_reception, port) == 8, "port");
-_Static_assert(offsetof(struct geostation_reception, info) == 10, "info");
-_Static_assert(offsetof(struct geostation_reception, payload_start) == 16, "payload_start");
-_Static_assert(offsetof(struct geostation_reception, payload_length) == 24, "payload_length");
-_Static_assert(offsetof(struct geostation_reception, relay_length) == 32, "relay_length");
-_Static_assert(offsetof(struct geostation_reception, fault) == 40, "fault");
-_Static_assert(offsetof(struct geostation_reception, fault_kind) == 44, "fault_kind");
-_Static_assert(offsetof(struct geostation_reception, fault_at) == 48, "fault_at");
-
-_Static_assert(sizeof(struct geostation_vector) == 32, "vector");
-_Static_assert(offsetof(struct geostation_vector, timestamp) == 8, "vector.timestamp");
-_Static_assert(offsetof(struct geostation_vector, latitude) == 12, "vector.latitude");
-_Static_assert(offsetof(struct geostation_vector, longitude) == 16, "vector.longitude");
-_Static_assert(offsetof(struct geostation_vector, speed) == 20, "vector.speed");
-_Static_assert(offsetof(struct geostation_vector, heading) == 22, "vector.heading");
-_Static_assert(offsetof(struct geostation_vector, accurate) == 24, "vector.accurate");
-_Static_assert(sizeof(struct geostation_area) == 16, "area");
-_Static_assert(offsetof(struct geostation_area, longitude) == 4, "area.longitude");
-_Static_assert(offsetof(struct geostation_area, a) == 8, "area.a");
-_Static_assert(offsetof(struct geostation_area, b) == 10, "area.b");
-_Static_assert(offsetof(struct geostation_area, angle) == 12, "area.angle");
-_Static_assert(offsetof(struct geostation_area, shape) == 14, "area.shape");
-_Static_assert(sizeof(struct geostation_message) == 24, "message");
-_Static_assert(offsetof(struct geostation_message, payload_length) == 8, "message.payload_length");
-_Static_assert(offsetof(struct geostation_message, port) == 16, "message.port");
-_Static_assert(offsetof(struct geostation_message, info) == 18, "message.info");
-_Static_assert(sizeof(struct geostation_packet) == 120, "packet");
-_Static_assert(offsetof(struct geostation_packet, source) == 6, "packet.source");
-_Static_assert(offsetof(struct geostation_packet, kind) == 12, "packet.kind");
-_Static_assert(offsetof(struct geostation_packet, vector) == 16, "packet.vector");
-_Static_assert(offsetof(struct geostation_packet, hops_left) == 48, "packet.hops_left");
-_Static_assert(offsetof(struct geostation_packet, max_hops) == 49, "packet.max_hops");
-_Static_assert(offsetof(struct geostation_packet, lifetime) == 50, "packet.lifetime");
-_Static_assert(offsetof(struct geostation_packet, traffic_class) == 51, "packet.traffic_class");
-_Static_assert(offsetof(struct geostation_packet, mobile) == 52, "packet.mobile");
-_Static_assert(offsetof(struct geostation_packet, media) == 53, "packet.media");
-_Static_assert(offsetof(struct geostation_packet, number) == 58, "packet.number");
-_Static_assert(offsetof(struct geostation_packet, area) == 60, "packet.area");
-_Static_assert(offsetof(struct geostation_packet, message) == 80, "packet.message");
-_Static_assert(offsetof(struct geostation_packet, fault) == 104, "packet.fault");
-_Static_assert(offsetof(struct geostation_packet, fault_kind) == 108, "packet.fault_kind");
-_Static_assert(offsetof(struct geostation_packet, fault_at) == 112, "packet.fault_at");
-
 /* What the library frees a handle by; it takes no NULL. */
 void geostation_release(struct geostation *s);
 

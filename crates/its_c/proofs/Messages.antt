@@ -70,12 +70,16 @@ module _ (w octets payload : List ℕ) (port info : ℕ) where
       }
   split_off m says at_port at_info at_payload ends =
       let same = at_payload ∙ ap (λ (x : Message). x.payload) says in
+      let size = ap (λ (x : List ℕ). length x) same in
+      let sum = ap (λ (x : List ℕ). length x) ends.1 ∙ length-append ends.0 m.payload in
       record {
         port = at_port ∙ ap (λ (x : Message). x.port) says;
         info = at_info ∙ ap (λ (x : Message). x.info) says;
-        size = ap (λ (x : List ℕ). length x) same;
+        size = size;
         start =
-            ap (λ (x : List ℕ). drop (length w - length x) w) same ∙ from_start w m.payload ends;
+            ap (λ (x : List ℕ). drop (length w - length x) w) same
+            ∙ from_start w m.payload ends;
+        end = omega (arith, sum, size);
       }
 
 nothing_to_split : (octets : List ℕ) → octets ≡ [] → 4 ≤ length octets → ⊥

@@ -1,35 +1,21 @@
 -- What C is told of a frame.
-use Rattle.std.specs.Prelude.{◌≡◌, ℕ, pos, ◌∷◌, [], List, length, drop, Option, Some, None}
+use Rattle.std.specs.Prelude.{◌≡◌, ◌+◌, ℕ, pos, ◌∷◌, [], List, length, drop, Option, Some, None}
 use Rattle.byteorder.specs.Endian.{big_bytes}
 use Rattle.its_faults.specs.declared.frame.FrameFault.{FrameFault}
 use Rattle.its_geometry.specs.Area.{GeoArea}
 use Rattle.its_model.specs.Packet.{Message, Body, beacon, shb, gbc, gac, Transmission, number_in}
 use Rattle.its_headers.specs.Fields.{kind_of_body, media_in, area_in}
-use Rattle.its_headers.specs.declared.kind.Kind.{Kind}
-use Rattle.its_headers.specs.declared.kind.Kind.TheVariants as kinds
 use Rattle.its_c.specs.declared.layout.Packet.{Packet}
 use Rattle.its_c.specs.declared.layout.PacketArea.{PacketArea}
 use Rattle.its_c.specs.declared.layout.PacketMessage.{PacketMessage}
 use Rattle.its_c.specs.Arguments.{number_of_shape}
 use Rattle.its_c.specs.Lookups.{as_number, shown_vector, no_vector}
-use Rattle.its_c.specs.Told.{layer_of, kind_of, place_in}
-
--- the number of a kind of packet
-abbrev pub kind_number : Kind → ℕ
-kind_number kinds.Beacon = 1
-kind_number kinds.Shb = 2
-kind_number kinds.Gbc = 3
-kind_number kinds.Gac = 4
+use Rattle.its_c.specs.Told.{layer_of, kind_of, place_in, kind_number, shown_number}
 
 -- the media-dependent data, or zeros
 abbrev pub shown_media : Option (List ℕ) → List ℕ
 shown_media None = 0 ∷ 0 ∷ 0 ∷ 0 ∷ []
 shown_media (Some media) = media
-
--- the sequence number, or 0
-abbrev pub shown_number : Option ℕ → ℕ
-shown_number None = 0
-shown_number (Some number) = number
 
 -- the area, or zeros
 abbrev pub shown_area : Option GeoArea → PacketArea
@@ -54,6 +40,7 @@ pub record TellsMessage (w : List ℕ) (m : Message) (told : PacketMessage) : Ty
   pub info : told.info ≡ m.info
   pub size : told.payload_length ≡ length m.payload
   pub start : drop told.payload_start w ≡ m.payload
+  pub end : told.payload_start + told.payload_length ≡ length w
 
 -- the message of a packet, or zeros
 abbrev pub ShowsMessage : List ℕ → Body → PacketMessage → Type 0

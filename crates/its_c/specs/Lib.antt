@@ -1,4 +1,6 @@
 pub mod Arguments
+pub mod Configs
+pub mod Counted
 pub mod Frames
 pub mod Handles
 pub mod Lookups

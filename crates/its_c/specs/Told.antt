@@ -1,14 +1,20 @@
 -- What a call tells C.
-use Rattle.std.specs.Prelude.{◌≡◌, ℕ, ℤ, List, length, take, drop, Vec, Option, Some, None}
+use Rattle.std.specs.Prelude.{◌≡◌, ◌+◌, ℕ, ℤ, List, length, take, drop, Vec, Option, Some, None}
 use Rattle.std.specs.Prelude.{Result, Ok, Err}
 use Rattle.std.specs.declared.alloc.Global.{Global}
 use Rattle.its_faults.specs.declared.frame.FrameFault.{FrameFault}
 use Rattle.its_faults.specs.declared.frame.FrameFault.TheVariants as faults
 use Rattle.its_faults.specs.declared.packet.FaultKind.{FaultKind}
 use Rattle.its_faults.specs.declared.packet.FaultKind.TheVariants as kinds
-use Rattle.its_model.specs.Packet.{Transmission}
-use Rattle.its_model.specs.Calls.{Answer}
+use Rattle.its_model.specs.Packet.{Transmission, number_in}
+use Rattle.its_model.specs.Calls as model
+use Rattle.its_model.specs.Calls.{Answer, Call}
 use Rattle.its_model.specs.Station.{Step}
+use Rattle.its_headers.specs.Fields.{kind_of_body}
+use Rattle.its_headers.specs.declared.kind.Kind.{Kind}
+use Rattle.its_headers.specs.declared.kind.Kind.TheVariants as kinds_of
+use Rattle.its_station.specs.Counting.{counted_done}
+use Rattle.its_station.specs.declared.counts.Counts.{Counts}
 use Rattle.its_station.specs.declared.outcome.Handed.{Handed}
 use Rattle.its_station.specs.declared.outcome.Outcome.{Outcome}
 use Rattle.its_station.specs.declared.outcome.Outcome.TheVariants as outcomes
@@ -18,28 +24,31 @@ use Rattle.its_station.specs.declared.refused.Refused.{Refused}
 use Rattle.its_station.specs.declared.refused.Refused.TheVariants as refused
 use Rattle.its_station.specs.State.{StationState}
 use Rattle.its_station.specs.Steps.{IsStepOf, Says}
+use Rattle.its_c.specs.Counted.{counts_of}
+use Rattle.its_c.specs.declared.handle.Geostation.{Geostation}
 use Rattle.its_c.specs.declared.layout.Reception.{Reception}
 use Rattle.its_c.specs.Status.{status_in}
 
--- A call was made of the station that the handle holds: C is told what the library answered, and
--- that answer and the station afterwards are those of the model's step.
+-- A call was made of the station that the handle holds: C is told what the library answered, that
+-- answer and the station afterwards are those of the model's step, and the answer is counted.
 pub record IsTold {X : Type 0} (Tells : X → Answer Transmission → Type 0)
-    (Shows : Result X Refused → Type 0) (status : ℤ) (new : Option StationState)
-    (step : Step) : Type 0 where
+    (Shows : Result X Refused → Type 0) (count : Result X Refused → Counts → Counts) (status : ℤ)
+    (old new : Geostation) (step : Step) : Type 0 where
   pub said : Result X Refused
   pub after : StationState
-  pub held : new ≡ Some after
+  pub held : new.held.station ≡ Some after
   pub done : IsStepOf Tells said after step
   pub code : status ≡ status_in said
   pub shown : Shows said
+  pub counts : counts_of new.counts ≡ count said (counts_of old.counts)
 
 -- nothing is shown but the status
 abbrev pub ShowsNothing : {X : Type 0} → X → Type 0
 ShowsNothing x = Unit {0}
 
 -- a call that tells nothing but its status
-abbrev pub IsToldDone : Answer Transmission → ℤ → Option StationState → Step → Type 0
-IsToldDone answer = IsTold {X = Unit {0}} (Says answer) ShowsNothing
+abbrev pub IsToldDone : Answer Transmission → ℤ → Geostation → Geostation → Step → Type 0
+IsToldDone answer = IsTold {X = Unit {0}} (Says answer) ShowsNothing counted_done
 
 -- the buffer begins with these octets, and so many they are
 abbrev pub Holds : ℕ → List ℕ → List ℕ → Type 0
@@ -74,7 +83,51 @@ nothing_received =
       fault = 0;
       fault_kind = 0;
       fault_at = 0;
+      source = 0;
+      kind = 0;
+      number = 0;
+      traffic_class = 0;
+      hops_left = 0;
     }
+
+-- the number of a kind of packet
+abbrev pub kind_number : Kind → ℕ
+kind_number kinds_of.Beacon = 1
+kind_number kinds_of.Shb = 2
+kind_number kinds_of.Gbc = 3
+kind_number kinds_of.Gac = 4
+
+-- the sequence number, or 0
+abbrev pub shown_number : Option ℕ → ℕ
+shown_number None = 0
+shown_number (Some number) = number
+
+-- what is told of each frame that isn't refused: of its packet the source, the kind, the sequence
+-- number, the traffic class and the hops that are left
+abbrev pub reception_of : Transmission → Reception
+reception_of t = record nothing_received {
+  source = t.pdu.vector.address;
+  kind = kind_number (kind_of_body t.pdu.body);
+  number = shown_number (number_in t.pdu.body);
+  traffic_class = t.pdu.class;
+  hops_left = t.hops_left;
+}
+
+-- a reception that tells no more than that
+abbrev pub IsHeard : Reception → Type 0
+IsHeard r = r ≡ record nothing_received {
+  source = r.source;
+  kind = r.kind;
+  number = r.number;
+  traffic_class = r.traffic_class;
+  hops_left = r.hops_left;
+}
+
+-- what is told of octets that come to the model as this call, where they aren't refused
+abbrev pub reception_in : Call → Reception
+reception_in (model.Call.Own call) = nothing_received
+reception_in (model.Call.Receive t) = reception_of t
+reception_in (model.Call.Junk fault) = nothing_received
 
 -- the number of a reason
 abbrev pub number_of : Why → ℕ
@@ -142,7 +195,7 @@ refused_reception refused.HopLimitZero = nothing_received
 refused_reception refused.TableFull = nothing_received
 refused_reception refused.NoMemory = nothing_received
 
--- what is delivered, if anything is, and where in the frame it lies
+-- what is delivered, if anything is, and where in the frame it lies, to the frame's end
 abbrev pub ShowsHanded : List ℕ → Reception → Option Handed → Type 0
 ShowsHanded w r None =
     (r.delivered ≡ 0) × (r.port ≡ 0) × (r.info ≡ 0)
@@ -150,15 +203,29 @@ ShowsHanded w r None =
 ShowsHanded w r (Some h) =
     (r.delivered ≡ 1) × (r.port ≡ h.port) × (r.info ≡ h.info)
     × (r.payload_length ≡ length h.payload.now) × (drop r.payload_start w ≡ h.payload.now)
+    × (r.payload_start + r.payload_length ≡ length w)
 
--- what became of a frame that is no fault
-abbrev pub ShowsOutcome : List ℕ → Reception → List ℕ → Outcome → Type 0
-ShowsOutcome w r room (outcomes.Ignored reason) =
-    r ≡ record nothing_received { ignored = number_of reason }
-ShowsOutcome w r room (outcomes.Accepted handed sent) =
-    (r.ignored ≡ 0) × (r.fault ≡ 0) × ShowsHanded w r handed × ShowsSent r.relay_length room sent
+-- but for what is delivered and for what goes on, the reception is this one: no fault, and no
+-- reason why it would be ignored
+abbrev pub IsBesides : Reception → Reception → Type 0
+IsBesides frame r = r ≡ record frame {
+  delivered = r.delivered;
+  port = r.port;
+  info = r.info;
+  payload_start = r.payload_start;
+  payload_length = r.payload_length;
+  relay_length = r.relay_length;
+}
+
+-- what became of a frame that is no fault, of which this is told
+abbrev pub ShowsOutcome : List ℕ → Reception → Reception → List ℕ → Outcome → Type 0
+ShowsOutcome w frame r room (outcomes.Ignored reason) =
+    r ≡ record frame { ignored = number_of reason }
+ShowsOutcome w frame r room (outcomes.Accepted handed sent) =
+    IsBesides frame r × ShowsHanded w r handed × ShowsSent r.relay_length room sent
 
 -- what became of a frame
-abbrev pub ShowsReceived : List ℕ → Reception → List ℕ → Result Outcome Refused → Type 0
-ShowsReceived w r room (Ok outcome) = ShowsOutcome w r room outcome
-ShowsReceived w r room (Err e) = r ≡ refused_reception e
+abbrev pub ShowsReceived : List ℕ → Reception → Reception → List ℕ → Result Outcome Refused
+    → Type 0
+ShowsReceived w frame r room (Ok outcome) = ShowsOutcome w frame r room outcome
+ShowsReceived w frame r room (Err e) = r ≡ refused_reception e

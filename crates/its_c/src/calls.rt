@@ -9,6 +9,7 @@ ghost use Rattle.its_c.specs.Arguments.{AreForMove, place_of};
 ghost use Rattle.its_c.specs.Open.{HoldsModel};
 ghost use Rattle.its_c.specs.Told.{IsToldDone};
 
+use crate::counting::count_done;
 use crate::handle::Geostation;
 use crate::status::BAD_ARGUMENT;
 use crate::told::told;
@@ -30,10 +31,11 @@ pub extern "C" fn geostation_move(
     heading: u16,
 ) -> i32
     ensures step { (m : StationModel) → HoldsModel s.old.held.station m → result ≢ pos 20 →
-        IsToldDone Moved result s.new.held.station (station_step m now
+        IsToldDone Moved result s.old s.new (station_step m now
         (Own (Move (place_of latitude longitude) (not (nat_eq accurate 0)) speed heading))) }
     ensures refused { result ≡ pos 20 → AreForMove latitude longitude speed → ⊥ }
     ensures taken { result ≢ pos 20 → AreForMove latitude longitude speed }
+    ensures nothing { result ≡ pos 20 → s.new ≡ s.old }
     ensures unchanged { result ≢ pos 0 → s.new.held.station ≡ s.old.held.station }
     ensures memory { result ≢ pos 5 }
 {
@@ -46,6 +48,7 @@ pub extern "C" fn geostation_move(
     let mut station = s.held.take(alloc);
     let said = station.move_to(now, place, accurate != 0, speed, heading);
     s.held.put(station);
+    count_done(&mut s.counts, &said);
     told(said)
 }
 
@@ -64,10 +67,11 @@ pub extern "C" fn geostation_move_at(
     heading: u16,
 ) -> i32
     ensures step { (m : StationModel) → HoldsModel s.old.held.station m → result ≢ pos 20 →
-        IsToldDone Moved result s.new.held.station (move_at_step m now timestamp
+        IsToldDone Moved result s.old s.new (move_at_step m now timestamp
         (place_of latitude longitude) (not (nat_eq accurate 0)) speed heading) }
     ensures refused { result ≡ pos 20 → AreForMove latitude longitude speed → ⊥ }
     ensures taken { result ≢ pos 20 → AreForMove latitude longitude speed }
+    ensures nothing { result ≡ pos 20 → s.new ≡ s.old }
     ensures unchanged { result ≢ pos 0 → s.new.held.station ≡ s.old.held.station }
     ensures memory { result ≢ pos 5 }
 {
@@ -80,6 +84,7 @@ pub extern "C" fn geostation_move_at(
     let mut station = s.held.take(alloc);
     let said = station.move_at(now, timestamp, place, accurate != 0, speed, heading);
     s.held.put(station);
+    count_done(&mut s.counts, &said);
     told(said)
 }
 
@@ -93,13 +98,14 @@ pub extern "C" fn geostation_open_port(
     port: u16,
 ) -> i32
     ensures step { (m : StationModel) → HoldsModel s.old.held.station m →
-        IsToldDone Opened result s.new.held.station (station_step m now (Own (Open port))) }
+        IsToldDone Opened result s.old s.new (station_step m now (Own (Open port))) }
     ensures unchanged { result ≢ pos 0 → s.new.held.station ≡ s.old.held.station }
     ensures memory { result ≢ pos 5 }
 {
     let mut station = s.held.take(alloc);
     let said = station.open(now, port);
     s.held.put(station);
+    count_done(&mut s.counts, &said);
     told(said)
 }
 
@@ -112,13 +118,14 @@ pub extern "C" fn geostation_close_port(
     port: u16,
 ) -> i32
     ensures step { (m : StationModel) → HoldsModel s.old.held.station m →
-        IsToldDone Closed result s.new.held.station (station_step m now (Own (Close port))) }
+        IsToldDone Closed result s.old s.new (station_step m now (Own (Close port))) }
     ensures unchanged { result ≢ pos 0 → s.new.held.station ≡ s.old.held.station }
     ensures memory { result ≢ pos 5 }
 {
     let mut station = s.held.take(alloc);
     let said = station.close(now, port);
     s.held.put(station);
+    count_done(&mut s.counts, &said);
     told(said)
 }
 
@@ -132,7 +139,7 @@ pub extern "C" fn geostation_restart(
     number: u16,
 ) -> i32
     ensures step { (m : StationModel) → HoldsModel s.old.held.station m →
-        IsToldDone Restarted result s.new.held.station
+        IsToldDone Restarted result s.old s.new
         (station_step m now (Own (Restart number))) }
     ensures unchanged { result ≢ pos 0 → s.new.held.station ≡ s.old.held.station }
     ensures memory { result ≢ pos 5 }
@@ -140,5 +147,6 @@ pub extern "C" fn geostation_restart(
     let mut station = s.held.take(alloc);
     let said = station.restart(now, number);
     s.held.put(station);
+    count_done(&mut s.counts, &said);
     told(said)
 }

@@ -1,24 +1,35 @@
 //! The handle of a station: `struct geostation` of C, which sees nothing of it.
 
 ghost use Rattle.std.specs.Prelude.{◌≡◌};
+ghost use Rattle.its_station.specs.Counting.{nothing};
+ghost use Rattle.its_c.specs.Counted.{counts_of};
 ghost use Rattle.its_c.specs.Open.{IsOpen};
 
+use crate::counting::told_counts;
 use crate::held::Held;
+use crate::layout::ToldCounts;
+use its_station::Counts;
 
-/// A handle: the station that it holds represents one of the model, from `geostation_new` on.
+/// A handle: the station that it holds represents one of the model, from `geostation_new` on, and
+/// what came of each call since is counted.
 #[repr(C)]
 #[derive(Drop)]
 pub struct Geostation {
     pub(crate) held: Held,
+    pub(crate) counts: ToldCounts,
     ghost represents: { IsOpen held.station },
 }
 
 impl Geostation {
-    /// The handle of this station.
+    /// The handle of this station: nothing is counted yet.
     pub(crate) fn new(held: Held) -> Geostation
         requires { IsOpen held.station }
-        ensures { result.held ≡ held }
+        ensures held { result.held ≡ held }
+        ensures counts { counts_of result.counts ≡ nothing }
     {
-        Geostation { held }
+        Geostation {
+            held,
+            counts: told_counts(&Counts::new()),
+        }
     }
 }

@@ -1,20 +1,24 @@
 //! Handles on the heap: how one is made, and how its memory is given back.
 
 ghost use Rattle.std.specs.Borrow.{sem};
-ghost use Rattle.std.specs.Prelude.{◌≡◌, ◌≢◌, ◌≤◌, ◌⊎◌, pos, IfSome, IsSomeAnd, None};
+ghost use Rattle.std.specs.Prelude.{◌≡◌, ◌≢◌, ◌⊎◌, pos, IfSome, IsSomeAnd, None};
 ghost use Rattle.its_model.specs.Station.{new_station};
+ghost use Rattle.its_station.specs.Counting.{nothing};
 ghost use Rattle.its_c.specs.Arguments.{AreForNew, place_of};
+ghost use Rattle.its_c.specs.Counted.{counts_of};
+ghost use Rattle.its_c.specs.Configs.{IsForNew, HasSizes, station_for, station_at};
 ghost use Rattle.its_c.specs.Handles.{handle_owns};
 ghost use Rattle.its_c.specs.Open.{HoldsModel};
 ghost use Rattle.its_c.specs.declared.handle.Geostation.{Geostation as Handle};
 
+use crate::config::{has_sizes, station_at};
 use crate::handle::Geostation;
 use crate::held::Held;
+use crate::layout::{CONFIG_SIZE, Config};
 use crate::loose::Loose;
 use crate::slot::Slot;
 use crate::status::{BAD_ARGUMENT, NO_MEMORY, OK};
 use its_gnvalue::{GnAddress, Place};
-use its_station::Station;
 use std::alloc::Global;
 use std::ptr::null_mut;
 
@@ -35,24 +39,50 @@ pub extern "C" fn geostation_new(
 ) -> i32
     ensures new { result ≡ pos 0 → IsSomeAnd out.new.handle (λ h. HoldsModel h.held.station
         (new_station address (place_of latitude longitude) capacity remember)) }
+    ensures counts { result ≡ pos 0 → IsSomeAnd out.new.handle (λ h. counts_of h.counts ≡ nothing) }
     ensures none { result ≢ pos 0 → out.new.handle ≡ None }
     ensures only { (result ≡ pos 0) ⊎ (result ≡ pos 5) ⊎ (result ≡ pos 20) }
     ensures refused { result ≡ pos 20 →
         AreForNew address latitude longitude capacity remember → ⊥ }
     ensures taken { result ≢ pos 20 → AreForNew address latitude longitude capacity remember }
 {
+    let config = Config {
+        size: CONFIG_SIZE,
+        address,
+        latitude,
+        longitude,
+        capacity,
+        remember: u16::from(remember),
+        mobile: 1,
+        number: 0,
+    };
+    geostation_new_with(alloc, out, &config)
+}
+
+/// The same of a struct, with whether the station is mobile and the sequence number of its first
+/// packet for an area. A struct of another size is `BAD_ARGUMENT` too.
+#[unsafe(no_mangle)]
+pub extern "C" fn geostation_new_with(alloc: Global, out: &mut Slot, config: &Config) -> i32
+    ensures new { result ≡ pos 0 → IsSomeAnd out.new.handle (λ h. HoldsModel h.held.station
+        (station_for config.now)) }
+    ensures counts { result ≡ pos 0 → IsSomeAnd out.new.handle (λ h. counts_of h.counts ≡ nothing) }
+    ensures none { result ≢ pos 0 → out.new.handle ≡ None }
+    ensures only { (result ≡ pos 0) ⊎ (result ≡ pos 5) ⊎ (result ≡ pos 20) }
+    ensures refused { result ≡ pos 20 → IsForNew config.now → ⊥ }
+    ensures taken { result ≢ pos 20 → IsForNew config.now }
+{
     let at: *mut Geostation = null_mut();
     *out = Slot::none(at, alloc);
-    if capacity == 0 || capacity > 4096 || remember == 0 || remember > 64 {
+    if !has_sizes(config) {
         return BAD_ARGUMENT;
     }
-    let Ok(address) = GnAddress::from_u64(address) else {
+    let Ok(address) = GnAddress::from_u64(config.address) else {
         return BAD_ARGUMENT;
     };
-    let Ok(place) = Place::new(latitude, longitude) else {
+    let Ok(place) = Place::new(config.latitude, config.longitude) else {
         return BAD_ARGUMENT;
     };
-    let Some(handle) = make(alloc, address, place, capacity, remember) else {
+    let Some(handle) = make(alloc, address, place, config) else {
         return NO_MEMORY;
     };
     *out = Slot::of(Loose::of(handle));
@@ -60,24 +90,18 @@ pub extern "C" fn geostation_new(
 }
 
 /// The handle of a new station on the heap, or none where an allocation failed.
-fn make(
-    alloc: Global,
-    address: GnAddress,
-    place: Place,
-    capacity: u16,
-    remember: u8,
-) -> Option<Box<Geostation>>
-    requires capacity { (1 ≤ capacity) × (capacity ≤ 4096) }
-    requires remember { (1 ≤ remember) × (remember ≤ 64) }
-    ensures { IfSome result (λ h. HoldsModel h.value.held.station
-        (new_station address place capacity remember)) }
+fn make(alloc: Global, address: GnAddress, place: Place, config: &Config) -> Option<Box<Geostation>>
+    requires { HasSizes config.now }
+    ensures model { IfSome result (λ h. HoldsModel h.value.held.station
+        (station_at address place config.now)) }
+    ensures counts { IfSome result (λ h. counts_of h.value.counts ≡ nothing) }
 {
-    let station = Station::new(alloc, address, place, capacity, remember).ok()?;
+    let station = station_at(alloc, address, place, config)?;
     let station = Box::new(alloc, station).ok()?;
     match Box::new(alloc, Geostation::new(Held::new(station))) {
         Ok(handle) => Some(handle),
         Err(failed) => {
-            let Geostation { mut held } = failed.value;
+            let Geostation { mut held, .. } = failed.value;
             drop(held.take(alloc));
             None
         }
@@ -96,6 +120,6 @@ pub unsafe extern "C" fn geostation_release(alloc: Global, s: *mut Geostation)
 fn release(loose: Loose<Geostation, Global>) {
     let handle = loose.into_box();
     let alloc = *Box::allocator(&handle);
-    let Geostation { mut held } = Box::into_inner(handle);
+    let Geostation { mut held, .. } = Box::into_inner(handle);
     drop(held.take(alloc));
 }

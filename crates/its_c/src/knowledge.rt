@@ -23,9 +23,9 @@ use std::alloc::Global;
 /// The bit of an address that says whether its MID is a group.
 const GROUP_BIT: u64 = 1 << 40;
 
-/// The least moment at which `geostation_tick` with this jitter gives a beacon, in milliseconds; the
-/// greatest number for a jitter over 750. A program draws a jitter once for each beacon and sleeps
-/// until this moment; it asks anew after a packet of the station's own and after a restart.
+/// The least moment at which `geostation_tick` with this jitter gives a beacon, in milliseconds;
+/// the greatest number for a jitter over 750. A program draws a jitter once for each beacon and
+/// sleeps until this moment; it asks anew after a packet of the station's own and after a restart.
 #[unsafe(no_mangle)]
 pub extern "C" fn geostation_beacon_at(alloc: Global, s: &mut Geostation, jitter: u16) -> u64
     ensures due { (m : StationModel) (now : ℕ) → HoldsModel s.old.held.station m →
@@ -37,6 +37,7 @@ pub extern "C" fn geostation_beacon_at(alloc: Global, s: &mut Geostation, jitter
         ⊎ ((station_step m now (Own (Tick jitter))).answer ≡ IsRefused MomentEarlier) }
     ensures never { 750 < jitter → result ≡ 2 ^ 64 - 1 }
     ensures unchanged { s.new.held.station ≡ s.old.held.station }
+    ensures counts { s.new.counts ≡ s.old.counts }
 {
     let station = s.held.take(alloc);
     let due = station.beacon_at(jitter);
@@ -50,6 +51,7 @@ pub extern "C" fn geostation_next_number(alloc: Global, s: &mut Geostation) -> u
     ensures number { (m : StationModel) → HoldsModel s.old.held.station m →
         result ≡ m.next_number }
     ensures unchanged { s.new.held.station ≡ s.old.held.station }
+    ensures counts { s.new.counts ≡ s.old.counts }
 {
     let station = s.held.take(alloc);
     let number = station.next_number();
@@ -70,6 +72,7 @@ pub extern "C" fn geostation_next_beacon(alloc: Global, s: &mut Geostation) -> u
         ((station_step m now (Own (Tick 0))).answer ≡ Quiet)
         ⊎ ((station_step m now (Own (Tick 0))).answer ≡ IsRefused MomentEarlier) }
     ensures unchanged { s.new.held.station ≡ s.old.held.station }
+    ensures counts { s.new.counts ≡ s.old.counts }
 {
     let station = s.held.take(alloc);
     let due = station.next_beacon();
@@ -93,6 +96,7 @@ pub extern "C" fn geostation_neighbour(
     ensures none { (m : StationModel) → HoldsModel s.old.held.station m → ¬ IsMoment m now →
         TellsFound None result vector.new }
     ensures unchanged { s.new.held.station ≡ s.old.held.station }
+    ensures counts { s.new.counts ≡ s.old.counts }
 {
     let station = s.held.take(alloc);
     let found = tell_neighbour(&station, now, after, vector);
@@ -116,6 +120,7 @@ pub extern "C" fn geostation_look_up(
         TellsFound None result vector.new }
     ensures group { IsGroup address → TellsFound None result vector.new }
     ensures unchanged { s.new.held.station ≡ s.old.held.station }
+    ensures counts { s.new.counts ≡ s.old.counts }
 {
     let station = s.held.take(alloc);
     let found = tell_source(&station, now, address, vector);

@@ -25,6 +25,16 @@ pub struct Reception {
     pub fault_kind: u32,
     /// At L5 the octet of the packet at which the field begins, or the packet's length at G1.
     pub fault_at: usize,
+    /// The address of the station that made the packet.
+    pub source: u64,
+    /// The kind of the packet: 1 BEACON, 2 SHB, 3 GBC, 4 GAC; 0 where the octets are no frame.
+    pub kind: u32,
+    /// The sequence number of a GBC or GAC, else 0.
+    pub number: u16,
+    /// The octet of the traffic class, which a relay has too.
+    pub traffic_class: u8,
+    /// The hops that are left (RHL).
+    pub hops_left: u8,
 }
 
 impl Reception {
@@ -40,6 +50,11 @@ impl Reception {
         fault: 0,
         fault_kind: 0,
         fault_at: 0,
+        source: 0,
+        kind: 0,
+        number: 0,
+        traffic_class: 0,
+        hops_left: 0,
     };
 }
 
@@ -228,4 +243,71 @@ impl Packet {
         fault_kind: 0,
         fault_at: 0,
     };
+}
+
+/// What a station is made of: `struct geostation_config` of C, 32 octets without gaps.
+#[repr(C)]
+#[derive(Clone, Copy)]
+pub struct Config {
+    /// How many octets the struct has: of a caller that knows another struct it is another.
+    pub size: u64,
+    /// The station's address.
+    pub address: u64,
+    /// The latitude, in 0.1 microdegree.
+    pub latitude: i32,
+    /// The longitude, in 0.1 microdegree.
+    pub longitude: i32,
+    /// For how many sources the location table has room, 1 to 4096.
+    pub capacity: u16,
+    /// How many sequence numbers of each are remembered, 1 to 64.
+    pub remember: u16,
+    /// Whether the station's packets say that it is mobile: 0 or not.
+    pub mobile: u16,
+    /// The sequence number of its first packet for an area.
+    pub number: u16,
+}
+
+/// The octets of a config.
+pub(crate) const CONFIG_SIZE: u64 = 32;
+
+/// How often each thing happened: `struct geostation_counts` of C.
+#[repr(C)]
+#[derive(Clone, Copy)]
+pub struct ToldCounts {
+    /// Frames that came, whatever became of them.
+    pub received: u64,
+    /// Frames whose packet was accepted.
+    pub accepted: u64,
+    /// Payloads that were delivered.
+    pub delivered: u64,
+    /// Frames that were passed on.
+    pub relayed: u64,
+    /// Frames ignored: to another station's link address.
+    pub not_for_me: u64,
+    /// Frames ignored: the station's own packet.
+    pub own_source: u64,
+    /// Frames ignored: a BEACON or an SHB from another link address than its source's.
+    pub sender_mismatch: u64,
+    /// Frames ignored: a GBC or a GAC whose sequence number is remembered.
+    pub duplicate: u64,
+    /// Calls refused by S1.
+    pub moment_earlier: u64,
+    /// Calls refused by S2.
+    pub moment_too_late: u64,
+    /// Calls refused by S3.
+    pub frame: u64,
+    /// Calls refused by S4.
+    pub table_full: u64,
+    /// Calls refused by S5.
+    pub no_memory: u64,
+    /// Calls refused by S6 to S9.
+    pub other: u64,
+    /// Frames of the station's own: BEACON.
+    pub beacons: u64,
+    /// Frames of the station's own: SHB.
+    pub single_hop: u64,
+    /// Frames of the station's own: GBC.
+    pub geobroadcasts: u64,
+    /// Frames of the station's own: GAC.
+    pub geoanycasts: u64,
 }

@@ -7,6 +7,8 @@
 #![tactic(auto)]
 
 mod calls;
+mod config;
+mod counting;
 mod fault;
 mod handle;
 mod heap;
@@ -23,5 +25,8 @@ mod to_area;
 mod told;
 
 pub use handle::Geostation;
-pub use layout::{AreaRequest, Packet, PacketArea, PacketMessage, Reception, ShbRequest, Vector};
+pub use layout::{
+    AreaRequest, Config, Packet, PacketArea, PacketMessage, Reception, ShbRequest, ToldCounts,
+    Vector,
+};
 pub use slot::Slot;

@@ -6,8 +6,8 @@ ghost use Rattle.its_model.specs.Packet.{Transmission};
 ghost use Rattle.its_linkframe.specs.FrameFaults.{IsFrameFault};
 ghost use Rattle.its_linkframe.specs.Frames.{EncodesFrame, IsFrame, transmission_of};
 ghost use Rattle.its_c.specs.Arguments.{number_of_shape};
-ghost use Rattle.its_c.specs.Frames.{TellsFrame, ShowsMessage, faulty_packet, kind_number};
-ghost use Rattle.its_c.specs.Frames.{shown_area};
+ghost use Rattle.its_c.specs.Frames.{TellsFrame, ShowsMessage, faulty_packet, shown_area};
+ghost use Rattle.its_c.specs.Told.{kind_number};
 
 use crate::fault::FaultNumbers;
 use crate::knowledge::shown_vector;
@@ -112,7 +112,7 @@ fn faulty(fault: FrameFault) -> Packet
     }
 }
 
-fn kind_number(kind: Kind) -> u32
+pub(crate) fn kind_number(kind: Kind) -> u32
     ensures { result ≡ kind_number kind }
 {
     match kind {

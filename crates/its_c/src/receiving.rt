@@ -1,26 +1,48 @@
-//! The call that takes a frame.
+//! The calls that take a frame, or a beginning of octets that is one.
 
-ghost use Rattle.std.specs.Prelude.{◌≡◌, ◌≢◌, ◌≤◌, ◌<◌, pos, length};
-ghost use Rattle.its_linkframe.specs.Frames.{EncodesFrame, IsFrame};
+ghost use Rattle.std.specs.Prelude.{◌≡◌, ◌≢◌, ◌≤◌, ◌<◌, ℕ, pos, length, Err, IfOk, OnErr, List};
+ghost use Rattle.its_linkframe.specs.Frames.{EncodesFrame, transmission_of};
+ghost use Rattle.its_linkframe.specs.Padding.{IsFrameEnd, IsUnpadded};
 ghost use Rattle.its_model.specs.Calls.{Call};
 ghost use Rattle.its_model.specs.Packet.{Transmission};
-ghost use Rattle.its_model.specs.Station as station;
+ghost use Rattle.its_model.specs.Station as stations;
 ghost use Rattle.its_model.specs.Station.{StationModel, station_step, verdict};
-ghost use Rattle.its_station.specs.Receiving.{IsFrameCall, TakesMemory, Tells};
+ghost use Rattle.its_station.specs.Counting.{counted};
+ghost use Rattle.its_station.specs.Receiving.{IsFrameCall, TakesMemory, Tells, DeliversEndOf};
+ghost use Rattle.its_station.specs.Receiving.{SendsAtMost};
+ghost use Rattle.its_station.specs.State.{RepresentsStation};
+ghost use Rattle.its_station.specs.Steps.{IsStepOf};
 ghost use Rattle.its_c.specs.Open.{HoldsModel};
-ghost use Rattle.its_c.specs.Told.{IsTold, ShowsReceived, nothing_received};
+ghost use Rattle.its_c.specs.Told.{IsTold, IsHeard, ShowsReceived, nothing_received, reception_in};
+ghost use Rattle.its_c.specs.Told.{reception_of};
 
+use crate::counting::count_received;
 use crate::handle::Geostation;
 use crate::layout::Reception;
+use crate::reading::kind_number;
 use crate::sending::LONGEST_FRAME;
 use crate::status::NO_ROOM;
 use crate::told::told_outcome;
+use its_linkframe::{FrameView, frame_length, read_frame, without_padding};
+use its_loctable::SortedTable;
+use its_station::{Outcome, Refused, Station};
 use std::alloc::Global;
 
+/// How many of the octets are a frame: its length where a beginning of them is a frame (there is
+/// one at most), else 0.
+#[unsafe(no_mangle)]
+pub extern "C" fn geostation_frame_length(octets: &[u8]) -> usize
+    ensures found { result ≢ 0 → IsFrameEnd octets.now result }
+    ensures only { (n : ℕ) → IsFrameEnd octets.now n → result ≡ n }
+{
+    frame_length(octets)
+}
+
 /// Takes the octets that came, and writes what became of them; the frame in which the packet goes
-/// on is written into `relay`. Refused by `NO_ROOM` for a buffer under 1468 octets, for its moment
-/// (S1, S2), for octets that are no frame (S3), whose fault the reception has, for a table that is
-/// full (S4), and for memory (S5).
+/// on is written into `relay`. Of at most 60 octets that begin with a frame the zeros behind it
+/// are left out: Ethernet fills a short frame up with them. Refused by `NO_ROOM` for a buffer under
+/// 1468 octets, for its moment (S1, S2), for octets that are no frame (S3), whose fault the
+/// reception has, for a table that is full (S4), and for memory (S5).
 #[unsafe(no_mangle)]
 pub extern "C" fn geostation_receive(
     alloc: Global,
@@ -31,23 +53,70 @@ pub extern "C" fn geostation_receive(
     relay: &mut [u8],
 ) -> i32
     ensures room { length relay.old < 1468 → (result ≡ pos 21) × (s.new ≡ s.old) }
-    ensures step { 1468 ≤ length relay.old → (call : Call) × IsFrameCall frame.now call
+    ensures step { 1468 ≤ length relay.old → (w : List ℕ) × IsUnpadded frame.now w
+        × (call : Call) × IsFrameCall w call
         × ((m : StationModel) → HoldsModel s.old.held.station m →
-        IsTold Tells (ShowsReceived frame.now reception.new relay.new) result
-        s.new.held.station (station_step m now call)) }
+        IsTold Tells (ShowsReceived w (reception_in call) reception.new relay.new) counted result
+        s.old s.new (station_step m now call)) }
     ensures unchanged { result ≢ pos 0 → s.new.held.station ≡ s.old.held.station }
     ensures nothing { result ≢ pos 0 → result ≢ pos 3 → reception.new ≡ nothing_received }
-    ensures memory { (m : StationModel) (t : Transmission) → HoldsModel s.old.held.station m →
-        EncodesFrame t frame.now → result ≡ pos 5 →
-        (verdict m now t ≡ station.Verdict.Accept) × TakesMemory m now t }
-    ensures junk { result ≡ pos 5 → IsFrame frame.now }
+    ensures memory { result ≡ pos 5 → (w : List ℕ) × IsUnpadded frame.now w
+        × (t : Transmission) × EncodesFrame t w
+        × ((m : StationModel) → HoldsModel s.old.held.station m →
+        (verdict m now t ≡ stations.Verdict.Accept) × TakesMemory m now t) }
 {
+    *reception = Reception::NOTHING;
     if relay.len() < LONGEST_FRAME {
-        *reception = Reception::NOTHING;
         return NO_ROOM;
     }
+    let frame = without_padding(frame);
     let mut station = s.held.take(alloc);
-    let said = station.receive(now, frame);
+    let said = hear(&mut station, now, frame, reception);
     s.held.put(station);
-    told_outcome(said, frame, reception, relay)
+    count_received(&mut s.counts, &said);
+    let heard = *reception;
+    told_outcome(said, heard, frame, reception, relay)
+}
+
+/// Hands the station octets that came, and writes what is told of each frame.
+fn hear<'a>(
+    station: &mut Station<SortedTable>,
+    now: u64,
+    frame: &'a [u8],
+    heard: &mut Reception,
+) -> Result<Outcome<'a>, Refused>
+    requires { heard.old ≡ nothing_received }
+    ensures heard { IsHeard heard.new }
+    ensures step { (call : Call) × IsFrameCall frame.now call × (heard.new ≡ reception_in call)
+        × ((m : StationModel) → RepresentsStation station.old m →
+        IsStepOf Tells result station.new (station_step m now call)) }
+    ensures memory { result ≡ Err Refused.NoMemory → (t : Transmission) × EncodesFrame t frame.now
+        × ((m : StationModel) → RepresentsStation station.old m →
+        (verdict m now t ≡ stations.Verdict.Accept) × TakesMemory m now t) }
+    ensures unchanged { OnErr result (station.new ≡ station.old) }
+    ensures payload { IfOk result (DeliversEndOf frame.now) }
+    ensures short_frame { IfOk result (SendsAtMost 1468) }
+{
+    match read_frame(frame) {
+        Ok(view) => {
+            *heard = reception_of(&view);
+            station.receive_frame(now, &view)
+        }
+        Err(_) => station.receive(now, frame),
+    }
+}
+
+/// What is told of each frame that isn't refused.
+fn reception_of(view: &FrameView<'_>) -> Reception
+    ensures { result ≡ reception_of (transmission_of view.now) }
+{
+    let packet = &view.packet;
+    Reception {
+        source: packet.vector().address().as_u64(),
+        kind: kind_number(packet.kind()),
+        number: packet.number().unwrap_or(0),
+        traffic_class: packet.class().octet(),
+        hops_left: packet.hops().left(),
+        ..Reception::NOTHING
+    }
 }

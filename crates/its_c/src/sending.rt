@@ -1,22 +1,25 @@
-//! The calls that send to all in reach: beacons and single-hop broadcasts, written into the caller's
-//! buffer.
+//! The calls that send to all in reach: beacons and single-hop broadcasts, written into the
+//! caller's buffer.
 
 ghost use Rattle.std.specs.Prelude.{◌≡◌, ◌≢◌, ◌≤◌, ◌<◌, ◌+◌, pos, length, IsTrue, nat_le, None};
 ghost use Rattle.its_model.specs.Calls.{Own};
 ghost use Rattle.its_model.specs.Calls.OwnCall.{Tick, SendShb};
 ghost use Rattle.its_model.specs.Station.{StationModel, station_step};
 ghost use Rattle.its_model.specs.Station.{first, moment_refusal, own_refusal};
+ghost use Rattle.its_station.specs.Counting.{counted_send, counted_tick};
 ghost use Rattle.its_station.specs.Beside.{send_shb_for_step, shb_refusal};
 ghost use Rattle.its_station.specs.Requests.{TellsTick, TellsSent, shb_request};
 ghost use Rattle.its_c.specs.Arguments.{shb_asked};
 ghost use Rattle.its_c.specs.Open.{HoldsModel};
 ghost use Rattle.its_c.specs.Told.{IsTold, ShowsBeacon, ShowsFrame};
 
+use crate::counting::{count_send, count_tick};
 use crate::handle::Geostation;
 use crate::layout::ShbRequest;
 use crate::status::NO_ROOM;
 use crate::told::{told_beacon, told_frame};
 use its_gnvalue::{Lifetime, TrafficClass};
+use its_headers::Kind;
 use its_station::ShbRequest as StationShbRequest;
 use std::alloc::Global;
 
@@ -38,7 +41,7 @@ pub extern "C" fn geostation_tick(
     ensures room { length frame.old < 1468 → (result ≡ pos 21) × (s.new ≡ s.old) }
     ensures step { (m : StationModel) → 1468 ≤ length frame.old →
         HoldsModel s.old.held.station m →
-        IsTold TellsTick (ShowsBeacon written.new frame.new) result s.new.held.station
+        IsTold TellsTick (ShowsBeacon written.new frame.new) counted_tick result s.old s.new
         (station_step m now (Own (Tick jitter))) }
     ensures unchanged { result ≢ pos 0 → s.new.held.station ≡ s.old.held.station }
     ensures nothing { result ≢ pos 0 → written.new ≡ 0 }
@@ -53,6 +56,7 @@ pub extern "C" fn geostation_tick(
     let mut station = s.held.take(alloc);
     let said = station.tick(now, jitter);
     s.held.put(station);
+    count_tick(&mut s.counts, &said);
     told_beacon(said, frame, written)
 }
 
@@ -72,7 +76,8 @@ pub extern "C" fn geostation_send_shb(
     ensures room { length frame.old < 1468 → (result ≡ pos 21) × (s.new ≡ s.old) }
     ensures step { (m : StationModel) → 1468 ≤ length frame.old →
         HoldsModel s.old.held.station m →
-        IsTold TellsSent (ShowsFrame written.new frame.new) result s.new.held.station
+        IsTold TellsSent (ShowsFrame written.new frame.new) (counted_send Kind.Shb) result
+        s.old s.new
         (station_step m now (Own (SendShb (shb_asked request.now payload.now)))) }
     ensures unchanged { result ≢ pos 0 → s.new.held.station ≡ s.old.held.station }
     ensures nothing { result ≢ pos 0 → written.new ≡ 0 }
@@ -88,6 +93,7 @@ pub extern "C" fn geostation_send_shb(
     let mut station = s.held.take(alloc);
     let said = station.send_shb(now, &r);
     s.held.put(station);
+    count_send(&mut s.counts, Kind::Shb, &said);
     told_frame(said, frame, written)
 }
 
@@ -107,7 +113,8 @@ pub extern "C" fn geostation_send_shb_for(
     ensures room { length frame.old < 1468 → (result ≡ pos 21) × (s.new ≡ s.old) }
     ensures step { (m : StationModel) → 1468 ≤ length frame.old →
         HoldsModel s.old.held.station m →
-        IsTold TellsSent (ShowsFrame written.new frame.new) result s.new.held.station
+        IsTold TellsSent (ShowsFrame written.new frame.new) (counted_send Kind.Shb) result
+        s.old s.new
         (send_shb_for_step m now lifetime (shb_asked request.now payload.now)) }
     ensures unchanged { result ≢ pos 0 → s.new.held.station ≡ s.old.held.station }
     ensures nothing { result ≢ pos 0 → written.new ≡ 0 }
@@ -122,6 +129,7 @@ pub extern "C" fn geostation_send_shb_for(
     let mut station = s.held.take(alloc);
     let said = station.send_shb_for(now, &r, Lifetime::from_octet(lifetime));
     s.held.put(station);
+    count_send(&mut s.counts, Kind::Shb, &said);
     told_frame(said, frame, written)
 }
 

@@ -7,13 +7,15 @@ ghost use Rattle.its_model.specs.Calls.{Own, area_call};
 ghost use Rattle.its_model.specs.Calls.OwnCall.{SendGbc, SendGac};
 ghost use Rattle.its_model.specs.Station.{StationModel, station_step};
 ghost use Rattle.its_model.specs.Station.{first, moment_refusal, own_refusal};
+ghost use Rattle.its_station.specs.Counting.{counted_send};
 ghost use Rattle.its_station.specs.Requests.{TellsSent, gbc_request};
 ghost use Rattle.its_station.specs.State.{RepresentsStation};
 ghost use Rattle.its_station.specs.Steps.{IsStepOf};
-ghost use Rattle.its_c.specs.Arguments.{IsAreaOf, gbc_asked, kind_of_cast};
+ghost use Rattle.its_c.specs.Arguments.{IsAreaOf, gbc_asked, kind_of_cast, kind_cast};
 ghost use Rattle.its_c.specs.Open.{HoldsModel};
 ghost use Rattle.its_c.specs.Told.{IsTold, ShowsFrame};
 
+use crate::counting::count_send;
 use crate::handle::Geostation;
 use crate::layout::AreaRequest;
 use crate::sending::LONGEST_FRAME;
@@ -21,6 +23,7 @@ use crate::status::{BAD_ARGUMENT, NO_ROOM};
 use crate::told::told_frame;
 use its_geometry::Area;
 use its_gnvalue::{Lifetime, Place, TrafficClass};
+use its_headers::Kind;
 use its_loctable::SortedTable;
 use its_station::{GbcRequest, Refused, Station};
 use std::alloc::Global;
@@ -30,6 +33,17 @@ use std::alloc::Global;
 enum AreaCast {
     Geobroadcast,
     Geoanycast,
+}
+
+impl AreaCast {
+    fn kind(self) -> Kind
+        ensures { result ≡ kind_cast self }
+    {
+        match self {
+            AreaCast::Geobroadcast => Kind::Gbc,
+            AreaCast::Geoanycast => Kind::Gac,
+        }
+    }
 }
 
 /// Writes the frame of a geobroadcast (GBC), to all stations in an area, with the station's next
@@ -50,9 +64,11 @@ pub extern "C" fn geostation_send_gbc(
     ensures step { (m : StationModel) → 1468 ≤ length frame.old →
         HoldsModel s.old.held.station m → result ≢ pos 20 →
         (area : GeoArea) × IsAreaOf request.now area ×
-        IsTold TellsSent (ShowsFrame written.new frame.new) result s.new.held.station
+        IsTold TellsSent (ShowsFrame written.new frame.new) (counted_send Kind.Gbc) result
+        s.old s.new
         (station_step m now (Own (SendGbc (gbc_asked request.now area payload.now)))) }
     ensures refused { result ≡ pos 20 → (area : GeoArea) → IsAreaOf request.now area → ⊥ }
+    ensures argument { result ≡ pos 20 → s.new ≡ s.old }
     ensures unchanged { result ≢ pos 0 → s.new.held.station ≡ s.old.held.station }
     ensures nothing { result ≢ pos 0 → written.new ≡ 0 }
     ensures memory { (m : StationModel) → HoldsModel s.old.held.station m → result ≡ pos 5 →
@@ -88,9 +104,11 @@ pub extern "C" fn geostation_send_gac(
     ensures step { (m : StationModel) → 1468 ≤ length frame.old →
         HoldsModel s.old.held.station m → result ≢ pos 20 →
         (area : GeoArea) × IsAreaOf request.now area ×
-        IsTold TellsSent (ShowsFrame written.new frame.new) result s.new.held.station
+        IsTold TellsSent (ShowsFrame written.new frame.new) (counted_send Kind.Gac) result
+        s.old s.new
         (station_step m now (Own (SendGac (gbc_asked request.now area payload.now)))) }
     ensures refused { result ≡ pos 20 → (area : GeoArea) → IsAreaOf request.now area → ⊥ }
+    ensures argument { result ≡ pos 20 → s.new ≡ s.old }
     ensures unchanged { result ≢ pos 0 → s.new.held.station ≡ s.old.held.station }
     ensures nothing { result ≢ pos 0 → written.new ≡ 0 }
     ensures memory { (m : StationModel) → HoldsModel s.old.held.station m → result ≡ pos 5 →
@@ -126,10 +144,12 @@ fn send_to_area(
     ensures step { (m : StationModel) → 1468 ≤ length frame.old →
         HoldsModel s.old.held.station m → result ≢ pos 20 →
         (area : GeoArea) × IsAreaOf request.now area ×
-        IsTold TellsSent (ShowsFrame written.new frame.new) result s.new.held.station
+        IsTold TellsSent (ShowsFrame written.new frame.new) (counted_send (kind_cast cast))
+        result s.old s.new
         (station_step m now
         (Own (area_call (kind_of_cast cast) (gbc_asked request.now area payload.now)))) }
     ensures refused { result ≡ pos 20 → (area : GeoArea) → IsAreaOf request.now area → ⊥ }
+    ensures argument { result ≡ pos 20 → s.new ≡ s.old }
     ensures unchanged { result ≢ pos 0 → s.new.held.station ≡ s.old.held.station }
     ensures nothing { result ≢ pos 0 → written.new ≡ 0 }
     ensures memory { (m : StationModel) → HoldsModel s.old.held.station m → result ≡ pos 5 →
@@ -148,6 +168,7 @@ fn send_to_area(
     let mut station = s.held.take(alloc);
     let said = frame_for_area(&mut station, now, cast, &r);
     s.held.put(station);
+    count_send(&mut s.counts, cast.kind(), &said);
     told_frame(said, frame, written)
 }
 

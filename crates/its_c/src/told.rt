@@ -4,7 +4,7 @@ ghost use Rattle.std.specs.Prelude.{◌≡◌, ◌≤◌, pos, length, Err, IfOk
 ghost use Rattle.its_station.specs.Receiving.{DeliversEndOf, HandsOutEndOf, SendsAtMost};
 ghost use Rattle.its_c.specs.Status.{status_in};
 ghost use Rattle.its_c.specs.Told.{Holds, ShowsFrame, ShowsBeacon, ShowsHanded, ShowsReceived};
-ghost use Rattle.its_c.specs.Told.{nothing_received, number_of, refused_reception};
+ghost use Rattle.its_c.specs.Told.{IsHeard, IsBesides, number_of, refused_reception};
 
 use crate::fault::FaultNumbers;
 use crate::layout::Reception;
@@ -67,27 +67,31 @@ pub(crate) fn told_beacon(
     }
 }
 
-/// The status of a call that takes a frame; what became of that is written.
+/// The status of a call that takes a frame, of which this is told where it isn't refused; what
+/// became of that is written.
 pub(crate) fn told_outcome(
     said: Result<Outcome<'_>, Refused>,
+    heard: Reception,
     frame: &[u8],
     reception: &mut Reception,
     relay: &mut [u8],
 ) -> i32
+    requires heard { IsHeard heard }
     requires end { IfOk said (DeliversEndOf frame.now) }
     requires room { 1468 ≤ length relay.old }
     requires short { IfOk said (SendsAtMost 1468) }
     ensures status { result ≡ status_in said.entry }
-    ensures shown { ShowsReceived frame.now reception.new relay.new said.entry }
+    ensures shown { ShowsReceived frame.now heard reception.new relay.new said.entry }
     ensures memory { result ≡ pos 5 → said.entry ≡ Err Refused.NoMemory }
 {
     match said {
         Ok(Outcome::Ignored(why)) => {
-            *reception = ignored_reception(why);
+            *reception = heard;
+            reception.ignored = number_of(why);
             OK
         }
         Ok(Outcome::Accepted { handed, sent }) => {
-            *reception = Reception::NOTHING;
+            *reception = heard;
             tell_handed(handed, frame, reception);
             if let Some(sent) = sent {
                 reception.relay_length = hand_out(sent.as_slice(), relay);
@@ -101,23 +105,12 @@ pub(crate) fn told_outcome(
     }
 }
 
-/// The reception of a frame that is ignored.
-fn ignored_reception(why: Why) -> Reception
-    ensures { result ≡ record nothing_received { ignored = number_of why } }
-{
-    Reception {
-        ignored: number_of(why),
-        ..Reception::NOTHING
-    }
-}
-
 /// Writes what is delivered.
 fn tell_handed(handed: Option<Handed<'_>>, frame: &[u8], reception: &mut Reception)
     requires end { HandsOutEndOf frame.now handed }
-    requires nothing { reception.old ≡ nothing_received }
+    requires heard { IsHeard reception.old }
     ensures shown { ShowsHanded frame.now reception.new handed.entry }
-    ensures ignored { reception.new.ignored ≡ 0 }
-    ensures fault { reception.new.fault ≡ 0 }
+    ensures besides { IsBesides reception.old reception.new }
     ensures relay { reception.new.relay_length ≡ 0 }
 {
     if let Some(handed) = handed {

@@ -31,4 +31,5 @@ returns-clause-step c = λ m long model.
       done = done;
       code = search rules;
       shown = c.told_frame.ensures.shown;
+      counts = search rules;
     }

@@ -27,4 +27,5 @@ returns-clause-step c = λ m long model.
       done = done;
       code = search rules;
       shown = c.told_beacon.ensures.shown;
+      counts = search rules;
     }

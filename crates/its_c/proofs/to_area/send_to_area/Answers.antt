@@ -38,5 +38,6 @@ returns-clause-step c = λ m long model fine.
         done = done;
         code = search rules;
         shown = c.told_frame.ensures.shown;
+        counts = search rules;
       },
     )

@@ -1,0 +1,78 @@
+/* Octets that may be NULL where there are none: the proved calls are given an address always. In
+ * the library c/build names those `proved_`; what is here has the header's names. */
+#include "geostation.h"
+
+int proved_geostation_send_shb(geostation_handle *s, uint64_t now,
+                               const struct geostation_shb_request *request,
+                               const uint8_t *payload, size_t payload_length,
+                               uint8_t *frame, size_t room, size_t *length);
+int proved_geostation_send_shb_for(geostation_handle *s, uint64_t now,
+                                   const struct geostation_shb_request *request, uint8_t lifetime,
+                                   const uint8_t *payload, size_t payload_length,
+                                   uint8_t *frame, size_t room, size_t *length);
+int proved_geostation_send_gbc(geostation_handle *s, uint64_t now,
+                               const struct geostation_area_request *request,
+                               const uint8_t *payload, size_t payload_length,
+                               uint8_t *frame, size_t room, size_t *length);
+int proved_geostation_send_gac(geostation_handle *s, uint64_t now,
+                               const struct geostation_area_request *request,
+                               const uint8_t *payload, size_t payload_length,
+                               uint8_t *frame, size_t room, size_t *length);
+int proved_geostation_receive(geostation_handle *s, uint64_t now, const uint8_t *frame,
+                              size_t length, struct geostation_reception *out, uint8_t *relay,
+                              size_t room);
+int proved_geostation_read_frame(const uint8_t *frame, size_t length,
+                                 struct geostation_packet *out);
+size_t proved_geostation_frame_length(const uint8_t *octets, size_t length);
+
+/* Where no octets are. */
+static const uint8_t none;
+
+static const uint8_t *address(const uint8_t *octets) {
+    return octets != NULL ? octets : &none;
+}
+
+int geostation_send_shb(geostation_handle *s, uint64_t now,
+                        const struct geostation_shb_request *request,
+                        const uint8_t *payload, size_t payload_length,
+                        uint8_t *frame, size_t room, size_t *length) {
+    return proved_geostation_send_shb(s, now, request, address(payload), payload_length, frame,
+                                      room, length);
+}
+
+int geostation_send_shb_for(geostation_handle *s, uint64_t now,
+                            const struct geostation_shb_request *request, uint8_t lifetime,
+                            const uint8_t *payload, size_t payload_length,
+                            uint8_t *frame, size_t room, size_t *length) {
+    return proved_geostation_send_shb_for(s, now, request, lifetime, address(payload),
+                                          payload_length, frame, room, length);
+}
+
+int geostation_send_gbc(geostation_handle *s, uint64_t now,
+                        const struct geostation_area_request *request,
+                        const uint8_t *payload, size_t payload_length,
+                        uint8_t *frame, size_t room, size_t *length) {
+    return proved_geostation_send_gbc(s, now, request, address(payload), payload_length, frame,
+                                      room, length);
+}
+
+int geostation_send_gac(geostation_handle *s, uint64_t now,
+                        const struct geostation_area_request *request,
+                        const uint8_t *payload, size_t payload_length,
+                        uint8_t *frame, size_t room, size_t *length) {
+    return proved_geostation_send_gac(s, now, request, address(payload), payload_length, frame,
+                                      room, length);
+}
+
+int geostation_receive(geostation_handle *s, uint64_t now, const uint8_t *frame, size_t length,
+                       struct geostation_reception *out, uint8_t *relay, size_t room) {
+    return proved_geostation_receive(s, now, address(frame), length, out, relay, room);
+}
+
+int geostation_read_frame(const uint8_t *frame, size_t length, struct geostation_packet *out) {
+    return proved_geostation_read_frame(address(frame), length, out);
+}
+
+size_t geostation_frame_length(const uint8_t *octets, size_t length) {
+    return proved_geostation_frame_length(address(octets), length);
+}

@@ -1,0 +1,115 @@
+//! What a handle counts: how often each thing happened since its station was made.
+
+ghost use Rattle.std.specs.Prelude.{◌≡◌};
+ghost use Rattle.its_station.specs.Counting.{counted, counted_done, counted_send, counted_tick};
+ghost use Rattle.its_c.specs.Counted.{counts_of};
+
+use crate::handle::Geostation;
+use crate::layout::ToldCounts;
+use its_headers::Kind;
+use its_station::{Counts, IgnoredCounts, Outcome, Refused, RefusedCounts, SentCounts};
+
+/// Writes how often each thing happened since the station was made: frames that came and what
+/// became of them, calls that were refused, by code, and what was sent. A call that returns
+/// `BAD_ARGUMENT` or `NO_ROOM` isn't counted, and a restart keeps the counts.
+#[unsafe(no_mangle)]
+pub extern "C" fn geostation_counts(s: &mut Geostation, counts: &mut ToldCounts)
+    ensures told { counts.new ≡ s.old.counts }
+    ensures unchanged { s.new ≡ s.old }
+{
+    *counts = s.counts;
+}
+
+/// Counts what came of a call that tells nothing but its status.
+pub(crate) fn count_done(told: &mut ToldCounts, said: &Result<(), Refused>)
+    ensures { counts_of told.new ≡ counted_done said.now (counts_of told.old) }
+{
+    let mut counts = counts_of(told);
+    counts.note_done(said);
+    *told = told_counts(&counts);
+}
+
+/// Counts what came of a tick.
+pub(crate) fn count_tick(told: &mut ToldCounts, said: &Result<Option<Vec<u8>>, Refused>)
+    ensures { counts_of told.new ≡ counted_tick said.now (counts_of told.old) }
+{
+    let mut counts = counts_of(told);
+    counts.note_tick(said);
+    *told = told_counts(&counts);
+}
+
+/// Counts what came of a call that sends a packet of this kind.
+pub(crate) fn count_send(told: &mut ToldCounts, kind: Kind, said: &Result<Vec<u8>, Refused>)
+    ensures { counts_of told.new ≡ counted_send kind said.now (counts_of told.old) }
+{
+    let mut counts = counts_of(told);
+    counts.note_send(kind, said);
+    *told = told_counts(&counts);
+}
+
+/// Counts what became of a frame.
+pub(crate) fn count_received(told: &mut ToldCounts, said: &Result<Outcome<'_>, Refused>)
+    ensures { counts_of told.new ≡ counted said.now (counts_of told.old) }
+{
+    let mut counts = counts_of(told);
+    counts.note_received(said);
+    *told = told_counts(&counts);
+}
+
+/// The counts of C's struct, as the station's library has them.
+fn counts_of(c: &ToldCounts) -> Counts
+    ensures { result ≡ counts_of c.now }
+{
+    Counts {
+        received: c.received,
+        accepted: c.accepted,
+        delivered: c.delivered,
+        relayed: c.relayed,
+        ignored: IgnoredCounts {
+            not_for_me: c.not_for_me,
+            own_source: c.own_source,
+            sender_mismatch: c.sender_mismatch,
+            duplicate: c.duplicate,
+        },
+        refused: RefusedCounts {
+            moment_earlier: c.moment_earlier,
+            moment_too_late: c.moment_too_late,
+            frame: c.frame,
+            table_full: c.table_full,
+            no_memory: c.no_memory,
+            other: c.other,
+        },
+        sent: SentCounts {
+            beacons: c.beacons,
+            single_hop: c.single_hop,
+            geobroadcasts: c.geobroadcasts,
+            geoanycasts: c.geoanycasts,
+        },
+    }
+}
+
+/// The counts in C's struct.
+pub(crate) fn told_counts(c: &Counts) -> ToldCounts
+    ensures { counts_of result ≡ c.now }
+{
+    ToldCounts {
+        received: c.received,
+        accepted: c.accepted,
+        delivered: c.delivered,
+        relayed: c.relayed,
+        not_for_me: c.ignored.not_for_me,
+        own_source: c.ignored.own_source,
+        sender_mismatch: c.ignored.sender_mismatch,
+        duplicate: c.ignored.duplicate,
+        moment_earlier: c.refused.moment_earlier,
+        moment_too_late: c.refused.moment_too_late,
+        frame: c.refused.frame,
+        table_full: c.refused.table_full,
+        no_memory: c.refused.no_memory,
+        other: c.refused.other,
+        beacons: c.sent.beacons,
+        single_hop: c.sent.single_hop,
+        geobroadcasts: c.sent.geobroadcasts,
+        geoanycasts: c.sent.geoanycasts,
+    }
+}
