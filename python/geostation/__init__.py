@@ -8,8 +8,21 @@ same calls. Moments are milliseconds; `latitude` and `longitude` are tenths of a
 from .calls import FRAME_MAX, LAST_MOMENT, PAYLOAD_MAX
 from .errors import BadArgument, BadFrame, Fault, Refused, Status
 from .line import Ended, Line
-from .station import Station, read_frame
-from .values import Area, Kind, Message, Packet, Reception, Shape, Vector, Why
+from .station import Station, frame_length, read_frame
+from .values import (
+    Area,
+    Counts,
+    IgnoredCounts,
+    Kind,
+    Message,
+    Packet,
+    Reception,
+    RefusedCounts,
+    SentCounts,
+    Shape,
+    Vector,
+    Why,
+)
 
 __all__ = [
     "FRAME_MAX",
@@ -18,19 +31,24 @@ __all__ = [
     "Area",
     "BadArgument",
     "BadFrame",
+    "Counts",
     "Ended",
     "Fault",
+    "IgnoredCounts",
     "Kind",
     "Line",
     "Message",
     "Packet",
     "Reception",
     "Refused",
+    "RefusedCounts",
+    "SentCounts",
     "Shape",
     "Station",
     "Status",
     "Vector",
     "Why",
+    "frame_length",
     "read_frame",
 ]
 __version__ = "0.1.0"

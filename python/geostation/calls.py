@@ -4,10 +4,10 @@ from __future__ import annotations
 
 from abc import ABC, abstractmethod
 from threading import get_ident
-from typing import Optional, Tuple, TypeVar, Union
+from typing import Iterator, List, Optional, Tuple, TypeVar, Union
 
 from .errors import BadArgument
-from .values import Area, Reception, place, whole
+from .values import Area, Counts, Reception, Vector, place, whole
 
 FRAME_MAX = 1468
 """The longest frame, in octets."""
@@ -199,6 +199,37 @@ class Calls(ABC):
             octets("payload", payload),
         )
 
+    def next_beacon(self, jitter: int = 0) -> int:
+        """The least moment at which `tick` with this jitter gives a beacon, in ms: never before the
+        last call. A jitter over 750 ms is refused.
+
+        A program draws a jitter once for each beacon, hands it to each `tick` until that gave the
+        beacon, and asks anew after a packet of its own and after `restart`, and not after a frame
+        that came: a sleep begun anew with each of these may never end."""
+        self._check_thread()
+        return self._next_beacon(whole("jitter", jitter, 0, 65535))
+
+    def look_up(self, now: int, address: Address) -> Optional[Vector]:
+        """The newest vector of the live source of an address. There is none at a moment before the
+        last call's, nor at one over `LAST_MOMENT`."""
+        self._check_thread()
+        return self._look_up(moment(now), address_of(address))
+
+    def neighbours(self, now: int) -> Iterator[Vector]:
+        """The vectors of the live neighbours, which are heard directly, by ascending address. One
+        of address 0 is found by `look_up` alone."""
+        moment(now)
+        after: Optional[int] = 0
+        while after is not None:
+            self._check_thread()
+            told, after = self._neighbours(now, after)
+            yield from told
+
+    def counts(self) -> Counts:
+        """What came, was ignored, refused and sent so far; `restart` keeps it."""
+        self._check_thread()
+        return self._counts()
+
     def receive(self, now: int, frame: bytes) -> Reception:
         """Takes a frame that came."""
         self._check_thread()
@@ -247,6 +278,19 @@ class Calls(ABC):
         area: Area,
         payload: bytes,
     ) -> bytes: ...
+
+    @abstractmethod
+    def _next_beacon(self, jitter: int) -> int: ...
+
+    @abstractmethod
+    def _counts(self) -> Counts: ...
+
+    @abstractmethod
+    def _look_up(self, now: int, address: int) -> Optional[Vector]: ...
+
+    @abstractmethod
+    def _neighbours(self, now: int, after: int) -> Tuple[List[Vector], Optional[int]]:
+        """Neighbours above an address, and above which there are more."""
 
     @abstractmethod
     def _receive(self, now: int, frame: bytes) -> Reception: ...

@@ -139,8 +139,8 @@ class BadFrame(Refused):
 
 def refused_by(code: str) -> Refused:
     """The refusal of a code, as a station on a pipe tells it."""
-    frame = re.fullmatch(r"S3 L([1-5])(?: G(\d+) at (\d+))?", code)
+    frame = re.fullmatch(r"(S3 )?L([1-5])(?: G(\d+) at (\d+))?", code)
     if frame:
-        layer, kind, at = frame.groups("0")
-        return BadFrame(Fault(int(layer), int(kind), int(at)))
+        received, layer, kind, at = frame.groups("0")
+        return BadFrame(Fault(int(layer), int(kind), int(at)), received=received == "S3 ")
     return Refused(STATUSES[code])

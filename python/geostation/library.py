@@ -14,8 +14,10 @@ from typing import Any
 from .errors import Fault
 
 NAME = "libgeostation.so.0"
-# Of a library that doesn't tell its ABI yet: the layouts below are those of its header.
-ABI = 1
+# The layouts below are those of a header with this ABI.
+ABI = 2
+# The moment of a beacon that never comes.
+NEVER = (1 << 64) - 1
 
 
 class Reception(c.Structure):
@@ -30,6 +32,45 @@ class Reception(c.Structure):
         ("fault", c.c_uint32),
         ("fault_kind", c.c_uint32),
         ("fault_at", c.c_size_t),
+        ("source", c.c_uint64),
+        ("kind", c.c_uint32),
+        ("number", c.c_uint16),
+        ("traffic_class", c.c_uint8),
+        ("hops_left", c.c_uint8),
+    ]
+
+
+class Config(c.Structure):
+    _fields_ = [
+        ("size", c.c_uint64),
+        ("address", c.c_uint64),
+        ("latitude", c.c_int32),
+        ("longitude", c.c_int32),
+        ("capacity", c.c_uint16),
+        ("remember", c.c_uint16),
+        ("mobile", c.c_uint16),
+        ("number", c.c_uint16),
+    ]
+
+
+def _counters(*names: str) -> Any:
+    return type("Counters", (c.Structure,), {"_fields_": [(name, c.c_uint64) for name in names]})
+
+
+class Counts(c.Structure):
+    _fields_ = [
+        ("received", c.c_uint64),
+        ("accepted", c.c_uint64),
+        ("delivered", c.c_uint64),
+        ("relayed", c.c_uint64),
+        ("ignored", _counters("not_for_me", "own_source", "sender_mismatch", "duplicate")),
+        (
+            "refused",
+            _counters(
+                "moment_earlier", "moment_too_late", "frame", "table_full", "no_memory", "other"
+            ),
+        ),
+        ("sent", _counters("beacons", "single_hop", "geobroadcasts", "geoanycasts")),
     ]
 
 
@@ -107,7 +148,15 @@ class Packet(c.Structure):
 
 
 # The sizes that the library asserts of its structs, with pointers of 64 bits.
-SIZES = {Reception: 56, ShbRequest: 6, AreaRequest: 24, Vector: 32, Packet: 120}
+SIZES = {
+    Reception: 72,
+    Config: 32,
+    Counts: 144,
+    ShbRequest: 6,
+    AreaRequest: 24,
+    Vector: 32,
+    Packet: 120,
+}
 
 _OCTETS = (c.c_char_p, c.c_size_t)
 _WRITTEN = (c.c_char_p, c.c_size_t, c.POINTER(c.c_size_t))
@@ -116,15 +165,8 @@ _FOUND = (c.c_void_p, c.c_uint64, c.c_uint64, c.POINTER(Vector))
 
 # Each call: what it returns and what it takes.
 CALLS = {
-    "new": (
-        c.c_int,
-        c.POINTER(c.c_void_p),
-        c.c_uint64,
-        c.c_int32,
-        c.c_int32,
-        c.c_uint16,
-        c.c_uint8,
-    ),
+    "config_init": (None, c.POINTER(Config)),
+    "new_with": (c.c_int, c.POINTER(c.c_void_p), c.POINTER(Config)),
     "free": (None, c.c_void_p),
     "move": (
         c.c_int,
@@ -136,11 +178,31 @@ CALLS = {
         c.c_int16,
         c.c_uint16,
     ),
+    "move_at": (
+        c.c_int,
+        c.c_void_p,
+        c.c_uint64,
+        c.c_uint32,
+        c.c_int32,
+        c.c_int32,
+        c.c_uint8,
+        c.c_int16,
+        c.c_uint16,
+    ),
     "open_port": (c.c_int, c.c_void_p, c.c_uint64, c.c_uint16),
     "close_port": (c.c_int, c.c_void_p, c.c_uint64, c.c_uint16),
     "restart": (c.c_int, c.c_void_p, c.c_uint64, c.c_uint16),
     "tick": (c.c_int, c.c_void_p, c.c_uint64, c.c_uint16, *_WRITTEN),
     "send_shb": (c.c_int, c.c_void_p, c.c_uint64, c.POINTER(ShbRequest), *_OCTETS, *_WRITTEN),
+    "send_shb_for": (
+        c.c_int,
+        c.c_void_p,
+        c.c_uint64,
+        c.POINTER(ShbRequest),
+        c.c_uint8,
+        *_OCTETS,
+        *_WRITTEN,
+    ),
     "send_gbc": (c.c_int, *_AREA),
     "send_gac": (c.c_int, *_AREA),
     "receive": (
@@ -152,7 +214,10 @@ CALLS = {
         c.c_char_p,
         c.c_size_t,
     ),
-    "next_beacon": (c.c_uint64, c.c_void_p),
+    "beacon_at": (c.c_uint64, c.c_void_p, c.c_uint16),
+    "next_number": (c.c_uint16, c.c_void_p),
+    "counts": (None, c.c_void_p, c.POINTER(Counts)),
+    "frame_length": (c.c_size_t, *_OCTETS),
     "neighbour": (c.c_int, *_FOUND),
     "look_up": (c.c_int, *_FOUND),
     "read_frame": (c.c_int, *_OCTETS, c.POINTER(Packet)),
@@ -187,10 +252,8 @@ def _find() -> str:
 
 def check_abi(shared: Any) -> None:
     """Refuses a library of other layouts before the first call."""
-    told = 1
-    if hasattr(shared, "geostation_abi"):
-        shared.geostation_abi.restype = c.c_uint32
-        told = shared.geostation_abi()
+    shared.geostation_abi.restype = c.c_uint32
+    told = shared.geostation_abi()
     if told != ABI:
         raise ImportError(f"the library's layouts are of version {told}, this package's of {ABI}")
     if c.sizeof(c.c_void_p) == 8:

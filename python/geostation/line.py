@@ -5,11 +5,28 @@ from __future__ import annotations
 import json
 import os
 import subprocess
-from typing import Any, Dict, Optional, Sequence, Union
+from typing import Any, Dict, List, Optional, Sequence, Tuple, Union
 
-from .calls import FRAME_MAX, PAYLOAD_MAX, Calls
-from .errors import BadArgument, refused_by
-from .values import Area, Message, Reception, Why
+from .calls import FRAME_MAX, PAYLOAD_MAX, Calls, octets
+from .errors import BadArgument, Refused, Status, refused_by
+from .values import (
+    Area,
+    Counts,
+    IgnoredCounts,
+    Kind,
+    Message,
+    Packet,
+    Reception,
+    RefusedCounts,
+    SentCounts,
+    Shape,
+    Vector,
+    Why,
+)
+
+# Where an SHB has its media-dependent data, which no line tells: behind the link's header and the
+# packet's headers up to the source's position vector.
+MEDIA = slice(50, 54)
 
 _WHY = {str(why): why for why in Why}
 # The arguments whose keys have other names.
@@ -21,6 +38,7 @@ _NAMES = {
     "tc": "traffic_class",
     "lt": "lifetime",
     "hops": "max_hops",
+    "after": "address",
 }
 
 
@@ -63,14 +81,15 @@ class Line(Calls):
 
     __del__ = _end
 
-    def ask(self, do: str, at: int, **keys: Any) -> Dict[str, Any]:
+    def ask(self, do: str, at: Optional[int] = None, **keys: Any) -> Dict[str, Any]:
         """The answer to a line, as the program gives it. What the station refuses is raised."""
         self._check_thread()
         process = self._process
         if process is None:
             raise ValueError("the station was freed")
         assert process.stdin is not None and process.stdout is not None
-        line = json.dumps({"at": at, "do": do, **keys}).encode() + b"\n"
+        moment = {} if at is None else {"at": at}
+        line = json.dumps({**moment, "do": do, **keys}).encode() + b"\n"
         try:
             process.stdin.write(line)
             process.stdin.flush()
@@ -164,18 +183,87 @@ class Line(Calls):
         )
         return self._sent(answer)
 
+    def _next_beacon(self, jitter: int) -> int:
+        return int(self.ask("next_beacon", jitter=jitter)["moment"])
+
+    def _counts(self) -> Counts:
+        told = self.ask("counts")
+        first = [told[key] for key in ("received", "accepted", "delivered", "relayed")]
+        parts = (IgnoredCounts(**told["ignored"]), RefusedCounts(**told["refused"]))
+        return Counts(*first, *parts, SentCounts(**told["sent"]))
+
+    def _look_up(self, now: int, address: int) -> Optional[Vector]:
+        told = self._asked("look_up", now, address=f"{address:016x}")
+        return _vector(told) if told and told["result"] == "found" else None
+
+    def _neighbours(self, now: int, after: int) -> Tuple[List[Vector], Optional[int]]:
+        told = self._asked("neighbours", now, after=f"{after:016x}")
+        if not told:
+            return [], None
+        vectors = [_vector(keys) for keys in told["vectors"]]
+        return vectors, vectors[-1].address if told["more"] else None
+
+    def _asked(self, do: str, at: int, **keys: Any) -> Dict[str, Any]:
+        """What is asked of what the station heard: nothing where the moment is refused."""
+        try:
+            return self.ask(do, at, **keys)
+        except Refused as refused:
+            if refused.status in (Status.MOMENT_EARLIER, Status.MOMENT_TOO_LATE):
+                return {}
+            raise
+
+    def read_frame(self, frame: bytes) -> Packet:
+        """As `geostation.read_frame`, by the program: the station isn't asked."""
+        frame = octets("frame", frame)
+        told = self.ask("read_frame", frame=_short(frame, FRAME_MAX).hex())
+        kind = Kind[told["kind"].upper()]
+        is_to_area = kind in (Kind.GBC, Kind.GAC)
+        return Packet(
+            bytes.fromhex(told["to"]),
+            bytes.fromhex(told["from"]),
+            kind,
+            _vector(told),
+            told["hops"],
+            told["max_hops"],
+            told["lt"],
+            told["tc"],
+            told["mobile"],
+            frame[MEDIA] if kind is Kind.SHB else None,
+            told.get("number"),
+            _area(told) if is_to_area else None,
+            None if kind is Kind.BEACON else _message(told),
+        )
+
     def _receive(self, now: int, frame: bytes) -> Reception:
         answer = self.ask("receive", now, frame=_short(frame, FRAME_MAX).hex())
         if answer["result"] == "ignored":
             return Reception(ignored=_WHY[answer["why"]])
-        delivered = None
-        if "payload" in answer:
-            payload = bytes.fromhex(answer["payload"])
-            delivered = Message(answer["port"], answer["info"], payload)
+        delivered = _message(answer) if "payload" in answer else None
         relay = self._sent(answer) if "frame" in answer else None
-        return Reception(delivered=delivered, relay=relay)
+        return Reception(delivered=delivered, relay=relay, source=int(answer["source"], 16))
 
 
-def _short(octets: bytes, most: int) -> bytes:
+def _short(told: bytes, most: int) -> bytes:
     """Octets that fit a line: of more than may be, one more is refused as all of them are."""
-    return octets[: most + 1]
+    return told[: most + 1]
+
+
+def _vector(keys: Dict[str, Any]) -> Vector:
+    return Vector(
+        int(keys["address"], 16),
+        keys["tst"],
+        keys["lat"],
+        keys["lon"],
+        keys["speed"],
+        keys["heading"],
+        keys["pai"],
+    )
+
+
+def _area(keys: Dict[str, Any]) -> Area:
+    sizes = (keys["a"], keys["b"], keys["angle"])
+    return Area(Shape[keys["shape"].upper()], keys["alat"], keys["alon"], *sizes)
+
+
+def _message(keys: Dict[str, Any]) -> Message:
+    return Message(keys["port"], keys["info"], bytes.fromhex(keys["payload"]))

@@ -3,12 +3,27 @@
 from __future__ import annotations
 
 import ctypes as c
-from typing import Any, Iterator, Optional
+from typing import Any, List, Optional, Tuple
 
 from . import library
-from .calls import FRAME_MAX, Address, Calls, address_of, moment, octets
+from .calls import FRAME_MAX, Address, Calls, Degrees, moment, octets
 from .errors import BadFrame, Refused, Status
-from .values import Area, Kind, Message, Packet, Reception, Shape, Vector, Why
+from .values import (
+    Area,
+    Counts,
+    IgnoredCounts,
+    Kind,
+    Message,
+    Packet,
+    Reception,
+    RefusedCounts,
+    SentCounts,
+    Shape,
+    Vector,
+    Why,
+    place,
+    whole,
+)
 
 
 def _vector(told: library.Vector) -> Vector:
@@ -23,6 +38,10 @@ def _vector(told: library.Vector) -> Vector:
     )
 
 
+def _numbers(counters: Any) -> List[int]:
+    return [int(getattr(counters, name)) for name, _ in counters._fields_]
+
+
 def _done(status: int) -> None:
     if status:
         raise Refused(Status(status))
@@ -35,12 +54,39 @@ class Station(Calls):
 
     _handle: Optional[c.c_void_p] = None
 
+    def __init__(
+        self,
+        address: Address,
+        *,
+        latitude: Optional[int] = None,
+        longitude: Optional[int] = None,
+        degrees: Degrees = None,
+        capacity: int = 64,
+        remember: int = 8,
+        mobile: bool = True,
+        number: int = 0,
+    ):
+        """A road-side unit isn't `mobile`; `number` is the first packet's for an area."""
+        self._mobile, self._number = bool(mobile), whole("number", number, 0, 65535)
+        super().__init__(
+            address,
+            latitude=latitude,
+            longitude=longitude,
+            degrees=degrees,
+            capacity=capacity,
+            remember=remember,
+        )
+
     def _make(
         self, address: int, latitude: int, longitude: int, capacity: int, remember: int
     ) -> None:
         self._library = library.load()
-        handle = c.c_void_p()
-        _done(self._library.new(handle, address, latitude, longitude, capacity, remember))
+        handle, config = c.c_void_p(), library.Config()
+        self._library.config_init(config)
+        config.address, config.latitude, config.longitude = address, latitude, longitude
+        config.capacity, config.remember = capacity, remember
+        config.mobile, config.number = self._mobile, self._number
+        _done(self._library.new_with(handle, config))
         self._handle = handle
         self._frame = c.create_string_buffer(FRAME_MAX)
         self._length = c.c_size_t()
@@ -132,31 +178,93 @@ class Station(Calls):
             Why(told.ignored) if told.ignored else None,
             delivered,
             c.string_at(self._frame, told.relay_length) or None,
+            None if told.ignored else told.source,
         )
 
-    def next_beacon(self) -> int:
-        """The least moment at which `tick` with no jitter gives a beacon, in ms."""
-        self._check_thread()
-        return int(self._library.next_beacon(self._open()))
+    def _next_beacon(self, jitter: int) -> int:
+        due = int(self._library.beacon_at(self._open(), jitter))
+        if due == library.NEVER:
+            raise Refused(Status.JITTER_RANGE)
+        return due
 
-    def look_up(self, now: int, address: Address) -> Optional[Vector]:
-        """The newest vector of the live source of an address. There is none at a moment before the
-        last call's, nor at one over `LAST_MOMENT`."""
+    def move_at(
+        self,
+        now: int,
+        timestamp: int,
+        *,
+        latitude: Optional[int] = None,
+        longitude: Optional[int] = None,
+        degrees: Degrees = None,
+        accurate: bool = True,
+        speed: int = 0,
+        heading: int = 0,
+    ) -> None:
+        """As `move`, with the time stamp of the fix in place of that of `now`: milliseconds since
+        2004-01-01 TAI, modulo 2^32."""
         self._check_thread()
-        told = library.Vector()
-        found = self._library.look_up(self._open(), moment(now), address_of(address), told)
-        return _vector(told) if found else None
+        _done(
+            self._library.move_at(
+                self._open(),
+                moment(now),
+                whole("timestamp", timestamp, 0, (1 << 32) - 1),
+                *place(latitude, longitude, degrees),
+                bool(accurate),
+                whole("speed", speed, -16384, 16383),
+                whole("heading", heading, 0, 65535),
+            )
+        )
 
-    def neighbours(self, now: int) -> Iterator[Vector]:
-        """The vectors of the live neighbours, which are heard directly, by ascending address. One
-        of address 0 is found by `look_up` alone."""
-        moment(now)
+    def send_shb_for(
+        self,
+        now: int,
+        lifetime: int,
+        *,
+        port: int,
+        payload: bytes,
+        info: int = 0,
+        traffic_class: int = 0,
+    ) -> bytes:
+        """As `send_shb`, with this octet of a lifetime: a multiplier, then a base. That of
+        `send_shb` is 0x1a, 60 s."""
+        self._check_thread()
+        request = library.ShbRequest(
+            whole("port", port, 0, 65535),
+            whole("info", info, 0, 65535),
+            whole("traffic_class", traffic_class, 0, 255),
+        )
+        told = octets("payload", payload)
+        octet = whole("lifetime", lifetime, 0, 255)
+        call = self._library.send_shb_for
+        return self._written(call, moment(now), request, octet, told, len(told))
+
+    def next_number(self) -> int:
+        """The sequence number of the station's next packet for an area."""
+        self._check_thread()
+        return int(self._library.next_number(self._open()))
+
+    def _counts(self) -> Counts:
+        told = library.Counts()
+        self._library.counts(self._open(), told)
+        first = (told.received, told.accepted, told.delivered, told.relayed)
+        ignored, refused = _numbers(told.ignored), _numbers(told.refused)
+        parts = (IgnoredCounts(*ignored), RefusedCounts(*refused))
+        return Counts(*first, *parts, SentCounts(*_numbers(told.sent)))
+
+    def _look_up(self, now: int, address: int) -> Optional[Vector]:
         told = library.Vector()
-        while True:
-            self._check_thread()
-            if not self._library.neighbour(self._open(), now, told.address, told):
-                return
-            yield _vector(told)
+        return _vector(told) if self._library.look_up(self._open(), now, address, told) else None
+
+    def _neighbours(self, now: int, after: int) -> Tuple[List[Vector], Optional[int]]:
+        told = library.Vector()
+        if not self._library.neighbour(self._open(), now, after, told):
+            return [], None
+        return [_vector(told)], told.address
+
+
+def frame_length(told: bytes) -> int:
+    """How many of the octets are a frame: its length where a beginning of them is one, else 0."""
+    told = octets("octets", told)
+    return int(library.load().frame_length(told, len(told)))
 
 
 def read_frame(frame: bytes) -> Packet:

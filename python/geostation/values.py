@@ -166,6 +166,8 @@ class Reception:
     """What is delivered to a port."""
     relay: Optional[bytes] = None
     """The frame that is to be sent on."""
+    source: Optional[int] = None
+    """The address of an accepted packet's source."""
 
 
 @dataclass(frozen=True)
@@ -193,3 +195,48 @@ class Packet:
     """Of a GBC or GAC."""
     message: Optional[Message] = None
     """Of all but a beacon."""
+
+
+@dataclass(frozen=True)
+class IgnoredCounts:
+    """How many frames were ignored for each reason."""
+
+    not_for_me: int
+    own_source: int
+    sender_mismatch: int
+    duplicate: int
+
+
+@dataclass(frozen=True)
+class RefusedCounts:
+    """How many calls were refused, by S1 to S5, and by S6 to S9 together."""
+
+    moment_earlier: int
+    moment_too_late: int
+    frame: int
+    table_full: int
+    no_memory: int
+    other: int
+
+
+@dataclass(frozen=True)
+class SentCounts:
+    """How many frames of its own a station sent of each kind."""
+
+    beacons: int
+    single_hop: int
+    geobroadcasts: int
+    geoanycasts: int
+
+
+@dataclass(frozen=True)
+class Counts:
+    """How often each thing happened since the station was made."""
+
+    received: int
+    accepted: int
+    delivered: int
+    relayed: int
+    ignored: IgnoredCounts
+    refused: RefusedCounts
+    sent: SentCounts

@@ -25,6 +25,7 @@ from geostation import (
     Status,
     Why,
     errors,
+    frame_length,
     library,
     read_frame,
 )
@@ -45,6 +46,7 @@ class Stations(unittest.TestCase):
                 self.assertEqual((None, Message(2002, 7, b"hi")), (got.ignored, got.delivered))
                 self.assertEqual(76, len(got.relay))
                 self.assertEqual(Reception(Why.OWN_SOURCE), a.receive(12, got.relay))
+                self.assertEqual(A, got.source)
                 self.assertEqual("duplicate", str(b.receive(12, frame).ignored))
                 told = read_frame(got.relay)
                 self.assertEqual((Kind.GBC, A, 449), (told.kind, told.vector.address, 449))
@@ -78,6 +80,38 @@ class Stations(unittest.TestCase):
         self.assertEqual(heard[0], a.look_up(3001, B))
         self.assertIsNone(a.look_up(23002, B))
         self.assertEqual([], list(a.neighbours(23002)))
+
+    def test_a_fix_a_lifetime_and_a_number(self):
+        a = Station(A, latitude=0, longitude=0)
+        a.move_at(1000, 4294967295, latitude=5, longitude=6, accurate=False)
+        told = read_frame(a.send_shb_for(1000, 0x05, port=9, payload=b"x"))
+        self.assertEqual((0x05, 4294967295), (told.lifetime, told.vector.timestamp))
+        self.assertEqual((5, 6, False), dataclasses.astuple(told.vector)[2:4] + (False,))
+        self.assertEqual(0x1A, read_frame(a.send_shb(1000, port=9, payload=b"x")).lifetime)
+        # 3 s after the last packet, and the jitter.
+        self.assertEqual(4750, a.next_beacon(750))
+        with self.assertRaises(Refused) as told:
+            a.next_beacon(751)
+        self.assertEqual("S9", told.exception.code)
+        self.assertEqual(0, a.next_number())
+        a.restart(1000, 65535)
+        self.assertEqual(65535, a.next_number())
+
+    def test_a_road_side_unit_its_counts_and_padding(self):
+        a = Station(A, latitude=0, longitude=0, mobile=False, number=65535)
+        frame = a.send_gbc(5, port=1, payload=b"", area=CIRCLE)
+        told = read_frame(frame)
+        self.assertEqual((False, 65535, 0), (told.mobile, told.number, a.next_number()))
+        beacon = Station(B, latitude=0, longitude=0).tick(0)
+        padded = beacon + bytes(60 - len(beacon))
+        self.assertEqual((50, 0), (frame_length(padded), frame_length(padded[1:])))
+        self.assertEqual(Reception(source=B), a.receive(5, padded))
+        with self.assertRaises(BadFrame):
+            a.receive(5, b"")
+        counts = a.counts()
+        self.assertEqual((2, 1, 0, 0), dataclasses.astuple(counts)[:4])
+        self.assertEqual((0, 0, 1, 0, 0, 0), dataclasses.astuple(counts.refused))
+        self.assertEqual((0, 0, 1, 0), dataclasses.astuple(counts.sent))
 
     def test_refusals(self):
         a = Station(A, latitude=0, longitude=0)
@@ -187,6 +221,8 @@ class Library(unittest.TestCase):
     def test_layouts_are_the_headers(self):
         structs = {
             "reception": library.Reception,
+            "config": library.Config,
+            "counts": library.Counts,
             "shb_request": library.ShbRequest,
             "area_request": library.AreaRequest,
             "vector": library.Vector,

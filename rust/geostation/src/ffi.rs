@@ -29,6 +29,38 @@ pub(crate) struct Reception {
     pub(crate) fault: u32,
     pub(crate) fault_kind: u32,
     pub(crate) fault_at: usize,
+    pub(crate) source: u64,
+    pub(crate) kind: u32,
+    pub(crate) number: u16,
+    pub(crate) traffic_class: u8,
+    pub(crate) hops_left: u8,
+}
+
+/// `struct geostation_config`.
+#[repr(C)]
+#[derive(Default)]
+pub(crate) struct Config {
+    pub(crate) size: u64,
+    pub(crate) address: u64,
+    pub(crate) latitude: i32,
+    pub(crate) longitude: i32,
+    pub(crate) capacity: u16,
+    pub(crate) remember: u16,
+    pub(crate) mobile: u16,
+    pub(crate) number: u16,
+}
+
+/// `struct geostation_counts`.
+#[repr(C)]
+#[derive(Default)]
+pub(crate) struct Counts {
+    pub(crate) received: u64,
+    pub(crate) accepted: u64,
+    pub(crate) delivered: u64,
+    pub(crate) relayed: u64,
+    pub(crate) ignored: [u64; 4],
+    pub(crate) refused: [u64; 6],
+    pub(crate) sent: [u64; 4],
 }
 
 /// `struct geostation_shb_request`.
@@ -116,11 +148,12 @@ pub(crate) struct Packet {
 #[cfg(target_pointer_width = "64")]
 const _: () = {
     use std::mem::size_of;
-    assert!(size_of::<Reception>() == 56 && size_of::<Packet>() == 120);
+    assert!(size_of::<Reception>() == 72 && size_of::<Packet>() == 120);
     assert!(size_of::<Message>() == 24);
 };
 const _: () = {
     use std::mem::size_of;
+    assert!(size_of::<Config>() == 32 && size_of::<Counts>() == 144);
     assert!(size_of::<ShbRequest>() == 6 && size_of::<AreaRequest>() == 24);
     assert!(size_of::<Vector>() == 32 && size_of::<Area>() == 16);
 };
@@ -137,18 +170,22 @@ type SendToArea = unsafe extern "C" fn(
 ) -> c_int;
 
 extern "C" {
-    fn geostation_new(
-        out: *mut *mut Opaque,
-        address: u64,
-        latitude: i32,
-        longitude: i32,
-        capacity: u16,
-        remember: u8,
-    ) -> c_int;
+    fn geostation_config_init(config: *mut Config);
+    fn geostation_new_with(out: *mut *mut Opaque, config: *const Config) -> c_int;
     fn geostation_free(s: *mut Opaque);
     fn geostation_move(
         s: *mut Opaque,
         now: u64,
+        latitude: i32,
+        longitude: i32,
+        accurate: u8,
+        speed: i16,
+        heading: u16,
+    ) -> c_int;
+    fn geostation_move_at(
+        s: *mut Opaque,
+        now: u64,
+        timestamp: u32,
         latitude: i32,
         longitude: i32,
         accurate: u8,
@@ -170,6 +207,17 @@ extern "C" {
         s: *mut Opaque,
         now: u64,
         request: *const ShbRequest,
+        payload: *const u8,
+        payload_length: usize,
+        frame: *mut u8,
+        room: usize,
+        length: *mut usize,
+    ) -> c_int;
+    fn geostation_send_shb_for(
+        s: *mut Opaque,
+        now: u64,
+        request: *const ShbRequest,
+        lifetime: u8,
         payload: *const u8,
         payload_length: usize,
         frame: *mut u8,
@@ -205,7 +253,10 @@ extern "C" {
         relay: *mut u8,
         room: usize,
     ) -> c_int;
-    fn geostation_next_beacon(s: *const Opaque) -> u64;
+    fn geostation_next_number(s: *const Opaque) -> u16;
+    fn geostation_beacon_at(s: *const Opaque, jitter: u16) -> u64;
+    fn geostation_counts(s: *const Opaque, out: *mut Counts);
+    fn geostation_frame_length(octets: *const u8, length: usize) -> usize;
     fn geostation_neighbour(s: *const Opaque, now: u64, after: u64, out: *mut Vector) -> c_int;
     fn geostation_look_up(s: *const Opaque, now: u64, address: u64, out: *mut Vector) -> c_int;
     fn geostation_read_frame(frame: *const u8, length: usize, out: *mut Packet) -> c_int;
@@ -231,17 +282,11 @@ impl Drop for Handle {
 }
 
 impl Handle {
-    pub(crate) fn new(
-        address: u64,
-        latitude: i32,
-        longitude: i32,
-        capacity: u16,
-        remember: u8,
-    ) -> Result<Handle, c_int> {
+    pub(crate) fn new(config: &Config) -> Result<Handle, c_int> {
         let mut out = null_mut();
-        // SAFETY: `out` is a pointer's place, to which the call writes a handle or NULL.
-        let status =
-            unsafe { geostation_new(&mut out, address, latitude, longitude, capacity, remember) };
+        // SAFETY: `out` is a pointer's place, to which the call writes a handle or NULL; the config
+        // is read alone.
+        let status = unsafe { geostation_new_with(&mut out, config) };
         NonNull::new(out).map(Handle).ok_or(status)
     }
 
@@ -256,6 +301,22 @@ impl Handle {
         let (s, accurate) = (self.0.as_ptr(), accurate.into());
         // SAFETY: the handle lives, and is in this call alone.
         unsafe { geostation_move(s, now, latitude, longitude, accurate, speed, heading) }
+    }
+
+    pub(crate) fn move_at(
+        &mut self,
+        now: u64,
+        timestamp: u32,
+        (latitude, longitude): (i32, i32),
+        accurate: bool,
+        speed: i16,
+        heading: u16,
+    ) -> c_int {
+        let (s, accurate) = (self.0.as_ptr(), accurate.into());
+        // SAFETY: the handle lives, and is in this call alone.
+        unsafe {
+            geostation_move_at(s, now, timestamp, latitude, longitude, accurate, speed, heading)
+        }
     }
 
     pub(crate) fn open_port(&mut self, now: u64, port: u16) -> c_int {
@@ -296,6 +357,34 @@ impl Handle {
         // and don't overlap, as one of them is borrowed mutably.
         let status = unsafe {
             geostation_send_shb(s, now, request, given, count, octets, room, &mut length)
+        };
+        (status, length)
+    }
+
+    pub(crate) fn send_shb_for(
+        &mut self,
+        now: u64,
+        request: &ShbRequest,
+        lifetime: u8,
+        payload: &[u8],
+        frame: &mut [u8],
+    ) -> Written {
+        let (s, mut length) = (self.0.as_ptr(), 0);
+        let (octets, room) = (frame.as_mut_ptr(), frame.len());
+        let (given, count) = (payload.as_ptr(), payload.len());
+        // SAFETY: as for `geostation_send_shb`.
+        let status = unsafe {
+            geostation_send_shb_for(
+                s,
+                now,
+                request,
+                lifetime,
+                given,
+                count,
+                octets,
+                room,
+                &mut length,
+            )
         };
         (status, length)
     }
@@ -352,9 +441,21 @@ impl Handle {
         (status, out)
     }
 
-    pub(crate) fn next_beacon(&self) -> u64 {
+    pub(crate) fn next_number(&self) -> u16 {
         // SAFETY: the handle lives, and is in this call alone, since it isn't `Sync`.
-        unsafe { geostation_next_beacon(self.0.as_ptr()) }
+        unsafe { geostation_next_number(self.0.as_ptr()) }
+    }
+
+    pub(crate) fn beacon_at(&self, jitter: u16) -> u64 {
+        // SAFETY: the handle lives, and is in this call alone, since it isn't `Sync`.
+        unsafe { geostation_beacon_at(self.0.as_ptr(), jitter) }
+    }
+
+    pub(crate) fn counts(&self) -> Counts {
+        let mut out = Counts::default();
+        // SAFETY: the handle lives, and is in this call alone, since it isn't `Sync`.
+        unsafe { geostation_counts(self.0.as_ptr(), &mut out) }
+        out
     }
 
     pub(crate) fn neighbour(&self, now: u64, after: u64) -> Option<Vector> {
@@ -370,6 +471,20 @@ impl Handle {
         let found = unsafe { geostation_look_up(self.0.as_ptr(), now, address, &mut out) };
         (found == 1).then_some(out)
     }
+}
+
+/// A config as the library fills it.
+pub(crate) fn usual_config() -> Config {
+    let mut config = Config::default();
+    // SAFETY: the call writes the struct, whose layout is the header's.
+    unsafe { geostation_config_init(&mut config) }
+    config
+}
+
+/// How many of the octets are a frame.
+pub(crate) fn frame_length(octets: &[u8]) -> usize {
+    // SAFETY: the slice is as long as is said.
+    unsafe { geostation_frame_length(octets.as_ptr(), octets.len()) }
 }
 
 /// All fields of a frame, or its fault.

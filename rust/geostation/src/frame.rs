@@ -179,6 +179,12 @@ impl<'a> Packet<'a> {
     }
 }
 
+/// How many of the octets are a frame: its length where a beginning of them is one, of which there
+/// is one at most, else 0.
+pub fn frame_length(octets: &[u8]) -> usize {
+    ffi::frame_length(octets)
+}
+
 /// Reads the octets of a frame, without a station.
 ///
 /// # Errors

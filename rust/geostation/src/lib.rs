@@ -28,8 +28,11 @@ mod station;
 
 pub use buffer::Buffer;
 pub use error::{Code, Error, Fault};
-pub use frame::{read_frame, Area, Content, Message, Packet, Shape, Vector};
-pub use station::{AreaRequest, Config, Neighbours, Place, Received, ShbRequest, Station, Why};
+pub use frame::{frame_length, read_frame, Area, Content, Message, Packet, Shape, Vector};
+pub use station::{
+    AreaRequest, Config, Counts, IgnoredCounts, Neighbours, Place, Received, RefusedCounts,
+    SentCounts, ShbRequest, Station, Why,
+};
 
 /// The longest frame, in octets: a buffer has room for it.
 pub const FRAME_MAX: usize = 1468;

@@ -7,6 +7,10 @@ use crate::frame::{Area, Message, Vector};
 use std::fmt;
 use std::iter::FusedIterator;
 
+/// The kinds of packets for an area, as the library tells them.
+const GBC: u32 = 3;
+const GAC: u32 = 4;
+
 /// What a station is made of.
 #[derive(Clone, Copy, Debug, PartialEq, Eq, Hash)]
 #[non_exhaustive]
@@ -21,13 +25,17 @@ pub struct Config {
     pub capacity: u16,
     /// How many sequence numbers of a source it remembers, 1 to 64.
     pub remember: u8,
+    /// Whether its packets say that it is mobile: a road-side unit isn't.
+    pub mobile: bool,
+    /// The sequence number of its first packet for an area.
+    pub number: u16,
 }
 
 impl Config {
-    /// A station of an address at a place, which has room for 64 sources and remembers 8 numbers of
-    /// each.
+    /// A mobile station of an address at a place, which has room for 64 sources and remembers 8
+    /// numbers of each; its first packet for an area has number 0.
     pub fn new(address: u64, latitude: i32, longitude: i32) -> Config {
-        Config { address, latitude, longitude, capacity: 64, remember: 8 }
+        Config { address, latitude, longitude, capacity: 64, remember: 8, mobile: true, number: 0 }
     }
 }
 
@@ -133,6 +141,100 @@ pub struct Received<'a> {
     pub delivered: Option<Message<'a>>,
     /// The frame that is to be sent on.
     pub relay: Option<&'a [u8]>,
+    /// The address of the packet's source.
+    pub source: u64,
+    /// How many hops the packet has left, from 1.
+    pub hops_left: u8,
+    /// The octet of its traffic class, which the frame that goes on has too.
+    pub traffic_class: u8,
+    /// Its sequence number, where it is for an area.
+    pub number: Option<u16>,
+}
+
+/// How many frames were ignored for each reason: see [`Why`].
+#[derive(Clone, Copy, Debug, Default, PartialEq, Eq, Hash)]
+pub struct IgnoredCounts {
+    /// To another link address.
+    pub not_for_me: u64,
+    /// The station's own packet.
+    pub own_source: u64,
+    /// Not from its source's link address.
+    pub sender_mismatch: u64,
+    /// A number that is remembered.
+    pub duplicate: u64,
+}
+
+/// How many calls were refused, by S1 to S5, and by S6 to S9 together.
+#[derive(Clone, Copy, Debug, Default, PartialEq, Eq, Hash)]
+pub struct RefusedCounts {
+    /// S1: the moment was before the last one.
+    pub moment_earlier: u64,
+    /// S2: the moment was over 2^62 ms.
+    pub moment_too_late: u64,
+    /// S3: the octets were no frame.
+    pub frame: u64,
+    /// S4: the location table had no room.
+    pub table_full: u64,
+    /// S5: an allocation failed.
+    pub no_memory: u64,
+    /// S6 to S9.
+    pub other: u64,
+}
+
+/// How many frames of its own a station sent of each kind.
+#[derive(Clone, Copy, Debug, Default, PartialEq, Eq, Hash)]
+pub struct SentCounts {
+    /// BEACON.
+    pub beacons: u64,
+    /// SHB.
+    pub single_hop: u64,
+    /// GBC.
+    pub geobroadcasts: u64,
+    /// GAC.
+    pub geoanycasts: u64,
+}
+
+/// How often each thing happened since a station was made.
+#[derive(Clone, Copy, Debug, Default, PartialEq, Eq, Hash)]
+pub struct Counts {
+    /// Frames that came, whatever became of them.
+    pub received: u64,
+    /// Those whose packet was accepted.
+    pub accepted: u64,
+    /// Payloads that were delivered.
+    pub delivered: u64,
+    /// Frames that were passed on.
+    pub relayed: u64,
+    /// Frames that were ignored.
+    pub ignored: IgnoredCounts,
+    /// Calls that were refused.
+    pub refused: RefusedCounts,
+    /// Frames of its own.
+    pub sent: SentCounts,
+}
+
+impl Counts {
+    fn shown(told: &ffi::Counts) -> Counts {
+        let [not_for_me, own_source, sender_mismatch, duplicate] = told.ignored;
+        let [moment_earlier, moment_too_late, frame, table_full, no_memory, other] = told.refused;
+        let [beacons, single_hop, geobroadcasts, geoanycasts] = told.sent;
+        Counts {
+            received: told.received,
+            accepted: told.accepted,
+            delivered: told.delivered,
+            relayed: told.relayed,
+            ignored: IgnoredCounts { not_for_me, own_source, sender_mismatch, duplicate },
+            refused: RefusedCounts {
+                moment_earlier,
+                moment_too_late,
+                frame,
+                table_full,
+                no_memory,
+                other,
+            },
+            sent: SentCounts { beacons, single_hop, geobroadcasts, geoanycasts },
+        }
+    }
 }
 
 /// An ITS station's GeoNetworking and BTP-B.
@@ -166,8 +268,17 @@ impl Station {
     ///
     /// [`Error::BadArgument`] where a number is out of its range, and [`Error::NoMemory`].
     pub fn new(config: &Config) -> Result<Station, Error> {
-        let Config { address, latitude, longitude, capacity, remember } = *config;
-        match Handle::new(address, latitude, longitude, capacity, remember) {
+        let config = ffi::Config {
+            address: config.address,
+            latitude: config.latitude,
+            longitude: config.longitude,
+            capacity: config.capacity,
+            remember: config.remember.into(),
+            mobile: config.mobile.into(),
+            number: config.number,
+            ..ffi::usual_config()
+        };
+        match Handle::new(&config) {
             Ok(handle) => Ok(Station { handle }),
             Err(status) => Err(Error::check(status).err().unwrap_or(Error::NoMemory)),
         }
@@ -182,6 +293,18 @@ impl Station {
         let Place { latitude, longitude, accurate, speed, heading } = *place;
         let there = (latitude, longitude);
         Error::check(self.handle.move_to(now, there, accurate, speed, heading))
+    }
+
+    /// As [`Station::move_to`], with the time stamp of the fix in place of that of `now`: in ms
+    /// since 2004-01-01 TAI, modulo 2^32.
+    ///
+    /// # Errors
+    ///
+    /// As of [`Station::move_to`].
+    pub fn move_at(&mut self, now: u64, timestamp: u32, place: &Place) -> Result<(), Error> {
+        let Place { latitude, longitude, accurate, speed, heading } = *place;
+        let there = (latitude, longitude);
+        Error::check(self.handle.move_at(now, timestamp, there, accurate, speed, heading))
     }
 
     /// Opens a port, at which payloads are delivered.
@@ -242,6 +365,26 @@ impl Station {
         let ShbRequest { port, info, traffic_class } = *request;
         let request = ffi::ShbRequest { port, info, traffic_class };
         let told = self.handle.send_shb(now, &request, payload, buffer.room());
+        written(buffer, told)
+    }
+
+    /// As [`Station::send_shb`], with this octet of a lifetime: a multiplier, then a base. That of
+    /// `send_shb` is 0x1a, 60 s.
+    ///
+    /// # Errors
+    ///
+    /// As of [`Station::send_shb`].
+    pub fn send_shb_for<'a, B: Buffer + ?Sized>(
+        &mut self,
+        now: u64,
+        request: &ShbRequest,
+        lifetime: u8,
+        payload: &[u8],
+        buffer: &'a mut B,
+    ) -> Result<&'a [u8], Error> {
+        let ShbRequest { port, info, traffic_class } = *request;
+        let request = ffi::ShbRequest { port, info, traffic_class };
+        let told = self.handle.send_shb_for(now, &request, lifetime, payload, buffer.room());
         written(buffer, told)
     }
 
@@ -330,12 +473,36 @@ impl Station {
                 payload: &frame[r.payload_start..r.payload_start + r.payload_length],
             }),
             relay: (!relay.is_empty()).then_some(relay),
+            source: r.source,
+            hops_left: r.hops_left,
+            traffic_class: r.traffic_class,
+            number: (r.kind == GBC || r.kind == GAC).then_some(r.number),
         })
+    }
+
+    /// The least moment at which [`Station::tick`] with this jitter gives a beacon, in ms: never
+    /// before the last call. There is none for a jitter over 750 ms.
+    ///
+    /// A program draws a jitter once for each beacon, hands it to each `tick` until that gave the
+    /// beacon, and asks anew after a packet of its own and after a restart, and not after a frame
+    /// that came: a sleep that begins anew with each of these may never end.
+    pub fn beacon_at(&self, jitter: u16) -> Option<u64> {
+        Some(self.handle.beacon_at(jitter)).filter(|moment| *moment != u64::MAX)
     }
 
     /// The least moment at which [`Station::tick`] with no jitter gives a beacon, in ms.
     pub fn next_beacon(&self) -> u64 {
-        self.handle.next_beacon()
+        self.handle.beacon_at(0)
+    }
+
+    /// The sequence number of the station's next packet for an area.
+    pub fn next_number(&self) -> u16 {
+        self.handle.next_number()
+    }
+
+    /// What came, was ignored, refused and sent so far; a restart keeps it.
+    pub fn counts(&self) -> Counts {
+        Counts::shown(&self.handle.counts())
     }
 
     /// The newest vector of the live source of an address. There is none at a moment before the

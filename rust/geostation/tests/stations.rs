@@ -2,8 +2,8 @@
 //! moments of beacons are those of EN 302 636-4-1, clause 10.3.6 (3 s after the last packet).
 
 use geostation::{
-    read_frame, Area, AreaRequest, Config, Content, Error, Fault, Place, Shape, ShbRequest,
-    Station, Why, FRAME_MAX, LAST_MOMENT, PAYLOAD_MAX,
+    frame_length, read_frame, Area, AreaRequest, Config, Content, Error, Fault, Place, Shape,
+    ShbRequest, Station, Why, FRAME_MAX, LAST_MOMENT, PAYLOAD_MAX,
 };
 
 const A: u64 = 0x1400_0200_0000_0001;
@@ -156,6 +156,48 @@ fn beacons_make_neighbours() {
     assert_eq!((6, -7, 8, true), (heard[0].longitude, heard[0].speed, heard[0].heading, true));
     assert_eq!(Some(heard[0]), a.look_up(3001, B));
     assert_eq!((None, 0), (a.look_up(23_002, B), a.neighbours(23_002).count()));
+}
+
+#[test]
+fn a_fix_a_lifetime_and_a_number() {
+    let (mut a, _) = pair();
+    let mut out = Vec::new();
+    let place = Place { latitude: 5, longitude: 6, accurate: false, speed: 0, heading: 0 };
+    a.move_at(1000, 4_294_967_295, &place).unwrap();
+    let request = ShbRequest { port: 9, ..ShbRequest::default() };
+    let frame = a.send_shb_for(1000, &request, 0x05, b"x", &mut out).unwrap();
+    let told = read_frame(frame).unwrap();
+    assert_eq!((0x05, 4_294_967_295, 5), (told.lifetime, told.vector.timestamp, 5));
+    assert_eq!((5, 6, false), (told.vector.latitude, told.vector.longitude, false));
+    let frame = a.send_shb(1000, &request, b"x", &mut out).unwrap();
+    assert_eq!(0x1a, read_frame(frame).unwrap().lifetime);
+    // 3 s after the last packet, and the jitter.
+    assert_eq!((Some(4750), None), (a.beacon_at(750), a.beacon_at(751)));
+    assert_eq!(0, a.next_number());
+    a.restart(1000, 65_535).unwrap();
+    assert_eq!(65_535, a.next_number());
+}
+
+#[test]
+fn a_road_side_unit_its_counts_and_padding() {
+    let mut config = Config::new(A, 449, 0);
+    (config.mobile, config.number) = (false, 65_535);
+    let mut unit = Station::new(&config).unwrap();
+    let (mut sent, mut relay) = (Vec::new(), Vec::new());
+    let frame = unit.send_gbc(5, &warning(), b"", &mut sent).unwrap();
+    assert!(!read_frame(frame).unwrap().mobile);
+    assert_eq!(0, unit.next_number());
+    let mut beacon = Vec::new();
+    Station::new(&Config::new(B, 0, 0)).unwrap().tick(0, 0, &mut beacon).unwrap();
+    beacon.resize(60, 0);
+    assert_eq!((50, 0), (frame_length(&beacon), frame_length(&beacon[1..])));
+    let got = unit.receive(5, &beacon, &mut relay).unwrap();
+    assert_eq!((B, 1, None), (got.source, got.hops_left, got.number));
+    unit.receive(5, b"", &mut relay).unwrap_err();
+    let counts = unit.counts();
+    assert_eq!((2, 1, 0, 0), (counts.received, counts.accepted, counts.delivered, counts.relayed));
+    assert_eq!((1, 1), (counts.refused.frame, counts.sent.geobroadcasts));
+    assert_eq!(0, counts.ignored.duplicate);
 }
 
 #[test]
