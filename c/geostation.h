@@ -6,9 +6,9 @@
  * return GEOSTATION_OK changed nothing of the station.
  *
  * The caller's duties, which the library can't check: no pointer is NULL but where that is said,
- * and of octets that a call reads (a payload, a frame) where their length is 0; objects that one
- * call is given don't overlap, so that `frame` and `relay` are two buffers; a buffer has as many
- * octets as its length says, at most PTRDIFF_MAX; what a call writes to is aligned as its type
+ * and of octets that a call reads (a payload, a frame, a line) where their length is 0; objects that
+ * one call is given don't overlap, so that `frame` and `relay` are two buffers; a buffer has as
+ * many octets as its length says, at most PTRDIFF_MAX; what a call writes to is aligned as its type
  * asks; a handle comes from geostation_new or geostation_new_with, isn't used after
  * geostation_free, and is in one call at a time: a call with a const handle is a call too.
  */
@@ -29,6 +29,11 @@ extern "C" {
 
 /* The longest frame, in octets: a call that may write one wants a buffer with room for it. */
 #define GEOSTATION_FRAME_MAX 1468
+/* The longest line of geostation_serve, in octets: a longer one can't be read, and its answer says
+ * so. */
+#define GEOSTATION_LINE_MAX 65536
+/* The longest answer of geostation_serve, in octets: it wants a buffer with room for it. */
+#define GEOSTATION_ANSWER_MAX 16384
 /* The longest payload of a request, in octets. */
 #define GEOSTATION_PAYLOAD_MAX 1394
 /* The greatest jitter of a beacon, in ms. */
@@ -51,7 +56,7 @@ enum geostation_status {
     GEOSTATION_PORTS_FULL = 10,       /* S8 B3: 64 ports are open */
     GEOSTATION_PORT_NOT_OPEN = 11,    /* S8 B4 */
     GEOSTATION_BAD_ARGUMENT = 20,     /* an argument is out of its range */
-    GEOSTATION_NO_ROOM = 21           /* the buffer is under GEOSTATION_FRAME_MAX octets */
+    GEOSTATION_NO_ROOM = 21           /* a buffer is too short for the longest frame or answer */
 };
 
 /* Why a frame is ignored. */
@@ -407,6 +412,18 @@ int geostation_look_up(const geostation_handle *s, uint64_t now, uint64_t addres
 /* Writes the counts of the station. What returned BAD_ARGUMENT or NO_ROOM isn't counted; a restart
  * keeps the counts. */
 void geostation_counts(const geostation_handle *s, struct geostation_counts *out);
+
+/* Does what a line of JSON asks for at the moment `now`: a call of the station, or what it knows, as
+ * a line of the command `station` (docs/STATION.md). An `at` in the line is passed over. Writes the
+ * answer, one JSON object without a line feed, or nothing to a blank line, and the frame that is to
+ * be sent, or nothing; neither is ended by 0. The status says whether the line was answered: a
+ * refusal of the station's is in the answer, and so is what can't be read in a line, of which
+ * `number` is told as its number. S5, NO_ROOM for an answer's buffer under GEOSTATION_ANSWER_MAX
+ * octets or a frame's under GEOSTATION_FRAME_MAX. */
+int geostation_serve(geostation_handle *s, uint64_t now, uint64_t number,
+                     const uint8_t *line, size_t line_length,
+                     uint8_t *answer, size_t answer_room, size_t *answer_length,
+                     uint8_t *frame, size_t frame_room, size_t *frame_length);
 
 /* Reads the octets of a frame, without a station: all of them, zeros behind it are no part of a
  * frame. S3. */

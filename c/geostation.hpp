@@ -48,6 +48,12 @@ struct Frame {
     std::size_t size = 0;
 };
 
+/// The answer to a line of JSON: none to a blank one.
+struct Answer {
+    std::array<std::uint8_t, GEOSTATION_ANSWER_MAX> octets;
+    std::size_t size = 0;
+};
+
 /// What becomes of a frame: `payload` lies in the octets that were given to `receive`.
 struct Received {
     Status status;
@@ -186,6 +192,15 @@ class Station {
                            got.reception.payload_length};
         }
         return got;
+    }
+
+    /// Does what a line of JSON asks for, as the command `station`; writes the answer, and the frame
+    /// that is to be sent.
+    Status serve(std::uint64_t now, std::uint64_t number, Octets line, Answer &answer,
+                 Frame &frame) noexcept {
+        return Status(geostation_serve(handle_, now, number, line.data, line.size,
+                                       answer.octets.data(), answer.octets.size(), &answer.size,
+                                       frame.octets.data(), frame.octets.size(), &frame.size));
     }
 
     /// How often each thing happened since the station was made.

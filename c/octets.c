@@ -21,6 +21,10 @@ int proved_geostation_send_gac(geostation_handle *s, uint64_t now,
 int proved_geostation_receive(geostation_handle *s, uint64_t now, const uint8_t *frame,
                               size_t length, struct geostation_reception *out, uint8_t *relay,
                               size_t room);
+int proved_geostation_serve(geostation_handle *s, uint64_t now, uint64_t number,
+                            const uint8_t *line, size_t line_length,
+                            uint8_t *answer, size_t answer_room, size_t *answer_length,
+                            uint8_t *frame, size_t frame_room, size_t *frame_length);
 int proved_geostation_read_frame(const uint8_t *frame, size_t length,
                                  struct geostation_packet *out);
 size_t proved_geostation_frame_length(const uint8_t *octets, size_t length);
@@ -67,6 +71,14 @@ int geostation_send_gac(geostation_handle *s, uint64_t now,
 int geostation_receive(geostation_handle *s, uint64_t now, const uint8_t *frame, size_t length,
                        struct geostation_reception *out, uint8_t *relay, size_t room) {
     return proved_geostation_receive(s, now, address(frame), length, out, relay, room);
+}
+
+int geostation_serve(geostation_handle *s, uint64_t now, uint64_t number,
+                     const uint8_t *line, size_t line_length,
+                     uint8_t *answer, size_t answer_room, size_t *answer_length,
+                     uint8_t *frame, size_t frame_room, size_t *frame_length) {
+    return proved_geostation_serve(s, now, number, address(line), line_length, answer, answer_room,
+                                   answer_length, frame, frame_room, frame_length);
 }
 
 int geostation_read_frame(const uint8_t *frame, size_t length, struct geostation_packet *out) {

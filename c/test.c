@@ -553,11 +553,139 @@ static void test_counts(void) {
     geostation_free(c);
 }
 
+static uint8_t answer[GEOSTATION_ANSWER_MAX];
+static size_t answered, framed;
+
+static int serve(struct geostation *s, uint64_t now, const char *line) {
+    answered = framed = 99;
+    return geostation_serve(s, now, 5, (const uint8_t *)line, strlen(line), answer, sizeof answer,
+                            &answered, frame, ROOM, &framed);
+}
+
+/* The line is answered, by just this or, where `more` is set, by what begins so; and then a frame
+ * of so many octets is to be sent. */
+static int answers(struct geostation *s, uint64_t now, const char *line, const char *text, int more,
+                   size_t length) {
+    return serve(s, now, line) == GEOSTATION_OK && memcmp(answer, text, strlen(text)) == 0
+        && (more ? answered > strlen(text) : answered == strlen(text)) && framed == length;
+}
+
+/* The octets are these digits, which a quotation mark ends. */
+static int are_digits(const uint8_t *digits, const uint8_t *octets, size_t n) {
+    for (size_t i = 0; i < n; i++) {
+        char pair[3];
+        snprintf(pair, sizeof pair, "%02x", octets[i]);
+        if (memcmp(digits + 2 * i, pair, 2) != 0) return 0;
+    }
+    return digits[2 * n] == '"';
+}
+
+static const char TO_AREA[] =
+    "{\"id\":\"w\",\"do\":\"gbc\",\"port\":2002,\"info\":7,\"tc\":2,\"lt\":26,\"hops\":5,"
+    "\"shape\":\"circle\",\"alat\":449,\"alon\":0,\"a\":200,\"b\":0,\"angle\":0,"
+    "\"payload\":\"6869\"}";
+
+/* Lines of JSON: their answers and frames are those of the calls. */
+static void test_lines(void) {
+    static const char sent[] = "{\"id\":\"w\",\"at\":7,\"result\":\"sent\",\"frame\":\"";
+    static const char came[] = "{\"at\":8,\"result\":\"accepted\",\"source\":\"1400020000000001\","
+        "\"port\":2002,\"info\":7,\"payload\":\"6869\",\"frame\":\"";
+    struct geostation *a = station(A_ADDRESS, 0, 64), *b = station(B_ADDRESS, 900, 64);
+    struct geostation *twin = station(A_ADDRESS, 0, 64);
+    char line[2 * ROOM + 40];
+    size_t n, m = 99;
+    CHECK(answers(b, 7, "{\"at\":3,\"do\":\"open\",\"port\":2002}",
+                  "{\"at\":7,\"result\":\"opened\"}", 0, 0));
+    CHECK(answers(b, 7, "{\"do\":\"open\",\"port\":2002}",
+                  "{\"at\":7,\"result\":\"refused\",\"code\":\"S8 B2\",\"reason\":\"", 1, 0));
+    CHECK(geostation_send_gbc(twin, 7, &AREA, HI, 2, other, ROOM, &n) == GEOSTATION_OK);
+    CHECK(answers(a, 7, TO_AREA, sent, 1, n) && memcmp(frame, other, n) == 0);
+    CHECK(are_digits(answer + sizeof sent - 1, frame, n));
+    CHECK(geostation_next_number(a) == 1);
+
+    snprintf(line, sizeof line, "{\"do\":\"receive\",\"frame\":\"");
+    for (size_t i = 0, at = strlen(line); i < n; i++, at += 2)
+        snprintf(line + at, sizeof line - at, "%02x", frame[i]);
+    strcat(line, "\"}");
+    CHECK(answers(b, 8, line, came, 1, n) && are_digits(answer + sizeof came - 1, frame, n));
+    CHECK(answers(b, 8, line, "{\"at\":8,\"result\":\"ignored\",\"why\":\"duplicate\"}", 0,
+                  0));
+
+    CHECK(answers(a, 7, "{\"do\":\"tick\",\"jitter\":0}",
+                  "{\"at\":7,\"result\":\"quiet\"}", 0, 0));
+    CHECK(answers(a, 3007, "{\"do\":\"tick\",\"jitter\":0}",
+                  "{\"at\":3007,\"result\":\"sent\",\"frame\":\"", 1, 50));
+    CHECK(answers(a, 3007, "{\"do\":\"next_beacon\",\"jitter\":9}",
+                  "{\"at\":3007,\"result\":\"next_beacon\",\"moment\":6016}", 0, 0));
+    CHECK(answers(a, 3006, "{\"do\":\"close\",\"port\":1}",
+                  "{\"at\":3006,\"result\":\"refused\",\"code\":\"S1\",\"reason\":\"", 1, 0));
+    CHECK(answers(a, 3007, "{\"do\":\"open\",\"port\":65536}",
+                  "{\"line\":5,\"error\":\"port\",\"reason\":\"", 1, 0));
+    CHECK(answers(a, 3007, "x", "{\"line\":5,\"error\":\"not JSON\"", 1, 0));
+    CHECK(answers(a, 3007, "{\"do\":\"counts\"}",
+                  "{\"at\":3007,\"result\":\"counts\",\"received\":0,", 1, 0));
+    CHECK(answers(a, 3007, " \t\r", "", 0, 0));
+    CHECK(geostation_serve(a, 3007, 1, NULL, 0, answer, sizeof answer, &n, frame, ROOM, &m)
+              == GEOSTATION_OK && n == 0 && m == 0);
+    n = m = 99;
+    CHECK(geostation_serve(a, 3007, 1, HI, 2, answer, sizeof answer - 1, &n, frame, ROOM, &m)
+              == GEOSTATION_NO_ROOM && n == 0 && m == 0);
+    n = m = 99;
+    CHECK(geostation_serve(a, 3007, 1, HI, 2, answer, sizeof answer, &n, frame, ROOM - 1, &m)
+              == GEOSTATION_NO_ROOM && n == 0 && m == 0);
+    geostation_free(a);
+    geostation_free(b);
+    geostation_free(twin);
+}
+
+/* The longest answers have room, and an allocation that fails leaves the station as it was. */
+static void test_large_lines(void) {
+    struct geostation *a = station(A_ADDRESS, 0, 64), *s;
+    static char line[70000];
+    size_t n;
+    for (uint64_t k = 0; k < 33; k++) {
+        s = station(A_ADDRESS + 1 + k, -1800000000, 64);
+        CHECK(geostation_move(s, 0, -900000000 + (int)k, -1799999999, 1, -16384, 3600)
+              == GEOSTATION_OK);
+        CHECK(geostation_tick(s, 3000, 0, frame, ROOM, &n) == GEOSTATION_OK && n == 50);
+        CHECK(geostation_receive(a, 3000, frame, n, &r, relay, ROOM) == GEOSTATION_OK);
+        geostation_free(s);
+    }
+    CHECK(serve(a, 3000, "{\"do\":\"neighbours\"}") == GEOSTATION_OK && answered > 4000);
+    static const char more[] = "}],\"more\":true}";
+    CHECK(memcmp(answer + answered - (sizeof more - 1), more, sizeof more - 1) == 0);
+
+    n = (size_t)snprintf(line, sizeof line,
+                         "{\"do\":\"shb\",\"port\":1,\"info\":0,\"tc\":0,\"payload\":\"");
+    memset(line + n, 'a', 2 * 1394);
+    strcpy(line + n + 2 * 1394, "\"}");
+    CHECK(serve(a, 3000, line) == GEOSTATION_OK && framed == 58 + 1394
+          && answered > 2 * framed);
+    memset(line, ' ', 65537);
+    strcpy(line + 65537, "x");
+    CHECK(answers(a, 3000, line, "{\"line\":5,\"error\":\"not JSON\"", 1, 0));
+
+    long fails = 0;
+    for (;; fails++) {
+        const uint16_t number = geostation_next_number(a);
+        until_fail = fails;
+        const int status = serve(a, 3000, TO_AREA);
+        until_fail = -1;
+        CHECK(geostation_next_number(a) == number + (status == GEOSTATION_OK));
+        if (status == GEOSTATION_OK) break;
+        CHECK(status == GEOSTATION_NO_MEMORY && answered == 0 && framed == 0);
+    }
+    CHECK(fails > 4 && framed != 0 && answered > 2 * framed);
+    geostation_free(a);
+}
+
 int main(int argc, char **argv) {
     test_new();
     test_config();
     test_padding();
     test_counts();
+    test_lines();
+    test_large_lines();
     test_calls();
     test_beacons();
     test_beacon_moments();

@@ -11,6 +11,8 @@ from .values import Area, Counts, Reception, Vector, place, whole
 
 FRAME_MAX = 1468
 """The longest frame, in octets."""
+ANSWER_MAX = 16384
+"""The longest answer to a line of JSON, in octets."""
 PAYLOAD_MAX = 1394
 """The longest payload of a request, in octets."""
 LAST_MOMENT = 1 << 62

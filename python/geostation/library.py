@@ -214,6 +214,7 @@ CALLS = {
         c.c_char_p,
         c.c_size_t,
     ),
+    "serve": (c.c_int, c.c_void_p, c.c_uint64, c.c_uint64, *_OCTETS, *_WRITTEN, *_WRITTEN),
     "beacon_at": (c.c_uint64, c.c_void_p, c.c_uint16),
     "next_number": (c.c_uint16, c.c_void_p),
     "counts": (None, c.c_void_p, c.POINTER(Counts)),

@@ -6,7 +6,7 @@ import ctypes as c
 from typing import Any, List, Optional, Tuple
 
 from . import library
-from .calls import FRAME_MAX, Address, Calls, Degrees, moment, octets
+from .calls import ANSWER_MAX, FRAME_MAX, Address, Calls, Degrees, moment, octets
 from .errors import BadFrame, Refused, Status
 from .values import (
     Area,
@@ -236,6 +236,26 @@ class Station(Calls):
         octet = whole("lifetime", lifetime, 0, 255)
         call = self._library.send_shb_for
         return self._written(call, moment(now), request, octet, told, len(told))
+
+    def serve(self, now: int, line: bytes, *, number: int = 1) -> Tuple[bytes, bytes]:
+        """Does what a line of JSON asks for, as the command `station`, at this moment: its answer,
+        which is empty for a blank line, and the frame that is to be sent, if any. `number` is the
+        line's, for the answer to one that can't be read."""
+        self._check_thread()
+        told = octets("line", line)
+        answer = c.create_string_buffer(ANSWER_MAX)
+        length = c.c_size_t()
+        frame = self._written(
+            self._library.serve,
+            moment(now),
+            whole("number", number, 0, (1 << 64) - 1),
+            told,
+            len(told),
+            answer,
+            ANSWER_MAX,
+            length,
+        )
+        return c.string_at(answer, length.value), frame
 
     def next_number(self) -> int:
         """The sequence number of the station's next packet for an area."""

@@ -113,6 +113,20 @@ class Stations(unittest.TestCase):
         self.assertEqual((0, 0, 1, 0, 0, 0), dataclasses.astuple(counts.refused))
         self.assertEqual((0, 0, 1, 0), dataclasses.astuple(counts.sent))
 
+    def test_lines_are_answered(self):
+        with Station(A, latitude=449, longitude=0) as a, Station(
+            A, latitude=449, longitude=0
+        ) as twin:
+            answer, frame = a.serve(5, b'{"do":"shb","port":2002,"info":7,"tc":2,"payload":"6869"}')
+            sent = twin.send_shb(5, port=2002, info=7, traffic_class=2, payload=b"hi")
+            self.assertEqual(sent, frame)
+            told = b'{"at":5,"result":"sent","frame":"' + frame.hex().encode() + b'"}'
+            self.assertEqual(told, answer)
+            self.assertEqual((b"", b""), a.serve(5, b""))
+            answer, frame = a.serve(5, b"{}", number=9)
+            self.assertTrue(answer.startswith(b'{"line":9,"error":"do"'))
+            self.assertEqual(b"", frame)
+
     def test_refusals(self):
         a = Station(A, latitude=0, longitude=0)
         a.open_port(5, 1)

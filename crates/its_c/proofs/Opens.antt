@@ -3,10 +3,13 @@ use Rattle.std.proofs.Common.{◌≡◌, Some, None, Option, refl, sym, subst, �
 use mathlib.Core.Bool.{Bool-set}
 use Rattle.std.proofs.Math.Logic.{∥∥₁_map, ∥∥₁_elim}
 use Rattle.std.proofs.lemmas.Grind.{merely}
-use Rattle.std.specs.Prelude.{Result, Ok, Err, IsSome, OnErr}
+use Rattle.std.specs.Prelude.{Result, Ok, Err, IsSome, IfOk, OnErr}
 use Rattle.its_model.specs.Calls.{Answer}
 use Rattle.its_model.specs.Packet.{Transmission}
 use Rattle.its_model.specs.Station.{StationModel, Step}
+use Rattle.its_pipe.specs.Knowing.{Counted}
+use Rattle.its_pipe.specs.Serving.{RepresentsCounted}
+use Rattle.its_station.specs.declared.counts.Counts.{Counts}
 use Rattle.its_station.specs.declared.refused.Refused.{Refused}
 use Rattle.its_station.specs.State.{StationState, RepresentsStation}
 use Rattle.its_station.specs.Steps.{IsStepOf}
@@ -59,3 +62,27 @@ pub still_open : (held after : Option StationState) (st : StationState)
     → held ≡ Some st → after ≡ Some st → IsOpen held → IsOpen after
 still_open held after st was now opened =
     subst (λ (h : Option StationState). IsOpen h) (was ∙ sym now) opened
+
+-- the station after an answer, where one was given, represents one of the model
+pub answered : {T E : Type 0} (said : Result T E) (old new : StationState) (c d : Counts)
+    (Tells : Counted → T → Counted → Type 0)
+    → ((s : Counted) → RepresentsCounted old c s
+    → IfOk said (λ told. (next : Counted) × Tells s told next × RepresentsCounted new d next))
+    → OnErr said (new ≡ old) → ((m : StationModel) × RepresentsStation old m)
+    → (m : StationModel) × RepresentsStation new m
+answered (Ok told) old new c d Tells tells same found =
+    let next = tells (record { station = found.0; counts = c }) (found.1, refl) in
+    (next.0.station, next.2.0)
+answered (Err e) old new c d Tells tells same found =
+    (found.0, subst (λ (st : StationState). RepresentsStation st found.0) (sym same) found.1)
+
+-- a station that is asked so stays open
+pub stays_asked : {T E : Type 0} (said : Result T E) (old new : StationState) (c d : Counts)
+    (Tells : Counted → T → Counted → Type 0) (held after : Option StationState)
+    → ((s : Counted) → RepresentsCounted old c s
+    → IfOk said (λ told. (next : Counted) × Tells s told next × RepresentsCounted new d next))
+    → OnErr said (new ≡ old) → held ≡ Some old → after ≡ Some new → IsOpen held → IsOpen after
+stays_asked said old new c d Tells held after tells same was now opened =
+    ∥∥₁_map opened (λ found. let kept = answered said old new c d Tells tells same
+    (found.0, held_model held old found.0 was found.1) in
+    (kept.0, model_held after new kept.0 now kept.1))

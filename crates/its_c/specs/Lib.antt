@@ -6,5 +6,6 @@ pub mod Handles
 pub mod Lookups
 pub mod Open
 pub mod Ownership
+pub mod Served
 pub mod Status
 pub mod Told

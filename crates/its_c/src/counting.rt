@@ -57,7 +57,7 @@ pub(crate) fn count_received(told: &mut ToldCounts, said: &Result<Outcome<'_>, R
 }
 
 /// The counts of C's struct, as the station's library has them.
-fn counts_of(c: &ToldCounts) -> Counts
+pub(crate) fn counts_of(c: &ToldCounts) -> Counts
     ensures { result ≡ counts_of c.now }
 {
     Counts {

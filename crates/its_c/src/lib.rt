@@ -19,6 +19,7 @@ mod loose;
 mod reading;
 mod receiving;
 mod sending;
+mod serving;
 mod slot;
 mod status;
 mod to_area;

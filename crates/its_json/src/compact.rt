@@ -1,14 +1,12 @@
 //! The tokens of a value, in compact form.
 
-ghost use Rattle.std.specs.Prelude.{◌≡◌, ◌++◌, ◌∷◌, [], List};
-ghost use Rattle.json.specs.Token.{Token as SpecToken};
-ghost use Rattle.json.specs.Lex.{tokens};
-ghost use Rattle.json.specs.Print.{print};
+ghost use Rattle.std.specs.Prelude.{◌≡◌, []};
+ghost use Rattle.its_json.specs.Lines.{IsCompact};
 
 use crate::fault::JsonFault;
 use json::Writer;
 use serde::{Case, Serializer};
-use std::alloc::Global;
+use std::alloc::{AllocError, Global};
 use std::fmt::{Display, Write};
 use std::str;
 
@@ -34,7 +32,20 @@ impl Room {
             flattens: false,
         }
     }
+
+    /// Room for texts and digits of so many octets, and for 16 maps that are open.
+    pub(crate) fn with_room(alloc: Global, octets: usize) -> Result<Room, AllocError> {
+        Ok(Room {
+            digits: Vec::with_capacity(alloc, octets)?,
+            text: String::with_capacity(alloc, octets)?,
+            braces: Vec::with_capacity(alloc, MAPS)?,
+            flattens: false,
+        })
+    }
 }
+
+/// How many maps may be open before more room is taken.
+const MAPS: usize = 16;
 
 /// A value in the making.
 #[derive(Drop)]
@@ -59,8 +70,7 @@ impl<'a> Compact<'a> {
 
     /// The text of what was written.
     pub(crate) fn into_octets(self) -> Vec<u8>
-        ensures { (text : List SpecToken) × (tokens (print text) ≡ text)
-            × (result.items ≡ print text) }
+        ensures { IsCompact result.items }
     {
         let Compact { out, .. } = self;
         out.into_inner()

@@ -1,9 +1,7 @@
 //! A value as a line of text.
 
-ghost use Rattle.std.specs.Prelude.{◌≡◌, ◌++◌, ◌∷◌, [], List, IfOk};
-ghost use Rattle.json.specs.Token.{Token};
-ghost use Rattle.json.specs.Lex.{tokens};
-ghost use Rattle.json.specs.Print.{print};
+ghost use Rattle.std.specs.Prelude.{◌≤◌, IfOk, vec_capacity};
+ghost use Rattle.its_json.specs.Lines.{IsLine};
 
 use crate::compact::{Compact, Room};
 use crate::fault::JsonFault;
@@ -33,12 +31,23 @@ impl JsonLine {
         })
     }
 
+    /// No line yet, and room for one of so many octets: what is printed later takes no memory where
+    /// its line has no more, and no more than 16 objects are one in the other.
+    pub fn with_room(alloc: Global, octets: usize) -> Result<JsonLine, AllocError>
+        ensures { IfOk result (λ line. octets ≤ vec_capacity line.octets) }
+    {
+        Ok(JsonLine {
+            alloc,
+            octets: Vec::with_capacity(alloc, octets)?,
+            room: Room::with_room(alloc, octets)?,
+        })
+    }
+
     /// The line of a value: its JSON in compact form, and a line feed. No other line feed is in it.
     ///
     /// `OutOfMemory` where an allocation failed, `Kind` for a value that no line has.
     pub fn of<T: Serialize>(&mut self, value: &T) -> Result<&[u8], JsonFault>
-        ensures { IfOk result (λ line. (text : List Token) × (tokens (print text) ≡ text)
-            × (line.now ≡ print text ++ 10 ∷ [])) }
+        ensures { IfOk result (λ line. IsLine line.now) }
     {
         let mut octets = mem::replace(&mut self.octets, Vec::new(self.alloc));
         octets.clear();

@@ -1,5 +1,8 @@
 //! What is answered, as JSON lines.
 
+ghost use Rattle.std.specs.Prelude.{IfOk};
+ghost use Rattle.its_json.specs.Lines.{IsLine};
+
 use crate::fault::PipeFault;
 use crate::reason::{LineReason, RefusedReason};
 use crate::request::{Id, LineFault};
@@ -39,13 +42,15 @@ impl<W: Write> ResponseSink for Printer<'_, W> {
     }
 }
 
-/// The line of what is answered, with its line feed.
+/// The line of what is answered: one JSON object in compact form, and a line feed.
 ///
 /// `OutOfMemory` where an allocation failed.
 pub fn print_response<'l>(
     line: &'l mut JsonLine,
     response: &Response,
-) -> Result<&'l [u8], JsonFault> {
+) -> Result<&'l [u8], JsonFault>
+    ensures { IfOk result (λ told. IsLine told.now) }
+{
     match response {
         Response::Reply {
             id,
@@ -192,7 +197,9 @@ fn print_known<'l>(
     id: &Option<Id>,
     at: Option<u64>,
     known: &Known,
-) -> Result<&'l [u8], JsonFault> {
+) -> Result<&'l [u8], JsonFault>
+    ensures { IfOk result (λ told. IsLine told.now) }
+{
     match known {
         Known::NextBeacon(moment) => line.of(&BeaconLine {
             head: Head::new(id, at, "next_beacon"),
@@ -228,7 +235,9 @@ fn print_frame<'l>(
     id: &Option<Id>,
     at: Option<u64>,
     octets: &[u8],
-) -> Result<&'l [u8], JsonFault> {
+) -> Result<&'l [u8], JsonFault>
+    ensures { IfOk result (λ told. IsLine told.now) }
+{
     match read_frame(octets) {
         Ok(frame) => line.of(&FrameLine {
             head: Head::new(id, at, "read"),

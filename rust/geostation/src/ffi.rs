@@ -6,6 +6,7 @@
 //! writes to is borrowed mutably, so it overlaps nothing else that the call is given. The library
 //! keeps none of these pointers.
 
+use crate::ANSWER_MAX;
 use std::ffi::{c_char, c_int, CStr};
 use std::ptr::{null_mut, NonNull};
 
@@ -253,6 +254,19 @@ extern "C" {
         relay: *mut u8,
         room: usize,
     ) -> c_int;
+    fn geostation_serve(
+        s: *mut Opaque,
+        now: u64,
+        number: u64,
+        line: *const u8,
+        line_length: usize,
+        answer: *mut u8,
+        answer_room: usize,
+        answer_length: *mut usize,
+        frame: *mut u8,
+        frame_room: usize,
+        frame_length: *mut usize,
+    ) -> c_int;
     fn geostation_next_number(s: *const Opaque) -> u16;
     fn geostation_beacon_at(s: *const Opaque, jitter: u16) -> u64;
     fn geostation_counts(s: *const Opaque, out: *mut Counts);
@@ -439,6 +453,31 @@ impl Handle {
             geostation_receive(s, now, frame.as_ptr(), frame.len(), &mut out, octets, room)
         };
         (status, out)
+    }
+
+    /// The answer's length is that of its buffer afterwards.
+    pub(crate) fn serve(
+        &mut self,
+        now: u64,
+        number: u64,
+        line: &[u8],
+        answer: &mut Vec<u8>,
+        frame: &mut [u8],
+    ) -> Written {
+        answer.resize(ANSWER_MAX, 0);
+        let (s, mut told, mut length) = (self.0.as_ptr(), 0, 0);
+        let (text, text_room) = (answer.as_mut_ptr(), answer.len());
+        let (octets, room) = (frame.as_mut_ptr(), frame.len());
+        let (asked, count) = (line.as_ptr(), line.len());
+        // SAFETY: the handle lives, and is in this call alone; the three slices are as long as is
+        // said, and don't overlap, as two of them are borrowed mutably.
+        let status = unsafe {
+            geostation_serve(
+                s, now, number, asked, count, text, text_room, &mut told, octets, room, &mut length,
+            )
+        };
+        answer.truncate(told);
+        (status, length)
     }
 
     pub(crate) fn next_number(&self) -> u16 {

@@ -36,6 +36,8 @@ pub use station::{
 
 /// The longest frame, in octets: a buffer has room for it.
 pub const FRAME_MAX: usize = 1468;
+/// The longest answer to a line of JSON, in octets.
+pub const ANSWER_MAX: usize = 16384;
 /// The longest payload of a request, in octets.
 pub const PAYLOAD_MAX: usize = 1394;
 /// The last moment of a call, in ms.

@@ -495,6 +495,33 @@ impl Station {
         self.handle.beacon_at(0)
     }
 
+    /// Does what a line of JSON asks for at the moment `now`, as the command `station` does; what
+    /// stands under `at` isn't looked at. `answer` is one JSON object without a line feed
+    /// afterwards, or empty for a blank line, and returned is the frame that is to be sent, if any.
+    /// `number` is the line's, for the answer to one that can't be read.
+    ///
+    /// ```
+    /// # use geostation::{Config, Station};
+    /// # fn main() -> Result<(), geostation::Error> {
+    /// let mut station = Station::new(&Config::new(0x1400_0200_0000_0001, 0, 0))?;
+    /// let (mut answer, mut frame) = (Vec::new(), Vec::new());
+    /// station.serve(7, 1, br#"{"do":"open","port":2002}"#, &mut answer, &mut frame)?;
+    /// assert_eq!(answer, br#"{"at":7,"result":"opened"}"#);
+    /// # Ok(())
+    /// # }
+    /// ```
+    pub fn serve<'b, B: Buffer + ?Sized>(
+        &mut self,
+        now: u64,
+        number: u64,
+        line: &[u8],
+        answer: &mut Vec<u8>,
+        buffer: &'b mut B,
+    ) -> Result<&'b [u8], Error> {
+        let done = self.handle.serve(now, number, line, answer, buffer.room());
+        written(buffer, done)
+    }
+
     /// The sequence number of the station's next packet for an area.
     pub fn next_number(&self) -> u16 {
         self.handle.next_number()

@@ -201,6 +201,28 @@ fn a_road_side_unit_its_counts_and_padding() {
 }
 
 #[test]
+fn lines_are_answered_and_frames_are_those_of_calls() {
+    let (mut a, _) = pair();
+    let (mut twin, _) = pair();
+    let (mut answer, mut frame, mut other) = (Vec::new(), Vec::new(), Vec::new());
+    let line = br#"{"id":1,"do":"shb","port":2002,"info":7,"tc":2,"payload":"6869"}"#;
+    let sent = a.serve(5, 1, line, &mut answer, &mut frame).unwrap();
+    let request = ShbRequest { port: 2002, info: 7, traffic_class: 2 };
+    assert_eq!(twin.send_shb(5, &request, b"hi", &mut other).unwrap(), sent);
+    let digits: String = frame.iter().map(|octet| format!("{octet:02x}")).collect();
+    let told = format!(r#"{{"id":1,"at":5,"result":"sent","frame":"{digits}"}}"#);
+    assert_eq!(answer, told.as_bytes());
+
+    assert!(a.serve(5, 2, b" ", &mut answer, &mut frame).unwrap().is_empty());
+    assert!(answer.is_empty());
+    a.serve(5, 3, br#"{"do":"open"}"#, &mut answer, &mut frame).unwrap();
+    assert!(answer.starts_with(br#"{"line":3,"error":"port","reason":""#));
+    let mut short = [0; FRAME_MAX - 1];
+    assert_eq!(a.serve(5, 3, line, &mut answer, &mut short), Err(Error::NoRoom));
+    assert!(answer.is_empty());
+}
+
+#[test]
 fn a_station_goes_to_another_thread() {
     let (mut a, _) = pair();
     let a = std::thread::spawn(move || a.open_port(1, 9).map(|()| a)).join().unwrap().unwrap();
