@@ -651,7 +651,7 @@ static void test_large_lines(void) {
         CHECK(geostation_receive(a, 3000, frame, n, &r, relay, ROOM) == GEOSTATION_OK);
         geostation_free(s);
     }
-    CHECK(serve(a, 3000, "{\"do\":\"neighbours\"}") == GEOSTATION_OK && answered > 4000);
+    CHECK(serve(a, 3000, "{\"do\":\"neighbours\"}") == GEOSTATION_OK && answered > 3000);
     static const char more[] = "}],\"more\":true}";
     CHECK(memcmp(answer + answered - (sizeof more - 1), more, sizeof more - 1) == 0);
 

@@ -18,7 +18,7 @@ use crate::lines::is_blank;
 use crate::members::Members;
 use crate::request::{Asked, Id, LineFault, Query, QueryKey, Request};
 use its_gnvalue::GnAddress;
-use its_scenario::{Fields, Key, KeyFault, Wrong, read_action};
+use its_scenario::{Fields, Key, KeyFault, Wrong, read_what};
 use its_station::Call;
 use its_world::What;
 use serde_json::Value;
@@ -283,10 +283,7 @@ fn read_call(alloc: Global, members: &Members<'_>) -> Result<Call, KeyFault>
     match members.text("do") {
         Some("receive") => Ok(Call::Receive(read_frame(alloc, members)?)),
         Some("deliver") => Err(KeyFault::Refused(Key::Do, Wrong::Value)),
-        _ => call_of(read_action(alloc, members)?.1).ok_or(KeyFault::Refused(
-            Key::Do,
-            Wrong::Value,
-        )),
+        _ => call_of(read_what(alloc, members)?).ok_or(KeyFault::Refused(Key::Do, Wrong::Value)),
     }
 }
 

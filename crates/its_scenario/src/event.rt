@@ -1,6 +1,6 @@
 //! The events of a scenario.
 
-ghost use Rattle.std.specs.Prelude.{◌<◌, ◌^◌, IfOk};
+ghost use Rattle.std.specs.Prelude.{IfOk};
 ghost use Rattle.its_scenario.specs.Events.{FitsEvent, FitsWhat};
 
 use crate::fault::{KeyFault, Wrong};
@@ -13,33 +13,25 @@ use its_station::OwnedShbRequest;
 use its_world::{Event, What};
 use std::alloc::Global;
 
-/// Reads an event: `station`, and then what is done there and when, checked in this order. There may
-/// be no such station, and for `deliver` no such frame.
+/// Reads an event: `station`, `at`, in milliseconds below 2^63, and then what is done there, checked
+/// in this order. There may be no such station, and for `deliver` no such frame.
 pub(crate) fn read_event<F: Fields>(alloc: Global, fields: &F) -> Result<Event, KeyFault>
     ensures { IfOk result FitsEvent }
 {
     let station = number(fields, Key::Station)?;
-    let (moment, what) = read_action(alloc, fields)?;
+    let moment = whole(fields, Key::At)? as u64;
     Ok(Event {
         station: station as usize,
         moment,
-        what,
+        what: read_what(alloc, fields)?,
     })
 }
 
-/// Reads what a station does, and when: `at`, in milliseconds below 2^63, `do`, and then the keys of
-/// that word, checked in this order.
+/// Reads what a station does: the word under `do`, and then the keys of that word, checked in this
+/// order.
 ///
 /// The first key that is missing, of another kind or out of range is refused.
-pub fn read_action<F: Fields>(alloc: Global, fields: &F) -> Result<(u64, What), KeyFault>
-    ensures { IfOk result (λ action. (action.0 < 2 ^ 63) × FitsWhat action.1) }
-{
-    let moment = whole(fields, Key::At)? as u64;
-    Ok((moment, read_what(alloc, fields)?))
-}
-
-/// Reads what the station does: the word under `do`, and the keys of that word.
-fn read_what<F: Fields>(alloc: Global, fields: &F) -> Result<What, KeyFault>
+pub fn read_what<F: Fields>(alloc: Global, fields: &F) -> Result<What, KeyFault>
     ensures { IfOk result FitsWhat }
 {
     match text(fields, Key::Do)? {

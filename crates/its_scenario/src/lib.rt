@@ -15,7 +15,7 @@ mod scenario;
 mod station;
 
 pub use air::Air;
-pub use event::read_action;
+pub use event::read_what;
 pub use fault::{KeyFault, ScenarioFault, Wrong};
 pub use fields::Fields;
 pub use key::Key;
