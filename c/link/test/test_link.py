@@ -302,13 +302,14 @@ def flood(draws, beacon, gbc):
 
 
 def test_flood():
-    """Memory afterwards is as after the first frames, and the station hears as before."""
+    """Memory afterwards is as after the first frames and counts, and the station hears as before."""
     with Net(PROGRAM, 1) as net:
         d, (end,) = net.station(0, "--port", 2002), net.ends()
         made = frames.beacon(OTHER, stamp()), frames.gbc(OTHER, stamp(), 7, b"x" * 20)
         for k in range(100):
             end.send(frames.gbc(OTHER, stamp(), k, b"x" * 20))
             d.event("delivered")
+        d.until(lambda n: n["link"]["frames"] >= 100)
         before = d.memory()
         sent = 100
         for frame in flood(random.Random(7), *made):
