@@ -473,7 +473,17 @@ impl Handle {
         // said, and don't overlap, as two of them are borrowed mutably.
         let status = unsafe {
             geostation_serve(
-                s, now, number, asked, count, text, text_room, &mut told, octets, room, &mut length,
+                s,
+                now,
+                number,
+                asked,
+                count,
+                text,
+                text_room,
+                &mut told,
+                octets,
+                room,
+                &mut length,
             )
         };
         answer.truncate(told);
