@@ -15,7 +15,7 @@ from decimal import Decimal
 BEACON, SHB = 0x10, 0x50
 KINDS = {0x3: "gac", 0x4: "gbc"}
 SHAPES = ["circle", "rectangle", "ellipse"]
-LINK_HEADER, BASIC_AND_COMMON, BTP_HEADER = 14, 12, 4
+BASIC_AND_COMMON, BTP_HEADER = 12, 4
 EXTENDED = {"geonw.beacon": 24, "geonw.tsb": 28, "geonw.gac": 44, "geonw.gbc": 44}
 
 
@@ -24,17 +24,25 @@ def octets(text: str) -> str:
     return text.replace(":", "")
 
 
+def addresses_of(layers: dict) -> tuple[str, str]:
+    """Who sent a frame, and to whom, on Ethernet or on IEEE 802.11."""
+    if "eth" in layers:
+        return layers["eth"]["eth.src"], layers["eth"]["eth.dst"]
+    return layers["wlan"]["wlan.sa"], layers["wlan"]["wlan.da"]
+
+
 def values_of(layers: dict) -> dict:
     """The values of one frame, by the program's keys and in their order."""
-    gnw, ethernet = layers["gnw"], layers["eth"]
+    gnw = layers["gnw"]
+    sender, target = addresses_of(layers)
     basic, common = gnw["geonw.bh"], gnw["geonw.ch"]
     name = next(key for key in EXTENDED if key in gnw)
     extended, header_type = gnw[name], int(common["geonw.ch.htype"], 16)
     source = extended["geonw.src_pos_tree"]
     values = {
         "moment": int(Decimal(layers["frame"]["frame.time_epoch"]) * 1000),
-        "from": octets(ethernet["eth.src"]),
-        "to": octets(ethernet["eth.dst"]),
+        "from": octets(sender),
+        "to": octets(target),
         "kind": {BEACON: "beacon", SHB: "shb"}.get(header_type) or KINDS[header_type >> 4],
         "address": octets(source["geonw.src_pos.addr"]),
         "tst": int(source["geonw.src_pos.tst"]),
@@ -60,7 +68,8 @@ def values_of(layers: dict) -> dict:
             "angle": int(extended["geonw.gxc.angle"]),
         }
     if header_type != BEACON:
-        start = LINK_HEADER + BASIC_AND_COMMON + EXTENDED[name] + BTP_HEADER
+        packet = layers["gnw_raw"][1]
+        start = packet + BASIC_AND_COMMON + EXTENDED[name] + BTP_HEADER
         end = start - BTP_HEADER + int(common["geonw.ch.plength"])
         values |= {
             "port": int(layers["btpb"]["btpb.dstport"]),

@@ -101,11 +101,11 @@ def compare(program, command, sample):
     told = [json.loads(line) for line in objects]
     for line, value in zip(objects, told):
         assert line == json.dumps(value, separators=(",", ":")), f"{line}: not compact"
+    air = command == "sim" and "[air]" in pathlib.Path(sample).read_text()
     if command == "sim":
-        assert list(told[0]) == ["stations"], objects[0]
+        assert list(told[0]) == (["stations", "air"] if air else ["stations"]), objects[0]
         told = told[1:]
     assert len(words) == len(reasons) == len(told), f"{command} {sample}: the lines differ"
-    air = command == "sim" and "[air]" in pathlib.Path(sample).read_text()
     for line, reason, value in zip(words, reasons, told):
         want, sentence, keys = event(value, air) if command == "sim" else record(value)
         assert line == want, f"{command} {sample}: '{line}', but in JSON {value}"

@@ -170,6 +170,17 @@ def connect(path):
     return s, s.makefile("rb")
 
 
+def connect_once_it_listens(path):
+    """A socket's name is there a little before anyone listens at it."""
+    latest = time.monotonic() + PATIENCE
+    while True:
+        try:
+            return connect(path)
+        except (FileNotFoundError, ConnectionRefusedError):
+            assert time.monotonic() < latest, f"no one listens at {path}"
+            time.sleep(0.01)
+
+
 def test_clients():
     """One that reads has all; one that doesn't is told how many it lost; one asks without end."""
     with Net(PROGRAM, 1) as net, tempfile.TemporaryDirectory() as room:
@@ -223,9 +234,8 @@ def test_closed_output():
         shell = f'exec "$@" <&- >&- --listen {room}/s'
         p = subprocess.Popen(["sh", "-c", shell, "sh", *net.enter(0, PROGRAM, "--interface", "v",
                                                                   "--position", "0,0")])
-        while not os.path.exists(f"{room}/s"):
-            time.sleep(0.01)
-        has({"event": "ready"}, json.loads(connect(f"{room}/s")[1].readline()))
+        _, lines = connect_once_it_listens(f"{room}/s")
+        has({"event": "ready"}, json.loads(lines.readline()))
         for number in (0, 1):
             assert os.readlink(f"/proc/{p.pid}/fd/{number}") == "/dev/null"
         p.terminate()

@@ -27,7 +27,11 @@ pub fn read<'a>(alloc: Global, arguments: &'a [String]) -> Result<Subcommand<'a>
     let mut program = whole(alloc)?;
     let matches = program.try_get_matches_from_mut(arguments)?;
     match subcommand_of(&matches) {
-        Some(subcommand) => Ok(subcommand),
-        None => Err(program.error(ErrorKind::MissingSubcommand, "no command was given")?),
+        Ok(Some(subcommand)) => Ok(subcommand),
+        Ok(None) => Err(program.error(ErrorKind::MissingSubcommand, "no command was given")?),
+        Err(bad) => {
+            let sentence = format!(in alloc; "{bad}")?;
+            Err(program.error(ErrorKind::InvalidValue, sentence.as_str())?)
+        }
     }
 }

@@ -14,16 +14,20 @@ enum Word {
     Flag(&'static str, &'static str),
     /// An option with a value, which help calls by its own name.
     Value(&'static str, &'static str, &'static str),
-    /// The same, with one of these values.
+    /// The same, and it may be given more than once.
+    Values(&'static str, &'static str, &'static str),
+    /// An option with one of these values.
     Choice(&'static str, &'static str, &'static [&'static str], &'static str),
 }
 
-/// A command: its name, what it does, its arguments, and what its help ends with.
+/// A command: its name, what it does, its arguments, those by which it chooses records, and what its
+/// help ends with.
 #[derive(Clone, Copy)]
 pub(crate) struct Form {
     name: &'static str,
     about: &'static str,
     words: &'static [Word],
+    choosing: &'static [Word],
     example: &'static str,
 }
 
@@ -31,7 +35,10 @@ const JSON: Word = Word::Flag("json", "Prints each line as a JSON object");
 
 const EXPLAIN: Word = Word::Flag("explain", "Says in words what each code means");
 
-const STRICT: Word = Word::Flag("strict", "Ends with status 1 where an event was refused");
+const STRICT: Word = Word::Flag(
+    "strict",
+    "Ends with status 1 where an event or an unknown key is refused",
+);
 
 const FRAMES: Word = Word::Value(
     "frames",
@@ -53,16 +60,93 @@ const FORMAT: Word = Word::Choice(
     "The format that is read, in place of what the first octets say",
 );
 
+const KIND: Word = Word::Value(
+    "kind",
+    "LIST",
+    "Chooses frames of these kinds: beacon,shb,gbc,gac",
+);
+
+const SOURCE: Word = Word::Value(
+    "source",
+    "HEX16",
+    "Chooses frames whose packet is of this address",
+);
+
+const FROM_MAC: Word = Word::Value("from-mac", "HEX12", "Chooses frames from this link address");
+
+const PORT: Word = Word::Value("port", "N", "Chooses frames to this destination port");
+
+const SINCE: Word = Word::Value("since", "N", "Chooses records of this moment and later");
+
+const UNTIL: Word = Word::Value("until", "N", "Chooses records of this moment and before");
+
+const REFUSED: Word = Word::Flag("refused", "Chooses refused records");
+
+const COUNT: Word = Word::Value(
+    "count",
+    "N",
+    "Reads nothing more once so many records are chosen",
+);
+
+const TIME: Word = Word::Choice(
+    "time",
+    "TIME",
+    &["raw", "utc", "relative", "delta"],
+    "How moments are told: in milliseconds, in UTC, in seconds since the first or the last one",
+);
+
+const FIELDS: Word = Word::Value(
+    "fields",
+    "NAMES",
+    "Prints the values of these keys of --json, parted by commas, as CSV",
+);
+
+const FRAMES_ONLY: Word = Word::Flag(
+    "frames-only",
+    "Writes Ethernet frames in place of records with their link layer's header",
+);
+
+const ADDRESS: Word = Word::Required("ADDRESS", "The station's address, 16 hexadecimal digits");
+
+const LAT: Word = Word::Signed(
+    "LAT",
+    "Its latitude in tenths of a microdegree: 481000000 is 48.1 degrees",
+);
+
+const LON: Word = Word::Signed(
+    "LON",
+    "Its longitude in tenths of a microdegree: 115000000 is 11.5 degrees",
+);
+
+const CAPACITY: Word = Word::Value(
+    "capacity",
+    "N",
+    "How many sources it knows: 1 to 4096, else 64",
+);
+
+const REMEMBER: Word = Word::Value(
+    "remember",
+    "N",
+    "How many numbers it remembers of each: 1 to 64, else 8",
+);
+
 const CAPTURE: Word = Word::Required("FILE", "The capture, or - for standard input");
 
 const SCENARIO: Word = Word::Required("SCENARIO", "The scenario, or - for standard input");
 
+/// By which records are chosen.
+const CHOOSING: &[Word] = &[KIND, SOURCE, FROM_MAC, PORT, SINCE, UNTIL, REFUSED, COUNT];
+
+/// The same where `--port` says something else.
+const CHOOSING_TO_ANY_PORT: &[Word] = &[KIND, SOURCE, FROM_MAC, SINCE, UNTIL, REFUSED, COUNT];
+
 /// The commands, in the order of the program's help.
-pub(crate) static FORMS: [Form; 7] = [
+pub(crate) static FORMS: [Form; 9] = [
     Form {
         name: "show",
         about: "Prints a line for each record of a capture",
-        words: &[CAPTURE, FORMAT, JSON, EXPLAIN],
+        words: &[CAPTURE, FORMAT, JSON, EXPLAIN, TIME, FIELDS],
+        choosing: CHOOSING,
         example: "\
 Example:
   geostation show first.cap",
@@ -71,9 +155,29 @@ Example:
         name: "check",
         about: "Prints a line for each refused record of a capture, and a count",
         words: &[CAPTURE, FORMAT, JSON, EXPLAIN],
+        choosing: CHOOSING,
         example: "\
 Example:
   geostation check first.cap",
+    },
+    Form {
+        name: "stats",
+        about: "Counts the records of a capture by kind, source, port and second",
+        words: &[
+            CAPTURE,
+            FORMAT,
+            JSON,
+            EXPLAIN,
+            Word::Value(
+                "top",
+                "N",
+                "Prints so many sources, those of the most frames",
+            ),
+        ],
+        choosing: CHOOSING,
+        example: "\
+Example:
+  geostation stats first.cap",
     },
     Form {
         name: "convert",
@@ -86,8 +190,10 @@ Example:
             ),
             FORMAT,
             TO,
+            FRAMES_ONLY,
             EXPLAIN,
         ],
+        choosing: CHOOSING,
         example: "\
 Example:
   geostation convert first.cap first.pcapng",
@@ -100,6 +206,7 @@ Example:
             Word::Required("OUT", "The capture that is made, or - for standard output"),
             EXPLAIN,
         ],
+        choosing: &[],
         example: "\
 Example, of a line with a frame of one octet at moment 5:
   echo '5 00' | geostation import - short.cap",
@@ -113,12 +220,37 @@ Example, of a line with a frame of one octet at moment 5:
                 "summary",
                 "Prints what came of each send in place of the events",
             ),
+            Word::Values(
+                "set",
+                "KEY=VALUE",
+                "Puts a key of the air in place of the scenario's",
+            ),
+            Word::Flag(
+                "notes",
+                "Also prints who comes, who leaves and what is lost in an air",
+            ),
             FRAMES,
             TO,
+            Word::Value(
+                "sends",
+                "FILE",
+                "Also writes a row for each send to this file: CSV",
+            ),
+            Word::Value(
+                "stations",
+                "FILE",
+                "Also writes a row for each station: CSV",
+            ),
+            Word::Value(
+                "load",
+                "FILE",
+                "Also writes a row for each second with frames: CSV",
+            ),
             JSON,
             EXPLAIN,
             STRICT,
         ],
+        choosing: &[],
         example: "\
 Example:
   geostation sim warning.toml",
@@ -126,35 +258,43 @@ Example:
     Form {
         name: "mesh",
         about: "Runs a scenario over UDP sockets on the loopback",
-        words: &[SCENARIO, FRAMES, TO, EXPLAIN, STRICT],
+        words: &[SCENARIO, FRAMES, TO, JSON, EXPLAIN, STRICT],
+        choosing: &[],
         example: "\
 Example:
   geostation mesh warning.toml",
     },
     Form {
+        name: "replay",
+        about: "Prints what a station would have done with the frames of a capture",
+        words: &[
+            CAPTURE,
+            ADDRESS,
+            LAT,
+            LON,
+            CAPACITY,
+            REMEMBER,
+            Word::Values(
+                "port",
+                "N",
+                "Opens this port at the start; frames aren't chosen by it",
+            ),
+            FRAMES,
+            TO,
+            FORMAT,
+            JSON,
+            EXPLAIN,
+        ],
+        choosing: CHOOSING_TO_ANY_PORT,
+        example: "\
+Example:
+  geostation replay first.cap 1400020000000002 0 0 --port 2002",
+    },
+    Form {
         name: "station",
         about: "Runs one station on JSON lines",
-        words: &[
-            Word::Required("ADDRESS", "The station's address, 16 hexadecimal digits"),
-            Word::Signed(
-                "LAT",
-                "Its latitude in tenths of a microdegree: 481000000 is 48.1 degrees",
-            ),
-            Word::Signed(
-                "LON",
-                "Its longitude in tenths of a microdegree: 115000000 is 11.5 degrees",
-            ),
-            Word::Value(
-                "capacity",
-                "N",
-                "How many sources it knows: 1 to 4096, else 64",
-            ),
-            Word::Value(
-                "remember",
-                "N",
-                "How many numbers it remembers of each: 1 to 64, else 8",
-            ),
-        ],
+        words: &[ADDRESS, LAT, LON, CAPACITY, REMEMBER],
+        choosing: &[],
         example: "\
 Example:
   echo '{\"at\":3000,\"do\":\"tick\",\"jitter\":0}' | geostation station 1400020000000001 0 0",
@@ -178,6 +318,11 @@ impl Word {
                 .long(name)
                 .value_name(value)
                 .help(help),
+            Word::Values(name, value, help) => Arg::new(alloc, name)
+                .long(name)
+                .value_name(value)
+                .action(ArgAction::Append)
+                .help(help),
             Word::Choice(name, value, values, help) => Arg::new(alloc, name)
                 .long(name)
                 .value_name(value)
@@ -193,7 +338,7 @@ impl Form {
         let mut command = Command::new(alloc, self.name)
             .about(self.about)
             .after_help(self.example);
-        for word in self.words {
+        for word in self.words.iter().chain(self.choosing) {
             command = command.arg(word.argument(alloc))?;
         }
         Ok(command)

@@ -3,6 +3,7 @@
 #![tactic(auto)]
 
 mod arguments;
+mod choosing;
 mod forms;
 mod program;
 mod station;

@@ -1,14 +1,21 @@
 //! The program over the runtime: arguments are read, and their command is run.
 
+ghost use Rattle.std.specs.Prelude.{IfOk};
+ghost use Rattle.its_replay.specs.Units.{IsUnit};
+ghost use Rattle.its_world.specs.Events.{IsConfig};
+
 use crate::arguments;
 use crate::station::StationWords;
 use crate::subcommand::Subcommand;
 use its_commands::{check_file, convert_file, import_file, show_file};
 use its_mesh::mesh_file;
 use its_pipe::{Ended, run_station};
-use its_reporting::{Fault, Status};
+use its_replay::{PortList, ReplayOptions, Unit, replay_file};
+use its_reporting::{Explanation, Fault, Status};
 use its_runs::{RunOptions, simulate_file};
-use its_scenario::{KeyFault, WrongOf, read_station};
+use its_scenario::{KeyFault, SettingFault, WrongOf, read_station};
+use its_stats::stats_file;
+use its_world::Config;
 use std::alloc::{AllocError, Global};
 use std::env::Args;
 use std::io;
@@ -93,25 +100,44 @@ where
         Ok(
             Subcommand::Show {
                 file,
-                format,
-                lines,
+                selection,
+                showing,
+                names,
             },
-        ) => show_file(rt, file, input, format, lines, out, err),
+        ) => show_file(rt, file, input, &selection, showing, names, out, err),
         Ok(
             Subcommand::Check {
                 file,
-                format,
+                selection,
                 lines,
             },
-        ) => check_file(rt, file, input, format, lines, out, err),
+        ) => check_file(rt, file, input, &selection, lines, out, err),
+        Ok(
+            Subcommand::Stats {
+                file,
+                selection,
+                counting,
+            },
+        ) => stats_file(rt, file, input, &selection, counting, out, err),
         Ok(
             Subcommand::Convert {
                 file,
+                selection,
                 out: target,
-                format,
+                frames_only,
                 lines,
             },
-        ) => convert_file(rt, file, input, target, format, lines, out, err),
+        ) => convert_file(
+            rt,
+            file,
+            input,
+            &selection,
+            target,
+            frames_only,
+            lines,
+            out,
+            err,
+        ),
         Ok(
             Subcommand::Import {
                 file,
@@ -123,6 +149,7 @@ where
             Subcommand::Sim {
                 file,
                 frames,
+                results,
                 options,
             },
         ) => {
@@ -130,7 +157,7 @@ where
                 progress: is_watched,
                 ..options
             };
-            simulate_file(rt, file, input, frames, options, out, err)
+            simulate_file(rt, file, input, frames, results, options, out, err)
         }
         Ok(
             Subcommand::Mesh {
@@ -139,13 +166,34 @@ where
                 options,
             },
         ) => mesh_file(rt, file, input, frames, options, out, err),
+        Ok(
+            Subcommand::Replay {
+                file,
+                selection,
+                words,
+                ports,
+                frames,
+                lines,
+            },
+        ) => match unit_of(&words, ports, err) {
+            Ok(unit) => {
+                let options = ReplayOptions {
+                    file,
+                    selection,
+                    unit,
+                    lines,
+                };
+                replay_file(rt, &options, input, frames, out, err)
+            }
+            Err(status) => status,
+        },
         Ok(Subcommand::Station(words)) => serve(rt.alloc(), &words, input, out, err),
+        Ok(Subcommand::BadSetting { fault, explain }) => refuse_setting(fault, explain, err),
         Err(error) => explain(&error, out, err),
     }
 }
 
-/// Is the station that these words describe, driven by the lines of standard input. Words that
-/// describe none are bad arguments, and told with what was wrong.
+/// Is the station that these words describe, driven by the lines of standard input.
 fn serve<I: Read + Drop, W: Write, E: Write>(
     alloc: Global,
     words: &StationWords<'_>,
@@ -153,18 +201,50 @@ fn serve<I: Read + Drop, W: Write, E: Write>(
     out: &mut W,
     err: &mut E,
 ) -> Status {
-    match read_station(words) {
+    match config_of(words, err) {
         Ok(config) => match run_station(alloc, &config, input, out, err) {
             Ended::Done => Status::Done,
             Ended::Refused => Status::Refused,
             Ended::Failed => Status::Failed,
         },
+        Err(status) => status,
+    }
+}
+
+/// The station that these words describe, with these ports open from its start.
+fn unit_of<E: Write>(words: &StationWords<'_>, ports: PortList, err: &mut E) -> Result<Unit, Status>
+    ensures { IfOk result IsUnit }
+{
+    let config = config_of(words, err)?;
+    Ok(Unit {
+        address: config.address,
+        place: config.place,
+        capacity: config.capacity,
+        remember: config.remember,
+        ports,
+    })
+}
+
+/// The station that these words describe. Words that describe none are bad arguments, and told with
+/// what was wrong.
+fn config_of<E: Write>(words: &StationWords<'_>, err: &mut E) -> Result<Config, Status>
+    ensures { IfOk result IsConfig }
+{
+    match read_station(words) {
+        Ok(config) => Ok(config),
         Err(KeyFault::Refused(key, wrong)) => {
             let _ = writeln!(err, "error: {key}: {}", WrongOf(key, wrong));
-            Status::BadArguments
+            Err(Status::BadArguments)
         }
-        Err(KeyFault::OutOfMemory) => Fault::OutOfMemory(AllocError).report(err),
+        Err(KeyFault::OutOfMemory) => Err(Fault::OutOfMemory(AllocError).report(err)),
     }
+}
+
+/// Refuses a value of the air that was given beside a scenario.
+fn refuse_setting<E: Write>(fault: SettingFault<'_>, explain: bool, err: &mut E) -> Status {
+    let reason = if explain { fault.wrong } else { None };
+    let _ = writeln!(err, "geostation: {fault}{}", Explanation(reason));
+    Status::BadArguments
 }
 
 /// Answers arguments that named no command: help on standard output, a refusal on standard error.

@@ -8,8 +8,7 @@ use Rattle.rand_core.specs.Stream.{Stream}
 use Rattle.its_model.specs.Station.{StationModel}
 use Rattle.its_model.specs.World.{Config, Event, WorldModel}
 use Rattle.its_model.specs.World.What.{Calls, Deliver}
-use Rattle.its_model.specs.Calls.OwnCall.{Tick}
-use Rattle.its_air.specs.Draws.{draws_of}
+use Rattle.its_model.specs.Calls.OwnCall.{Tick, SendShb}
 use Rattle.its_air.specs.Heard.{air_at, IsDone, IsHeard, draw_of, world_after}
 use Rattle.its_air.specs.Heard.{WhatIsHeardIsDelivered, DeliveriesAreHeard, StepsDoEvents}
 use Rattle.its_air.specs.Timetable.{IsOver}
@@ -19,7 +18,8 @@ use Rattle.its_air.specs.Timetable.{spread, spread_frame, heard_by, tick_again, 
 use Rattle.its_air.specs.Timetable.{tick, is_tick, was_refused, do_first, put_first_ticks}
 use Rattle.its_air.proofs.Lasting.{IsIn, step_does, once_done, waits_on, none_left, heard_waits}
 use Rattle.its_air.proofs.Lasting.{send_draws}
-use Rattle.its_air.specs.Timetable.{air_opening, NoneWaits}
+use Rattle.its_air.specs.Timetable.{air_opening, NoneWaits, with_file, with_ticks, put_traffic}
+use Rattle.its_air.specs.Timetable.{Traffic, sending, send_again, put_first_sends}
 use Rattle.its_air.proofs.OneRun.{later}
 use Rattle.its_air.proofs.Putting.{at}
 
@@ -163,6 +163,41 @@ ticks_of q k (suc n) t h what =
     by (inl is) = absurd (no_tick q k n 0 0 (draw u % 751) is what)
     by (inr x) = x
 
+-- a send is no delivery
+no_send : (q : Put) (k n m : ℕ) (x : Traffic) → q ≡ sending x n m → q.event.what ≡ Deliver k → ⊥
+no_send q k n m x is what =
+    let sends : q.event.what ≡ Calls (SendShb x.request) = ap (λ (p : Put). p.event.what) is in
+    let both : Calls (SendShb x.request) ≡ Deliver k = sym sends ∙ what in cc
+
+again_of : (q : Put) (e : Event) (k : ℕ) (o : Option Traffic) (t : Timetable)
+    → IsIn q (send_again e o t).waiting → q.event.what ≡ Deliver k → IsIn q t.waiting
+again_of q e k None t h what = h
+again_of q e k (Some x) t h what =
+    by (put_of_is q (sending x e.station (e.moment + x.period)) t.waiting h)
+  where
+    by : (q ≡ sending x e.station (e.moment + x.period)) ⊎ IsIn q t.waiting → IsIn q t.waiting
+    by (inl is) = absurd (no_send q k e.station (e.moment + x.period) x is what)
+    by (inr g) = g
+
+first_sends_of : (q : Put) (k : ℕ) (x : Traffic) (n : ℕ) (t : Timetable)
+    → IsIn q (put_first_sends x n t).waiting → q.event.what ≡ Deliver k → IsIn q t.waiting
+first_sends_of q k x zero t h what = h
+first_sends_of q k x (suc n) t h what =
+    first_sends_of q k x n t (by (put_of_is q (sending x n (draw u % x.period)) u.waiting h)) what
+  where
+    u : Timetable
+    u = put_first_sends x n t
+
+    by : (q ≡ sending x n (draw u % x.period)) ⊎ IsIn q u.waiting → IsIn q u.waiting
+    by (inl is) = absurd (no_send q k n (draw u % x.period) x is what)
+    by (inr g) = g
+
+sends_of : (q : Put) (k : ℕ) (every : List Traffic) (n : ℕ) (t : Timetable)
+    → IsIn q (put_traffic every n t).waiting → q.event.what ≡ Deliver k → IsIn q t.waiting
+sends_of q k [] n t h what = h
+sends_of q k (x ∷ every) n t h what =
+    first_sends_of q k x n t (sends_of q k every n (put_first_sends x n t) h what) what
+
 pub file_of : (q : Put) (es : List Event) (ws : List Put) → IsIn q (put_all (map of_file es) ws)
     → q.own ≡ true → IsIn q ws
 file_of q [] ws h own = h
@@ -234,8 +269,8 @@ waits_caused : (r : Rules) (configs : List Config) (file : List Event) (m k : �
     → q.event.what ≡ Deliver k → IsCaused r configs file m k q
 waits_caused r configs file zero k q h own what =
     absurd (file_of q file []
-    (ticks_of q k (cond r.beacons (length configs) 0)
-    (record { waiting = put_all (map of_file file) []; draws = draws_of r.seed }) h what) own)
+    (ticks_of q k (cond r.beacons (length configs) 0) (with_file r file)
+    (sends_of q k r.every (length configs) (with_ticks r configs file) h what) what) own)
 waits_caused r configs file (suc m) k q h own what =
     by (λ g. waits_caused r configs file m k q g own what) a.timetable.waiting refl h
   where
@@ -258,6 +293,11 @@ waits_caused r configs file (suc m) k q h own what =
         either (inl x) = old x
         either (inr x) = x
 
+        done_so : Timetable
+        done_so =
+            spread r p.event (world_after r configs file m p)
+            (record { waiting = rest; draws = a.timetable.draws })
+
         if_in_time : (b : Bool) → nat_le (at p) r.until ≡ b
             → IsIn q (cond b (once_done r configs a p rest) a).timetable.waiting
             → IsCaused r configs file (suc m) k q
@@ -265,9 +305,9 @@ waits_caused r configs file (suc m) k q h own what =
         if_in_time true test x =
             either (spread_of r configs file m k p q rest
             (record { rest = rest; first = is; in_time = leb-true (at p) r.until test }) what
-            (follow_of q p k (world_after r configs file m p)
-            (spread r p.event (world_after r configs file m p)
-            (record { waiting = rest; draws = a.timetable.draws })) x what))
+            (follow_of q p k (world_after r configs file m p) done_so
+            (again_of q p.event k p.traffic (follow_tick p (world_after r configs file m p) done_so)
+            x what) what))
 
 pub deliveries_are_heard : (r : Rules) (configs : List Config) (file : List Event)
     → DeliveriesAreHeard r configs file

@@ -12,16 +12,17 @@ use Rattle.its_model.proofs.Givers.{number_is, length_at, names_at, at_least}
 use Rattle.its_model.proofs.Sound.{EachNamed}
 use Rattle.its_model.proofs.SoundRuns.{run_sound}
 use Rattle.its_air.specs.Carried.{world_at, DeliversNone, FramesComeInOrder}
-use Rattle.its_air.specs.Draws.{draws_of}
 use Rattle.its_air.specs.Heard.{air_at, IsDone, world_after}
 use Rattle.its_air.specs.Timetable.{Rules, Put, Timetable, AirModel, put, put_all, draw, of_file}
 use Rattle.its_air.specs.Timetable.{draw_alone, draw_and_put, delivery, send, send_all, given}
 use Rattle.its_air.specs.Timetable.{spread, spread_frame, heard_by, tick_again, follow_tick}
 use Rattle.its_air.specs.Timetable.{tick, is_tick, was_refused, put_first_ticks}
+use Rattle.its_air.specs.Timetable.{with_file, with_ticks, put_traffic}
+use Rattle.its_air.specs.Timetable.{Traffic, sending, send_again, put_first_sends}
 use Rattle.its_air.proofs.Lasting.{step_does}
 use Rattle.its_air.proofs.Logs.{made, step_case, line_next}
 use Rattle.its_air.proofs.Moments.{Rises, send_rises, spread_rises, follow_rises, put_all_rises}
-use Rattle.its_air.proofs.Moments.{ticks_rise}
+use Rattle.its_air.proofs.Moments.{ticks_rise, traffic_rises, sends_again_rise}
 use Rattle.its_air.proofs.Putting.{at}
 
 -- ---- one that waits
@@ -193,6 +194,31 @@ ticks_in_line low top last (suc n) t h =
     put_other low top last (tick n 0 0 (draw u % 751)) u.waiting (no_tick n 0 0 (draw u % 751))
     (ticks_in_line low top last n t h)
 
+no_send : (x : Traffic) (n m k : ℕ) → (sending x n m).event.what ≢ Deliver k
+no_send x n m k e = cc
+
+again_in_line : (low top last : ℕ) (e : Event) (o : Option Traffic) (t : Timetable)
+    → InLine low top last t.waiting → InLine low top last (send_again e o t).waiting
+again_in_line low top last e None t h = h
+again_in_line low top last e (Some x) t h =
+    put_other low top last (sending x e.station (e.moment + x.period)) t.waiting
+    (no_send x e.station (e.moment + x.period)) h
+
+first_sends_in_line : (low top last : ℕ) (x : Traffic) (n : ℕ) (t : Timetable)
+    → InLine low top last t.waiting → InLine low top last (put_first_sends x n t).waiting
+first_sends_in_line low top last x zero t h = h
+first_sends_in_line low top last x (suc n) t h =
+    let u = put_first_sends x n t in
+    put_other low top last (sending x n (draw u % x.period)) u.waiting
+    (no_send x n (draw u % x.period)) (first_sends_in_line low top last x n t h)
+
+traffic_in_line : (low top last : ℕ) (every : List Traffic) (n : ℕ) (t : Timetable)
+    → InLine low top last t.waiting → InLine low top last (put_traffic every n t).waiting
+traffic_in_line low top last [] n t h = h
+traffic_in_line low top last (x ∷ every) n t h =
+    traffic_in_line low top last every n (put_first_sends x n t)
+    (first_sends_in_line low top last x n t h)
+
 file_in_line : (low top last : ℕ) (es : List Event) (ws : List Put) → DeliversNone es
     → InLine low top last ws → InLine low top last (put_all (map of_file es) ws)
 file_in_line low top last [] ws none h = h
@@ -256,13 +282,17 @@ step_in_line r configs file low n p d h =
     subst (IsInLine r configs (raised p.event.what low)) (sym (step_does r configs file n p d))
     (record {
       moment = at p;
-      rises = follow_rises p after (spread r p.event after t)
-          (spread_rises r p.event after (given after.log) t rises.1);
+      rises = sends_again_rise p.event p.traffic (follow_tick p after (spread r p.event after t))
+          (follow_rises p after (spread r p.event after t)
+          (spread_rises r p.event after (given after.log) t rises.1));
       below = omega (arith, lift, more);
-      line = follow_in_line (raised p.event.what low) (frames_in after) (at p + r.delay) p after
+      line = again_in_line (raised p.event.what low) (frames_in after) (at p + r.delay) p.event
+          p.traffic (follow_tick p after (spread r p.event after t))
+          (follow_in_line (raised p.event.what low) (frames_in after) (at p + r.delay) p after
           (spread r p.event after t)
           (spread_in_line (raised p.event.what low) top (frames_in after) (h.moment + r.delay) r
-          p.event after (given after.log) t lift more (omega (arith, early)) next.1 rises.1 line.1);
+          p.event after (given after.log) t lift more (omega (arith, early)) next.1 rises.1
+          line.1));
     })
   where
     below_top : (what : What) (low top moment last : ℕ) → FitsIn what low top moment last
@@ -315,17 +345,18 @@ in_line_on r configs file low n (suc d) end is h =
 opens_in_line : (r : Rules) (configs : List Config) (file : List Event) → DeliversNone file
     → IsInLine r configs 0 (air_at r configs file 0)
 opens_in_line r configs file none =
-    let t : Timetable = record {
-      waiting = put_all (map of_file file) [];
-      draws = draws_of r.seed;
-    } in
+    let t = with_file r file in
+    let u = with_ticks r configs file in
+    let ticking = cond r.beacons (length configs) 0 in
+    let top = frames_in (opening configs) in
     record {
       moment = 0;
-      rises = ticks_rise (cond r.beacons (length configs) 0) t (put_all_rises file [] tt);
+      rises = traffic_rises r.every (length configs) u
+          (ticks_rise ticking t (put_all_rises file [] tt));
       below = omega arith;
-      line = ticks_in_line 0 (frames_in (opening configs)) (0 + r.delay)
-          (cond r.beacons (length configs) 0) t
-          (file_in_line 0 (frames_in (opening configs)) (0 + r.delay) file [] none tt);
+      line = traffic_in_line 0 top (0 + r.delay) r.every (length configs) u
+          (ticks_in_line 0 top (0 + r.delay) ticking t
+          (file_in_line 0 top (0 + r.delay) file [] none tt));
     }
 
 less_by : (a b : ℕ) → a ≤ b → (d : ℕ) × (b ≡ d + a)

@@ -39,6 +39,9 @@ use Rattle.its_air.specs.Queues.{happenings_in}
 use Rattle.its_air.specs.Reach.{numbers_from, hears, hearers, is_within}
 use Rattle.its_air.specs.Timetable.{Timetable, Put, draw, draw_and_put, draw_alone, delivery, send}
 use Rattle.its_air.specs.Timetable.{send_all, tick, heard_from, hear_it, given, was_refused, is_refusal}
+use Rattle.its_air.specs.Timetable.{put_alone, put_traffic, put_first_sends}
+use Rattle.its_scenario.specs.declared.traffic.Traffic.{Traffic as Flow}
+use Rattle.its_air.specs.Traffics.{traffic_of, all_traffic}
 use Rattle.its_air.specs.Waits.{Waits, put_of}
 use Rattle.its_air.proofs.Waits.{waits_put}
 
@@ -75,6 +78,22 @@ keeps_put old new before after t x p same moves count place is drawn h =
       draws = ap (λ (s : Stream). (next_u64 s).1) h.draws ∙ sym drawn;
     }
 
+-- one more was put, and none was drawn
+pub keeps_put_alone : (old new : Queue) (words : List ℕ) (t : Timetable) (x : Waiting) (p : Put)
+    → SameFile old new → IsPermutation (x ∷ heap_items old.own) (heap_items new.own)
+    → new.put ≡ old.put + 1 → x.place ≡ old.put → put_of x ≡ p
+    → Keeps old words t → Keeps new words (put_alone p t)
+keeps_put_alone old new words t x p same moves count place is h =
+    record {
+      waits = subst (λ (q : Put). Waits (drop new.taken (happenings_due new))
+          (heap_items new.own) new.put new.until (put_alone q t).waiting) is
+          (waits_at (drop old.taken (happenings_due old)) _ (heap_items new.own) (old.put + 1) _
+          old.until _ _ (left_same old new same) count same.until
+          (waits_put (drop old.taken (happenings_due old)) (heap_items old.own)
+          (heap_items new.own) old.put old.until t.waiting x moves place h.waits));
+      draws = h.draws;
+    }
+
 -- none was put, by one draw
 pub keeps_draw : (queue : Queue) (before after : List ℕ) (t : Timetable)
     → draws_at after ≡ (next_u64 (draws_at before)).1
@@ -98,6 +117,13 @@ pub tick_is : (station moment beacon_from m place jitter drawn : ℕ)
 tick_is station moment beacon_from m place jitter drawn at is =
     ap (λ n. put_of (record { moment = n; place = place; station = station; own = owns.Tick jitter })) at
     ∙ ap (tick station moment beacon_from) is
+
+-- the first sends of one traffic more
+pub traffic_more : (xs : List Flow) (x : Flow) (n : ℕ) (t : Timetable)
+    → put_traffic (all_traffic (xs ++ x ∷ [])) n t
+    ≡ put_first_sends (traffic_of x) n (put_traffic (all_traffic xs) n t)
+traffic_more [] x n t = refl
+traffic_more (y ∷ xs) x n t = traffic_more xs x n (put_first_sends (traffic_of y) n t)
 
 -- a delivery that is lost, and one that isn't
 pub keeps_lost : (queue : Queue) (before after : List ℕ) (t : Timetable)

@@ -12,6 +12,7 @@ use Rattle.its_air.specs.Timetable.{Rules, Put, Timetable, AirModel, NoneWaits, 
 use Rattle.its_air.specs.Timetable.{draw_alone, draw_and_put, delivery, send, send_all, given}
 use Rattle.its_air.specs.Timetable.{spread, spread_frame, heard_by, tick_again, follow_tick}
 use Rattle.its_air.specs.Timetable.{tick, is_tick, was_refused, do_first, do_one}
+use Rattle.its_air.specs.Timetable.{Traffic, sending, send_again}
 use Rattle.its_air.proofs.Moments.{Rises, in_order}
 use Rattle.its_air.proofs.Putting.{at}
 
@@ -73,6 +74,12 @@ follow_more p q after t h =
     by true (Some s) =
         put_more p (tick q.event.station q.event.moment s.beacon_from (draw t % 751)) t.waiting h
 
+pub again_more : (p : Put) (e : Event) (o : Option Traffic) (t : Timetable) → IsIn p t.waiting
+    → IsIn p (send_again e o t).waiting
+again_more p e None t h = h
+again_more p e (Some x) t h =
+    put_more p (sending x e.station (e.moment + x.period)) t.waiting h
+
 -- ---- what a draw doesn't lose is put
 
 pub send_draws : (loss k m j : ℕ) (t : Timetable) → (send loss k m j t).draws ≡ (next_u64 t.draws).1
@@ -113,8 +120,9 @@ rest_stays : (r : Rules) (configs : List Config) (a : AirModel) (p q : Put) (res
 rest_stays r configs a p q rest h =
     let after = world_run (opening configs) (a.done ++ q.event ∷ []) in
     let t : Timetable = record { waiting = rest; draws = a.timetable.draws } in
-    follow_more p q after (spread r q.event after t)
-    (spread_more p r q.event after (given after.log) t h)
+    let u = spread r q.event after t in
+    again_more p q.event q.traffic (follow_tick q after u)
+    (follow_more p q after u (spread_more p r q.event after (given after.log) t h))
 
 -- a step does the first that waits
 pub step_does : (r : Rules) (configs : List Config) (file : List Event) (n : ℕ) (p : Put)
@@ -214,6 +222,8 @@ heard_waits r configs a p rest k i j gives at' kept =
     let after = world_run (opening configs) (a.done ++ p.event ∷ []) in
     let t : Timetable = record { waiting = rest; draws = a.timetable.draws } in
     let q = delivery k (at p + r.delay) j in
-    follow_more q p after (spread r p.event after t)
+    let u = spread r p.event after t in
+    again_more q p.event p.traffic (follow_tick p after u)
+    (follow_more q p after u
     (subst (λ (o : Option ℕ). IsIn q (spread_frame r p.event after o t).waiting) (sym gives)
-    (sent r.loss k (at p + r.delay) i j (heard_by r.range after p.event.station) t at' kept))
+    (sent r.loss k (at p + r.delay) i j (heard_by r.range after p.event.station) t at' kept)))

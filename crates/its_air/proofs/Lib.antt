@@ -17,3 +17,5 @@ pub mod Ticks
 pub mod Logs
 pub mod InLine
 pub mod Carried
+pub mod Sends
+pub mod Following

@@ -14,7 +14,8 @@ use Rattle.its_air.specs.Timetable.{Rules, Put, Timetable, AirModel, put, put_al
 use Rattle.its_air.specs.Timetable.{draw_alone, draw_and_put, delivery, send, send_all, given}
 use Rattle.its_air.specs.Timetable.{spread, spread_frame, heard_by, tick_again, follow_tick}
 use Rattle.its_air.specs.Timetable.{put_first_ticks, tick, is_tick, was_refused, of_file}
-use Rattle.its_air.specs.Timetable.{air_step, do_first, do_one}
+use Rattle.its_air.specs.Timetable.{air_step, do_first, do_one, with_ticks, put_traffic}
+use Rattle.its_air.specs.Timetable.{Traffic, sending, send_again, put_first_sends}
 use Rattle.its_air.proofs.Putting.{at}
 
 -- the moments rise along what waits, from this one on
@@ -82,6 +83,26 @@ follow_rises p after t h =
     by true = again_rises p.event (slice_get after.stations p.event.station) t h
     by false = h
 
+pub sends_again_rise : (e : Event) (o : Option Traffic) (t : Timetable)
+    → Rises e.moment t.waiting → Rises e.moment (send_again e o t).waiting
+sends_again_rise e None t h = h
+sends_again_rise e (Some x) t h =
+    put_rises e.moment (sending x e.station (e.moment + x.period)) t.waiting h (omega arith)
+
+pub first_sends_rise : (x : Traffic) (n : ℕ) (t : Timetable) → Rises 0 t.waiting
+    → Rises 0 (put_first_sends x n t).waiting
+first_sends_rise x zero t h = h
+first_sends_rise x (suc n) t h =
+    let u = put_first_sends x n t in
+    put_rises 0 (sending x n (draw u % x.period)) u.waiting (first_sends_rise x n t h)
+    (omega arith)
+
+pub traffic_rises : (every : List Traffic) (n : ℕ) (t : Timetable) → Rises 0 t.waiting
+    → Rises 0 (put_traffic every n t).waiting
+traffic_rises [] n t h = h
+traffic_rises (x ∷ every) n t h =
+    traffic_rises every n (put_first_sends x n t) (first_sends_rise x n t h)
+
 pub ticks_rise : (n : ℕ) (t : Timetable) → Rises 0 t.waiting → Rises 0 (put_first_ticks n t).waiting
 ticks_rise zero t h = h
 ticks_rise (suc n) t h =
@@ -108,8 +129,9 @@ one_in_order r configs a p rest is h =
     let past : All (λ e. e.moment ≤ at p) a.done = up h.moment (at p) a.done waits.0 h.past in
     record {
       moment = at p;
-      waits = follow_rises p after (spread r p.event after t)
-          (spread_rises r p.event after (given after.log) t waits.1);
+      waits = sends_again_rise p.event p.traffic (follow_tick p after (spread r p.event after t))
+          (follow_rises p after (spread r p.event after t)
+          (spread_rises r p.event after (given after.log) t waits.1));
       past = All-push (λ (e : Event). e.moment ≤ at p) a.done p.event past (omega arith);
       order = IsNonDecreasingBy-push (λ (e : Event). e.moment) a.done p.event h.order
           (λ d lt. past (length a.done - 1) d (omega (arith, lt)));
@@ -133,7 +155,8 @@ pub in_order : (r : Rules) (configs : List Config) (file : List Event) (n : ℕ)
 in_order r configs file zero =
     record {
       moment = 0;
-      waits = ticks_rise (cond r.beacons (length configs) 0) _ (put_all_rises file [] tt);
+      waits = traffic_rises r.every (length configs) (with_ticks r configs file)
+          (ticks_rise (cond r.beacons (length configs) 0) _ (put_all_rises file [] tt));
       past = λ k d lt. absurd (omega (arith, lt));
       order = IsNonDecreasingBy-short (λ (e : Event). e.moment) [] (omega arith);
     }

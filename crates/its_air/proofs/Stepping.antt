@@ -19,11 +19,12 @@ use Rattle.its_air.specs.AirRun.{AreDue}
 use Rattle.its_air.specs.AirTimed.{rules_of}
 use Rattle.its_air.specs.Draws.{draws_at, draws_of}
 use Rattle.its_air.specs.Files.{happenings_due}
-use Rattle.its_air.specs.Keeps.{Keeps, IsTimed}
-use Rattle.its_air.specs.Queues.{happenings_in, waiting_cmp}
-use Rattle.its_air.specs.Timetable.{Rules, Timetable, Put, AirModel, NoneWaits, of_file, of_air, put_all}
-use Rattle.its_air.specs.Timetable.{air_step, do_first, do_one, after_one, follow_tick, tick_again}
-use Rattle.its_air.specs.Timetable.{is_tick, was_refused}
+use Rattle.its_air.specs.Keeps.{Keeps, IsTimed, follow_own}
+use Rattle.its_air.specs.Queues.{happenings_in, waiting_cmp, happening_of}
+use Rattle.its_air.specs.Timetable.{Rules, Timetable, Put, AirModel, NoneWaits, of_file, put_all}
+use Rattle.its_air.specs.Timetable.{air_step, do_first, do_one, after_one, follow_tick}
+use Rattle.its_air.specs.Timetable.{send_again, was_refused}
+use Rattle.its_air.specs.Traffics.{traffic_in}
 use Rattle.its_air.specs.Waits.{Waits, put_of}
 use Rattle.its_air.proofs.Keeping.{waits_at}
 use Rattle.its_air.proofs.Opening.{waits_opening}
@@ -140,7 +141,7 @@ step_first rules configs a p rest is le =
 pub timed_one : (rules : Rules) (configs : List Config) (a : AirModel) (p : Put)
     (rest : List Put) (new : Run) (After : List Event → List Entry → Type 0)
     → a.timetable.waiting ≡ p ∷ rest → at p ≤ rules.until
-    → rules_of new.air new.queue.until ≡ rules
+    → rules_of new.air rules.every new.queue.until ≡ rules
     → IsSimulated configs (a.done ++ p.event ∷ []) new.world After
     → Keeps new.queue new.draws (after_one rules p
     (world_run (opening configs) (a.done ++ p.event ∷ []))
@@ -151,26 +152,13 @@ timed_one rules configs a p rest new After is le same told keeps =
     (sym (step_first rules configs a p rest is le))
     (record { rules_are = same; told = told; keeps = keeps })
 
--- after a tick of the air's own, and after another event
-pub follow_yes : (e : Event) (after : WorldModel) (t : Timetable) (b : Bool)
-    → is_tick e.what ≡ true → was_refused after.log ≡ b
-    → cond b t (tick_again e (slice_get after.stations e.station) t)
-    ≡ follow_tick (of_air e) after t
-follow_yes e after t b ticks refused =
-    let again = tick_again e (slice_get after.stations e.station) t in
-    turned b again
-    ∙ sym (ap (λ (x : Bool). cond (x && not (was_refused after.log)) again t) ticks
-    ∙ ap (λ (x : Bool). cond (not x) again t) refused)
-  where
-    turned : (x : Bool) (u : Timetable) → cond x t u ≡ cond (not x) u t
-    turned true u = refl
-    turned false u = refl
-
-pub follow_no : (e : Event) (after : WorldModel) (t : Timetable) → is_tick e.what ≡ false
-    → t ≡ follow_tick (of_air e) after t
-follow_no e after t no' =
-    sym (ap (λ (x : Bool). cond (x && not (was_refused after.log))
-    (tick_again e (slice_get after.stations e.station) t) t) no')
+-- what follows an event of the air's own
+pub follows : (w : Waiting) (after : WorldModel) (t : Timetable) (b : Bool)
+    → was_refused after.log ≡ b
+    → follow_own w b (slice_get after.stations w.station) t
+    ≡ send_again (happening_of w) (traffic_in w.own) (follow_tick (put_of w) after t)
+follows w after t b refused =
+    sym (ap (λ (x : Bool). follow_own w x (slice_get after.stations w.station) t) refused)
 
 -- nothing was taken yet
 pub keeps_opening : (queue : Queue) (words : List ℕ) (file : List Event) (until seed : ℕ)

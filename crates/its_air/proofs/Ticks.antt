@@ -6,15 +6,15 @@ use Rattle.std.specs.Prelude.{nat_le, ◌%◌, slice_get, not, ◌&&◌}
 use Rattle.std.proofs.lemmas.Bool.{leb-true}
 use Rattle.its_model.specs.Station.{StationModel}
 use Rattle.its_model.specs.World.{Config, Event, WorldModel}
-use Rattle.its_air.specs.Draws.{draws_of}
 use Rattle.its_air.specs.Heard.{air_at, IsDone, IsFirstTick, IsNextTick, world_after}
 use Rattle.its_air.specs.Heard.{next_tick, TicksGoOn, TicksAreDue}
 use Rattle.its_air.specs.Timetable.{Rules, Put, Timetable, AirModel, put_all, draw, of_file}
 use Rattle.its_air.specs.Timetable.{delivery, given, heard_by, spread, spread_frame, tick_again}
 use Rattle.its_air.specs.Timetable.{follow_tick, tick, is_tick, was_refused, do_first}
-use Rattle.its_air.specs.Timetable.{put_first_ticks}
+use Rattle.its_air.specs.Timetable.{put_first_ticks, with_file, with_ticks, put_traffic}
+use Rattle.its_air.specs.Timetable.{Traffic, sending, send_again, put_first_sends}
 use Rattle.its_air.proofs.Heard.{put_is_done, put_of_is, sent_of, file_of, IsSent}
-use Rattle.its_air.proofs.Lasting.{IsIn, step_does, once_done, put_self}
+use Rattle.its_air.proofs.Lasting.{IsIn, step_does, once_done, put_self, again_more}
 use Rattle.its_air.proofs.Putting.{at}
 
 -- ---- a tick is followed
@@ -41,10 +41,13 @@ ticks_go_on r configs file end n p s h over due =
     put_is_done r configs file end n p q h.done over
     (subst (λ (a : AirModel). IsIn q a.timetable.waiting)
     (sym (step_does r configs file n p h.done))
-    (followed p (world_after r configs file n p) s
-    (spread r p.event (world_after r configs file n p)
-    (record { waiting = h.done.rest; draws = (air_at r configs file n).timetable.draws }))
-    h.own h.ticks h.answered h.station)) due
+    (again_more q p.event p.traffic (follow_tick p (world_after r configs file n p) u)
+    (followed p (world_after r configs file n p) s u h.own h.ticks h.answered h.station))) due
+  where
+    u : Timetable
+    u =
+        spread r p.event (world_after r configs file n p)
+        (record { waiting = h.done.rest; draws = (air_at r configs file n).timetable.draws })
 
 -- ---- a tick has a reason
 
@@ -52,6 +55,40 @@ ticks_go_on r configs file end n p s h over due =
 no_delivery : (q : Put) (k m j : ℕ) → q ≡ delivery k m j → is_tick q.event.what ≡ true → ⊥
 no_delivery q k m j is ticks =
     true≢false (sym ticks ∙ ap (λ (x : Put). is_tick x.event.what) is)
+
+-- a send is no tick
+no_send : (q : Put) (n m : ℕ) (x : Traffic) → q ≡ sending x n m → is_tick q.event.what ≡ true → ⊥
+no_send q n m x is ticks =
+    true≢false (sym ticks ∙ ap (λ (y : Put). is_tick y.event.what) is)
+
+again_kept : (q : Put) (e : Event) (o : Option Traffic) (t : Timetable)
+    → IsIn q (send_again e o t).waiting → is_tick q.event.what ≡ true → IsIn q t.waiting
+again_kept q e None t h ticks = h
+again_kept q e (Some x) t h ticks =
+    by (put_of_is q (sending x e.station (e.moment + x.period)) t.waiting h)
+  where
+    by : (q ≡ sending x e.station (e.moment + x.period)) ⊎ IsIn q t.waiting → IsIn q t.waiting
+    by (inl is) = absurd (no_send q e.station (e.moment + x.period) x is ticks)
+    by (inr g) = g
+
+first_sends_kept : (q : Put) (x : Traffic) (n : ℕ) (t : Timetable)
+    → IsIn q (put_first_sends x n t).waiting → is_tick q.event.what ≡ true → IsIn q t.waiting
+first_sends_kept q x zero t h ticks = h
+first_sends_kept q x (suc n) t h ticks =
+    first_sends_kept q x n t (by (put_of_is q (sending x n (draw u % x.period)) u.waiting h)) ticks
+  where
+    u : Timetable
+    u = put_first_sends x n t
+
+    by : (q ≡ sending x n (draw u % x.period)) ⊎ IsIn q u.waiting → IsIn q u.waiting
+    by (inl is) = absurd (no_send q n (draw u % x.period) x is ticks)
+    by (inr g) = g
+
+traffic_kept : (q : Put) (every : List Traffic) (n : ℕ) (t : Timetable)
+    → IsIn q (put_traffic every n t).waiting → is_tick q.event.what ≡ true → IsIn q t.waiting
+traffic_kept q [] n t h ticks = h
+traffic_kept q (x ∷ every) n t h ticks =
+    first_sends_kept q x n t (traffic_kept q every n (put_first_sends x n t) h ticks) ticks
 
 spread_kept : (q : Put) (r : Rules) (e : Event) (after : WorldModel) (o : Option ℕ)
     (t : Timetable) → IsIn q (spread_frame r e after o t).waiting → is_tick q.event.what ≡ true
@@ -92,7 +129,8 @@ next_of : (r : Rules) (configs : List Config) (file : List Event) (m : ℕ) (p q
     → IsIn q rest ⊎ IsNextTick r configs file (suc m) q
 next_of r configs file m p q rest done same h ticks =
     by p.own refl (is_tick p.event.what) refl (was_refused after.log) refl
-    (slice_get after.stations p.event.station) refl h
+    (slice_get after.stations p.event.station) refl
+    (again_kept q p.event p.traffic (follow_tick p after u) h ticks)
   where
     after : WorldModel
     after = world_after r configs file m p
@@ -151,8 +189,8 @@ waits_ticked : (r : Rules) (configs : List Config) (file : List Event) (m : ℕ)
     → IsIn q (air_at r configs file m).timetable.waiting → q.own ≡ true
     → is_tick q.event.what ≡ true → IsFirstTick r configs q ⊎ IsNextTick r configs file m q
 waits_ticked r configs file zero q h own ticks =
-    by (first_of r configs q (cond r.beacons (length configs) 0)
-    (record { waiting = put_all (map of_file file) []; draws = draws_of r.seed }) (omega arith) h)
+    by (first_of r configs q (cond r.beacons (length configs) 0) (with_file r file) (omega arith)
+    (traffic_kept q r.every (length configs) (with_ticks r configs file) h ticks))
   where
     by : IsFirstTick r configs q ⊎ IsIn q (put_all (map of_file file) [])
         → IsFirstTick r configs q ⊎ IsNextTick r configs file 0 q

@@ -15,7 +15,7 @@ use Rattle.its_simulation.specs.Simulated.{IsSimulated}
 use Rattle.its_air.specs.AirRun.{AreAmong, AreDue, IsAirRun}
 use Rattle.its_air.specs.Files.{SameFile, happenings_due}
 use Rattle.its_air.specs.Queues.{happenings_in}
-use Rattle.its_air.specs.Runs.{IsUnderWay}
+use Rattle.its_air.specs.Runs.{IsUnderWay, SaysAsBefore}
 use Rattle.its_air.specs.declared.run.Run.{Run}
 use Rattle.its_air.proofs.Among.{among_both, among_more}
 
@@ -118,4 +118,17 @@ ended configs file events until run Took due all under =
           (subst (λ n. n ≤ run.queue.taken)
           (sym (length-map run.queue.due.items (λ (e : Bor Told). event_of e.now))) all))
           under.among;
+    }
+
+-- what was done is still told where a sink says what it said before
+pub told_on : (configs : List Config) (events : List Event) (world : WorldState)
+    (Before After : List Event → List Entry → Type 0) → SaysAsBefore Before After
+    → IsSimulated configs events world Before → IsSimulated configs events world After
+told_on configs events world Before After says h =
+    record {
+      stands = h.stands;
+      laws = h.laws;
+      log = h.log;
+      told = h.told;
+      took = says events h.log h.took;
     }

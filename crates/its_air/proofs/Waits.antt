@@ -10,7 +10,9 @@ use Rattle.std.proofs.lemmas.List.{map-append}
 use Rattle.std.proofs.lemmas.List.Elements.{recursion_from_All}
 use Rattle.std.proofs.lemmas.List.Sums.{sum_by-cons, sum_by_push, sum_by-append}
 use Rattle.std.proofs.lemmas.List.Sorted.{sum_by-IsPermutation}
+use Rattle.std.proofs.Props.{props}
 use Rattle.its_model.specs.World.{Event}
+use Rattle.its_scenario.specs.declared.traffic.Traffic.{Traffic as Flow}
 use Rattle.its_air.specs.declared.waiting.Own.{Own}
 use Rattle.its_air.specs.declared.waiting.Own.TheVariants as owns
 use Rattle.its_air.specs.declared.waiting.Waiting.{Waiting}
@@ -21,20 +23,81 @@ use Rattle.its_air.proofs.Putting.{at, put_all_push, put_all_first, put_all_behi
 
 -- ---- what is the same
 
+-- traffic with the same numbers is the same
+abbrev flow_of : (period port info class octets : ℕ) → 1 ≤ period → octets ≤ 1394 → Flow
+flow_of period port info class octets often fits =
+    record {
+      period = period;
+      port = port;
+      info = info;
+      class = class;
+      octets = octets;
+      often = often;
+      fits = fits;
+    }
+
+often_prop : (n : ℕ) → IsProp (1 ≤ n)
+often_prop n = hlevel props
+
+fits_prop : (n : ℕ) → IsProp (n ≤ 1394)
+fits_prop n = hlevel props
+
+same_flow : (x y : Flow) → x.period ≡ y.period → x.port ≡ y.port → x.info ≡ y.info
+    → x.class ≡ y.class → x.octets ≡ y.octets → x ≡ y
+same_flow x y period port info class octets =
+    subst (λ n. (a : 1 ≤ n) → x ≡ flow_of n x.port x.info x.class x.octets a x.fits) period
+    (λ a. ap (λ z. flow_of x.period x.port x.info x.class x.octets z x.fits)
+    (often_prop x.period x.often a)) y.often
+    ∙ ap (λ n. flow_of y.period n x.info x.class x.octets y.often x.fits) port
+    ∙ ap (λ n. flow_of y.period y.port n x.class x.octets y.often x.fits) info
+    ∙ ap (λ n. flow_of y.period y.port y.info n x.octets y.often x.fits) class
+    ∙ subst (λ n. (b : n ≤ 1394)
+    → flow_of y.period y.port y.info y.class x.octets y.often x.fits
+    ≡ flow_of y.period y.port y.info y.class n y.often b) octets
+    (λ b. ap (λ z. flow_of y.period y.port y.info y.class x.octets y.often z)
+    (fits_prop x.octets x.fits b)) y.fits
+
+abbrev are_same : Flow → Flow → Bool
+are_same x y =
+    (x.period == y.period) && ((x.port == y.port) && ((x.info == y.info)
+    && ((x.class == y.class) && (x.octets == y.octets))))
+
+are_same_is : (x y : Flow) → are_same x y ≡ true → x ≡ y
+are_same_is x y h =
+    let a = and_parts (x.period == y.period) _ h in
+    let b = and_parts (x.port == y.port) _ a.1 in
+    let c = and_parts (x.info == y.info) _ b.1 in
+    let d = and_parts (x.class == y.class) _ c.1 in
+    same_flow x y (eqb-true _ _ a.0) (eqb-true _ _ b.0) (eqb-true _ _ c.0) (eqb-true _ _ d.0)
+    (eqb-true _ _ d.1)
+
+are_same_self : (x : Flow) → are_same x x ≡ true
+are_same_self x =
+    and_from _ _ (eq-eqb x.period x.period refl) (and_from _ _ (eq-eqb x.port x.port refl)
+    (and_from _ _ (eq-eqb x.info x.info refl) (and_from _ _ (eq-eqb x.class x.class refl)
+    (eq-eqb x.octets x.octets refl))))
+
 abbrev same_own : Own → Own → Bool
 same_own (owns.Tick a) (owns.Tick b) = a == b
 same_own (owns.Deliver a) (owns.Deliver b) = a == b
+same_own (owns.Send x) (owns.Send y) = are_same x y
 same_own a b = false
 
 same_own_is : (a b : Own) → same_own a b ≡ true → a ≡ b
 same_own_is (owns.Tick a) (owns.Tick b) h = ap owns.Tick (eqb-true a b h)
 same_own_is (owns.Tick a) (owns.Deliver b) h = cc
+same_own_is (owns.Tick a) (owns.Send b) h = cc
 same_own_is (owns.Deliver a) (owns.Tick b) h = cc
 same_own_is (owns.Deliver a) (owns.Deliver b) h = ap owns.Deliver (eqb-true a b h)
+same_own_is (owns.Deliver a) (owns.Send b) h = cc
+same_own_is (owns.Send a) (owns.Tick b) h = cc
+same_own_is (owns.Send a) (owns.Deliver b) h = cc
+same_own_is (owns.Send a) (owns.Send b) h = ap owns.Send (are_same_is a b h)
 
 same_own_self : (a : Own) → same_own a a ≡ true
 same_own_self (owns.Tick a) = eq-eqb a a refl
 same_own_self (owns.Deliver a) = eq-eqb a a refl
+same_own_self (owns.Send a) = are_same_self a
 
 abbrev is_same : Waiting → Waiting → Bool
 is_same w v =

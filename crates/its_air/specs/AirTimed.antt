@@ -5,11 +5,11 @@ use Rattle.its_world.specs.declared.entry.Entry.{Entry}
 use Rattle.its_world.specs.State.{WorldState}
 use Rattle.its_scenario.specs.declared.air.Air.{Air}
 use Rattle.its_simulation.specs.Simulated.{IsSimulated}
-use Rattle.its_air.specs.Timetable.{Rules, air_opening, air_run, IsOver}
+use Rattle.its_air.specs.Timetable.{Rules, Traffic, air_opening, air_run, IsOver}
 
--- what the air of a scenario goes by
-abbrev pub rules_of : Air → ℕ → Rules
-rules_of air until =
+-- what the air of a scenario goes by, with this traffic, up to a last moment
+abbrev pub rules_of : Air → List Traffic → ℕ → Rules
+rules_of air every until =
     record {
       range = air.range;
       delay = air.delay;
@@ -17,6 +17,7 @@ rules_of air until =
       beacons = air.beacons;
       seed = air.seed;
       until = until;
+      every = every;
     }
 
 -- After so many steps nothing more waits up to the last moment; and what was done until then are

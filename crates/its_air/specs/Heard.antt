@@ -8,7 +8,7 @@ use Rattle.its_model.specs.World.{Config, Event, WorldModel, opening, world_run}
 use Rattle.its_model.specs.World.What.{Deliver}
 use Rattle.its_air.specs.Timetable.{Rules, Put, AirModel, air_opening, air_run, IsOver}
 use Rattle.its_air.specs.Timetable.{delivery, given, heard_by, spread, draw, tick, is_tick}
-use Rattle.its_air.specs.Timetable.{was_refused}
+use Rattle.its_air.specs.Timetable.{was_refused, Traffic, sending}
 
 -- an air after so many steps
 abbrev pub air_at : Rules → List Config → List Event → ℕ → AirModel
@@ -123,3 +123,38 @@ abbrev pub TicksAreDue : Rules → List Config → List Event → Type 0
 TicksAreDue r configs file =
     (m : ℕ) (q : Put) → IsDone r configs file m q → q.own ≡ true → is_tick q.event.what ≡ true
     → IsFirstTick r configs q ⊎ IsNextTick r configs file m q
+
+-- In a run that is over, a send of traffic is done again, by a later step, a period after, where that
+-- isn't past the last moment.
+abbrev pub SendsGoOn : Rules → List Config → List Event → Type 0
+SendsGoOn r configs file =
+    (end n : ℕ) (p : Put) (x : Traffic) → IsDone r configs file n p → p.traffic ≡ Some x
+    → IsOver r (air_at r configs file end) → p.event.moment + x.period ≤ r.until
+    → (m : ℕ) × (n < m) × (m < end)
+    × IsDone r configs file m (sending x p.event.station (p.event.moment + x.period))
+
+-- one of the first sends of a traffic of these, by a station that there is: at a draw modulo the
+-- period
+pub record IsFirstSend (r : Rules) (configs : List Config) (q : Put) (x : Traffic) : Type 0 where
+  pub place : ℕ
+  pub traffic : slice_get r.every place ≡ Some x
+  pub station : ℕ
+  pub among : station < length configs
+  pub drawn : ℕ
+  pub is : q ≡ sending x station (drawn % x.period)
+
+-- it is the next one of a station that sent the same by an earlier step than this
+pub record IsNextSend (r : Rules) (configs : List Config) (file : List Event) (m : ℕ)
+    (q : Put) (x : Traffic) : Type 0 where
+  pub n : ℕ
+  pub p : Put
+  pub earlier : n < m
+  pub done : IsDone r configs file n p
+  pub traffic : p.traffic ≡ Some x
+  pub is : q ≡ sending x p.event.station (p.event.moment + x.period)
+
+-- Each send of traffic is one of the first, or the next of a station that sent the same before.
+abbrev pub SendsAreDue : Rules → List Config → List Event → Type 0
+SendsAreDue r configs file =
+    (m : ℕ) (q : Put) (x : Traffic) → IsDone r configs file m q → q.traffic ≡ Some x
+    → IsFirstSend r configs q x ⊎ IsNextSend r configs file m q x

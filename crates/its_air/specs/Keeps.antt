@@ -1,7 +1,8 @@
 -- A queue and a generator keep a timetable.
-use Rattle.std.specs.Prelude.{◌≡◌, ℕ, List, Bool, true, false, drop}
+use Rattle.std.specs.Prelude.{◌≡◌, ℕ, List, Bool, true, false, drop, Option, cond, not, ◌&&◌}
 use Rattle.std.specs.BinaryHeap.{heap_items}
 use Rattle.its_model.specs.Calls.{Answer}
+use Rattle.its_model.specs.Station.{StationModel}
 use Rattle.its_model.specs.World.{Config, Event, WorldModel, frame_of}
 use Rattle.its_world.specs.Entries.{TellsEntry}
 use Rattle.its_world.specs.declared.entry.Entry.{Entry}
@@ -10,16 +11,25 @@ use Rattle.its_air.specs.AirTimed.{rules_of}
 use Rattle.its_air.specs.Draws.{draws_at}
 use Rattle.its_air.specs.Files.{happenings_due}
 use Rattle.its_air.specs.Timetable.{Rules, Timetable, AirModel, air_step, IsOver}
-use Rattle.its_air.specs.Timetable.{given, was_refused, is_refusal}
+use Rattle.its_air.specs.Queues.{happening_of, own_of}
+use Rattle.its_air.specs.Timetable.{given, was_refused, is_refusal, is_tick, tick_again, send_again}
+use Rattle.its_air.specs.Traffics.{traffic_in}
 use Rattle.its_air.specs.Waits.{Waits}
 use Rattle.its_air.specs.declared.run.Run.{Run}
 use Rattle.its_air.specs.declared.waiting.Queue.{Queue}
+use Rattle.its_air.specs.declared.waiting.Waiting.{Waiting}
 
 -- what waits in the queue, and what a generator with these words will draw, are the timetable's
 pub record Keeps (queue : Queue) (words : List ℕ) (t : Timetable) : Type 0 where
   pub waits : Waits (drop queue.taken (happenings_due queue)) (heap_items queue.own) queue.put
       queue.until t.waiting
   pub draws : t.draws ≡ draws_at words
+
+-- what follows an event of the air's own, which was refused or not
+abbrev pub follow_own : Waiting → Bool → Option StationModel → Timetable → Timetable
+follow_own w refused s t =
+    send_again (happening_of w) (traffic_in w.own)
+    (cond (is_tick (own_of w.own) && not refused) (tick_again (happening_of w) s t) t)
 
 -- the entry is the one that was logged last
 pub record IsAnswered (entry : Entry) (after : WorldModel) : Type 0 where
@@ -31,7 +41,7 @@ pub record IsAnswered (entry : Entry) (after : WorldModel) : Type 0 where
 -- a run that is under way stands as the air of the model does
 pub record IsTimed (rules : Rules) (configs : List Config) (a : AirModel) (run : Run)
     (Took : List Event → List Entry → Type 0) : Type 0 where
-  pub rules_are : rules_of run.air run.queue.until ≡ rules
+  pub rules_are : rules_of run.air rules.every run.queue.until ≡ rules
   pub told : IsSimulated configs a.done run.world Took
   pub keeps : Keeps run.queue run.draws a.timetable
 

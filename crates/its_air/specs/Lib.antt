@@ -8,6 +8,7 @@ pub mod Files
 pub mod Scenarios
 pub mod Timetable
 pub mod AirTimed
+pub mod Traffics
 pub mod Waits
 pub mod Keeps
 pub mod Heard

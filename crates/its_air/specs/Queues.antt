@@ -6,7 +6,7 @@ use Rattle.std.specs.declared.cmp.Ordering.{Ordering}
 use Rattle.std.specs.Ordering.{nat_cmp, on, flip_args, then_cmp}
 use Rattle.its_model.specs.World.{Event, What}
 use Rattle.its_model.specs.World.What.{Calls, Deliver as Delivers}
-use Rattle.its_model.specs.Calls.OwnCall.{Tick as Ticks}
+use Rattle.its_model.specs.Calls.OwnCall.{Tick as Ticks, SendShb}
 use denote.Ref.{Bor}
 use Rattle.its_world.specs.declared.event.Event.{Event as Told}
 use Rattle.its_world.specs.Events.{event_of}
@@ -15,11 +15,13 @@ use Rattle.its_air.specs.declared.waiting.Own.TheVariants as owns
 use Rattle.its_air.specs.declared.waiting.Waiting.{Waiting}
 use Rattle.its_air.specs.declared.waiting.Next.{Next}
 use Rattle.its_air.specs.declared.waiting.Next.TheVariants as nexts
+use Rattle.its_air.specs.Traffics.{request_of}
 
 -- what an air does by itself, in the model
 abbrev pub own_of : Own → What
 own_of (owns.Tick jitter) = Calls (Ticks jitter)
 own_of (owns.Deliver frame) = Delivers frame
+own_of (owns.Send x) = Calls (SendShb (request_of x))
 
 -- an event of the air's own
 abbrev pub happening_of : Waiting → Event

@@ -12,3 +12,8 @@ pub record IsUnderWay (configs : List Config) (events : List Event) (run : Run)
     (Took : List Event → List Entry → Type 0) : Type 0 where
   pub told : IsSimulated configs events run.world Took
   pub among : AreAmong (take run.queue.taken (happenings_due run.queue)) events
+
+-- what a sink said of events and entries, it says of them still
+abbrev pub SaysAsBefore : (Before After : List Event → List Entry → Type 0) → Type 0
+SaysAsBefore Before After =
+    (events : List Event) (log : List Entry) → Before events log → After events log

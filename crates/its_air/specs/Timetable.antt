@@ -4,8 +4,8 @@ use Rattle.std.specs.Prelude.{Option, Some, None, slice_get, nat_le, nat_lt, Boo
 use Rattle.std.specs.Prelude.{◌&&◌, cond, ◌<◌}
 use Rattle.rand_core.specs.Stream.{Stream, next_u64}
 use Rattle.its_gnvalue.specs.Values.{Position}
-use Rattle.its_model.specs.Calls.{Answer}
-use Rattle.its_model.specs.Calls.OwnCall.{Tick}
+use Rattle.its_model.specs.Calls.{Answer, ShbRequest}
+use Rattle.its_model.specs.Calls.OwnCall.{Tick, SendShb}
 use Rattle.its_model.specs.Calls.Answer.{Moved, Opened, Closed, Restarted, Quiet, Sent, Ignored}
 use Rattle.its_model.specs.Calls.Answer.{Accepted, Refused}
 use Rattle.its_model.specs.Station.{StationModel}
@@ -15,6 +15,11 @@ use Rattle.its_model.specs.World.What.{Calls, Deliver}
 use Rattle.its_air.specs.Draws.{draws_of}
 use Rattle.its_air.specs.Reach.{is_within}
 
+-- what each station sends again and again
+pub record Traffic : Type 0 where
+  pub period : ℕ  -- from one send to the next, in milliseconds
+  pub request : ShbRequest  -- what is sent
+
 -- what an air goes by
 pub record Rules : Type 0 where
   pub range : ℕ  -- how far a frame is heard, in metres
@@ -23,18 +28,33 @@ pub record Rules : Type 0 where
   pub beacons : Bool  -- whether each station ticks by itself
   pub seed : ℕ  -- what the draws begin with
   pub until : ℕ  -- the last moment that is run
+  pub every : List Traffic  -- what each station sends by itself
 
--- an event that is put, and whether by the air itself
+-- an event that is put, whether by the air itself, and the traffic that it is a send of, if it is
 pub record Put : Type 0 where
   pub event : Event
   pub own : Bool
+  pub traffic : Option Traffic
 
--- an event of the file, and one of the air's own
+-- an event of the file, and one of the air's own that is no send
 abbrev pub of_file : Event → Put
-of_file e = record { event = e; own = false }
+of_file e = record { event = e; own = false; traffic = None }
 
 abbrev pub of_air : Event → Put
-of_air e = record { event = e; own = true }
+of_air e = record { event = e; own = true; traffic = None }
+
+-- a send of traffic, by a station, at a moment
+abbrev pub sending : Traffic → ℕ → ℕ → Put
+sending x station moment =
+    record {
+      event = record {
+        station = station;
+        moment = moment;
+        what = Calls (SendShb x.request);
+      };
+      own = true;
+      traffic = Some x;
+    }
 
 -- what waits, the first in front, once this is put too: behind all that wait for no later moment
 abbrev pub put : Put → List Put → List Put
@@ -101,6 +121,20 @@ abbrev pub put_first_ticks : ℕ → Timetable → Timetable
 put_first_ticks zero t = t
 put_first_ticks (suc n) t = put_tick n 0 0 (put_first_ticks n t)
 
+-- the first send of traffic by a station is put: at a draw modulo the period
+abbrev pub put_first_send : Traffic → ℕ → Timetable → Timetable
+put_first_send x station t = draw_and_put (sending x station (draw t % x.period)) t
+
+-- that of each of so many stations, in order
+abbrev pub put_first_sends : Traffic → ℕ → Timetable → Timetable
+put_first_sends x zero t = t
+put_first_sends x (suc n) t = put_first_send x n (put_first_sends x n t)
+
+-- those of each traffic, in order
+abbrev pub put_traffic : List Traffic → ℕ → Timetable → Timetable
+put_traffic [] count t = t
+put_traffic (x ∷ more) count t = put_traffic more count (put_first_sends x count t)
+
 -- those of these stations, the first of this number, that hear what another gives at a place
 abbrev pub heard_from : ℕ → ℕ → Position → ℕ → List StationModel → List ℕ
 heard_from range giver place n [] = []
@@ -164,15 +198,25 @@ follow_tick p after t =
     cond (p.own && (is_tick p.event.what && not (was_refused after.log)))
     (tick_again p.event (slice_get after.stations p.event.station) t) t
 
+-- with this put, and nothing drawn
+abbrev pub put_alone : Put → Timetable → Timetable
+put_alone p t = record { waiting = put p t.waiting; draws = t.draws }
+
+-- After a send of traffic, refused or not, the station's next one is put, a period later.
+abbrev pub send_again : Event → Option Traffic → Timetable → Timetable
+send_again e None t = t
+send_again e (Some x) t = put_alone (sending x e.station (e.moment + x.period)) t
+
 -- what was done in an air, and what waits
 pub record AirModel : Type 0 where
   pub done : List Event
   pub timetable : Timetable
 
--- an event is done: then its frame comes to those that hear it, then the next tick is put, by the
--- world as it stands after the event
+-- an event is done: then its frame comes to those that hear it, then the next tick or the next send
+-- is put, by the world as it stands after the event
 abbrev pub after_one : Rules → Put → WorldModel → Timetable → Timetable
-after_one r p after t = follow_tick p after (spread r p.event after t)
+after_one r p after t =
+    send_again p.event p.traffic (follow_tick p after (spread r p.event after t))
 
 abbrev pub do_one : Rules → List Config → List Event → Put → Timetable → AirModel
 do_one r configs done p t =
@@ -196,15 +240,22 @@ abbrev pub air_run : Rules → List Config → ℕ → AirModel → AirModel
 air_run r configs zero a = a
 air_run r configs (suc n) a = air_step r configs (air_run r configs n a)
 
--- Nothing is done yet: the events of the file wait, and with beacons the first ticks.
+-- the events of the file wait
+abbrev pub with_file : Rules → List Event → Timetable
+with_file r file = record { waiting = put_all (map of_file file) []; draws = draws_of r.seed }
+
+-- and with beacons the first ticks
+abbrev pub with_ticks : Rules → List Config → List Event → Timetable
+with_ticks r configs file =
+    put_first_ticks (cond r.beacons (length configs) 0) (with_file r file)
+
+-- Nothing is done yet: the events of the file wait, with beacons the first ticks, and the first
+-- sends of the traffic.
 abbrev pub air_opening : Rules → List Config → List Event → AirModel
 air_opening r configs file =
     record {
       done = [];
-      timetable = put_first_ticks (cond r.beacons (length configs) 0) (record {
-        waiting = put_all (map of_file file) [];
-        draws = draws_of r.seed;
-      });
+      timetable = put_traffic r.every (length configs) (with_ticks r configs file);
     }
 
 -- nothing waits up to the last moment

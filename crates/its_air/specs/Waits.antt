@@ -1,5 +1,5 @@
 -- What waits, as it is kept: the events of the file that are due, and a heap of the air's own.
-use Rattle.std.specs.Prelude.{◌≡◌, ℕ, ◌<◌, List, [], ◌∷◌, ◌++◌, map, sum_by}
+use Rattle.std.specs.Prelude.{◌≡◌, ℕ, ◌<◌, List, [], ◌∷◌, ◌++◌, map, sum_by, true}
 use Rattle.std.specs.List.{AllByRecursion}
 use Rattle.std.specs.List.Sorted.{IsPermutation}
 use Rattle.its_model.specs.World.{Event}
@@ -7,11 +7,12 @@ use Rattle.its_air.specs.declared.waiting.Waiting.{Waiting}
 use Rattle.its_air.specs.declared.waiting.Next.{Next}
 use Rattle.its_air.specs.declared.waiting.Next.TheVariants as nexts
 use Rattle.its_air.specs.Queues.{happening_of}
-use Rattle.its_air.specs.Timetable.{Put, of_file, of_air, put_all}
+use Rattle.its_air.specs.Timetable.{Put, of_file, put_all}
+use Rattle.its_air.specs.Traffics.{traffic_in}
 
 -- what is put for one of the air's own
 abbrev pub put_of : Waiting → Put
-put_of w = of_air (happening_of w)
+put_of w = record { event = happening_of w; own = true; traffic = traffic_in w.own }
 
 -- each was put later than those before it
 abbrev pub PlacesRise : List Waiting → Type 0

@@ -1,6 +1,6 @@
-//! The draws of an air: what is lost, and by how much a beacon is put off.
+//! The draws of an air: what is lost, by how much a beacon is put off, and when traffic begins.
 
-ghost use Rattle.std.specs.Prelude.{◌≡◌, ◌<◌, ◌%◌, ℕ, List, IsTrue, ◌↔◌};
+ghost use Rattle.std.specs.Prelude.{◌≡◌, ◌≤◌, ◌<◌, ◌%◌, ℕ, List, IsTrue, ◌↔◌};
 ghost use Rattle.rand_core.specs.Stream.{next_u64};
 ghost use Rattle.its_air.specs.Draws.{draws_at, draws_of};
 
@@ -43,5 +43,14 @@ impl Draws {
         ensures rest { draws_at self.new ≡ (next_u64 (draws_at self.old)).1 }
     {
         (self.0.next_u64() % JITTERS) as u16
+    }
+
+    /// A moment in milliseconds, before the end of a period: one draw.
+    pub fn within(&mut self, period: u32) -> u64
+        requires { 1 ≤ period }
+        ensures value { result ≡ (next_u64 (draws_at self.old)).0 % period }
+        ensures rest { draws_at self.new ≡ (next_u64 (draws_at self.old)).1 }
+    {
+        self.0.next_u64() % u64::from(period)
     }
 }

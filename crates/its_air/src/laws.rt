@@ -4,6 +4,7 @@ ghost use Rattle.std.specs.Prelude.{◌≡◌, ℕ, List};
 ghost use Rattle.its_model.specs.World.{Config, Event};
 ghost use Rattle.its_air.specs.Heard.{StepsDoEvents, MomentsNeverFall, WhatIsHeardIsDelivered};
 ghost use Rattle.its_air.specs.Heard.{DeliveriesAreHeard, TicksGoOn, TicksAreDue};
+ghost use Rattle.its_air.specs.Heard.{SendsGoOn, SendsAreDue};
 ghost use Rattle.its_air.specs.Carried.{LogsNeverFall, FramesComeInOrder, StationsInRangeHear};
 ghost use Rattle.its_air.specs.Carried.{ReachesInAir};
 ghost use Rattle.its_air.specs.Timetable.{Rules, IsOver, air_opening, air_run};
@@ -58,6 +59,21 @@ pub fn ticks_go_on()
 pub fn ticks_are_due()
     ensures { (rules : Rules) (configs : List Config) (file : List Event) →
         TicksAreDue rules configs file }
+{}
+
+/// In a run that is over, a station that sent of its own traffic, refused or not, sends the same
+/// again by one of the steps after: a period later, unless that is past the last moment.
+pub fn sends_go_on()
+    ensures { (rules : Rules) (configs : List Config) (file : List Event) →
+        SendsGoOn rules configs file }
+{}
+
+/// Each send of traffic is the first of it by its station, at a draw modulo the period, or comes a
+/// period after one of the same by that station, by an earlier step. The traffic is one of the
+/// rules'.
+pub fn sends_are_due()
+    ensures { (rules : Rules) (configs : List Config) (file : List Event) →
+        SendsAreDue rules configs file }
 {}
 
 /// The moments of the lines of an air's log never fall.

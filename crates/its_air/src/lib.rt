@@ -5,6 +5,7 @@
 mod draws;
 mod fault;
 pub mod laws;
+mod presence;
 mod reach;
 mod run;
 mod scenario;
@@ -15,8 +16,9 @@ mod waiting;
 
 pub use draws::Draws;
 pub use fault::AirFault;
+pub use presence::Presence;
 pub use reach::{find_hearers, is_within};
 pub use run::run_air;
 pub use scenario::run_scenario;
-pub use summary::{SendKind, SendSummary, Total, Totals};
+pub use summary::{SendKind, SendSummary, Totals};
 pub use tally::Tally;

@@ -18,21 +18,25 @@ ghost use Rattle.its_simulation.specs.Simulated.{IsSimulated};
 ghost use Rattle.its_air.specs.AirRun.{AreDue, IsAirRun};
 ghost use Rattle.its_air.specs.AirTimed.{IsTimedRun, rules_of};
 ghost use Rattle.its_air.specs.Files.{SameFile, happenings_due};
-ghost use Rattle.its_air.specs.Keeps.{Keeps, IsAnswered, IsTimed, GoesOn};
-ghost use Rattle.its_air.specs.Timetable.{Timetable, send_all, put_first_ticks, is_refusal};
+ghost use Rattle.its_air.specs.Keeps.{Keeps, IsAnswered, IsTimed, GoesOn, follow_own};
+ghost use Rattle.its_air.specs.Timetable.{Timetable, Traffic as Flow, send, send_all, is_refusal};
+ghost use Rattle.its_air.specs.Timetable.{put_first_ticks, put_first_sends, put_first_send};
+ghost use Rattle.its_air.specs.Timetable.{put_traffic};
 ghost use Rattle.its_air.specs.Timetable.{spread_frame, tick_again, put_tick as with_tick};
 ghost use Rattle.its_air.specs.Timetable.{Rules, AirModel, spread, air_opening};
-ghost use Rattle.its_air.specs.Runs.{IsUnderWay};
+ghost use Rattle.its_air.specs.Runs.{IsUnderWay, SaysAsBefore};
 ghost use Rattle.its_air.specs.Standings.{AreStandingsOf};
+ghost use Rattle.its_air.specs.Queues.{happening_of};
+ghost use Rattle.its_air.specs.Traffics.{all_traffic, traffic_of};
 
 use crate::draws::Draws;
 use crate::fault::AirFault;
 use crate::standing::Standings;
-use crate::waiting::{Next, Own, Queue};
+use crate::waiting::{Next, Own, Queue, Waiting};
 use its_gnvalue::Place;
 use its_model::laws::every_schedule;
-use its_scenario::Air;
-use its_simulation::{EventSink, do_event};
+use its_scenario::{Air, Traffic};
+use its_simulation::{EventSink, Note, do_event};
 use its_world::{Config, Entry, Event, World};
 use std::alloc::Global;
 
@@ -40,11 +44,13 @@ use std::alloc::Global;
 /// in reach, and hands each event to a sink as it is done. Gives the world that the last one left.
 ///
 /// Events wait in the order of their moments, those of one moment in the order in which they were
-/// put: first those of the file, then, with beacons, a tick of each station at a jitter. A frame
-/// that a station gives is heard by each other station in reach, in order, unless a draw loses it,
-/// and is delivered to it after the delay. After a tick of the air's own that wasn't refused, the
-/// station's next one is put at the event's moment or, where that is later, when its beacon is due
-/// by the next jitter. The run ends where nothing waits up to the last moment.
+/// put: first those of the file, then, with beacons, a tick of each station at a jitter, then, of
+/// each traffic in order, a send of each station at a draw below its period. A frame that a station
+/// gives is heard by each other station in reach, in order, unless a draw loses it, and is delivered
+/// to it after the delay. After a tick of the air's own that wasn't refused, the station's next one
+/// is put at the event's moment or, where that is later, when its beacon is due by the next jitter;
+/// after a send of traffic, refused or not, its next one a period later. The run ends where nothing
+/// waits up to the last moment.
 ///
 /// There is a list of events of which the world stands at the end, by the written rules: of that
 /// very end hold the laws over every schedule; the sink took just these events and their entries;
@@ -59,6 +65,7 @@ pub fn run_air<S: EventSink>(
     configs: &[Config],
     events: &[Event],
     air: &Air,
+    every: &[Traffic],
     sink: &mut S,
 ) -> Result<World, AirFault>
     requires configs { All IsConfig configs.now }
@@ -70,12 +77,12 @@ pub fn run_air<S: EventSink>(
         IsAirRun (map config_of configs.now) (map event_of events.now)
         (end_of air.now.until events.now) world (S.Took sink.new)) }
     ensures timed { S.Took sink.old [] [] → IfOk result (λ world.
-        IsTimedRun (rules_of air.now (end_of air.now.until events.now))
+        IsTimedRun (rules_of air.now (all_traffic every.now) (end_of air.now.until events.now))
         (map config_of configs.now) (map event_of events.now) world (S.Took sink.new)) }
 {
     // A law, for the proof alone.
     every_schedule();
-    let mut run = Run::begin(alloc, configs, events, air)?;
+    let mut run = Run::begin(alloc, configs, events, air, every)?;
     for number in 0..usize::MAX {
         if !run.go_on(number, sink)? {
             return Ok(run.world);
@@ -87,6 +94,7 @@ pub fn run_air<S: EventSink>(
 /// A run that is under way.
 #[derive(Drop)]
 struct Run<'a> {
+    alloc: Global,
     air: Air,
     world: World,
     queue: Queue<'a>,
@@ -104,6 +112,7 @@ impl<'a> Run<'a> {
         configs: &[Config],
         events: &'a [Event],
         air: &Air,
+        every: &[Traffic],
     ) -> Result<Run<'a>, AirFault>
         requires configs { All IsConfig configs.now }
         requires count { length configs.now ≤ 65535 }
@@ -116,10 +125,10 @@ impl<'a> Run<'a> {
             AreDue (map event_of events.now) (end_of air.now.until events.now)
             (happenings_due run.queue)) }
         ensures start { IfOk result (λ run. run.queue.taken ≡ 0) }
-        ensures rules { IfOk result (λ run. rules_of run.air run.queue.until
-            ≡ rules_of air.now (end_of air.now.until events.now)) }
-        ensures timed { IfOk result (λ run. Keeps run.queue run.draws
-            (air_opening (rules_of air.now (end_of air.now.until events.now))
+        ensures rules { IfOk result (λ run. rules_of run.air (all_traffic every.now) run.queue.until
+            ≡ rules_of air.now (all_traffic every.now) (end_of air.now.until events.now)) }
+        ensures timed { IfOk result (λ run. Keeps run.queue run.draws (air_opening
+            (rules_of air.now (all_traffic every.now) (end_of air.now.until events.now))
             (map config_of configs.now) (map event_of events.now)).timetable) }
         ensures standings { IfOk result (λ run.
             AreStandingsOf run.world.stations run.standings.order.items) }
@@ -130,9 +139,11 @@ impl<'a> Run<'a> {
         let mut queue = Queue::of_file(alloc, events, air.end(events))?;
         let ticking = if air.beacons { configs.len() } else { 0 };
         put_first_ticks(&mut queue, &mut draws, ticking)?;
+        put_traffic(&mut queue, &mut draws, every, configs.len())?;
         let world = World::of_apart(alloc, configs)?;
         let standings = Standings::of(alloc, world.stations())?;
         Ok(Run {
+            alloc,
             air: *air,
             world,
             queue,
@@ -165,11 +176,9 @@ impl<'a> Run<'a> {
                 Ok(true)
             }
             Some(Next::Own(waiting)) => {
-                let event = waiting.event();
+                let event = waiting.event(self.alloc)?;
                 let entry = self.do_event(number, &event, sink)?;
-                if waiting.is_tick() {
-                    self.put_next_tick(&event, &entry)?;
-                }
+                self.put_next(&waiting, &entry)?;
                 Ok(true)
             }
         }
@@ -198,18 +207,19 @@ impl<'a> Run<'a> {
             IsSimulated configs events self.old.world (S.Took sink.old) → IfOk result (λ entry.
             IsAnswered entry
             (world_run (opening configs) (events ++ event_of event.now ∷ []))) }
-        ensures spread { (configs : List Beginning) (events : List Happening) (t : Timetable) →
+        ensures spread { (configs : List Beginning) (events : List Happening) (t : Timetable)
+            (every : List Flow) →
             IsSimulated configs events self.old.world (S.Took sink.old) →
             Keeps self.old.queue self.old.draws t → OnOk result
             (Keeps self.new.queue self.new.draws
-            (spread (rules_of self.old.air self.old.queue.until) (event_of event.now)
+            (spread (rules_of self.old.air every self.old.queue.until) (event_of event.now)
             (world_run (opening configs) (events ++ event_of event.now ∷ [])) t)) }
     {
         let stood = place_of(&self.world, event.station);
         let entry = do_event(&mut self.world, number, event, sink)?;
         self.follow(event.station, stood)?;
         if let Some(frame) = entry.frame() {
-            self.spread(event, frame)?;
+            self.spread(event, frame, sink)?;
         }
         Ok(entry)
     }
@@ -235,18 +245,26 @@ impl<'a> Run<'a> {
         Ok(())
     }
 
-    /// Puts a delivery of a frame to each station that hears it and doesn't lose it.
-    fn spread(&mut self, event: &Event, frame: usize) -> Result<(), AirFault>
+    /// Puts a delivery of a frame to each station that hears it and doesn't lose it, and notes which
+    /// of them do and which lose it.
+    fn spread<S: EventSink>(
+        &mut self,
+        event: &Event,
+        frame: usize,
+        sink: &mut S,
+    ) -> Result<(), AirFault>
         requires moment { event.now.moment ≤ 2 ^ 63 + 10000 }
         requires standings { AreStandingsOf self.old.world.stations self.old.standings.order.items }
         ensures air { self.new.air ≡ self.old.air }
         ensures world { self.new.world ≡ self.old.world }
         ensures standings { self.new.standings ≡ self.old.standings }
         ensures file { SameFile self.old.queue self.new.queue }
-        ensures spread { (w : WorldModel) (t : Timetable) → RepresentsWorld self.old.world w →
-            Keeps self.old.queue self.old.draws t → OnOk result
-            (Keeps self.new.queue self.new.draws (spread_frame
-            (rules_of self.old.air self.old.queue.until) (event_of event.now) w (Some frame) t)) }
+        ensures told { OnOk result (SaysAsBefore (S.Took sink.old) (S.Took sink.new)) }
+        ensures spread { (w : WorldModel) (t : Timetable) (every : List Flow) →
+            RepresentsWorld self.old.world w → Keeps self.old.queue self.old.draws t → OnOk result
+            (Keeps self.new.queue self.new.draws
+            (spread_frame (rules_of self.old.air every self.old.queue.until) (event_of event.now) w
+            (Some frame) t)) }
     {
         let Some(giver) = self.world.station(event.station) else {
             return Ok(());
@@ -258,20 +276,50 @@ impl<'a> Run<'a> {
             giver.vector().place(),
             &mut self.hearers,
         )?;
-        let moment = event.moment + u64::from(self.air.delay);
-        let hearers = self.hearers.as_slice();
-        put_deliveries(
-            &mut self.queue,
-            &mut self.draws,
-            self.air.loss,
-            moment,
+        let given = GivenFrame {
             frame,
+            moment: event.moment,
+            heard_at: event.moment + u64::from(self.air.delay),
+        };
+        let hearers = self.hearers.as_slice();
+        let (queue, draws) = (&mut self.queue, &mut self.draws);
+        put_deliveries(
+            queue,
+            draws,
+            self.air.loss,
+            given,
             hearers,
+            &self.world,
+            sink,
         )
     }
 
+    /// Puts what follows an event of the air's own: the next tick of a station after one that wasn't
+    /// refused, its next send after one of traffic.
+    fn put_next(&mut self, done: &Waiting, entry: &Entry) -> Result<(), AirFault>
+        requires moment { done.now.moment ≤ 2 ^ 63 + 10000 }
+        ensures air { self.new.air ≡ self.old.air }
+        ensures world { self.new.world ≡ self.old.world }
+        ensures standings { self.new.standings ≡ self.old.standings }
+        ensures file { SameFile self.old.queue self.new.queue }
+        ensures next { (w : WorldModel) (t : Timetable) (answer : Answer ℕ) →
+            RepresentsWorld self.old.world w → TellsEntry entry.now answer →
+            Keeps self.old.queue self.old.draws t → OnOk result
+            (Keeps self.new.queue self.new.draws (follow_own done.now (is_refusal answer)
+            (slice_get w.stations done.now.station) t)) }
+    {
+        match &done.own {
+            Own::Tick(_) => self.put_next_tick(done, entry),
+            Own::Deliver(_) => Ok(()),
+            Own::Send(traffic) => {
+                let moment = done.moment + u64::from(traffic.period);
+                self.queue.put(moment, done.station, Own::Send(*traffic))
+            }
+        }
+    }
+
     /// Puts the next tick of a station after one that wasn't refused.
-    fn put_next_tick(&mut self, tick: &Event, entry: &Entry) -> Result<(), AirFault>
+    fn put_next_tick(&mut self, tick: &Waiting, entry: &Entry) -> Result<(), AirFault>
         ensures air { self.new.air ≡ self.old.air }
         ensures world { self.new.world ≡ self.old.world }
         ensures standings { self.new.standings ≡ self.old.standings }
@@ -280,7 +328,7 @@ impl<'a> Run<'a> {
             RepresentsWorld self.old.world w → TellsEntry entry.now answer →
             Keeps self.old.queue self.old.draws t → OnOk result
             (Keeps self.new.queue self.new.draws (cond (is_refusal answer) t
-            (tick_again (event_of tick.now) (slice_get w.stations tick.now.station) t))) }
+            (tick_again (happening_of tick.now) (slice_get w.stations tick.now.station) t))) }
     {
         if matches!(entry, Entry::Refused(_)) {
             return Ok(());
@@ -330,25 +378,107 @@ fn put_first_ticks(queue: &mut Queue<'_>, draws: &mut Draws, count: usize) -> Re
     Ok(())
 }
 
-/// Puts a delivery of a frame at this moment to each of these stations that doesn't lose it.
-fn put_deliveries(
+/// Puts the first sends of each traffic, in order: of each of so many stations.
+fn put_traffic(
+    queue: &mut Queue<'_>,
+    draws: &mut Draws,
+    every: &[Traffic],
+    count: usize,
+) -> Result<(), AirFault>
+    ensures file { SameFile queue.old queue.new }
+    ensures sends { (t : Timetable) → Keeps queue.old draws.old t → OnOk result
+        (Keeps queue.new draws.new (put_traffic (all_traffic every.now) count t)) }
+{
+    for traffic in every {
+        put_first_sends(queue, draws, traffic, count)?;
+    }
+    Ok(())
+}
+
+/// Puts the first send of a traffic of each of so many stations, in order.
+fn put_first_sends(
+    queue: &mut Queue<'_>,
+    draws: &mut Draws,
+    traffic: &Traffic,
+    count: usize,
+) -> Result<(), AirFault>
+    ensures file { SameFile queue.old queue.new }
+    ensures sends { (t : Timetable) → Keeps queue.old draws.old t → OnOk result
+        (Keeps queue.new draws.new (put_first_sends (traffic_of traffic.now) count t)) }
+{
+    for station in 0..count {
+        put_first_send(queue, draws, traffic, station)?;
+    }
+    Ok(())
+}
+
+/// Puts the first send of a traffic by a station: at a draw below its period.
+fn put_first_send(
+    queue: &mut Queue<'_>,
+    draws: &mut Draws,
+    traffic: &Traffic,
+    station: usize,
+) -> Result<(), AirFault>
+    ensures file { SameFile queue.old queue.new }
+    ensures send { (t : Timetable) → Keeps queue.old draws.old t → OnOk result
+        (Keeps queue.new draws.new (put_first_send (traffic_of traffic.now) station t)) }
+{
+    let moment = draws.within(traffic.period);
+    queue.put(moment, station, Own::Send(*traffic))
+}
+
+/// A frame that was just given.
+#[derive(Clone, Copy, Debug)]
+struct GivenFrame {
+    /// Its number.
+    frame: usize,
+    /// The moment when it was given.
+    moment: u64,
+    /// The moment of its deliveries.
+    heard_at: u64,
+}
+
+/// Puts a delivery of a frame to each of these stations that doesn't lose it, and hands a sink a
+/// note of what each draw did, in order.
+fn put_deliveries<S: EventSink>(
     queue: &mut Queue<'_>,
     draws: &mut Draws,
     loss: u8,
-    moment: u64,
-    frame: usize,
+    given: GivenFrame,
     hearers: &[usize],
+    world: &World,
+    sink: &mut S,
 ) -> Result<(), AirFault>
     ensures file { SameFile queue.old queue.new }
+    ensures told { OnOk result (SaysAsBefore (S.Took sink.old) (S.Took sink.new)) }
     ensures sent { (t : Timetable) → Keeps queue.old draws.old t → OnOk result
-        (Keeps queue.new draws.new (send_all loss frame moment hearers.now t)) }
+        (Keeps queue.new draws.new (send_all loss given.frame given.heard_at hearers.now t)) }
 {
     for station in hearers {
-        if !draws.is_lost(loss) {
-            queue.put(moment, *station, Own::Deliver(frame))?;
-        }
+        let note = put_delivery(queue, draws, loss, given, *station)?;
+        sink.note(world, given.moment, &note)?;
     }
     Ok(())
+}
+
+/// Puts a delivery of a frame to a station, unless a draw loses it. Gives the note of it.
+fn put_delivery(
+    queue: &mut Queue<'_>,
+    draws: &mut Draws,
+    loss: u8,
+    given: GivenFrame,
+    station: usize,
+) -> Result<Note<'static>, AirFault>
+    ensures file { SameFile queue.old queue.new }
+    ensures sent { (t : Timetable) → Keeps queue.old draws.old t → OnOk result
+        (Keeps queue.new draws.new (send loss given.frame given.heard_at station t)) }
+{
+    let frame = given.frame;
+    if draws.is_lost(loss) {
+        return Ok(Note::Lost { station, frame });
+    }
+    queue.put(given.heard_at, station, Own::Deliver(frame))?;
+    Ok(Note::Heard { station, frame })
 }
 
 /// Puts a tick of a station with the next jitter: at this moment, or, where that is later, when its

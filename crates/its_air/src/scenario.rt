@@ -26,8 +26,15 @@ pub fn run_scenario<S: EventSink>(
     match &scenario.air {
         None => Ok(simulate_into(alloc, scenario, sink)?),
         Some(air) => {
-            let (stations, events) = (&scenario.stations, &scenario.events);
-            run_air(alloc, stations.as_slice(), events.as_slice(), air, sink)
+            let (stations, events) = (scenario.stations.as_slice(), scenario.events.as_slice());
+            run_air(
+                alloc,
+                stations,
+                events,
+                air,
+                scenario.every.as_slice(),
+                sink,
+            )
         }
     }
 }

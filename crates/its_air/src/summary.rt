@@ -88,10 +88,3 @@ impl fmt::Display for Totals {
         )
     }
 }
-
-/// The counts of a run under their key.
-#[derive(Clone, Copy, Debug, PartialEq, Eq, Serialize)]
-pub struct Total {
-    /// The counts.
-    pub total: Totals,
-}

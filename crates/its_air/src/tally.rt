@@ -1,9 +1,9 @@
 //! Counting what came of the packets for an area, beside the world.
 
+use crate::presence::Presence;
 use crate::summary::{SendKind, SendSummary, Totals};
-use its_geometry::contains;
 use its_gnvalue::NoMemory;
-use its_simulation::{EventRecord, EventSink, SimulationFault};
+use its_simulation::{EventRecord, EventSink, Note, SimulationFault};
 use its_station::{OwnedGbcRequest, Why};
 use its_world::{Entry, What, World};
 use std::alloc::Global;
@@ -27,6 +27,7 @@ pub struct Tally {
     carried: Vec<Option<Carried>>,
     /// The sends and the stations at which they were delivered.
     delivered: HashSet<(usize, usize)>,
+    presence: Presence,
     totals: Totals,
 }
 
@@ -37,6 +38,7 @@ impl Tally {
             sends: Vec::new(alloc),
             carried: Vec::new(alloc),
             delivered: HashSet::new(alloc),
+            presence: Presence::new(alloc),
             totals: Totals::default(),
         }
     }
@@ -91,7 +93,7 @@ impl Tally {
             station: done.station,
             kind,
             port: request.port,
-            inside: count_inside(world, done.station, request),
+            inside: count_inside(world, &self.presence, done.station, request),
             delivered: 0,
             frames: 1,
             hops: 0,
@@ -177,6 +179,15 @@ impl EventSink for Tally {
     fn put(&mut self, world: &World, done: &EventRecord<'_>) -> Result<(), SimulationFault> {
         Ok(self.count(world, done)?)
     }
+
+    fn note(
+        &mut self,
+        _world: &World,
+        _moment: u64,
+        note: &Note<'_>,
+    ) -> Result<(), SimulationFault> {
+        Ok(self.presence.take(note)?)
+    }
 }
 
 /// One more.
@@ -184,12 +195,17 @@ fn count_one(count: &mut usize) {
     *count = count.saturating_add(1);
 }
 
-/// How many stations but the sender stand in the area of a request, with its port open.
-fn count_inside(world: &World, sender: usize, request: &OwnedGbcRequest) -> usize {
+/// How many stations but the sender are present and stand in the area of a request, with its port
+/// open.
+fn count_inside(
+    world: &World,
+    presence: &Presence,
+    sender: usize,
+    request: &OwnedGbcRequest,
+) -> usize {
     let mut inside = 0;
     for (number, station) in world.stations().iter().enumerate() {
-        let within = contains(&request.area, station.vector().place());
-        if number != sender && within && station.is_open(request.port) {
+        if presence.is_for(request, sender, number, station) {
             count_one(&mut inside);
         }
     }

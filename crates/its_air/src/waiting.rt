@@ -1,4 +1,5 @@
-//! What waits in an air: the events of the file, and the ticks and deliveries of the air's own.
+//! What waits in an air: the events of the file, and the ticks, deliveries and sends of the air's
+//! own.
 
 ghost use Rattle.std.specs.Prelude.{◌≡◌, ◌≤◌, ◌<◌, ◌+◌, ◌^◌, ◌∷◌, [], All, map, length, slice_get};
 ghost use Rattle.std.specs.Prelude.{Some, IfOk, IfSome, IfNone, OnOk, nat_eq};
@@ -11,14 +12,15 @@ ghost use Rattle.std.proofs.Common.{rules};
 ghost use Rattle.std.proofs.Props.{props};
 ghost use denote.Ref.{Bor};
 ghost use Rattle.its_world.specs.declared.event.Event.{Event};
-ghost use Rattle.its_world.specs.Events.{event_of, IsInRange};
+ghost use Rattle.its_world.specs.Events.{event_of, what_of, IsInRange};
 ghost use Rattle.its_air.specs.AirRun.{AreDue};
 ghost use Rattle.its_air.specs.Queues.{ComesFirst, IsFileFirst, IsTaken, waiting_cmp};
 ghost use Rattle.its_air.specs.Queues.{happening_of, happenings_in, moment_of, own_of};
-ghost use Rattle.its_air.specs.Timetable.{is_tick};
 ghost use Rattle.its_air.specs.Waits.{IsLeft};
 
 use crate::fault::AirFault;
+use its_scenario::Traffic;
+use its_station::OwnedShbRequest;
 use its_world::{Event, What};
 use std::alloc::{AllocError, Global};
 use std::cmp::Ordering;
@@ -31,6 +33,27 @@ pub(crate) enum Own {
     Tick(u16),
     /// The delivery of the frame of this number.
     Deliver(usize),
+    /// A send of this traffic.
+    Send(Traffic),
+}
+
+impl Own {
+    /// What happens in the world.
+    fn what(&self, alloc: Global) -> Result<What, AllocError>
+        ensures what { IfOk result (λ what. what_of what ≡ own_of self.now) }
+        ensures range { IfOk result IsInRange }
+    {
+        Ok(match self {
+            Own::Tick(jitter) => What::Tick(*jitter),
+            Own::Deliver(frame) => What::Deliver(*frame),
+            Own::Send(traffic) => What::SendShb(OwnedShbRequest {
+                port: traffic.port,
+                info: traffic.info,
+                class: traffic.class,
+                payload: vec![in alloc; 0u8; usize::from(traffic.octets)]?,
+            }),
+        })
+    }
 }
 
 /// An event of the air's own. The one that comes first is the greatest: of two the one of the lesser
@@ -92,26 +115,16 @@ impl PartialOrd for Waiting {
 }
 
 impl Waiting {
-    /// Whether it is a tick.
-    pub(crate) fn is_tick(self) -> bool
-        ensures { result ≡ is_tick (own_of self.own) }
-    {
-        matches!(self.own, Own::Tick(_))
-    }
-
     /// The event of the world.
-    pub(crate) fn event(self) -> Event
-        ensures event { event_of result ≡ happening_of self }
-        ensures range { IsInRange result.what }
+    pub(crate) fn event(&self, alloc: Global) -> Result<Event, AllocError>
+        ensures event { IfOk result (λ event. event_of event ≡ happening_of self.now) }
+        ensures range { IfOk result (λ event. IsInRange event.what) }
     {
-        Event {
+        Ok(Event {
             station: self.station,
             moment: self.moment,
-            what: match self.own {
-                Own::Tick(jitter) => What::Tick(jitter),
-                Own::Deliver(frame) => What::Deliver(frame),
-            },
-        }
+            what: self.own.what(alloc)?,
+        })
     }
 }
 

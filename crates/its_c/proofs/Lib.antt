@@ -1,5 +1,5 @@
 pub mod Values
-pub mod Helds
+pub mod StationPtrs
 pub mod Opens
 pub mod Restarts
 pub mod Lookups

@@ -14,6 +14,6 @@ handle_owns alloc at handle =
     box_owns (ghosts.dealloc_token alloc) geostation.the_row at handle
 
 -- the pointer leads to this handle on the heap, or nothing is said of it
-abbrev pub slot_owns : Global → Ptr → Option Geostation → Fml
-slot_owns alloc at None = ftrue
-slot_owns alloc at (Some handle) = handle_owns alloc at handle
+abbrev pub handle_out_owns : Global → Ptr → Option Geostation → Fml
+handle_out_owns alloc at None = ftrue
+handle_out_owns alloc at (Some handle) = handle_owns alloc at handle

@@ -11,7 +11,7 @@ use Rattle.its_loctable.specs.contracts.sorted.SortedTable as table
 use Rattle.its_loctable.specs.contracts.sorted.SortedTableLocationStore.TheImpl as store
 
 -- the pointer leads to this station on the heap, or nothing is said of it
-abbrev pub held_owns : Global → Ptr → Option StationState → Fml
-held_owns alloc at None = ftrue
-held_owns alloc at (Some st) =
+abbrev pub station_ptr_owns : Global → Ptr → Option StationState → Fml
+station_ptr_owns alloc at None = ftrue
+station_ptr_owns alloc at (Some st) =
     box_owns (ghosts.dealloc_token alloc) (station.the_row table.the_row store.ghosts) at st

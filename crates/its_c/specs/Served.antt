@@ -1,5 +1,5 @@
 -- What C is told of a line that asks for a call, or for what the station knows.
-use Rattle.std.specs.Prelude.{◌≡◌, ◌≤◌, ◌⊎◌, ℕ, List, length, Vec, Option, Some, None}
+use Rattle.std.specs.Prelude.{◌≡◌, ◌≤◌, ◌<◌, ◌⊎◌, ℕ, List, length, Vec, Option, Some, None}
 use Rattle.std.specs.declared.alloc.Global.{Global}
 use Rattle.its_json.specs.Lines.{IsCompact}
 use Rattle.its_model.specs.Station.{StationModel}
@@ -31,10 +31,12 @@ abbrev pub ShowsAnswer : ℕ → List ℕ → Option Response → Type 0
 ShowsAnswer n room None = n ≡ 0
 ShowsAnswer n room (Some response) = ShowsLine n room
 
--- the buffer has this frame, if any, where it fits
+-- the buffer has this frame, if any, where it fits; nothing is written of one that doesn't
 abbrev pub ShowsFitting : ℕ → List ℕ → Option (Vec ℕ Global) → Type 0
 ShowsFitting n room None = n ≡ 0
-ShowsFitting n room (Some w) = length w.items ≤ length room → Holds n room w.items
+ShowsFitting n room (Some w) =
+    (length w.items ≤ length room → Holds n room w.items)
+    × (length room < length w.items → n ≡ 0)
 
 -- The line of this number was served: what was answered to it is what the station of the model
 -- answers at this moment, and the handle holds the station afterwards, and its counts.

@@ -6,8 +6,8 @@ ghost use Rattle.its_c.specs.Counted.{counts_of};
 ghost use Rattle.its_c.specs.Open.{IsOpen};
 
 use crate::counting::told_counts;
-use crate::held::Held;
 use crate::layout::ToldCounts;
+use crate::station_ptr::StationPtr;
 use its_station::Counts;
 
 /// A handle: the station that it holds represents one of the model, from `geostation_new` on, and
@@ -15,14 +15,14 @@ use its_station::Counts;
 #[repr(C)]
 #[derive(Drop)]
 pub struct Geostation {
-    pub(crate) held: Held,
+    pub(crate) held: StationPtr,
     pub(crate) counts: ToldCounts,
     ghost represents: { IsOpen held.station },
 }
 
 impl Geostation {
     /// The handle of this station: nothing is counted yet.
-    pub(crate) fn new(held: Held) -> Geostation
+    pub(crate) fn new(held: StationPtr) -> Geostation
         requires { IsOpen held.station }
         ensures held { result.held ≡ held }
         ensures counts { counts_of result.counts ≡ nothing }

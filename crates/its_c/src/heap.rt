@@ -13,10 +13,10 @@ ghost use Rattle.its_c.specs.declared.handle.Geostation.{Geostation as Handle};
 
 use crate::config::{has_sizes, station_at};
 use crate::handle::Geostation;
-use crate::held::Held;
+use crate::handle_out::HandleOut;
 use crate::layout::{CONFIG_SIZE, Config};
-use crate::loose::Loose;
-use crate::slot::Slot;
+use crate::raw_box::RawBox;
+use crate::station_ptr::StationPtr;
 use crate::status::{BAD_ARGUMENT, NO_MEMORY, OK};
 use its_gnvalue::{GnAddress, Place};
 use std::alloc::Global;
@@ -30,7 +30,7 @@ use std::ptr::null_mut;
 #[unsafe(no_mangle)]
 pub extern "C" fn geostation_new(
     alloc: Global,
-    out: &mut Slot,
+    out: &mut HandleOut,
     address: u64,
     latitude: i32,
     longitude: i32,
@@ -62,7 +62,7 @@ pub extern "C" fn geostation_new(
 /// The same of a struct, with whether the station is mobile and the sequence number of its first
 /// packet for an area. A struct of another size is `BAD_ARGUMENT` too.
 #[unsafe(no_mangle)]
-pub extern "C" fn geostation_new_with(alloc: Global, out: &mut Slot, config: &Config) -> i32
+pub extern "C" fn geostation_new_with(alloc: Global, out: &mut HandleOut, config: &Config) -> i32
     ensures new { result ≡ pos 0 → IsSomeAnd out.new.handle (λ h. HoldsModel h.held.station
         (station_for config.now)) }
     ensures counts { result ≡ pos 0 → IsSomeAnd out.new.handle (λ h. counts_of h.counts ≡ nothing) }
@@ -72,7 +72,7 @@ pub extern "C" fn geostation_new_with(alloc: Global, out: &mut Slot, config: &Co
     ensures taken { result ≢ pos 20 → IsForNew config.now }
 {
     let at: *mut Geostation = null_mut();
-    *out = Slot::none(at, alloc);
+    *out = HandleOut::none(at, alloc);
     if !has_sizes(config) {
         return BAD_ARGUMENT;
     }
@@ -85,7 +85,7 @@ pub extern "C" fn geostation_new_with(alloc: Global, out: &mut Slot, config: &Co
     let Some(handle) = make(alloc, address, place, config) else {
         return NO_MEMORY;
     };
-    *out = Slot::of(Loose::of(handle));
+    *out = HandleOut::of(RawBox::of(handle));
     OK
 }
 
@@ -98,7 +98,7 @@ fn make(alloc: Global, address: GnAddress, place: Place, config: &Config) -> Opt
 {
     let station = station_at(alloc, address, place, config)?;
     let station = Box::new(alloc, station).ok()?;
-    match Box::new(alloc, Geostation::new(Held::new(station))) {
+    match Box::new(alloc, Geostation::new(StationPtr::new(station))) {
         Ok(handle) => Some(handle),
         Err(failed) => {
             let Geostation { mut held, .. } = failed.value;
@@ -114,11 +114,11 @@ pub unsafe extern "C" fn geostation_release(alloc: Global, s: *mut Geostation)
     ghost handle: { Handle }
     requires* { sem 𝓛 (handle_owns alloc s handle) }
 {
-    release(Loose { at: s, alloc })
+    release(RawBox { at: s, alloc })
 }
 
-fn release(loose: Loose<Geostation, Global>) {
-    let handle = loose.into_box();
+fn release(raw_box: RawBox<Geostation, Global>) {
+    let handle = raw_box.into_box();
     let alloc = *Box::allocator(&handle);
     let Geostation { mut held, .. } = Box::into_inner(handle);
     drop(held.take(alloc));

@@ -11,23 +11,23 @@ mod config;
 mod counting;
 mod fault;
 mod handle;
+mod handle_out;
 mod heap;
-mod held;
-mod knowledge;
 mod layout;
-mod loose;
+mod queries;
+mod raw_box;
 mod reading;
 mod receiving;
 mod sending;
 mod serving;
-mod slot;
+mod station_ptr;
 mod status;
 mod to_area;
 mod told;
 
 pub use handle::Geostation;
+pub use handle_out::HandleOut;
 pub use layout::{
     AreaRequest, Config, Packet, PacketArea, PacketMessage, Reception, ShbRequest, ToldCounts,
     Vector,
 };
-pub use slot::Slot;

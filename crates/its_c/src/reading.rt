@@ -10,8 +10,8 @@ ghost use Rattle.its_c.specs.Frames.{TellsFrame, ShowsMessage, faulty_packet, sh
 ghost use Rattle.its_c.specs.Told.{kind_number};
 
 use crate::fault::FaultNumbers;
-use crate::knowledge::shown_vector;
 use crate::layout::{Packet, PacketArea, PacketMessage};
+use crate::queries::shown_vector;
 use crate::status::{BAD_FRAME, OK};
 use its_btp::split;
 use its_faults::FrameFault;

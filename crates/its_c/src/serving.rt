@@ -11,6 +11,7 @@ use crate::counting::{counts_of, told_counts};
 use crate::handle::Geostation;
 use crate::sending::LONGEST_FRAME;
 use crate::status::{NO_MEMORY, NO_ROOM, OK};
+use crate::told::hand_out;
 use its_json::JsonLine;
 use its_pipe::{Response, answer_line, print_response};
 use its_station::Reply;
@@ -96,8 +97,7 @@ fn write_fitting(octets: &[u8], room: &mut [u8]) -> usize
     if octets.len() > room.len() {
         return 0;
     }
-    room[..octets.len()].copy_from_slice(octets);
-    octets.len()
+    hand_out(octets, room)
 }
 
 /// Writes what was answered to the beginning of a buffer, and returns its length.

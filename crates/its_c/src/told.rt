@@ -149,10 +149,11 @@ fn number_of(why: Why) -> u32
     }
 }
 
-/// Writes a frame to the beginning of a buffer.
-fn hand_out(octets: &[u8], room: &mut [u8]) -> usize
+/// Writes octets to the beginning of a buffer, and returns how many.
+pub(crate) fn hand_out(octets: &[u8], room: &mut [u8]) -> usize
     requires { length octets.now ≤ length room.old }
-    ensures { Holds result room.new octets.now }
+    ensures length { length room.new ≡ length room.old }
+    ensures written { Holds result room.new octets.now }
 {
     room[..octets.len()].copy_from_slice(octets);
     octets.len()

@@ -1,7 +1,8 @@
 //! Which records of a capture a command is over.
 #![tactic(auto)]
 
-ghost use Rattle.std.specs.Prelude.{◌≡◌};
+ghost use Rattle.std.specs.Prelude.{◌≡◌, ◌<◌, ◌^◌, ℕ, Option, true};
+ghost use Rattle.its_choosing.specs.declared.Traits.{Traits};
 ghost use Rattle.its_choosing.specs.Choosing.{allows, allows_port, has_kind, has_kind_of, holds as all_holds};
 ghost use Rattle.its_choosing.specs.Choosing.{is_chosen as chosen};
 
@@ -68,6 +69,22 @@ pub struct Choice {
 }
 
 impl Choice {
+    /// All records.
+    pub fn all() -> Choice
+        ensures { (moment : ℕ) → (frame : Option Traits) → moment < 2 ^ 64
+            → chosen result moment frame ≡ true }
+    {
+        Choice {
+            kinds: None,
+            source: None,
+            from: None,
+            port: None,
+            since: 0,
+            until: u64::MAX,
+            refused: false,
+        }
+    }
+
     /// Whether a record of this moment is chosen: one that is refused, and so is no frame, has no
     /// kind, source, link address or port.
     pub fn is_chosen(&self, moment: u64, frame: Option<Traits>) -> bool

@@ -5,11 +5,11 @@ mod large;
 mod lines;
 pub(crate) mod memory;
 
-use its_commands::{check, show};
-use its_reporting::{OutputFormat, Status};
+use crate::left::Left;
+use its_commands::{Selection, Showing, check, show};
+use its_reporting::OutputFormat;
 use std::alloc::{AllocError, Global};
 use std::io::Read;
-use std::process::Abort;
 
 // Each capture is in hexadecimal digits: moment, length, target, source and type, packet.
 
@@ -40,40 +40,22 @@ static EMPTY: &str = "00000000000000050000";
 /// Standard input with nothing in it.
 static NOTHING: &[u8] = b"";
 
-/// What a command left: its status, standard output and standard error.
-#[derive(Drop)]
-struct Left {
-    status: Status,
-    out: Vec<u8>,
-    err: Vec<u8>,
-}
-
-impl Left {
-    /// It left just this.
-    fn expect(&self, rt: &impl Abort, status: Status, out: &[u8], err: &[u8]) {
-        assert_eq!(rt; self.err.as_slice(), err);
-        assert_eq!(rt; self.out.as_slice(), out);
-        assert_eq!(rt; self.status, status);
-    }
-
-    /// It left this on standard output, and nothing on standard error.
-    fn expect_out(&self, rt: &impl Abort, status: Status, out: &str) {
-        self.expect(rt, status, out.as_bytes(), b"");
-    }
-
-    /// It left this on standard error, and nothing on standard output.
-    fn expect_err(&self, rt: &impl Abort, status: Status, err: &str) {
-        self.expect(rt, status, b"", err.as_bytes());
-    }
-}
-
 fn show_of<R: Read + Drop>(alloc: Global, reader: R) -> Left {
     show_with(alloc, OutputFormat::default(), reader)
 }
 
 fn show_with<R: Read + Drop>(alloc: Global, lines: OutputFormat, reader: R) -> Left {
     let (mut out, mut err) = (Vec::new(alloc), Vec::new(alloc));
-    let status = show(alloc, "a.cap", reader, None, lines, &mut out, &mut err);
+    let status = show(
+        alloc,
+        "a.cap",
+        reader,
+        &Selection::all(),
+        Showing::of(lines),
+        None,
+        &mut out,
+        &mut err,
+    );
     Left { status, out, err }
 }
 
@@ -83,7 +65,15 @@ fn check_of<R: Read + Drop>(alloc: Global, reader: R) -> Left {
 
 fn check_with<R: Read + Drop>(alloc: Global, lines: OutputFormat, reader: R) -> Left {
     let (mut out, mut err) = (Vec::new(alloc), Vec::new(alloc));
-    let status = check(alloc, "a.cap", reader, None, lines, &mut out, &mut err);
+    let status = check(
+        alloc,
+        "a.cap",
+        reader,
+        &Selection::all(),
+        lines,
+        &mut out,
+        &mut err,
+    );
     Left { status, out, err }
 }
 

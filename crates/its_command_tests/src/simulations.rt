@@ -5,11 +5,10 @@ mod frame_file;
 mod objects;
 mod progress;
 
-use its_reporting::Status;
+use crate::left::Left;
 use its_runs::{RunOptions, simulate};
 use std::alloc::{AllocError, Global};
 use std::io::Read;
-use std::process::Abort;
 
 /// Three stations: station 1 is 50 m north of station 0, and station 2 is 50 m east of it.
 static STATIONS: &str = "\
@@ -30,33 +29,6 @@ static SEND: &str = "station = 0, at = 1000, do = \"gbc\", port = 2002, info = 0
 
 /// Frame 0 is delivered to station 1.
 static DELIVER: &str = "station = 1, at = 1010, do = \"deliver\", frame = 0";
-
-/// What the command left: its status, standard output and standard error.
-#[derive(Drop)]
-struct Left {
-    status: Status,
-    out: Vec<u8>,
-    err: Vec<u8>,
-}
-
-impl Left {
-    /// It left just this.
-    fn expect(&self, rt: &impl Abort, status: Status, out: &[u8], err: &[u8]) {
-        assert_eq!(rt; self.err.as_slice(), err);
-        assert_eq!(rt; self.out.as_slice(), out);
-        assert_eq!(rt; self.status, status);
-    }
-
-    /// It left this on standard output, and nothing on standard error.
-    fn expect_out(&self, rt: &impl Abort, status: Status, out: &str) {
-        self.expect(rt, status, out.as_bytes(), b"");
-    }
-
-    /// It left this on standard error, and nothing on standard output.
-    fn expect_err(&self, rt: &impl Abort, status: Status, err: &str) {
-        self.expect(rt, status, b"", err.as_bytes());
-    }
-}
 
 fn simulation_of<R: Read + Drop>(alloc: Global, reader: R) -> Left {
     simulation_with(alloc, RunOptions::default(), reader)

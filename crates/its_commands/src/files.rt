@@ -1,6 +1,7 @@
 //! The commands over named files. A file that is read is standard input where its name is `-`.
 
 ghost use Rattle.std.specs.Prelude.{◌≡◌, IfOk, IfErr, None, true};
+ghost use Rattle.its_commands.specs.declared.moment.Time.TheVariants as times;
 ghost use Rattle.its_reporting.specs.FileNames.{format_of_output};
 ghost use Rattle.its_reporting.specs.FileNames.{is_standard as names_standard};
 ghost use Rattle.its_reporting.specs.Statuses.{IsCommandStatus, IsWriterStatus};
@@ -8,48 +9,58 @@ ghost use Rattle.its_reporting.specs.Statuses.{IsCommandStatus, IsWriterStatus};
 use crate::checking::check;
 use crate::converting::{Conversion, convert};
 use crate::importing::{read_lines, write_records};
-use crate::showing::show;
-use its_pcap::Format;
+use crate::showing::{Showing, show};
+use its_records::Selection;
 use its_reporting::{
     OutputFormat, Status, Target, create, create_apart, is_standard, keep_apart, open,
 };
 use std::io::{Read, Write};
 use std::rt::Files;
 
-/// Prints a line for each record of the file. `input` is standard input. The first four octets tell
-/// the format, unless one is given.
+/// Prints a line, or a row of values, for each record of the file that is chosen. `input` is
+/// standard input.
 ///
-/// `Refused` where a record or the file was refused, `Failed` where the file could not be read or
+/// `BadArguments` where moments are to be told in UTC and the file has no epoch. `Refused` where such a record or the file was refused, `Failed` where the file could not be read or
 /// standard output not written, or memory ran out.
 pub fn show_file<R: Files + AllocGlobal, I: Read + Drop, W: Write, E: Write>(
     rt: &R,
     file: &str,
     input: I,
-    format: Option<Format>,
-    lines: OutputFormat,
+    selection: &Selection,
+    showing: Showing,
+    names: Option<&str>,
     out: &mut W,
     err: &mut E,
 ) -> Status
 where
     R::File: Read + Drop,
-    ensures { IsCommandStatus result }
+    ensures { ¬ (showing.time ≡ times.Utc) → IsCommandStatus result }
 {
-    match open(rt, file, input, err) {
-        Ok(reader) => show(rt.alloc(), file, reader, format, lines, out, err),
+    match open(rt, file, input, showing.lines, err) {
+        Ok(reader) => show(
+            rt.alloc(),
+            file,
+            reader,
+            selection,
+            showing,
+            names,
+            out,
+            err,
+        ),
         Err(status) => status,
     }
 }
 
-/// Prints a line for each refused record of the file, and how many records there were. `input` is
-/// standard input. The first four octets tell the format, unless one is given.
+/// Prints a line for each refused record of the file that is chosen, and how many records were
+/// chosen. `input` is standard input.
 ///
-/// `Refused` where a record or the file was refused, `Failed` where the file could not be read or
+/// `Refused` where such a record or the file was refused, `Failed` where the file could not be read or
 /// standard output not written, or memory ran out.
 pub fn check_file<R: Files + AllocGlobal, I: Read + Drop, W: Write, E: Write>(
     rt: &R,
     file: &str,
     input: I,
-    format: Option<Format>,
+    selection: &Selection,
     lines: OutputFormat,
     out: &mut W,
     err: &mut E,
@@ -58,8 +69,8 @@ where
     R::File: Read + Drop,
     ensures { IsCommandStatus result }
 {
-    match open(rt, file, input, err) {
-        Ok(reader) => check(rt.alloc(), file, reader, format, lines, out, err),
+    match open(rt, file, input, lines, err) {
+        Ok(reader) => check(rt.alloc(), file, reader, selection, lines, out, err),
         Err(status) => status,
     }
 }
@@ -109,7 +120,7 @@ where
     ensures written { IfOk result IsWriterStatus }
     ensures stopped { IfErr result IsCommandStatus }
 {
-    let reader = open(rt, file, input, err)?;
+    let reader = open(rt, file, input, lines, err)?;
     let records = read_lines(rt.alloc(), file, reader, lines, err)?;
     Ok(write_records(target, records.as_slice(), out, err))
 }
@@ -128,26 +139,27 @@ where
     R::File: Read + Write + Drop,
     ensures { IfOk result IsWriterStatus }
 {
-    let reader = open(rt, file, input, err)?;
+    let reader = open(rt, file, input, lines, err)?;
     keep_apart(rt, target, file, err)?;
     let records = read_lines(rt.alloc(), file, reader, lines, err)?;
-    let created = create(rt, target, err)?;
+    let created = create(rt, target, lines, err)?;
     Ok(write_records(target, records.as_slice(), created, err))
 }
 
-/// Writes the records of the file to `target`, which is created once the file is open; one named
-/// `-` is standard output. `input` is standard input. The first four octets tell the format of the
-/// file, unless one is given. Of `lines` only `explain` counts.
+/// Writes the records of the file that are chosen to `target`, which is created once the file is
+/// open; one named `-` is standard output. `input` is standard input. With `frames_only`, and to a
+/// capture in any case, frames are written in place of records. Of `lines` only `explain` counts.
 ///
 /// `BadArguments`, before anything is opened, where nothing says the target's format, and before it
 /// is created where it is the file itself. `Refused` where a record was left out or the file was
 /// refused, `Failed` where a file could not be read, created or written, or memory ran out.
-pub fn convert_file<R: Files + AllocGlobal, I: Read + Drop, W: Write, E: Write>(
+pub fn convert_file<'a, R: Files + AllocGlobal, I: Read + Drop, W: Write, E: Write>(
     rt: &R,
-    file: &str,
+    file: &'a str,
     input: I,
-    target: Target<'_>,
-    format: Option<Format>,
+    selection: &Selection,
+    target: Target<'a>,
+    frames_only: bool,
     lines: OutputFormat,
     out: &mut W,
     err: &mut E,
@@ -165,15 +177,15 @@ where
     };
     let conversion = Conversion {
         file,
-        format,
         target: target.name,
         to,
+        frames_only,
         lines,
     };
     let ended = if is_standard(target.name) {
-        convert_to_output(rt, conversion, input, out, err)
+        convert_to_output(rt, conversion, selection, input, out, err)
     } else {
-        convert_to_file(rt, conversion, input, err)
+        convert_to_file(rt, conversion, selection, input, err)
     };
     match ended {
         Ok(status) => status,
@@ -185,6 +197,7 @@ where
 fn convert_to_output<R: Files + AllocGlobal, I: Read + Drop, W: Write, E: Write>(
     rt: &R,
     conversion: Conversion<'_>,
+    selection: &Selection,
     input: I,
     out: &mut W,
     err: &mut E,
@@ -194,8 +207,8 @@ where
     ensures converted { IfOk result IsCommandStatus }
     ensures stopped { IfErr result (λ status. status ≡ Status.Failed) }
 {
-    let reader = open(rt, conversion.file, input, err)?;
-    Ok(convert(rt.alloc(), conversion, reader, out, err))
+    let reader = open(rt, conversion.file, input, conversion.lines, err)?;
+    Ok(convert(rt.alloc(), conversion, selection, reader, out, err))
 }
 
 /// Opens the file, and only then creates the target. An `Err` is the status of what stopped it at
@@ -203,6 +216,7 @@ where
 fn convert_to_file<R: Files + AllocGlobal, I: Read + Drop, E: Write>(
     rt: &R,
     conversion: Conversion<'_>,
+    selection: &Selection,
     input: I,
     err: &mut E,
 ) -> Result<Status, Status>
@@ -210,7 +224,13 @@ where
     R::File: Read + Write + Drop,
     ensures { IfOk result IsCommandStatus }
 {
-    let reader = open(rt, conversion.file, input, err)?;
-    let created = create_apart(rt, conversion.target, conversion.file, err)?;
-    Ok(convert(rt.alloc(), conversion, reader, created, err))
+    let reader = open(rt, conversion.file, input, conversion.lines, err)?;
+    let created = create_apart(
+        rt,
+        conversion.target,
+        conversion.file,
+        conversion.lines,
+        err,
+    )?;
+    Ok(convert(rt.alloc(), conversion, selection, reader, created, err))
 }

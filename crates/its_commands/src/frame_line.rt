@@ -1,5 +1,7 @@
 //! What `show` tells of a frame, and its line of words.
 
+use crate::field::Field;
+use crate::moment::Moment;
 use crate::text::Text;
 use its_geometry::{Area, Shape};
 use its_headers::{Kind, PacketView};
@@ -12,7 +14,7 @@ use std::alloc::AllocError;
 /// in JSON, and as words in text.
 #[derive(Clone, Copy, Serialize)]
 pub(crate) struct FrameLine<'a> {
-    moment: u64,
+    moment: Moment,
     from: Digits<6>,
     to: Digits<6>,
     kind: &'static str,
@@ -55,7 +57,7 @@ struct Message<'a> {
 }
 
 impl<'a> FrameLine<'a> {
-    pub(crate) fn of(moment: u64, frame: &FrameView<'a>) -> FrameLine<'a> {
+    pub(crate) fn of(moment: Moment, frame: &FrameView<'a>) -> FrameLine<'a> {
         let packet = &frame.packet;
         let vector = packet.vector();
         let place = vector.place();
@@ -83,7 +85,7 @@ impl<'a> FrameLine<'a> {
 
     /// Adds its words to a text, with a line feed after them.
     pub(crate) fn add_to(&self, text: &mut Text) -> Result<(), AllocError> {
-        text.number("", self.moment)?;
+        self.moment.add_to(text)?;
         text.digits(" ", &self.from.0)?;
         text.digits(" ", &self.to.0)?;
         text.word(" ")?;
@@ -97,6 +99,46 @@ impl<'a> FrameLine<'a> {
             message.add_to(text)?;
         }
         text.word("\n")
+    }
+
+    /// Its moment.
+    pub(crate) fn moment(&self) -> Moment {
+        self.moment
+    }
+
+    /// Adds the value of a key to a text, as JSON has it without quotation marks; nothing where it
+    /// has no such key.
+    pub(crate) fn add_value_to(&self, field: Field, text: &mut Text) -> Result<(), AllocError> {
+        match field {
+            Field::Moment => self.moment.add_to(text),
+            Field::From => text.digits("", &self.from.0),
+            Field::To => text.digits("", &self.to.0),
+            Field::Kind => text.word(self.kind),
+            Field::Address => text.digits("", &self.address.0),
+            Field::Tst => text.number("", self.tst),
+            Field::Lat => text.number("", self.lat),
+            Field::Lon => text.number("", self.lon),
+            Field::Pai => text.word(truth_word(self.pai)),
+            Field::Speed => text.number("", self.speed),
+            Field::Heading => text.number("", self.heading),
+            Field::Lt => text.number("", self.lt),
+            Field::Tc => text.number("", self.tc),
+            Field::Mobile => text.word(truth_word(self.mobile)),
+            Field::Hops => text.number("", self.hops),
+            Field::MaxHops => text.number("", self.max_hops),
+            _ => self.add_part_to(field, text),
+        }
+    }
+
+    /// The same of a key that only some kinds have.
+    fn add_part_to(&self, field: Field, text: &mut Text) -> Result<(), AllocError> {
+        if let Some(target) = &self.target {
+            target.add_value_to(field, text)?;
+        }
+        if let Some(message) = &self.message {
+            message.add_value_to(field, text)?;
+        }
+        Ok(())
     }
 
     fn add_vector_to(&self, text: &mut Text) -> Result<(), AllocError> {
@@ -116,6 +158,11 @@ impl<'a> FrameLine<'a> {
         text.number(" hops ", self.hops)?;
         text.number("/", self.max_hops)
     }
+}
+
+/// A truth value in JSON.
+fn truth_word(is: bool) -> &'static str {
+    if is { "true" } else { "false" }
 }
 
 /// The word of a kind of packet. The parts of its line follow from what the packet has.
@@ -156,6 +203,19 @@ impl Target {
         }
     }
 
+    fn add_value_to(&self, field: Field, text: &mut Text) -> Result<(), AllocError> {
+        match field {
+            Field::Number => text.number("", self.number),
+            Field::Shape => text.word(self.shape),
+            Field::Alat => text.number("", self.alat),
+            Field::Alon => text.number("", self.alon),
+            Field::A => text.number("", self.a),
+            Field::B => text.number("", self.b),
+            Field::Angle => text.number("", self.angle),
+            _ => Ok(()),
+        }
+    }
+
     fn add_to(&self, text: &mut Text) -> Result<(), AllocError> {
         text.number(" number ", self.number)?;
         text.word(" ")?;
@@ -179,6 +239,15 @@ impl<'a> Message<'a> {
             info: u16::from_be_bytes([*info_high, *info_low]),
             payload: Octets(rest),
         })
+    }
+
+    fn add_value_to(&self, field: Field, text: &mut Text) -> Result<(), AllocError> {
+        match field {
+            Field::Port => text.number("", self.port),
+            Field::Info => text.number("", self.info),
+            Field::Payload => text.digits("", self.payload.0),
+            _ => Ok(()),
+        }
     }
 
     fn add_to(&self, text: &mut Text) -> Result<(), AllocError> {

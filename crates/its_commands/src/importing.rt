@@ -88,7 +88,7 @@ impl LinesFault<'_> {
                 let _ = writeln!(err, "{self}{}", Explanation(reason));
                 Status::Refused
             }
-            LinesFault::Stopped(fault) => fault.report(err),
+            LinesFault::Stopped(fault) => fault.report_as(lines, err),
         }
     }
 }

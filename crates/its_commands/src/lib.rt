@@ -4,18 +4,24 @@
 
 mod checking;
 mod converting;
+mod date;
+mod field;
 mod files;
 mod frame_line;
 mod importing;
+mod moment;
 mod output;
-mod refusal;
+mod rows;
 mod showing;
 mod text;
 mod told;
-mod walk;
+mod written;
 
 pub use checking::check;
 pub use converting::{Conversion, convert};
+pub use field::Field;
 pub use files::{check_file, convert_file, import_file, show_file};
 pub use importing::{LineFault, read_lines, write_records};
-pub use showing::show;
+pub use its_records::{Choice, Kinds, Selection};
+pub use moment::Time;
+pub use showing::{Showing, show};

@@ -2,6 +2,7 @@
 
 use itoa::{Buffer, Integer};
 use std::alloc::{AllocError, Global};
+use std::fmt;
 
 /// How many octets there is room for from the beginning. No line of a frame is longer: its payload
 /// has 1394 octets at most, in two digits each.
@@ -49,5 +50,11 @@ impl Text {
         self.octets
             .resize(start.saturating_add(2 * octets.len()), 0)?;
         hex::encode_to_slice(octets, &mut self.octets[start..]).map_err(|_| AllocError)
+    }
+}
+
+impl fmt::Write for Text {
+    fn write_str(&mut self, word: &str) -> fmt::Result {
+        self.word(word).map_err(|_| fmt::Error)
     }
 }

@@ -1,8 +1,8 @@
-//! What `show` and `check` tell beside frames: refused records, a refused capture, and a count.
-//! Each prints as its line of words, and is an object in JSON of the same values.
+//! What `show` and `check` tell beside frames: refused records, and a count. Each prints as its line of words, and is an object in JSON of the same values.
 
-use crate::refusal::{FileFault, RecordCode, RecordFault};
+use crate::moment::Moment;
 use its_json::Printed;
+use its_records::{RecordCode, RecordFault};
 use its_reporting::Explanation;
 use serde::Serialize;
 use std::fmt;
@@ -10,7 +10,7 @@ use std::fmt;
 /// What `show` tells of a record that is refused.
 #[derive(Clone, Copy, Serialize)]
 pub(crate) struct RefusedAt {
-    moment: u64,
+    moment: Moment,
     refused: Printed<RecordCode>,
     reason: Printed<RecordFault>,
     #[serde(skip)]
@@ -18,13 +18,20 @@ pub(crate) struct RefusedAt {
 }
 
 impl RefusedAt {
-    pub(crate) fn new(moment: u64, fault: RecordFault, explain: bool) -> RefusedAt {
+    pub(crate) fn new(moment: Moment, fault: RecordFault, explain: bool) -> RefusedAt {
         RefusedAt {
             moment,
             refused: Printed(fault.code()),
             reason: Printed(fault),
             explain,
         }
+    }
+}
+
+impl RefusedAt {
+    /// The record's moment.
+    pub(crate) fn moment(&self) -> Moment {
+        self.moment
     }
 }
 
@@ -60,32 +67,6 @@ impl fmt::Display for RefusedRecord {
     fn fmt<W: fmt::Write>(&self, f: &mut fmt::Formatter<W>) -> fmt::Result {
         let (code, reason) = (self.refused.0, self.explain.then_some(self.reason.0));
         write!(f, "record {}: {code}{}", self.record, Explanation(reason))
-    }
-}
-
-/// What is told of a file that is refused after so many records.
-#[derive(Clone, Copy, Serialize)]
-pub(crate) struct RefusedCapture {
-    capture: &'static str,
-    record: u64,
-    #[serde(skip)]
-    reason: Option<FileFault>,
-}
-
-impl RefusedCapture {
-    pub(crate) fn new(records: u64, fault: FileFault, explain: bool) -> RefusedCapture {
-        RefusedCapture {
-            capture: fault.code(),
-            record: records,
-            reason: explain.then_some(fault),
-        }
-    }
-}
-
-impl fmt::Display for RefusedCapture {
-    fn fmt<W: fmt::Write>(&self, f: &mut fmt::Formatter<W>) -> fmt::Result {
-        let (code, reason) = (self.capture, Explanation(self.reason));
-        write!(f, "capture: {code} at record {}{reason}", self.record)
     }
 }
 

@@ -1,9 +1,10 @@
 //! Devices that are slow or fail: at each call the fault is named, and the next call answers C5.
 
-use crate::captures::{beacon, capture, geobroadcast, two_records};
+use crate::captures::{BEACON, GEOBROADCAST, capture, two_records};
 use its_linkframe::{CaptureFault, CaptureReader, CaptureWriter, Counted, Sink, Source};
 use std::io;
 use std::io::{Read, Write};
+use std::process::Abort;
 use std::test::Fail;
 
 /// A device that moves at most so many octets a call, and fails once it was called so many times.
@@ -61,7 +62,6 @@ impl Write for Slot {
 #[test]
 fn records_stay_however_they_come(rt: HostRuntime) -> Result<(), Fail> {
     let octets = two_records(rt.alloc())?;
-    let (first, second) = (geobroadcast(), beacon());
     for most in [1, 7, 4096] {
         let device = Slow {
             octets: octets.as_slice(),
@@ -69,7 +69,7 @@ fn records_stay_however_they_come(rt: HostRuntime) -> Result<(), Fail> {
             calls: u64::MAX,
         };
         let mut reader = CaptureReader::new(rt.alloc(), Counted::new(device));
-        for (moment, frame) in [(1000, first.as_slice()), (0, second.as_slice())] {
+        for (moment, frame) in [(1000, GEOBROADCAST.as_slice()), (0, BEACON.as_slice())] {
             match reader.next() {
                 Ok(Some(record)) => {
                     assert_eq!(rt; record.moment, moment, "{most} a call");
@@ -86,8 +86,8 @@ fn records_stay_however_they_come(rt: HostRuntime) -> Result<(), Fail> {
 }
 
 #[test]
-fn a_failing_source_is_named(rt: HostRuntime) {
-    let octets = capture();
+fn a_failing_source_is_named(rt: HostRuntime) -> Result<(), Fail> {
+    let octets = capture(rt.alloc())?;
     for n in 1..88 {
         let device = Slow {
             octets: octets.as_slice(),
@@ -106,54 +106,55 @@ fn a_failing_source_is_named(rt: HostRuntime) {
         );
         assert_eq!(rt; reader.into_inner().failures(), 1, "at call {n}");
     }
+    Ok(())
+}
+
+/// A device that takes so many octets, one a call, is told where it stops, and has these octets.
+fn expect_front(rt: &impl Abort, errs: bool, front: &[u8]) {
+    let slot = Slot {
+        taken: [0; 100],
+        count: 0,
+        calls: front.len() as u64,
+        errs,
+    };
+    let mut writer = CaptureWriter::new(Counted::new(slot));
+    assert_eq!(rt; writer.put(1000, &GEOBROADCAST), Err(CaptureFault::Io));
+    assert_eq!(rt; writer.put(1000, &GEOBROADCAST), Err(CaptureFault::Failed));
+    let slot = writer.into_inner().into_inner();
+    assert_eq!(rt; slot.count, front.len());
+    assert_eq!(rt; slot.taken.get(..slot.count), Some(front));
 }
 
 #[test]
-fn a_failing_sink_keeps_a_front(rt: HostRuntime) {
-    let (octets, frame) = (capture(), geobroadcast());
-    for errs in [true, false] {
-        for n in 0..86usize {
-            let slot = Slot {
-                taken: [0; 100],
-                count: 0,
-                calls: n as u64,
-                errs,
-            };
-            let mut writer = CaptureWriter::new(Counted::new(slot));
-            assert_eq!(rt;
-                writer.put(1000, &frame),
-                Err(CaptureFault::Io),
-                "after {n}"
-            );
-            assert_eq!(rt;
-                writer.put(1000, &frame),
-                Err(CaptureFault::Failed),
-                "after {n}"
-            );
-            let slot = writer.into_inner().into_inner();
-            assert_eq!(rt; slot.count, n);
-            assert_eq!(rt; &slot.taken[..n], &octets[..n], "after {n}");
-        }
+fn a_failing_sink_keeps_a_front(rt: HostRuntime) -> Result<(), Fail> {
+    let octets = capture(rt.alloc())?;
+    for n in 0..86 {
+        let front = octets.get(..n).ok_or("short")?;
+        expect_front(&rt, true, front);
+        expect_front(&rt, false, front);
     }
+    Ok(())
 }
 
-/// `failures` tells the failed calls of either device, from none on.
+/// `failures` tells the failed calls of a reader, from none on.
 #[test]
-fn failures_are_counted(rt: HostRuntime) -> Result<(), Fail> {
-    let octets = capture();
+fn failures_of_a_source_are_counted(rt: HostRuntime) {
     let mut source = Counted::new(Slow {
-        octets: octets.as_slice(),
+        octets: &GEOBROADCAST,
         most: 1,
         calls: 1,
     });
     let mut room = [0; 4];
-    let answers = [Ok(1), Err(1), Err(2)];
     assert_eq!(rt; Source::failures(&source), 0);
-    for answer in answers {
-        let got = source.read(&mut room).ok();
-        assert_eq!(rt; got, answer.ok());
-        assert_eq!(rt; Source::failures(&source), answer.err().unwrap_or(0));
+    for (got, failures) in [(Some(1), 0), (None, 1), (None, 2)] {
+        assert_eq!(rt; source.read(&mut room).ok(), got);
+        assert_eq!(rt; Source::failures(&source), failures);
     }
+}
+
+/// The same of a writer.
+#[test]
+fn failures_of_a_sink_are_counted(rt: HostRuntime) {
     let mut sink = Counted::new(Slot {
         taken: [0; 100],
         count: 0,
@@ -165,5 +166,4 @@ fn failures_are_counted(rt: HostRuntime) -> Result<(), Fail> {
         assert_eq!(rt; sink.write(&[7]).ok(), answer);
     }
     assert_eq!(rt; Sink::failures(&sink), 2);
-    Ok(())
 }

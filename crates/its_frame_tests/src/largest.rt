@@ -1,6 +1,6 @@
 //! Each call that takes memory, at the greatest size that there is: the longest payload.
 
-use crate::captures::geobroadcast;
+use crate::captures::GEOBROADCAST;
 use its_headers::{LONGEST_PAYLOAD, Packet, PacketView, decode, encode_into};
 use its_linkframe::{
     CaptureReader, CaptureWriter, Counted, LONGEST_FRAME, read_frame, relay_frame, write_frame,
@@ -12,9 +12,8 @@ use std::test::Fail;
 
 /// The geobroadcast with a payload of 1398 octets, all of them 0x5a.
 fn longest_frame(alloc: Global) -> Result<Vec<u8>, Fail> {
-    let short = geobroadcast();
     let mut octets = Vec::from_elem(alloc, 0x5a, LONGEST_FRAME)?;
-    put(&mut octets, 0, short.get(..70).ok_or("short")?);
+    put(&mut octets, 0, &GEOBROADCAST[..70]);
     put(&mut octets, 22, &[0x05, 0x76]);
     Ok(octets)
 }

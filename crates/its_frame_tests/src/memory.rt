@@ -1,6 +1,6 @@
 //! Failed allocations: which call has one, and what it answers then.
 
-use crate::captures::{capture, geobroadcast};
+use crate::captures::{GEOBROADCAST, capture};
 use its_headers::decode;
 use its_linkframe::{
     CaptureFault, CaptureReader, CaptureWriter, Counted, read_frame, relay_frame, write_frame,
@@ -12,9 +12,8 @@ use std::test::Fail;
 /// its length, so there is no second allocation.
 #[test]
 fn a_frame_has_one_growth(rt: HostRuntime) -> Result<(), Fail> {
-    let frame = geobroadcast();
-    let view = read_frame(&frame)?;
-    let (packet, _) = decode(rt.alloc(), &frame[14..])?;
+    let view = read_frame(&GEOBROADCAST)?;
+    let (packet, _) = decode(rt.alloc(), &GEOBROADCAST[14..])?;
     assert_eq!(rt; view.packet.hops().left(), 10);
     let mut shortage = Shortage::new(rt.alloc())?;
     let (mut was_refused, mut was_made) = (false, false);
@@ -38,7 +37,7 @@ fn a_frame_has_one_growth(rt: HostRuntime) -> Result<(), Fail> {
 /// none.
 #[test]
 fn a_record_has_one_growth(rt: HostRuntime) -> Result<(), Fail> {
-    let (octets, frame) = (capture(), geobroadcast());
+    let octets = capture(rt.alloc())?;
     let mut room = [0; 86];
     let mut shortage = Shortage::new(rt.alloc())?;
     let (mut was_refused, mut was_read) = (false, false);
@@ -59,8 +58,8 @@ fn a_record_has_one_growth(rt: HostRuntime) -> Result<(), Fail> {
     }
     assert!(rt; was_refused && was_read);
     assert!(rt; shortage.leave(0));
-    assert!(rt; read_frame(&frame).is_ok());
+    assert!(rt; read_frame(&GEOBROADCAST).is_ok());
     let mut writer = CaptureWriter::new(Counted::new(room.as_mut_slice()));
-    assert_eq!(rt; writer.put(1000, &frame), Ok(()));
+    assert_eq!(rt; writer.put(1000, &GEOBROADCAST), Ok(()));
     Ok(())
 }

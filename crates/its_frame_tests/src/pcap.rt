@@ -2,7 +2,8 @@
 
 use crate::record_devices::Dripping;
 use its_linkframe::{CaptureFault, Counted};
-use its_pcap::{Head, PcapReader, PcapWriter, PutFault, SourceFault, Step};
+use its_pcap::{Head, LinkLayer, PcapReader, PcapWriter, PutFault, SourceFault, Step};
+use std::process::Abort;
 use std::test::Fail;
 
 /// Millionths, the highest octet first: version 2.4, snap length 65535, Ethernet.
@@ -47,7 +48,7 @@ fn a_record_of_either_order_is_read(rt: HostRuntime) -> Result<(), Fail> {
         moment: 2007,
         captured: 3,
         wire: 5,
-        is_ethernet: true,
+        layer: Some(LinkLayer::Ethernet),
     };
     let wanted = [Ok(Step::Passed), Ok(Step::Record(head)), Ok(Step::End)];
     assert_eq!(rt; given.as_slice(), wanted.as_slice());
@@ -58,7 +59,7 @@ fn a_record_of_either_order_is_read(rt: HostRuntime) -> Result<(), Fail> {
         moment: 2999,
         captured: 0,
         wire: 0,
-        is_ethernet: true,
+        layer: Some(LinkLayer::Ethernet),
     };
     let wanted = [Ok(Step::Passed), Ok(Step::Record(head)), Ok(Step::End)];
     assert_eq!(rt; given.as_slice(), wanted.as_slice());
@@ -137,7 +138,7 @@ fn the_longest_frame_is_read(rt: HostRuntime) -> Result<(), Fail> {
         moment: 2007,
         captured: 262_144,
         wire: 5,
-        is_ethernet: true,
+        layer: Some(LinkLayer::Ethernet),
     };
     let wanted = [Ok(Step::Passed), Ok(Step::Record(head)), Ok(Step::End)];
     assert_eq!(rt; given.as_slice(), wanted.as_slice());
@@ -169,12 +170,9 @@ fn a_failing_device_is_told(rt: HostRuntime) -> Result<(), Fail> {
     Ok(())
 }
 
-/// What is written is what the format says, octet for octet.
-#[test]
-fn a_file_is_written(rt: HostRuntime) -> Result<(), Fail> {
-    let mut octets = [0u8; 43];
-    let mut writer = PcapWriter::new(Counted::new(octets.as_mut_slice()));
-    assert_eq!(rt; writer.start(), Ok(()));
+/// A file of one record, which the device has room for.
+fn write_all(rt: &impl Abort, writer: &mut PcapWriter<Counted<&mut [u8]>>) {
+    assert_eq!(rt; writer.start(LinkLayer::Ethernet), Ok(()));
     assert_eq!(rt;
         writer.put(4_294_967_296_000, b"xyz"),
         Err(PutFault::Moment)
@@ -182,8 +180,15 @@ fn a_file_is_written(rt: HostRuntime) -> Result<(), Fail> {
     assert_eq!(rt; writer.put(4_294_967_295_999, b"xyz"), Ok(()));
     assert_eq!(rt; writer.put(0, b""), Err(PutFault::Io));
     assert_eq!(rt; writer.put(0, b""), Err(PutFault::Failed));
+}
+
+/// What is written is what the format says, octet for octet.
+#[test]
+fn a_file_is_written(rt: HostRuntime) {
+    let mut octets = [0u8; 43];
+    let mut writer = PcapWriter::new(Counted::new(octets.as_mut_slice()));
+    write_all(&rt, &mut writer);
     let wanted = b"\xd4\xc3\xb2\xa1\x02\0\x04\0\0\0\0\0\0\0\0\0\0\0\x04\0\x01\0\0\0\
         \xff\xff\xff\xff\x58\x3e\x0f\0\x03\0\0\0\x03\0\0\0xyz";
     assert_eq!(rt; octets.as_slice(), wanted.as_slice());
-    Ok(())
 }

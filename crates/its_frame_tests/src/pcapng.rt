@@ -1,7 +1,7 @@
 //! pcapng: sections of either order, interfaces and their options, packets, and each fault.
 
 use its_linkframe::{CaptureFault, Counted};
-use its_pcap::{Head, PcapngReader, SourceFault, Step};
+use its_pcap::{Head, LinkLayer, PcapngReader, SourceFault, Step};
 use std::test::Fail;
 
 /// A section header, the lowest octet first: 28 octets, version 1.0, of no known length.
@@ -55,13 +55,6 @@ fn answers(rt: &HostRuntime, file: &[u8]) -> Result<Vec<Result<Step, SourceFault
     Ok(given)
 }
 
-/// The last answer of a reader.
-fn last(rt: &HostRuntime, pieces: &[&[u8]]) -> Result<Option<Result<Step, SourceFault>>, Fail> {
-    let file = joined(rt, pieces)?;
-    let given = answers(rt, file.as_slice())?;
-    Ok(given.last().copied())
-}
-
 #[test]
 fn sections_of_both_orders_are_read(rt: HostRuntime) -> Result<(), Fail> {
     let file = joined(
@@ -81,13 +74,13 @@ fn sections_of_both_orders_are_read(rt: HostRuntime) -> Result<(), Fail> {
         moment: 1,
         captured: 3,
         wire: 3,
-        is_ethernet: true,
+        layer: Some(LinkLayer::Ethernet),
     };
     let second = Head {
         moment: 0,
         captured: 4,
         wire: 6,
-        is_ethernet: true,
+        layer: Some(LinkLayer::Ethernet),
     };
     let wanted = [
         Ok(Step::Passed),
@@ -103,49 +96,85 @@ fn sections_of_both_orders_are_read(rt: HostRuntime) -> Result<(), Fail> {
     Ok(())
 }
 
+/// The blocks of which files begin.
+#[derive(Clone, Copy, Debug)]
+enum Block {
+    Unknown,
+    Section,
+    Interface,
+    Packet,
+}
+
+/// The first so many octets of a block.
+fn front(block: Block, length: usize) -> Option<&'static [u8]> {
+    match block {
+        Block::Unknown => UNKNOWN.get(..length),
+        Block::Section => SECTION.get(..length),
+        Block::Interface => INTERFACE.get(..length),
+        Block::Packet => PACKET.get(..length),
+    }
+}
+
+/// The last answer to a file of the first octets of blocks, and of others.
+fn last_of(
+    rt: &HostRuntime,
+    fronts: &[(Block, usize)],
+    rest: &[u8],
+) -> Result<Option<Result<Step, SourceFault>>, Fail> {
+    let mut file = Vec::new(rt.alloc());
+    for (block, length) in fronts {
+        file.extend_from_slice(front(*block, *length).ok_or("no such front")?)?;
+    }
+    file.extend_from_slice(rest)?;
+    let given = answers(rt, file.as_slice())?;
+    Ok(given.last().copied())
+}
+
+const SECTION_WHOLE: (Block, usize) = (Block::Section, 28);
+
+const INTERFACE_WHOLE: (Block, usize) = (Block::Interface, 44);
+
 /// A first block of another kind, a packet of no interface, a moment below 0, and lengths.
+static WRONG: [(&[(Block, usize)], &[u8]); 13] = [
+    (&[(Block::Unknown, 4)], b""),
+    (&[(Block::Section, 8)], b"\x4d\x3c\x2b\x1b"),
+    (&[(Block::Section, 12)], b"\x02\0"),
+    (&[(Block::Section, 24)], b"\x1d\0\0\0"),
+    (&[SECTION_WHOLE, (Block::Packet, 12)], b""),
+    (&[SECTION_WHOLE], b"\x05\0\0\0\x0a\0\0\0"),
+    (&[SECTION_WHOLE], b"\x05\0\0\0\x08\0\0\0"),
+    (&[SECTION_WHOLE], b"\x05\0\0\0\x04\0\x05\0"),
+    (
+        &[SECTION_WHOLE, INTERFACE_WHOLE, (Block::Packet, 16)],
+        b"\xe7\x03\0\0",
+    ),
+    (
+        &[SECTION_WHOLE, INTERFACE_WHOLE, (Block::Packet, 20)],
+        b"\x05\0\0\0",
+    ),
+    (&[SECTION_WHOLE, (Block::Interface, 20)], b"\x14"),
+    (&[SECTION_WHOLE, (Block::Interface, 20)], b"\xc0"),
+    (&[SECTION_WHOLE, (Block::Interface, 16)], b"\x02\0\x15\0"),
+];
+
 #[test]
 fn what_is_wrong_is_refused(rt: HostRuntime) -> Result<(), Fail> {
-    let wrong = Some(Err(SourceFault::Malformed));
-    assert_eq!(rt; last(&rt, &[&UNKNOWN[..4]])?, wrong);
-    assert_eq!(rt; last(&rt, &[&SECTION[..8], b"\x4d\x3c\x2b\x1b"])?, wrong);
-    assert_eq!(rt; last(&rt, &[&SECTION[..12], b"\x02\0"])?, wrong);
-    assert_eq!(rt; last(&rt, &[&SECTION[..24], b"\x1d\0\0\0"])?, wrong);
-    assert_eq!(rt; last(&rt, &[SECTION.as_slice(), &PACKET[..12]])?, wrong);
-    assert_eq!(rt;
-        last(&rt, &[SECTION.as_slice(), b"\x05\0\0\0\x0a\0\0\0"])?,
-        wrong
-    );
-    assert_eq!(rt;
-        last(&rt, &[SECTION.as_slice(), b"\x05\0\0\0\x08\0\0\0"])?,
-        wrong
-    );
-    assert_eq!(rt;
-        last(&rt, &[SECTION.as_slice(), b"\x05\0\0\0\x04\0\x05\0"])?,
-        wrong
-    );
-    let pieces = [
-        SECTION.as_slice(),
-        INTERFACE.as_slice(),
-        &PACKET[..16],
-        b"\xe7\x03\0\0",
-    ];
-    assert_eq!(rt; last(&rt, &pieces)?, wrong);
-    let pieces = [
-        SECTION.as_slice(),
-        INTERFACE.as_slice(),
-        &PACKET[..20],
-        b"\x05\0\0\0",
-    ];
-    assert_eq!(rt; last(&rt, &pieces)?, wrong);
-    let finer = [SECTION.as_slice(), &INTERFACE[..20], b"\x14"];
-    assert_eq!(rt; last(&rt, &finer)?, wrong);
-    let finer = [SECTION.as_slice(), &INTERFACE[..20], b"\xc0"];
-    assert_eq!(rt; last(&rt, &finer)?, wrong);
-    let fine = [SECTION.as_slice(), &INTERFACE[..20], b"\xbf"];
-    assert_eq!(rt; last(&rt, &fine)?, Some(Err(SourceFault::CutFile)));
-    let past = [SECTION.as_slice(), &INTERFACE[..16], b"\x02\0\x15\0"];
-    assert_eq!(rt; last(&rt, &past)?, wrong);
+    for (fronts, rest) in &WRONG {
+        let found = last_of(&rt, fronts, rest)?;
+        assert_eq!(rt;
+            found,
+            Some(Err(SourceFault::Malformed)),
+            "{fronts:?} {rest:?}"
+        );
+    }
+    Ok(())
+}
+
+/// The finest unit of time, behind which the file is cut.
+#[test]
+fn the_finest_unit_is_taken(rt: HostRuntime) -> Result<(), Fail> {
+    let found = last_of(&rt, &[SECTION_WHOLE, (Block::Interface, 20)], b"\xbf")?;
+    assert_eq!(rt; found, Some(Err(SourceFault::CutFile)));
     Ok(())
 }
 

@@ -2,10 +2,11 @@
 
 use its_linkframe::Counted;
 use its_pcap::{
-    AnySink, CaptureSource, Format, Head, PcapngReader, PcapngWriter, PutFault, RecordFault,
-    RecordSink, RecordSource, SinkFault, Step,
+    AnySink, CaptureSource, Format, Head, LinkFault, LinkLayer, PcapngReader, PcapngWriter,
+    PutFault, RecordFault, RecordSink, RecordSource, SinkFault, Step, has_place, layer_for,
 };
 use std::alloc::Global;
+use std::process::Abort;
 use std::test::Fail;
 
 /// A section header, an interface with the name `station 0`, and a packet of 3 octets at moment
@@ -26,23 +27,30 @@ fn whole(moment: u64, size: u32) -> Head {
         moment,
         captured: size,
         wire: size,
-        is_ethernet: true,
+        layer: Some(LinkLayer::Ethernet),
     }
 }
 
-#[test]
-fn a_file_is_written(rt: HostRuntime) -> Result<(), Fail> {
-    let mut octets = [0u8; 112];
-    let mut writer = PcapngWriter::new(Counted::new(octets.as_mut_slice()));
+/// A file of one interface and one packet, which the device has room for.
+fn write_all(rt: &impl Abort, writer: &mut PcapngWriter<Counted<&mut [u8]>>) {
     assert_eq!(rt; writer.start(), Ok(()));
     assert_eq!(rt; writer.put(0, 0, b"xyz"), Err(PutFault::Interface));
-    assert_eq!(rt; writer.add_interface("station 0"), Ok(()));
+    assert_eq!(rt;
+        writer.add_interface(LinkLayer::Ethernet, "station 0"),
+        Ok(())
+    );
     assert_eq!(rt; writer.put(1, 0, b"xyz"), Err(PutFault::Interface));
     assert_eq!(rt; writer.put(0, 4_294_967_301, b"xyz"), Ok(()));
     assert_eq!(rt; writer.put(0, 0, b""), Err(PutFault::Io));
     assert_eq!(rt; writer.put(0, 0, b""), Err(PutFault::Failed));
+}
+
+#[test]
+fn a_file_is_written(rt: HostRuntime) {
+    let mut octets = [0u8; 112];
+    let mut writer = PcapngWriter::new(Counted::new(octets.as_mut_slice()));
+    write_all(&rt, &mut writer);
     assert_eq!(rt; octets.as_slice(), FILE.as_slice());
-    Ok(())
 }
 
 /// What was written is read again as the same record.
@@ -65,7 +73,7 @@ fn written(alloc: Global, frame: &[u8]) -> Result<(Result<(), PutFault>, Vec<u8>
     let mut writer = PcapngWriter::new(Counted::new(file));
     let mut answer = writer.start();
     if answer.is_ok() {
-        answer = writer.add_interface("");
+        answer = writer.add_interface(LinkLayer::Ethernet, "");
     }
     if answer.is_ok() {
         answer = writer.put(0, 1, frame);
@@ -93,39 +101,46 @@ fn the_longest_frame_is_written(rt: HostRuntime) -> Result<(), Fail> {
     Ok(())
 }
 
-/// A record that is no frame of Ethernet is refused before one that was cut, that before its length
-/// and its moment.
+/// A record of another link layer than the file's is refused before one that was cut, and its length
+/// before its moment.
 #[test]
 fn a_record_without_place_is_refused(rt: HostRuntime) {
-    let mut octets = [0u8; 40];
-    let mut sink = AnySink::new(Counted::new(octets.as_mut_slice()), Format::Capture);
-    let other = Head {
-        moment: 0,
-        captured: 0,
-        wire: 1,
-        is_ethernet: false,
-    };
-    let fault = SinkFault::Record(RecordFault::LinkType);
-    assert_eq!(rt; sink.put(&other, b""), Err(fault));
-    assert_eq!(rt; fault.word(), Some("link type"));
     let cut = Head {
         moment: 0,
         captured: 0,
         wire: 1,
-        is_ethernet: true,
+        layer: Some(LinkLayer::Radiotap),
     };
-    let fault = SinkFault::Record(RecordFault::CutFrame);
-    assert_eq!(rt; sink.put(&cut, b""), Err(fault));
-    assert_eq!(rt; fault.word(), Some("cut"));
-    let fault = SinkFault::Put(PutFault::Length);
-    assert_eq!(rt; sink.put(&whole(0, 0), b""), Err(fault));
-    assert_eq!(rt; fault.word(), Some("length"));
+    let fault = RecordFault::LinkType;
+    assert_eq!(rt; layer_for(&cut, Some(LinkLayer::Ethernet)), Err(fault));
+    assert_eq!(rt; SinkFault::from(fault).word(), Some("link type"));
+    let fault = RecordFault::CutFrame;
+    assert_eq!(rt; layer_for(&cut, None), Err(fault));
+    assert_eq!(rt; SinkFault::from(fault).word(), Some("cut"));
+    assert_eq!(rt; layer_for(&whole(0, 1), None), Ok(LinkLayer::Ethernet));
+    assert_eq!(rt; SinkFault::from(LinkFault::Kind).word(), Some("L2"));
+    let fault = PutFault::Length;
+    assert_eq!(rt; has_place(Format::Capture, 0, b""), Err(fault));
+    assert_eq!(rt; SinkFault::from(fault).word(), Some("length"));
+    let fault = PutFault::Moment;
+    assert_eq!(rt;
+        has_place(Format::Pcap, 4_294_967_296_000, b"x"),
+        Err(fault)
+    );
+    assert_eq!(rt; SinkFault::from(fault).word(), Some("moment"));
+    assert_eq!(rt; has_place(Format::Pcapng, 4_294_967_296_000, b"x"), Ok(()));
+    assert_eq!(rt; SinkFault::from(PutFault::Io).word(), None);
+}
+
+/// A file of radiotap, octet for octet.
+#[test]
+fn a_file_of_another_link_layer_is_written(rt: HostRuntime) -> Result<(), Fail> {
+    let mut octets = [0u8; 24];
     let mut sink = AnySink::new(Counted::new(octets.as_mut_slice()), Format::Pcap);
-    assert_eq!(rt; sink.start(), Ok(()));
-    let fault = SinkFault::Put(PutFault::Moment);
-    assert_eq!(rt; sink.put(&whole(4_294_967_296_000, 1), b"x"), Err(fault));
-    assert_eq!(rt; fault.word(), Some("moment"));
-    assert_eq!(rt; SinkFault::Put(PutFault::Io).word(), None);
+    assert_eq!(rt; sink.start_on(LinkLayer::Radiotap), Ok(()));
+    let wanted = b"\xd4\xc3\xb2\xa1\x02\0\x04\0\0\0\0\0\0\0\0\0\0\0\x04\0\x7f\0\0\0";
+    assert_eq!(rt; octets.as_slice(), wanted.as_slice());
+    Ok(())
 }
 
 /// A capture through the call for every format.

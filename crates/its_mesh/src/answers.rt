@@ -72,6 +72,21 @@ pub(crate) fn answer(
     ran.replies.pop().ok_or(NoMemory)
 }
 
+/// The word of a call, as a scenario has it after `do`; `receive` for what comes by a socket.
+pub(crate) fn call_word(call: &Call) -> &'static str {
+    match call {
+        Call::MoveTo { .. } => "move",
+        Call::Open(_) => "open",
+        Call::Close(_) => "close",
+        Call::Tick(_) => "tick",
+        Call::SendShb(_) => "shb",
+        Call::SendGeobroadcast(_) => "gbc",
+        Call::SendGeoanycast(_) => "gac",
+        Call::Restart(_) => "restart",
+        Call::Receive(_) => "receive",
+    }
+}
+
 /// The entry of a call that is done and answers nothing else.
 pub(crate) fn done_entry(call: &Call) -> Entry {
     match call {

@@ -9,7 +9,7 @@ use crate::fault::MeshFault;
 use crate::mesh::Mesh;
 use crate::sockets::Sockets;
 use crate::udp::UdpSockets;
-use its_reporting::{OutputFormat, Status, Target, create_apart, open};
+use its_reporting::{OutputFormat, Status, Target, create, keep_apart, open};
 use its_runs::{FrameFile, FrameTarget, frame_target, read_scenario_without_air};
 use its_scenario::Scenario;
 use std::alloc::Global;
@@ -23,27 +23,17 @@ const MOST_STATIONS: usize = 64;
 /// How a mesh is run.
 #[derive(Clone, Copy, Debug, Default, PartialEq, Eq)]
 pub struct MeshOptions {
-    /// Whether each line that ends in a code or a word of a fault goes on with its sentence in
-    /// parentheses.
-    pub explain: bool,
-    /// Whether a call that is refused makes the status `Refused`, where it would be `Done`.
-    pub strict: bool,
-}
-
-impl MeshOptions {
     /// How its lines are printed.
-    fn lines(self) -> OutputFormat {
-        OutputFormat {
-            json: false,
-            explain: self.explain,
-        }
-    }
+    pub lines: OutputFormat,
+    /// Whether a call that is refused makes the status `Refused`, where it would be `Done`. A key of
+    /// the scenario that is unknown is refused then, too.
+    pub strict: bool,
 }
 
 /// Runs the scenario in the file, of at most 64 stations, each with a UDP socket on 127.0.0.1 at a
 /// port that the system picks. Prints a line for each event but `deliver`, and for each datagram
-/// that comes: its moment, its station and what is told of it. `input` is standard input, which is
-/// read where the file is `-`. With `frames` each frame that a station gives is also written to that
+/// that comes: its moment, its station and what is told of it. In JSON the stations have a line
+/// before. `input` is standard input, which is read where the file is `-`. With `frames` each frame that a station gives is also written to that
 /// file, at the moment of its line; it is created once the scenario is read.
 ///
 /// `BadArguments`, before anything is opened, where nothing says that file's format or its name is
@@ -92,7 +82,7 @@ where
     ensures done { IfOk result IsCommandStatus }
     ensures stopped { IfErr result IsCommandStatus }
 {
-    let reader = open(rt, file, input, err)?;
+    let reader = open(rt, file, input, options.lines, err)?;
     let mut sockets = UdpSockets::new(rt, rt.alloc());
     Ok(mesh(rt.alloc(), file, reader, options, &mut sockets, out, err))
 }
@@ -112,12 +102,14 @@ where
     R::File: Read + Write + Drop,
     ensures { IfOk result IsCommandStatus }
 {
-    let reader = open(rt, file, input, err)?;
-    let scenario = match read_scenario_without_air(rt.alloc(), file, reader, MOST_STATIONS) {
+    let reader = open(rt, file, input, options.lines, err)?;
+    let (most, strict) = (MOST_STATIONS, options.strict);
+    let scenario = match read_scenario_without_air(rt.alloc(), file, reader, most, strict) {
         Ok(scenario) => scenario,
-        Err(fault) => return Err(fault.report_as(options.lines(), err)),
+        Err(fault) => return Err(fault.report_as(options.lines, err)),
     };
-    let created = create_apart(rt, target.name, file, err)?;
+    keep_apart(rt, target.name, file, err)?;
+    let created = create(rt, target.name, options.lines, err)?;
     let mut sockets = UdpSockets::new(rt, rt.alloc());
     let stations = scenario.stations.len();
     let (name, format) = (target.name, target.format);
@@ -143,9 +135,10 @@ pub(crate) fn mesh<R: Read + Drop, S: Sockets, W: Write, E: Write>(
 ) -> Status
     ensures { IsCommandStatus result }
 {
-    let scenario = match read_scenario_without_air(alloc, file, reader, MOST_STATIONS) {
+    let (most, strict) = (MOST_STATIONS, options.strict);
+    let scenario = match read_scenario_without_air(alloc, file, reader, most, strict) {
         Ok(scenario) => scenario,
-        Err(fault) => return fault.report_as(options.lines(), err),
+        Err(fault) => return fault.report_as(options.lines, err),
     };
     match run_mesh(alloc, scenario, options, sockets, out, err) {
         Ok(status) => status,
@@ -171,7 +164,7 @@ pub(crate) fn mesh_with_frames<'t, F: Write + Drop, S: Sockets, W: Write, E: Wri
         ..
     } = scenario;
     let stations = stations.as_slice();
-    let mut mesh = match Mesh::new(alloc, stations, options.explain, sockets, out, err) {
+    let mut mesh = match Mesh::new(alloc, stations, options.lines, sockets, out, err) {
         Ok(mesh) => mesh,
         Err(fault) => {
             // What the file begins with is written out, and the fault is told.
@@ -207,7 +200,7 @@ fn run_mesh<'f, S: Sockets, W: Write, E: Write>(
     let mut mesh: Mesh<'_, '_, S, W, E, Vec<u8>> = Mesh::new(
         alloc,
         stations,
-        options.explain,
+        options.lines,
         sockets,
         out,
         err,

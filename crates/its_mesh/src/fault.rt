@@ -4,6 +4,7 @@ ghost use Rattle.std.specs.Prelude.{◌≡◌};
 
 use its_gnvalue::NoMemory;
 use its_reporting::{Fault, Status};
+use its_simulation::SimulationFault;
 use std::alloc::AllocError;
 use std::io::Write;
 use thiserror::Error;
@@ -46,6 +47,14 @@ impl MeshFault<'_> {
             }
             MeshFault::Stopped(fault) => fault.report(err),
         }
+    }
+}
+
+/// What ends the command where a line could not be written.
+pub(crate) fn fault_of_lines<'a>(fault: SimulationFault) -> Fault<'a> {
+    match fault {
+        SimulationFault::OutOfMemory(error) => Fault::OutOfMemory(error),
+        SimulationFault::Output(error) => Fault::NoOutput(error),
     }
 }
 

@@ -6,6 +6,7 @@
 mod answers;
 mod command;
 mod fault;
+mod lines;
 mod mesh;
 mod rounds;
 #[cfg(test)]

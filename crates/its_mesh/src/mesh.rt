@@ -11,14 +11,15 @@ ghost use Rattle.its_world.specs.State.{RepresentStations};
 ghost use Rattle.its_mesh.specs.Stations.{AreStations, IsCalled};
 ghost use Rattle.its_mesh.specs.Statuses.{mesh_status};
 
-use crate::answers::{CallOutcome, answer, call_of, done_entry, no_station, outcome_of};
-use crate::fault::{MeshFault, SocketFault};
+use crate::answers::{CallOutcome, answer, call_of, call_word, done_entry, no_station, outcome_of};
+use crate::fault::{MeshFault, SocketFault, fault_of_lines};
+use crate::lines::{print_call, print_stations};
 use crate::sockets::{Sent, Sockets};
 use its_gnvalue::NoMemory;
 use its_loctable::SortedTable;
 use its_reporting::{Fault, OutputFormat, Status};
 use its_runs::{FrameFile, is_done};
-use its_simulation::EntryText;
+use its_simulation::SimulationFault;
 use its_station::{Call, Station};
 use its_world::{Config, Entry, Event, stations_of};
 use std::alloc::{AllocError, Global};
@@ -35,8 +36,8 @@ pub(crate) struct Mesh<'a, 't, S, W, E, F: Write + Drop> {
     err: &'a mut E,
     /// Where frames are written, if they are.
     pub(crate) file: Option<FrameFile<'t, F>>,
-    /// Whether a refusal's line goes on with its sentence.
-    explain: bool,
+    /// How its lines are printed.
+    format: OutputFormat,
     /// The greatest moment of the events so far: that of all that comes by a socket.
     pub(crate) moment: u64,
     /// How many frames were sent so far.
@@ -48,11 +49,12 @@ pub(crate) struct Mesh<'a, 't, S, W, E, F: Write + Drop> {
 }
 
 impl<'a, 't, S: Sockets, W: Write, E: Write, F: Write + Drop> Mesh<'a, 't, S, W, E, F> {
-    /// New stations of these configs, each with a socket, and no file of frames.
+    /// New stations of these configs, each with a socket, and no file of frames. In JSON their line
+    /// is printed.
     pub(crate) fn new<'f>(
         alloc: Global,
         configs: &[Config],
-        explain: bool,
+        format: OutputFormat,
         sockets: &'a mut S,
         out: &'a mut W,
         err: &'a mut E,
@@ -65,6 +67,9 @@ impl<'a, 't, S: Sockets, W: Write, E: Write, F: Write + Drop> Mesh<'a, 't, S, W,
         for number in 0..configs.len() {
             make_socket(sockets, number)?;
         }
+        if let Err(fault) = print_stations(alloc, format, configs, out) {
+            return Err(MeshFault::Stopped(fault_of_lines(fault)));
+        }
         Ok(Mesh {
             alloc,
             stations,
@@ -72,7 +77,7 @@ impl<'a, 't, S: Sockets, W: Write, E: Write, F: Write + Drop> Mesh<'a, 't, S, W,
             out,
             err,
             file: None,
-            explain,
+            format,
             moment: 0,
             frames: 0,
             failed: false,
@@ -122,8 +127,11 @@ impl<'a, 't, S: Sockets, W: Write, E: Write, F: Write + Drop> Mesh<'a, 't, S, W,
         ensures asked { (count : ℕ) → S.Asked self.old.sockets.now count
             → S.Asked self.new.sockets.now count }
     {
+        let word = call_word(&call);
         let CallOutcome { entry, frame } = self.outcome_at(station, moment, call)?;
-        self.print(moment, station, &entry)?;
+        if let Err(fault) = self.print(moment, station, word, &entry) {
+            return Err(fault_of_lines(fault));
+        }
         if let Some(frame) = frame {
             // No run sends as many frames as there are numbers.
             self.frames = self.frames.saturating_add(1);
@@ -138,12 +146,8 @@ impl<'a, 't, S: Sockets, W: Write, E: Write, F: Write + Drop> Mesh<'a, 't, S, W,
         ensures stations { self.new.stations ≡ self.old.stations }
         ensures sockets { self.new.sockets.now ≡ self.old.sockets.now }
     {
-        let lines = OutputFormat {
-            json: false,
-            explain: self.explain,
-        };
         match &mut self.file {
-            Some(file) => file.put(station, moment, frame, lines, self.err),
+            Some(file) => file.put(station, moment, frame, self.format, self.err),
             None => Ok(()),
         }
     }
@@ -170,16 +174,28 @@ impl<'a, 't, S: Sockets, W: Write, E: Write, F: Write + Drop> Mesh<'a, 't, S, W,
         Ok(outcome_of(done, reply, self.frames))
     }
 
-    /// Prints the line of a call, and notes whether it was refused.
-    fn print(&mut self, moment: u64, station: usize, entry: &Entry) -> io::Result<()>
+    /// Prints the line of a call with this word, and notes whether it was refused.
+    fn print(
+        &mut self,
+        moment: u64,
+        station: usize,
+        word: &'static str,
+        entry: &Entry,
+    ) -> Result<(), SimulationFault>
         ensures refused { self.new.refused ≡ (self.old.refused || not (was_done entry.now)) }
         ensures stations { self.new.stations ≡ self.old.stations }
         ensures sockets { self.new.sockets.now ≡ self.old.sockets.now }
     {
         self.refused |= !is_done(entry);
-        let explain = self.explain;
-        let text = EntryText { entry, explain };
-        writeln!(self.out, "{moment} {station} {text}")
+        print_call(
+            self.alloc,
+            self.format,
+            moment,
+            station,
+            word,
+            entry,
+            self.out,
+        )
     }
 
     /// Sends a frame to each other station. A send that fails or would block is told and passed

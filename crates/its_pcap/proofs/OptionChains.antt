@@ -16,24 +16,24 @@ use Rattle.its_pcap.specs.Layouts.{Reads, IsFaultOf, gives_that}
 use Rattle.its_pcap.proofs.Layouts.{reads, reads-as, reads-joined, prefix-behind, gives-read}
 
 pub has-ticks : (i : Interface) (n : ℕ) (j : Interface) (b : Option (List ℕ)) → j.ticks ≡ n
-    → j.is_ethernet ≡ i.is_ethernet → j.snap ≡ i.snap → j.ahead ≡ i.ahead → j.behind ≡ i.behind
+    → j.layer ≡ i.layer → j.snap ≡ i.snap → j.ahead ≡ i.ahead → j.behind ≡ i.behind
     → Reads ((gives_that (HasTicks i n)).Is j) b b
-has-ticks i n j b ticks ethernet snap ahead behind = gives-read (HasTicks i n) j b (record {
+has-ticks i n j b ticks layer snap ahead behind = gives-read (HasTicks i n) j b (record {
   ticks = ticks;
-  ethernet = ethernet;
+  layer = layer;
   snap = snap;
   ahead = ahead;
   behind = behind;
 })
 
 pub has-offset : (i : Interface) (n : ℕ) (j : Interface) (b : Option (List ℕ))
-    → j.ahead ≡ ahead_of n → j.behind ≡ behind_of n → j.is_ethernet ≡ i.is_ethernet
+    → j.ahead ≡ ahead_of n → j.behind ≡ behind_of n → j.layer ≡ i.layer
     → j.snap ≡ i.snap → j.ticks ≡ i.ticks
     → Reads ((gives_that (HasOffset i n)).Is j) b b
-has-offset i n j b ahead behind ethernet snap ticks = gives-read (HasOffset i n) j b (record {
+has-offset i n j b ahead behind layer snap ticks = gives-read (HasOffset i n) j b (record {
   ahead = ahead;
   behind = behind;
-  ethernet = ethernet;
+  layer = layer;
   snap = snap;
   ticks = ticks;
 })

@@ -1,7 +1,7 @@
 -- A record of a pcap file, part by part.
 use Rattle.std.proofs.Common.{◌≡◌, ℕ, ◌+◌, ◌<◌, ◌≤◌, inl, inr, List, ◌++◌}
 use Rattle.std.proofs.Common.{length, take, drop}
-use Rattle.std.proofs.Common.{min, true, Option, None, Some, sym, ap, subst, ◌∙◌, arith}
+use Rattle.std.proofs.Common.{min, Option, None, Some, sym, ap, subst, ◌∙◌, arith}
 use Rattle.std.proofs.Common.{append_assoc, append-nil, length-append}
 use Rattle.std.proofs.lemmas.List.{take_all, take-append-le}
 use Rattle.std.proofs.Math.Seq.{drop-append_seam}
@@ -10,6 +10,7 @@ use Rattle.std.specs.Io.KnownBytes.{Consumes, IsAtEnd}
 use Rattle.its_linkframe.specs.declared.record.CaptureFault.TheVariants as captures
 use Rattle.its_pcap.specs.declared.fault.SourceFault.{SourceFault}
 use Rattle.its_pcap.specs.declared.fault.SourceFault.TheVariants as faults
+use Rattle.its_pcap.specs.declared.pcap.FileHead.{FileHead}
 use Rattle.its_pcap.specs.declared.pcap.Mark.{Mark}
 use Rattle.its_pcap.specs.declared.pcap.TheConstants.{LONGEST_CAPTURED}
 use Rattle.its_pcap.specs.declared.record.Head.{Head}
@@ -125,41 +126,41 @@ EndsInRecord-head m p v n twelve is fits few = (
 )
 
 -- what is told of a record that was read
-pub HasRecord-parts : (m : Mark) (keep : ℕ) (h : Head) (frame p q r v : List ℕ) → length p ≡ 12
-    → length q ≡ 4 → length r ≡ h.captured → h.captured ≡ number_in m.order 4 (drop 8 p)
+pub HasRecord-parts : (f : FileHead) (keep : ℕ) (h : Head) (frame p q r v : List ℕ) → length p ≡ 12
+    → length q ≡ 4 → length r ≡ h.captured → h.captured ≡ number_in f.mark.order 4 (drop 8 p)
     → h.captured ≤ LONGEST_CAPTURED
-    → h.moment ≡ moment_of m.unit (number_in m.order 4 (drop 0 p)) (number_in m.order 4 (drop 4 p))
-    → h.wire ≡ number_in m.order 4 (drop 0 q) → h.is_ethernet ≡ true
+    → h.moment ≡ moment_of f.mark.unit (number_in f.mark.order 4 (drop 0 p)) (number_in f.mark.order 4 (drop 4 p))
+    → h.wire ≡ number_in f.mark.order 4 (drop 0 q) → h.layer ≡ Some f.layer
     → frame ≡ take (min h.captured keep) r
-    → HasRecord m keep h frame (((p ++ q) ++ r) ++ v)
-HasRecord-parts m keep h frame p q r v twelve four size captured fits moment wire ethernet kept =
+    → HasRecord f keep h frame (((p ++ q) ++ r) ++ v)
+HasRecord-parts f keep h frame p q r v twelve four size captured fits moment wire layer kept =
     let w = (p ++ q) ++ (r ++ v) in
     let same : ((p ++ q) ++ r) ++ v ≡ w = append_assoc (p ++ q) r v in
     let sixteen : length (p ++ q) ≡ 16 = omega (arith, twelve, four, length-append p q) in
     let long : length w ≡ 16 + length r + length v =
     omega (arith, sixteen, length-append (p ++ q) (r ++ v), length-append r v) in
-    let at : (k : ℕ) → k + 4 ≤ 12 → number_in m.order 4 (drop k w)
-    ≡ number_in m.order 4 (drop k p) = λ k le.
-    number_in-front m.order 4 k (p ++ q) (r ++ v) (omega (arith, le, sixteen))
-    ∙ number_in-front m.order 4 k p q (omega (arith, le, twelve)) in
-    let last : number_in m.order 4 (drop 12 w) ≡ number_in m.order 4 (drop 0 q) =
-    number_in-front m.order 4 12 (p ++ q) (r ++ v) (omega (arith, sixteen))
-    ∙ number_in-behind m.order 4 12 0 p q (omega (arith, twelve)) in
+    let at : (k : ℕ) → k + 4 ≤ 12 → number_in f.mark.order 4 (drop k w)
+    ≡ number_in f.mark.order 4 (drop k p) = λ k le.
+    number_in-front f.mark.order 4 k (p ++ q) (r ++ v) (omega (arith, le, sixteen))
+    ∙ number_in-front f.mark.order 4 k p q (omega (arith, le, twelve)) in
+    let last : number_in f.mark.order 4 (drop 12 w) ≡ number_in f.mark.order 4 (drop 0 q) =
+    number_in-front f.mark.order 4 12 (p ++ q) (r ++ v) (omega (arith, sixteen))
+    ∙ number_in-behind f.mark.order 4 12 0 p q (omega (arith, twelve)) in
     let tail : drop 16 w ≡ r ++ v =
     ap (λ (n : ℕ). drop n w) (sym sixteen) ∙ drop-append_seam (p ++ q) (r ++ v) in
-    let has : HasRecord m keep h frame w = record {
-      announces = AnnouncesRecord-parts m p q (r ++ v) h.captured twelve captured fits;
+    let has : HasRecord f keep h frame w = record {
+      announces = AnnouncesRecord-parts f.mark p q (r ++ v) h.captured twelve captured fits;
       head = record {
         moment = moment
-            ∙ ap (λ (n : ℕ). moment_of m.unit n (number_in m.order 4 (drop 4 p)))
+            ∙ ap (λ (n : ℕ). moment_of f.mark.unit n (number_in f.mark.order 4 (drop 4 p)))
             (sym (at 0 (omega arith)))
-            ∙ ap (moment_of m.unit (number_in m.order 4 w)) (sym (at 4 (omega arith)));
+            ∙ ap (moment_of f.mark.unit (number_in f.mark.order 4 w)) (sym (at 4 (omega arith)));
         captured = captured ∙ sym (at 8 (omega arith));
         wire = wire ∙ sym last;
-        ethernet = ethernet;
+        layer = layer;
       };
       whole = omega (arith, long, size);
       kept = kept ∙ sym (ap (take (min h.captured keep)) tail
           ∙ take-append-le (min h.captured keep) r v (omega (arith, size)));
     } in
-    subst (HasRecord m keep h frame) (sym same) has
+    subst (HasRecord f keep h frame) (sym same) has

@@ -109,7 +109,7 @@ packet o is keep kept =
       moment = m;
       captured = c;
       wire = wire;
-      is_ethernet = i.is_ethernet;
+      layer = i.layer;
     })))))))))
 
 -- the first interface of a section: no octet says it
@@ -144,7 +144,7 @@ simple o is keep kept =
       moment = 0;
       captured = lengths.1;
       wire = lengths.0;
-      is_ethernet = i.is_ethernet;
+      layer = i.layer;
     })))))))
 
 -- ---- a block of another kind, behind its type: it is passed over

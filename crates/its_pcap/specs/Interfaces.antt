@@ -9,13 +9,14 @@ use Rattle.its_pcap.specs.declared.options.OptionKind.TheVariants as kinds
 use Rattle.its_pcap.specs.declared.options.Turn.{Turn}
 use Rattle.its_pcap.specs.Layouts.{Layout, Joined, behind, field, gives, gives_that, number}
 use Rattle.its_pcap.specs.Layouts.{number_that, octets}
+use Rattle.its_pcap.specs.LinkLayers.{layer_of}
 use Rattle.its_pcap.specs.Moments.{IsTooFine, ticks_of, ahead_of, behind_of}
 use Rattle.its_pcap.specs.Octets.{number_in}
 
 -- what the 8 octets before the options say: link type, two octets that are not read, snap length;
 -- without options a tick is a millionth of a second, and nothing is added to a moment
 pub record IsPlain (o : Order) (i : Interface) (w : List ℕ) : Type 0 where
-  pub ethernet : i.is_ethernet ≡ (number_in o 2 w == 1)
+  pub layer : i.layer ≡ layer_of (number_in o 2 w)
   pub snap : i.snap ≡ number_in o 4 (drop 4 w)
   pub ticks : i.ticks ≡ 1000000
   pub ahead : i.ahead ≡ 0
@@ -27,7 +28,7 @@ plain o = field 8 (IsPlain o) (λ _. ⊥)
 -- the same interface, with these ticks of a second
 pub record HasTicks (i : Interface) (n : ℕ) (j : Interface) : Type 0 where
   pub ticks : j.ticks ≡ n
-  pub ethernet : j.is_ethernet ≡ i.is_ethernet
+  pub layer : j.layer ≡ i.layer
   pub snap : j.snap ≡ i.snap
   pub ahead : j.ahead ≡ i.ahead
   pub behind : j.behind ≡ i.behind
@@ -36,7 +37,7 @@ pub record HasTicks (i : Interface) (n : ℕ) (j : Interface) : Type 0 where
 pub record HasOffset (i : Interface) (offset : ℕ) (j : Interface) : Type 0 where
   pub ahead : j.ahead ≡ ahead_of offset
   pub behind : j.behind ≡ behind_of offset
-  pub ethernet : j.is_ethernet ≡ i.is_ethernet
+  pub layer : j.layer ≡ i.layer
   pub snap : j.snap ≡ i.snap
   pub ticks : j.ticks ≡ i.ticks
 

@@ -14,6 +14,7 @@ pub mod PcapWritten
 pub mod Pcapng
 pub mod PcapngWritten
 pub mod Radiotap
+pub mod Places
 pub mod Reading
 pub mod RecordFiles
 pub mod Records

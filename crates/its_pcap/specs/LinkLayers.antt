@@ -1,6 +1,7 @@
 -- The frame of a record of each link layer, and the first rule of its layer that doesn't hold.
 use Rattle.std.specs.Prelude.{◌≡◌, ℕ, ◌+◌, ◌-◌, ◌<◌, ◌≤◌, ◌⊎◌, Bool, true, false}
 use Rattle.std.specs.Prelude.{List, [], ◌∷◌, ◌++◌, length, take, drop}
+use Rattle.std.specs.Prelude.{Option, None, Some, ◌==◌, if◌then◌else◌}
 use Rattle.its_linkframe.specs.Frames.{IsFrame}
 use Rattle.its_pcap.specs.Ethernet.{IsTypeAt, EndsInTag}
 use Rattle.its_pcap.specs.Ieee80211.{IsHeader, IsHeaderFault, has_bit}
@@ -17,6 +18,14 @@ abbrev pub layer_number : LinkLayer → ℕ
 layer_number layers.Ethernet = 1
 layer_number layers.Ieee80211 = 105
 layer_number layers.Radiotap = 127
+
+-- the link layer of a number, of those that are read
+abbrev pub layer_of : ℕ → Option LinkLayer
+layer_of number =
+    if number == 1 then Some layers.Ethernet
+    else if number == 105 then Some layers.Ieee80211
+    else if number == 127 then Some layers.Radiotap
+    else None
 
 -- L1 and L2, as ASCII text
 abbrev pub link_code_of : LinkFault → List ℕ

@@ -1,6 +1,7 @@
 -- Classic pcap: a header of 24 octets, and records, each with four numbers of 32 bits before its
 -- octets: seconds, fraction, captured length, wire length.
 use Rattle.std.specs.Prelude.{◌≡◌, ◌≢◌, ℕ, ◌+◌, ◌*◌, ◌/◌, ◌%◌, ◌<◌, ◌≤◌, ◌⊎◌, Bool, true, false}
+use Rattle.std.specs.Prelude.{None, Some}
 use Rattle.std.specs.Prelude.{List, [], length, take, drop, min, Option, IfSome}
 use Rattle.std.specs.Prelude.{Result, Ok, Err}
 use Rattle.std.specs.Io.KnownBytes.{Consumes}
@@ -9,8 +10,10 @@ use Rattle.its_linkframe.specs.declared.record.CaptureFault.TheVariants as captu
 use Rattle.its_linkframe.specs.Devices.{ConsumesPrefix}
 use Rattle.its_pcap.specs.declared.fault.SourceFault.{SourceFault}
 use Rattle.its_pcap.specs.declared.fault.SourceFault.TheVariants as faults
+use Rattle.its_pcap.specs.declared.link.LinkLayer.{LinkLayer}
 use Rattle.its_pcap.specs.declared.octets.Order.{Order}
 use Rattle.its_pcap.specs.declared.octets.Order.TheVariants as orders
+use Rattle.its_pcap.specs.declared.pcap.FileHead.{FileHead}
 use Rattle.its_pcap.specs.declared.pcap.Mark.{Mark}
 use Rattle.its_pcap.specs.declared.pcap.Unit.{Unit}
 use Rattle.its_pcap.specs.declared.pcap.Unit.TheVariants as units
@@ -20,6 +23,7 @@ use Rattle.its_pcap.specs.declared.pcap.TheConstants.{LONGEST_CAPTURED}
 use Rattle.its_pcap.specs.declared.record.Head.{Head}
 use Rattle.its_pcap.specs.declared.record.Step.{Step}
 use Rattle.its_pcap.specs.declared.record.Step.TheVariants as steps
+use Rattle.its_pcap.specs.LinkLayers.{layer_of}
 use Rattle.its_pcap.specs.Octets.{number_in}
 use Rattle.its_pcap.specs.Reading.{Passes, MeetsEnd, EndsWhere}
 
@@ -48,13 +52,14 @@ HasVersion m w = HasMark m w × (6 ≤ length w) × (number_in m.order 2 (drop 4
 abbrev pub link_type : Mark → List ℕ → ℕ
 link_type m w = number_in m.order 4 (drop 20 w) % 65536
 
--- a whole header, of Ethernet (1)
-abbrev pub HasHeader : Mark → List ℕ → Type 0
-HasHeader m w = HasVersion m w × (24 ≤ length w) × (link_type m w ≡ 1)
+-- a whole header, of a link layer that is read
+abbrev pub HasHeader : FileHead → List ℕ → Type 0
+HasHeader h w =
+    HasVersion h.mark w × (24 ≤ length w) × (layer_of (link_type h.mark w) ≡ Some h.layer)
 
 -- the header went, and nothing after it
-pub record ReadsHeader (m : Mark) (old new : Option (List ℕ)) : Type 0 where
-  pub is : IfSome old (HasHeader m)
+pub record ReadsHeader (h : FileHead) (old new : Option (List ℕ)) : Type 0 where
+  pub is : IfSome old (HasHeader h)
   pub passes : Passes 24 old new
 
 -- the file ends in its header, behind nothing that is wrong
@@ -69,9 +74,10 @@ HasWrongHeader w =
     ((4 ≤ length w) × ((m : Mark) → big_number 4 w ≢ mark_number m))
     ⊎ (m : Mark) × HasMark m w × (6 ≤ length w) × (number_in m.order 2 (drop 4 w) ≢ 2)
 
--- a header of another link layer
+-- a header of a link layer that is not read
 abbrev pub HasOtherLink : List ℕ → Type 0
-HasOtherLink w = (m : Mark) × HasVersion m w × (24 ≤ length w) × (link_type m w ≢ 1)
+HasOtherLink w =
+    (m : Mark) × HasVersion m w × (24 ≤ length w) × (layer_of (link_type m w) ≡ None)
 
 -- What a fault says of a file at its start, in the order of its octets.
 abbrev pub IsHeaderFault : Option (List ℕ) → Option (List ℕ) → SourceFault → Type 0
@@ -100,25 +106,25 @@ abbrev pub AnnouncesRecord : Mark → List ℕ → Type 0
 AnnouncesRecord m w = (12 ≤ length w) × (captured_of m w ≤ LONGEST_CAPTURED)
 
 -- what is told of the record at the head of the octets
-pub record IsHead (m : Mark) (w : List ℕ) (h : Head) : Type 0 where
-  pub moment : h.moment
-      ≡ moment_of m.unit (number_in m.order 4 w) (number_in m.order 4 (drop 4 w))
-  pub captured : h.captured ≡ captured_of m w
-  pub wire : h.wire ≡ number_in m.order 4 (drop 12 w)
-  pub ethernet : h.is_ethernet ≡ true
+pub record IsHead (f : FileHead) (w : List ℕ) (h : Head) : Type 0 where
+  pub moment : h.moment ≡ moment_of f.mark.unit (number_in f.mark.order 4 w)
+      (number_in f.mark.order 4 (drop 4 w))
+  pub captured : h.captured ≡ captured_of f.mark w
+  pub wire : h.wire ≡ number_in f.mark.order 4 (drop 12 w)
+  pub layer : h.layer ≡ Some f.layer
 
 -- The octets begin with a whole record, of which this is told; the first octets of its frame are
 -- kept, as many as are wanted and there are.
-pub record HasRecord (m : Mark) (keep : ℕ) (h : Head) (frame w : List ℕ) : Type 0 where
-  pub announces : AnnouncesRecord m w
-  pub head : IsHead m w h
+pub record HasRecord (f : FileHead) (keep : ℕ) (h : Head) (frame w : List ℕ) : Type 0 where
+  pub announces : AnnouncesRecord f.mark w
+  pub head : IsHead f w h
   pub whole : 16 + h.captured ≤ length w
   pub kept : frame ≡ take (min h.captured keep) (drop 16 w)
 
 -- the record went, and nothing after it
-pub record ReadsRecord (m : Mark) (keep : ℕ) (h : Head) (frame : List ℕ)
+pub record ReadsRecord (f : FileHead) (keep : ℕ) (h : Head) (frame : List ℕ)
     (old new : Option (List ℕ)) : Type 0 where
-  pub is : IfSome old (HasRecord m keep h frame)
+  pub is : IfSome old (HasRecord f keep h frame)
   pub passes : Passes (16 + h.captured) old new
 
 -- the file ends in a record: before its captured length, or behind one that is allowed
@@ -160,29 +166,37 @@ is_failed (stages.Records _) = false
 is_failed stages.Ended = false
 is_failed stages.Failed = true
 
--- What a step says of a file that has a record next: a record, or the end.
-abbrev pub IsRecordStep : Mark → ℕ → List ℕ → Option (List ℕ) → Option (List ℕ) → Step → Type 0
-IsRecordStep m keep frame old new (steps.Record h) = ReadsRecord m keep h frame old new
-IsRecordStep m keep frame old new steps.Passed = ⊥
-IsRecordStep m keep frame old new steps.End = MeetsEnd old new
+-- the link layer of the records that are read
+abbrev pub layer_at : Stage → Option LinkLayer
+layer_at stages.Start = None
+layer_at (stages.Records head) = Some head.layer
+layer_at stages.Ended = None
+layer_at stages.Failed = None
 
--- What an answer says, by the stage: at the start the header is passed over, and it gives the mark
--- of the file; after the end the end is answered, and after a fault C5, and nothing is read.
+-- What a step says of a file that has a record next: a record, or the end.
+abbrev pub IsRecordStep : FileHead → ℕ → List ℕ → Option (List ℕ) → Option (List ℕ) → Step
+    → Type 0
+IsRecordStep f keep frame old new (steps.Record h) = ReadsRecord f keep h frame old new
+IsRecordStep f keep frame old new steps.Passed = ⊥
+IsRecordStep f keep frame old new steps.End = MeetsEnd old new
+
+-- What an answer says, by the stage: at the start the header is passed over, and says what the
+-- records of the file are; after the end the end is answered, and after a fault C5, and nothing is read.
 abbrev pub IsAnswer : Stage → Stage → ℕ → List ℕ → Option (List ℕ) → Option (List ℕ)
     → Result Step SourceFault → Type 0
 IsAnswer stages.Start after keep frame old new (Ok steps.Passed) =
-    (m : Mark) × (after ≡ stages.Records m) × ReadsHeader m old new
+    (h : FileHead) × (after ≡ stages.Records h) × ReadsHeader h old new
 IsAnswer stages.Start after keep frame old new (Ok (steps.Record h)) = ⊥
 IsAnswer stages.Start after keep frame old new (Ok steps.End) = ⊥
 IsAnswer stages.Start after keep frame old new (Err f) =
     (after ≡ stages.Failed) × IsHeaderFault old new f
-IsAnswer (stages.Records m) after keep frame old new (Ok (steps.Record h)) =
-    (after ≡ stages.Records m) × ReadsRecord m keep h frame old new
-IsAnswer (stages.Records m) after keep frame old new (Ok steps.Passed) = ⊥
-IsAnswer (stages.Records m) after keep frame old new (Ok steps.End) =
+IsAnswer (stages.Records head) after keep frame old new (Ok (steps.Record h)) =
+    (after ≡ stages.Records head) × ReadsRecord head keep h frame old new
+IsAnswer (stages.Records head) after keep frame old new (Ok steps.Passed) = ⊥
+IsAnswer (stages.Records head) after keep frame old new (Ok steps.End) =
     (after ≡ stages.Ended) × MeetsEnd old new
-IsAnswer (stages.Records m) after keep frame old new (Err f) =
-    (after ≡ stages.Failed) × IsRecordFault m old new f
+IsAnswer (stages.Records head) after keep frame old new (Err f) =
+    (after ≡ stages.Failed) × IsRecordFault head.mark old new f
 IsAnswer stages.Ended after keep frame old new answer =
     (answer ≡ Ok steps.End) × (after ≡ stages.Ended) × Consumes old new []
 IsAnswer stages.Failed after keep frame old new answer =

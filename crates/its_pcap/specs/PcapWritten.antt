@@ -2,17 +2,18 @@
 use Rattle.std.specs.Prelude.{◌≡◌, ℕ, ◌*◌, ◌/◌, ◌%◌, ◌^◌, ◌<◌, ◌≤◌, List, [], ◌∷◌, ◌++◌, length}
 use Rattle.byteorder.specs.Endian.{little_bytes}
 use Rattle.its_linkframe.specs.Devices.{AppendsPrefix}
+use Rattle.its_pcap.specs.LinkLayers.{layer_number}
+use Rattle.its_pcap.specs.declared.link.LinkLayer.{LinkLayer}
 use Rattle.its_pcap.specs.declared.pcap.TheConstants.{LONGEST_CAPTURED}
 use Rattle.its_pcap.specs.declared.put_fault.PutFault.{PutFault}
 use Rattle.its_pcap.specs.declared.put_fault.PutFault.TheVariants as faults
 use Rattle.its_pcap.specs.Writing.{Writing}
 
--- the mark d4c3b2a1, version 2.4, zone 0, accuracy 0, snap length 262144, Ethernet (1)
-abbrev pub file_header : List ℕ
-file_header =
-    212 ∷ 195 ∷ 178 ∷ 161 ∷ 2 ∷ 0 ∷ 4 ∷ 0 ∷ 0 ∷ 0 ∷ 0 ∷ 0 ∷ 0 ∷ 0 ∷ 0 ∷ 0 ∷ 0 ∷ 0 ∷ 4 ∷ 0
-    ∷ 1 ∷ 0 ∷ 0
-    ∷ 0 ∷ []
+-- the mark d4c3b2a1, version 2.4, zone 0, accuracy 0, snap length 262144, the link layer
+unfoldable pub file_header : LinkLayer → List ℕ
+file_header l =
+    (212 ∷ 195 ∷ 178 ∷ 161 ∷ 2 ∷ 0 ∷ 4 ∷ 0 ∷ 0 ∷ 0 ∷ 0 ∷ 0 ∷ 0 ∷ 0 ∷ 0 ∷ 0 ∷ 0 ∷ 0 ∷ 4 ∷ 0 ∷ [])
+    ++ little_bytes 4 (layer_number l)
 
 -- before a frame its moment, in seconds and millionths, and its length twice: captured and on the
 -- wire

@@ -1,9 +1,11 @@
--- pcapng as it is written: numbers with their lowest octet first, one section, and interfaces of
--- Ethernet whose ticks are milliseconds.
+-- pcapng as it is written: numbers with their lowest octet first, one section, and interfaces
+-- whose ticks are milliseconds.
 use Rattle.std.specs.Prelude.{◌≡◌, ℕ, ◌+◌, ◌-◌, ◌/◌, ◌%◌, ◌^◌, ◌<◌, ◌≤◌, Bool}
 use Rattle.std.specs.Prelude.{List, [], ◌∷◌, ◌++◌, length, take, Option}
 use Rattle.byteorder.specs.Endian.{little_bytes}
 use Rattle.its_linkframe.specs.Devices.{AppendsPrefix}
+use Rattle.its_pcap.specs.LinkLayers.{layer_number}
+use Rattle.its_pcap.specs.declared.link.LinkLayer.{LinkLayer}
 use Rattle.its_pcap.specs.declared.pcap.TheConstants.{LONGEST_CAPTURED}
 use Rattle.its_pcap.specs.declared.put_fault.PutFault.{PutFault}
 use Rattle.its_pcap.specs.declared.put_fault.PutFault.TheVariants as faults
@@ -25,11 +27,12 @@ section_octets =
     10 ∷ 13 ∷ 13 ∷ 10 ∷ 28 ∷ 0 ∷ 0 ∷ 0 ∷ 77 ∷ 60 ∷ 43 ∷ 26 ∷ 1 ∷ 0 ∷ 0 ∷ 0
     ∷ 255 ∷ 255 ∷ 255 ∷ 255 ∷ 255 ∷ 255 ∷ 255 ∷ 255 ∷ 28 ∷ 0 ∷ 0 ∷ 0 ∷ []
 
--- an interface up to its options: block type 1, the block's length, link type 1, snap length 262144
-unfoldable pub interface_front : ℕ → List ℕ
-interface_front size =
-    little_bytes 4 1 ++ little_bytes 4 size ++ little_bytes 2 1 ++ little_bytes 2 0
-    ++ little_bytes 4 262144
+-- an interface up to its options: block type 1, the block's length, the link layer, snap length
+-- 262144
+unfoldable pub interface_front : LinkLayer → ℕ → List ℕ
+interface_front l size =
+    little_bytes 4 1 ++ little_bytes 4 size ++ little_bytes 2 (layer_number l)
+    ++ little_bytes 2 0 ++ little_bytes 4 262144
 
 -- the options `if_tsresol` 3 and end of options, and the block's length
 unfoldable pub interface_end : ℕ → List ℕ
@@ -45,15 +48,15 @@ abbrev pub named_size : ℕ → ℕ
 named_size n = 36 + (n + padding_size n)
 
 -- an interface with this name
-abbrev pub named_octets : List ℕ → List ℕ
-named_octets name =
-    ((interface_front (named_size (length name)) ++ name_head (length name)) ++ name)
+abbrev pub named_octets : LinkLayer → List ℕ → List ℕ
+named_octets l name =
+    ((interface_front l (named_size (length name)) ++ name_head (length name)) ++ name)
     ++ (padding_of name ++ interface_end (named_size (length name)))
 
 -- an interface, which has the option only where the name isn't empty
-abbrev pub interface_octets : List ℕ → List ℕ
-interface_octets [] = interface_front 32 ++ interface_end 32
-interface_octets (c ∷ cs) = named_octets (c ∷ cs)
+abbrev pub interface_octets : LinkLayer → List ℕ → List ℕ
+interface_octets l [] = interface_front l 32 ++ interface_end 32
+interface_octets l (c ∷ cs) = named_octets l (c ∷ cs)
 
 -- how many octets a packet with a frame of so many has
 abbrev pub packet_size : ℕ → ℕ
@@ -106,15 +109,16 @@ IsSectionFault old new faults.Failed = new ≡ old
 
 -- what a fault says of an interface: a name of over 65535 octets has no place in an option, and a
 -- file has fewer interfaces than 2^32
-abbrev pub IsInterfaceFault : List ℕ → Writing → Writing → PutFault → Type 0
-IsInterfaceFault name old new faults.Length = ⊥
-IsInterfaceFault name old new faults.Moment = ⊥
-IsInterfaceFault name old new faults.Interface = (2 ^ 32 - 1 ≤ old.interfaces) × (new ≡ old)
-IsInterfaceFault name old new faults.Name =
+abbrev pub IsInterfaceFault : LinkLayer → List ℕ → Writing → Writing → PutFault → Type 0
+IsInterfaceFault l name old new faults.Length = ⊥
+IsInterfaceFault l name old new faults.Moment = ⊥
+IsInterfaceFault l name old new faults.Interface = (2 ^ 32 - 1 ≤ old.interfaces) × (new ≡ old)
+IsInterfaceFault l name old new faults.Name =
     (old.interfaces < 2 ^ 32 - 1) × (65535 < length name) × (new ≡ old)
-IsInterfaceFault name old new faults.Io =
-    (old.interfaces < 2 ^ 32 - 1) × (length name ≤ 65535) × IsLost (interface_octets name) old new
-IsInterfaceFault name old new faults.Failed = new ≡ old
+IsInterfaceFault l name old new faults.Io =
+    (old.interfaces < 2 ^ 32 - 1) × (length name ≤ 65535)
+    × IsLost (interface_octets l name) old new
+IsInterfaceFault l name old new faults.Failed = new ≡ old
 
 -- what a fault says of a record of an interface: one that was not written comes first
 abbrev pub IsPacketFault : ℕ → ℕ → List ℕ → Writing → Writing → PutFault → Type 0

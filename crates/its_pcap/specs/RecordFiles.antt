@@ -1,6 +1,6 @@
 -- Files of records of any format, as they are written.
 use Rattle.std.specs.Prelude.{◌≡◌, ℕ, ◌+◌, ◌-◌, ◌/◌, ◌^◌, ◌<◌, ◌≤◌, Bool, true, false, List, length}
-use Rattle.std.specs.Prelude.{Option, None, Some, Result, Ok, Err}
+use Rattle.std.specs.Prelude.{Option, Result, Ok, Err}
 use Rattle.std.specs.Io.KnownBytes.{Appends}
 use Rattle.its_linkframe.specs.Captures.{IsFrameLength, captured_at, record_octets}
 use Rattle.its_linkframe.specs.Devices.{AppendsPrefix}
@@ -11,12 +11,11 @@ use Rattle.its_pcap.specs.PcapngWritten as sections
 use Rattle.its_pcap.specs.Writing as outputs
 use Rattle.its_pcap.specs.declared.format.Format.{Format}
 use Rattle.its_pcap.specs.declared.format.Format.TheVariants as formats
+use Rattle.its_pcap.specs.declared.link.LinkLayer.{LinkLayer}
+use Rattle.its_pcap.specs.declared.link.LinkLayer.TheVariants as layers
 use Rattle.its_pcap.specs.declared.pcap.TheConstants.{LONGEST_CAPTURED}
 use Rattle.its_pcap.specs.declared.put_fault.PutFault.{PutFault}
 use Rattle.its_pcap.specs.declared.put_fault.PutFault.TheVariants as faults
-use Rattle.its_pcap.specs.declared.record.RecordFault.{RecordFault}
-use Rattle.its_pcap.specs.declared.sink.SinkFault.{SinkFault}
-use Rattle.its_pcap.specs.declared.sink.SinkFault.TheVariants as sink_faults
 
 -- A file: its format, how many interfaces it has (of pcapng alone), whether a call of its device
 -- failed, what octets its device has, where they are known, and how many calls of the device
@@ -83,11 +82,16 @@ Writes text more Fits Refuses old new (Err faults.Failed) = (old.failed ≡ true
 abbrev pub WritesNothing : RecordFile → RecordFile → Result (Unit {0}) PutFault → Type 0
 WritesNothing old new r = (r ≡ Ok tt) × (new ≡ old)
 
--- what a file begins with
+-- what a file begins with, of records of a link layer
+abbrev pub StartsOn : LinkLayer → Format → RecordFile → RecordFile → Result (Unit {0}) PutFault
+    → Type 0
+StartsOn l formats.Capture old new r = WritesNothing old new r
+StartsOn l formats.Pcap old new r = Writes (file_header l) 0 (Unit {0}) (λ _. ⊥) old new r
+StartsOn l formats.Pcapng old new r = Writes section_octets 0 (Unit {0}) (λ _. ⊥) old new r
+
+-- the same of frames
 abbrev pub Starts : Format → RecordFile → RecordFile → Result (Unit {0}) PutFault → Type 0
-Starts formats.Capture old new r = WritesNothing old new r
-Starts formats.Pcap old new r = Writes file_header 0 (Unit {0}) (λ _. ⊥) old new r
-Starts formats.Pcapng old new r = Writes section_octets 0 (Unit {0}) (λ _. ⊥) old new r
+Starts format old new r = StartsOn layers.Ethernet format old new r
 
 -- what speaks against a further interface, where there are so many: their number comes first
 abbrev pub RefusesInterface : ℕ → List ℕ → PutFault → Type 0
@@ -98,15 +102,20 @@ RefusesInterface n name faults.Name = (n < 2 ^ 32 - 1) × (65535 < length name)
 RefusesInterface n name faults.Io = ⊥
 RefusesInterface n name faults.Failed = ⊥
 
--- an interface with this name
-abbrev pub AddsInterface : Format → List ℕ → RecordFile → RecordFile
+-- an interface of a link layer, with this name
+abbrev pub AddsInterfaceOn : LinkLayer → Format → List ℕ → RecordFile → RecordFile
     → Result (Unit {0}) PutFault → Type 0
-AddsInterface formats.Capture name old new r = WritesNothing old new r
-AddsInterface formats.Pcap name old new r = WritesNothing old new r
-AddsInterface formats.Pcapng name old new r =
-    Writes (interface_octets name) 1
+AddsInterfaceOn l formats.Capture name old new r = WritesNothing old new r
+AddsInterfaceOn l formats.Pcap name old new r = WritesNothing old new r
+AddsInterfaceOn l formats.Pcapng name old new r =
+    Writes (interface_octets l name) 1
     ((old.interfaces < 2 ^ 32 - 1) × (length name ≤ 65535))
     (RefusesInterface old.interfaces name) old new r
+
+-- the same of Ethernet
+abbrev pub AddsInterface : Format → List ℕ → RecordFile → RecordFile
+    → Result (Unit {0}) PutFault → Type 0
+AddsInterface format name old new r = AddsInterfaceOn layers.Ethernet format name old new r
 
 -- the octets of a record of a frame at a moment, as one of an interface
 abbrev pub frame_octets : Format → ℕ → ℕ → List ℕ → List ℕ
@@ -145,12 +154,3 @@ PutsFrame interface moment frame old new r =
     Writes (frame_octets old.format interface moment frame) 0
     (HasPlace old.format old.interfaces interface moment frame)
     (RefusesFrame old.format old.interfaces interface moment frame) old new r
-
--- A record of which this is told: its own fault comes first, and leaves all as it was; without one
--- it is put as a frame is.
-abbrev pub PutsRecord : Option RecordFault → (Result (Unit {0}) PutFault → Type 0) → RecordFile
-    → RecordFile → Result (Unit {0}) SinkFault → Type 0
-PutsRecord (Some fault) Puts old new r = (r ≡ Err (sink_faults.Record fault)) × (new ≡ old)
-PutsRecord None Puts old new (Ok x) = Puts (Ok x)
-PutsRecord None Puts old new (Err (sink_faults.Record fault)) = ⊥
-PutsRecord None Puts old new (Err (sink_faults.Put fault)) = Puts (Err fault)

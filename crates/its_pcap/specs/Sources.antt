@@ -1,7 +1,7 @@
 -- Files of records of any format, as they are read: what one call for the next step gives, and what
 -- it leaves of the source.
 use Rattle.std.specs.Prelude.{◌≡◌, ℕ, ◌+◌, true, false, IsTrue, List, [], length, take}
-use Rattle.std.specs.Prelude.{Option, IfSome, MatchOption, Result, Ok, Err, if◌then◌else◌}
+use Rattle.std.specs.Prelude.{Option, Some, None, IfSome, MatchOption, Result, Ok, Err, if◌then◌else◌}
 use Rattle.std.specs.Io.KnownBytes.{Consumes, Keeps}
 use Rattle.std.specs.declared.io.traits.Read as reads
 use Rattle.its_linkframe.specs.Captures.{IsCaptured, captured_at, record_octets}
@@ -16,6 +16,8 @@ use Rattle.its_pcap.specs.declared.fault.SourceFault.{SourceFault}
 use Rattle.its_pcap.specs.declared.fault.SourceFault.TheVariants as faults
 use Rattle.its_pcap.specs.declared.format.Format.{Format}
 use Rattle.its_pcap.specs.declared.format.Format.TheVariants as formats
+use Rattle.its_pcap.specs.declared.link.LinkLayer.{LinkLayer}
+use Rattle.its_pcap.specs.declared.link.LinkLayer.TheVariants as layers
 use Rattle.its_pcap.specs.declared.pcap.Stage.TheVariants as classic_stages
 use Rattle.its_pcap.specs.declared.pcapng.Stage.TheVariants as block_stages
 use Rattle.its_pcap.specs.declared.record.Step.{Step}
@@ -30,7 +32,7 @@ use Rattle.its_pcap.specs.declared.source.AnySource.TheVariants as sources
 abbrev pub StepsCapture : captures.Reading → captures.Reading → List ℕ → Result Step SourceFault
     → Type 0
 StepsCapture was now frame (Ok (steps.Record h)) =
-    (h.captured ≡ length frame) × (h.wire ≡ length frame) × (h.is_ethernet ≡ true)
+    (h.captured ≡ length frame) × (h.wire ≡ length frame) × (h.layer ≡ Some layers.Ethernet)
     × IsCaptured (captured_at h.moment frame)
     × Consumes was.rest now.rest (record_octets (captured_at h.moment frame))
 StepsCapture was now frame (Ok steps.Passed) = ⊥
@@ -71,6 +73,14 @@ abbrev pub format_of_source :
 format_of_source (sources.Capture _) = formats.Capture
 format_of_source (sources.Pcap _) = formats.Pcap
 format_of_source (sources.Pcapng _) = formats.Pcapng
+
+-- the link layer of its records, where the file says one for all of them
+abbrev pub layer_of_source :
+    {S : Type 0} {s : sources_of.Ghosts S} {r : reads.Ghosts S} → AnySource S s r
+    → Option LinkLayer
+layer_of_source (sources.Capture _) = None
+layer_of_source (sources.Pcap reader) = classic.layer_at reader.stage
+layer_of_source (sources.Pcapng _) = None
 
 -- one call, which leaves the file one of its format
 abbrev pub Gives :

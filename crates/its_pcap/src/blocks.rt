@@ -14,9 +14,10 @@ ghost use Rattle.its_pcap.specs.declared.fault.SourceFault.TheVariants as faults
 use crate::fault::SourceFault;
 use crate::field::{block_length, end_block, half, is_block_length, word};
 use crate::interface::{Interface, MICROS, moment_of};
+use crate::link::link_layer;
 use crate::octets::{Order, half_at, word_at};
 use crate::options::read_options;
-use crate::pcap::{ETHERNET, LONGEST_CAPTURED};
+use crate::pcap::LONGEST_CAPTURED;
 use crate::record::Head;
 use crate::transfer::{fill_whole, read_frame};
 use byteorder::{BigEndian, ByteOrder};
@@ -194,7 +195,7 @@ fn read_plain<S: Source>(source: &mut S, order: Order) -> Result<Interface, Sour
     let mut head = [0; 8];
     fill_whole(source, &mut head)?;
     Ok(Interface {
-        is_ethernet: u32::from(half_at(order, &head, 0)) == ETHERNET,
+        layer: link_layer(u32::from(half_at(order, &head, 0))),
         snap: word_at(order, &head, 4),
         ticks: MICROS,
         ahead: 0,
@@ -314,7 +315,7 @@ fn packet_block<S: Source>(
         moment,
         captured,
         wire,
-        is_ethernet: interface.is_ethernet,
+        layer: interface.layer,
     }))
 }
 
@@ -374,7 +375,7 @@ fn simple_block<S: Source>(
         moment: 0,
         captured,
         wire,
-        is_ethernet: interface.is_ethernet,
+        layer: interface.layer,
     }))
 }
 

@@ -15,7 +15,7 @@ pub enum SourceFault {
     CutFile,
     /// P2: a field has a value that the format does not know, or a length is wrong.
     Malformed,
-    /// P3: the file is one of another link layer than Ethernet.
+    /// P3: the file is one of a link layer that is not read.
     LinkType,
     /// C1 or C2 of a capture; of any file C3 (a call of the device failed), C4 (an allocation
     /// failed) and C5 (an earlier call answered a fault).
@@ -49,7 +49,12 @@ impl fmt::Display for SourceFault {
         match self {
             SourceFault::CutFile => write!(f, "the file ends inside a header, a block or a record"),
             SourceFault::Malformed => write!(f, "a field or a length that the format forbids"),
-            SourceFault::LinkType => write!(f, "another link layer than Ethernet"),
+            SourceFault::LinkType => {
+                write!(
+                    f,
+                    "a link layer other than Ethernet, IEEE 802.11 and radiotap"
+                )
+            }
             SourceFault::Capture(fault) => write!(f, "{fault}"),
         }
     }

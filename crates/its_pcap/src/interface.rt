@@ -4,10 +4,13 @@ ghost use Rattle.std.specs.Prelude.{◌≡◌, ◌^◌, ◌<◌, ◌≤◌, Matc
 ghost use Rattle.its_pcap.specs.Moments.{ticks_of, IsTooFine, IsMoment, IsNoMoment, ahead_of};
 ghost use Rattle.its_pcap.specs.Moments.{behind_of};
 
+use crate::link::LinkLayer;
+
 /// What is known of an interface that packets were taken from.
 #[derive(Clone, Copy)]
 pub(crate) struct Interface {
-    pub(crate) is_ethernet: bool,
+    /// Its link layer, where that is one that is read.
+    pub(crate) layer: Option<LinkLayer>,
     /// The most octets that are captured of a frame; 0 is no limit.
     pub(crate) snap: u32,
     /// How many ticks a second has: `if_tsresol`.

@@ -1,17 +1,16 @@
 //! Link layers of captured records, and the frames in them.
 
-ghost use Rattle.std.specs.Prelude.{◌≡◌, ◌≢◌, ◌+◌, ◌-◌, ◌≤◌, ◌++◌, IfOk, IfErr, MatchOption};
+ghost use Rattle.std.specs.Prelude.{◌≡◌, ◌+◌, ◌-◌, ◌≤◌, ◌++◌, IfOk, IfErr};
 ghost use Rattle.std.specs.Prelude.{length, take, drop};
-ghost use Rattle.its_pcap.specs.LinkLayers.{IsFrameIn, IsLinkFault, layer_number, joined};
+ghost use Rattle.its_pcap.specs.LinkLayers.{IsFrameIn, IsLinkFault, layer_number, layer_of, joined};
 ghost use Rattle.its_pcap.specs.LinkLayers.{IsUnchecked, IsFrameBehind, IsFaultBehind};
 ghost use Rattle.its_pcap.specs.LinkLayers.{IsData, IsUncheckedData, link_code_of};
 ghost use Rattle.its_pcap.specs.Ieee80211.{IsHeaderFault};
-ghost use Rattle.its_pcap.specs.declared.link.LinkLayer.{LinkLayer};
 
 use crate::ethernet::type_at;
 use crate::ieee80211::{DataHeader, has, read_header};
 use crate::radiotap::{CHECK_SEQUENCE, FILLED, RadiotapHeader, read_radiotap};
-use its_linkframe::read_frame;
+use its_linkframe::{LONGEST_FRAME, read_frame};
 use std::error::Error;
 use std::fmt;
 
@@ -22,6 +21,12 @@ const ADDRESSES: usize = 12;
 
 /// The octets of a check sequence.
 const CHECK: usize = 4;
+
+/// How many octets of a record are to be kept where its frame is judged: further ones change
+/// nothing. Before a frame's type a radiotap header has 65535 octets at most, that of IEEE 802.11
+/// 36, and LLC with SNAP 6; a frame of more than 1468 octets is refused by its length, and 4 more
+/// may be a check sequence.
+pub const LONGEST_RECORD: usize = 65535 + 36 + 6 + (LONGEST_FRAME + 1) + CHECK;
 
 /// A link layer that records are read of.
 #[derive(Clone, Copy, Debug, PartialEq, Eq)]
@@ -45,8 +50,7 @@ pub enum LinkFault {
 
 /// The link layer of this number, of those that are read.
 pub fn link_layer(number: u32) -> Option<LinkLayer>
-    ensures { MatchOption result ((l : LinkLayer) → number ≢ layer_number l)
-        (λ l. number ≡ layer_number l) }
+    ensures { result ≡ layer_of number }
 {
     match number {
         1 => Some(LinkLayer::Ethernet),

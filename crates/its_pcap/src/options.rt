@@ -224,7 +224,7 @@ fn read_resolution<S: Source>(
     let ticks = ticks_said(octet[0])?;
     pass_over(source, 3)?;
     Ok(Interface {
-        is_ethernet: interface.is_ethernet,
+        layer: interface.layer,
         snap: interface.snap,
         ticks,
         ahead: interface.ahead,
@@ -247,7 +247,7 @@ fn read_offset<S: Source>(
     fill_whole(source, &mut octets)?;
     let (ahead, behind) = seconds_of(long_at(order, &octets));
     Ok(Interface {
-        is_ethernet: interface.is_ethernet,
+        layer: interface.layer,
         snap: interface.snap,
         ticks: interface.ticks,
         ahead,

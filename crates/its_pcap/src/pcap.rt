@@ -5,11 +5,12 @@ ghost use Rattle.std.specs.Prelude.{IfOk, IfErr, MatchOption, Err, if◌then◌e
 ghost use Rattle.its_linkframe.specs.declared.record.CaptureFault.TheVariants as captures;
 ghost use Rattle.its_pcap.specs.Reading.{is_io};
 ghost use Rattle.its_pcap.specs.Pcap.{mark_number, ReadsHeader, IsHeaderFault, IsRecordStep};
-ghost use Rattle.its_pcap.specs.Pcap.{IsRecordFault, moment_of, IsAnswer};
+ghost use Rattle.its_pcap.specs.Pcap.{IsRecordFault, moment_of, IsAnswer, layer_at};
 ghost use Rattle.its_pcap.specs.declared.fault.SourceFault.TheVariants as faults;
 ghost use Rattle.its_pcap.specs.declared.pcap.Stage.TheVariants as stages;
 
 use crate::fault::SourceFault;
+use crate::link::{LinkLayer, link_layer};
 use crate::octets::{Order, half_at, word_at};
 use crate::record::{Head, Step};
 use crate::transfer::{fill_whole, read_frame};
@@ -31,9 +32,6 @@ const LINK_TYPE: usize = 14;
 
 /// Types of link layers have 16 bits of their field.
 const LINK_TYPES: u32 = 65536;
-
-/// The type of Ethernet.
-pub(crate) const ETHERNET: u32 = 1;
 
 /// The one major version.
 const MAJOR_VERSION: u16 = 2;
@@ -74,13 +72,22 @@ pub struct Mark {
     pub unit: Unit,
 }
 
+/// What the header of a file says of its records.
+#[derive(Clone, Copy, Debug, PartialEq, Eq)]
+pub struct FileHead {
+    /// What its mark says.
+    pub mark: Mark,
+    /// The link layer of all its records.
+    pub layer: LinkLayer,
+}
+
 /// How far a reader is.
 #[derive(Clone, Copy, Debug, PartialEq, Eq)]
 enum Stage {
     /// At the header of the file.
     Start,
     /// At a record, or at the end.
-    Records(Mark),
+    Records(FileHead),
     /// It met the end, and answers it again.
     Ended,
     /// It met a fault, and answers C5.
@@ -142,13 +149,13 @@ impl<R: Source> PcapReader<R> {
     {
         let answer = match self.stage {
             Stage::Start => match read_header(&mut self.source) {
-                Ok(mark) => {
-                    self.stage = Stage::Records(mark);
+                Ok(head) => {
+                    self.stage = Stage::Records(head);
                     return Ok(Step::Passed);
                 }
                 Err(fault) => Err(fault),
             },
-            Stage::Records(mark) => read_record(&mut self.source, mark, self.keep, frame),
+            Stage::Records(head) => read_record(&mut self.source, head, self.keep, frame),
             Stage::Ended => return Ok(Step::End),
             Stage::Failed => return Err(SourceFault::Capture(CaptureFault::Failed)),
         };
@@ -158,6 +165,16 @@ impl<R: Source> PcapReader<R> {
             Err(_) => self.stage = Stage::Failed,
         }
         answer
+    }
+
+    /// The link layer of the records, between the header of the file and its end or a fault.
+    pub fn layer(&self) -> Option<LinkLayer>
+        ensures { result ≡ layer_at self.now.stage }
+    {
+        match self.stage {
+            Stage::Records(head) => Some(head.layer),
+            Stage::Start | Stage::Ended | Stage::Failed => None,
+        }
     }
 
     /// The source, with what it has left.
@@ -184,11 +201,11 @@ pub(crate) fn mark_in(number: u32) -> Option<Mark>
     Some(Mark { order, unit })
 }
 
-/// The header of a file: what its mark says of the rest.
-fn read_header<S: Source>(source: &mut S) -> Result<Mark, SourceFault>
+/// The header of a file: what it says of the rest.
+fn read_header<S: Source>(source: &mut S) -> Result<FileHead, SourceFault>
     requires { S.failed source.old < 2 ^ 64 - 1 }
     ensures header { IfOk result
-        (λ m. ReadsHeader m (S.remaining source.old) (S.remaining source.new)) }
+        (λ h. ReadsHeader h (S.remaining source.old) (S.remaining source.new)) }
     ensures fault { IfErr result (IsHeaderFault (S.remaining source.old) (S.remaining source.new)) }
     ensures counts { S.failed source.new ≡ S.failed source.old + (if is_io result then 1 else 0) }
 {
@@ -204,24 +221,24 @@ fn read_header<S: Source>(source: &mut S) -> Result<Mark, SourceFault>
     }
     let mut others = [0; OTHERS];
     fill_whole(source, &mut others)?;
-    if word_at(mark.order, &others, LINK_TYPE) % LINK_TYPES != ETHERNET {
-        return Err(SourceFault::LinkType);
+    match link_layer(word_at(mark.order, &others, LINK_TYPE) % LINK_TYPES) {
+        Some(layer) => Ok(FileHead { mark, layer }),
+        None => Err(SourceFault::LinkType),
     }
-    Ok(mark)
 }
 
 /// A record, of which the first octets of the frame go into the buffer, or the end.
 fn read_record<S: Source>(
     source: &mut S,
-    mark: Mark,
+    file: FileHead,
     keep: usize,
     frame: &mut Vec<u8>,
 ) -> Result<Step, SourceFault>
     requires { S.failed source.old < 2 ^ 64 - 1 }
-    ensures step { IfOk result (IsRecordStep mark keep frame.new.items (S.remaining source.old)
+    ensures step { IfOk result (IsRecordStep file keep frame.new.items (S.remaining source.old)
         (S.remaining source.new)) }
     ensures fault { IfErr result
-        (IsRecordFault mark (S.remaining source.old) (S.remaining source.new)) }
+        (IsRecordFault file.mark (S.remaining source.old) (S.remaining source.new)) }
     ensures counts { S.failed source.new ≡ S.failed source.old + (if is_io result then 1 else 0) }
     ensures memory { keep ≤ vec_capacity frame.old
         → result ≢ Err (faults.Capture captures.NoMemory) }
@@ -236,6 +253,7 @@ fn read_record<S: Source>(
     if n < HEAD {
         return Err(SourceFault::CutFile);
     }
+    let mark = file.mark;
     let captured = word_at(mark.order, &head, CAPTURED);
     if captured > LONGEST_CAPTURED {
         return Err(SourceFault::Malformed);
@@ -249,7 +267,7 @@ fn read_record<S: Source>(
         moment: moment_at(mark.unit, seconds, fraction),
         captured,
         wire: word_at(mark.order, &wire, 0),
-        is_ethernet: true,
+        layer: Some(file.layer),
     }))
 }
 

@@ -7,6 +7,7 @@ ghost use Rattle.its_pcap.specs.PcapWritten.{file_header, record_head, record_of
 ghost use Rattle.its_pcap.specs.Writing.{is_io_failure, IsStartFault};
 ghost use Rattle.its_pcap.specs.declared.put_fault.PutFault.TheVariants as put_faults;
 
+use crate::link::LinkLayer;
 use crate::output::Output;
 use crate::pcap::LONGEST_CAPTURED;
 use crate::put_fault::PutFault;
@@ -14,10 +15,14 @@ use byteorder::{ByteOrder, LittleEndian};
 use its_linkframe::Sink;
 use std::marker::Model;
 
-/// The mark d4c3b2a1, version 2.4, zone 0, accuracy 0, snap length 262144, Ethernet (1).
-const FILE_HEADER: [u8; 24] = [
-    0xd4, 0xc3, 0xb2, 0xa1, 2, 0, 4, 0, 0, 0, 0, 0, 0, 0, 0, 0, 0, 0, 4, 0, 1, 0, 0, 0,
+/// The mark d4c3b2a1, version 2.4, zone 0, accuracy 0, snap length 262144. The number of the link
+/// layer follows.
+const FILE_FRONT: [u8; 20] = [
+    0xd4, 0xc3, 0xb2, 0xa1, 2, 0, 4, 0, 0, 0, 0, 0, 0, 0, 0, 0, 0, 0, 4, 0,
 ];
+
+/// The octets of a file's header.
+const FILE_HEADER: usize = 24;
 
 /// The octets before a frame.
 const HEAD: usize = 16;
@@ -52,20 +57,21 @@ impl<W: Sink> PcapWriter<W> {
         }
     }
 
-    /// Writes the header of the file: the first call.
-    pub fn start(&mut self) -> Result<(), PutFault>
-        ensures stored { OnOk result (Appends self.old.contents self.new.contents file_header) }
-        ensures fault { IfErr result (IsStartFault file_header self.old self.new) }
+    /// Writes the header of a file of this link layer: the first call.
+    pub fn start(&mut self, layer: LinkLayer) -> Result<(), PutFault>
+        ensures stored { OnOk result
+            (Appends self.old.contents self.new.contents (file_header layer)) }
+        ensures fault { IfErr result (IsStartFault (file_header layer) self.old self.new) }
         ensures counts { self.new.failures
             ≡ self.old.failures + (if is_io_failure result then 1 else 0) }
         ensures failed { (result ≡ Err put_faults.Failed) ↔ IsTrue self.old.failed }
         ensures breaks { self.new.failed ≡ (self.old.failed || is_io_failure result) }
     {
-        self.output.write(&[&FILE_HEADER])
+        self.output.write(&[&header_for(layer)])
     }
 
-    /// Writes a record of a frame of Ethernet, whole: the moment is in milliseconds. A frame of
-    /// more than 262144 octets is refused before a moment whose second is 2^32 or more.
+    /// Writes a record of these octets, whole: the moment is in milliseconds. More than 262144
+    /// octets are refused before a moment whose second is 2^32 or more.
     pub fn put(&mut self, moment: u64, frame: &[u8]) -> Result<(), PutFault>
         ensures stored { OnOk result
             (Appends self.old.contents self.new.contents (record_of moment frame.now)) }
@@ -95,6 +101,17 @@ impl<W: Sink> PcapWriter<W> {
     {
         self.output.into_inner()
     }
+}
+
+/// The header of a file of this link layer.
+#[tactic(auto, unfolding(crate::specs::PcapWritten::file_header))]
+fn header_for(layer: LinkLayer) -> [u8; FILE_HEADER]
+    ensures { result ≡ file_header layer }
+{
+    let mut header = [0; FILE_HEADER];
+    header[..FILE_FRONT.len()].copy_from_slice(&FILE_FRONT);
+    LittleEndian::write_u32(&mut header[FILE_FRONT.len()..], layer.number());
+    header
 }
 
 /// What goes before a frame: these are the whole seconds of the moment.

@@ -11,6 +11,7 @@ ghost use Rattle.its_pcap.specs.PcapngWritten.{IsSectionFault, IsInterfaceFault,
 ghost use Rattle.its_pcap.specs.Writing.{is_io_failure, IsStartFault};
 ghost use Rattle.its_pcap.specs.declared.put_fault.PutFault.TheVariants as put_faults;
 
+use crate::link::LinkLayer;
 use crate::output::Output;
 use crate::pcap::LONGEST_CAPTURED;
 use crate::put_fault::PutFault;
@@ -29,9 +30,6 @@ const INTERFACE: u32 = 1;
 
 /// The type of an enhanced packet block.
 const PACKET: u32 = 6;
-
-/// The type of Ethernet.
-const ETHERNET: u16 = 1;
 
 /// The option `if_name`.
 const NAME: u16 = 2;
@@ -103,16 +101,16 @@ impl<W: Sink> PcapngWriter<W> {
         self.output.write(&[&SECTION])
     }
 
-    /// Writes an interface of Ethernet whose ticks are milliseconds, with this name, or with none
-    /// where it is empty; its number is how many there are before it. A file has at most 2^32 - 1
-    /// of them; that is checked before a name of more than 65535 octets is refused.
-    pub fn add_interface(&mut self, name: &str) -> Result<(), PutFault>
+    /// Writes an interface of this link layer whose ticks are milliseconds, with this name, or with
+    /// none where it is empty; its number is how many there are before it. A file has at most
+    /// 2^32 - 1 of them; that is checked before a name of more than 65535 octets is refused.
+    pub fn add_interface(&mut self, layer: LinkLayer, name: &str) -> Result<(), PutFault>
         ensures stored { OnOk result
-            (Appends self.old.contents self.new.contents (interface_octets name.now)) }
+            (Appends self.old.contents self.new.contents (interface_octets layer name.now)) }
         ensures fits { OnOk result ((self.old.interfaces < 2 ^ 32 - 1)
             × (length name.now ≤ 65535)) }
         ensures added { OnOk result (self.new.interfaces ≡ self.old.interfaces + 1) }
-        ensures fault { IfErr result (IsInterfaceFault name.now self.old self.new) }
+        ensures fault { IfErr result (IsInterfaceFault layer name.now self.old self.new) }
         ensures counts { self.new.failures
             ≡ self.old.failures + (if is_io_failure result then 1 else 0) }
         ensures failed { (result ≡ Err put_faults.Failed) ↔ IsTrue self.old.failed }
@@ -125,7 +123,7 @@ impl<W: Sink> PcapngWriter<W> {
         let Ok(size) = u16::try_from(name.len()) else {
             return Err(PutFault::Name);
         };
-        match write_interface(&mut self.output, name.as_bytes(), size) {
+        match write_interface(&mut self.output, layer, name.as_bytes(), size) {
             Ok(()) => {
                 self.interfaces += 1;
                 Ok(())
@@ -134,9 +132,8 @@ impl<W: Sink> PcapngWriter<W> {
         }
     }
 
-    /// Writes a record of a frame of Ethernet, whole, as one of this interface: the moment is in
-    /// milliseconds. An interface that was not written is refused before a frame of more than
-    /// 262144 octets.
+    /// Writes a record of these octets, whole, as one of this interface: the moment is in
+    /// milliseconds. An interface that was not written is refused before more than 262144 octets.
     pub fn put(&mut self, interface: u32, moment: u64, frame: &[u8]) -> Result<(), PutFault>
         ensures stored { OnOk result (Appends self.old.contents self.new.contents
             (packet_octets interface moment frame.now)) }
@@ -184,13 +181,13 @@ fn padding_after(size: u32) -> u32
 
 /// What goes before the options of an interface.
 #[tactic(auto, unfolding(crate::specs::PcapngWritten::interface_front))]
-fn front_for(size: u32) -> [u8; INTERFACE_FRONT]
-    ensures { result ≡ interface_front size }
+fn front_for(layer: LinkLayer, size: u32) -> [u8; INTERFACE_FRONT]
+    ensures { result ≡ interface_front layer size }
 {
     let mut front = [0; INTERFACE_FRONT];
     LittleEndian::write_u32(&mut front, INTERFACE);
     LittleEndian::write_u32(&mut front[4..], size);
-    LittleEndian::write_u16(&mut front[8..], ETHERNET);
+    LittleEndian::write_u16(&mut front[8..], layer.number() as u16);
     LittleEndian::write_u32(&mut front[12..], LONGEST_CAPTURED);
     front
 }
@@ -218,23 +215,28 @@ fn name_head_for(size: u16) -> [u8; 4]
 }
 
 /// Writes an interface, with the option of a name where that isn't empty.
-fn write_interface<W: Sink>(output: &mut Output<W>, name: &[u8], size: u16) -> Result<(), PutFault>
+fn write_interface<W: Sink>(
+    output: &mut Output<W>,
+    layer: LinkLayer,
+    name: &[u8],
+    size: u16,
+) -> Result<(), PutFault>
     requires { size ≡ length name.now }
     ensures stored { OnOk result
-        (Appends output.old.contents output.new.contents (interface_octets name.now)) }
+        (Appends output.old.contents output.new.contents (interface_octets layer name.now)) }
     ensures fault { IfErr result
-        (IsStartFault (interface_octets name.now) output.old output.new) }
+        (IsStartFault (interface_octets layer name.now) output.old output.new) }
     ensures counts { output.new.failures
         ≡ output.old.failures + (if is_io_failure result then 1 else 0) }
     ensures failed { (result ≡ Err put_faults.Failed) ↔ IsTrue output.old.failed }
     ensures breaks { output.new.failed ≡ (output.old.failed || is_io_failure result) }
 {
     if name.is_empty() {
-        return output.write(&[&front_for(PLAIN_SIZE), &end_for(PLAIN_SIZE)]);
+        return output.write(&[&front_for(layer, PLAIN_SIZE), &end_for(PLAIN_SIZE)]);
     }
     let padding = padding_after(u32::from(size));
     let block = NAMED_SIZE + (u32::from(size) + padding);
-    let front = front_for(block);
+    let front = front_for(layer, block);
     let head = name_head_for(size);
     let zeros = &PADDING[..padding as usize];
     output.write(&[&front, &head, name, zeros, &end_for(block)])

@@ -3,6 +3,7 @@
 ghost use Rattle.std.specs.Prelude.{◌≡◌};
 ghost use Rattle.its_pcap.specs.Records.{fault_of, record_code_of};
 
+use crate::link::LinkLayer;
 use std::error::Error;
 use std::fmt;
 
@@ -11,12 +12,12 @@ use std::fmt;
 pub struct Head {
     /// In milliseconds since the epoch of its file; a fraction is cut down.
     pub moment: u64,
-    /// How many octets of the frame the file has: at most 262144.
+    /// How many of the record's octets the file has: at most 262144.
     pub captured: u32,
-    /// How many octets the frame had on the wire.
+    /// How many octets the record had on the wire.
     pub wire: u32,
-    /// Whether it was taken from an Ethernet.
-    pub is_ethernet: bool,
+    /// The link layer that it was taken from, where that is one that is read.
+    pub layer: Option<LinkLayer>,
 }
 
 /// What one call for the next record gives.
@@ -33,7 +34,7 @@ pub enum Step {
 /// Why a record is no frame to be checked.
 #[derive(Clone, Copy, Debug, PartialEq, Eq)]
 pub enum RecordFault {
-    /// P3: it was not taken from an Ethernet.
+    /// P3: it was taken from a link layer that is not read.
     LinkType,
     /// P4: fewer octets were captured than were on the wire.
     CutFrame,
@@ -44,7 +45,7 @@ impl Head {
     pub fn fault(&self) -> Option<RecordFault>
         ensures { result ≡ fault_of self.now }
     {
-        if !self.is_ethernet {
+        if self.layer.is_none() {
             return Some(RecordFault::LinkType);
         }
         if self.captured < self.wire {
@@ -69,7 +70,7 @@ impl RecordFault {
 impl fmt::Display for RecordFault {
     fn fmt<W: fmt::Write>(&self, f: &mut fmt::Formatter<W>) -> fmt::Result {
         let sentence = match self {
-            RecordFault::LinkType => "another link layer than Ethernet",
+            RecordFault::LinkType => "a link layer other than Ethernet, IEEE 802.11 and radiotap",
             RecordFault::CutFrame => "fewer octets were captured than were on the wire",
         };
         write!(f, "{sentence}")

@@ -2,17 +2,18 @@
 
 ghost use Rattle.std.specs.Prelude.{◌≡◌, ◌-◌, ◌^◌, ◌<◌, false, MatchOption};
 ghost use Rattle.its_pcap.specs.RecordFiles.{RecordFile, capture_file, pcap_file, pcapng_file};
-ghost use Rattle.its_pcap.specs.RecordFiles.{Starts, AddsInterface, PutsFrame, PutsRecord};
-ghost use Rattle.its_pcap.specs.Records.{fault_of};
+ghost use Rattle.its_pcap.specs.RecordFiles.{StartsOn, Starts, AddsInterfaceOn, AddsInterface};
+ghost use Rattle.its_pcap.specs.RecordFiles.{PutsFrame};
 ghost use Rattle.its_pcap.specs.Words.{word_of};
 ghost use Rattle.its_pcap.specs.Sinks.{file_of_sink};
 ghost use Rattle.its_pcap.specs.declared.sink.SinkFault.TheVariants as sink_faults;
 
 use crate::format::Format;
+use crate::link::{LinkFault, LinkLayer};
 use crate::pcap_writer::PcapWriter;
 use crate::pcapng_writer::PcapngWriter;
 use crate::put_fault::PutFault;
-use crate::record::{Head, RecordFault};
+use crate::record::RecordFault;
 use its_linkframe::{CaptureFault, CaptureWriter, Sink};
 use std::error::Error;
 use std::fmt;
@@ -20,15 +21,17 @@ use std::fmt;
 /// Why a record is not written.
 #[derive(Clone, Copy, Debug, PartialEq, Eq)]
 pub enum SinkFault {
-    /// It is no frame of Ethernet, or was cut. Nothing is written.
+    /// It is of another link layer than the file, or was cut. Nothing is written.
     Record(RecordFault),
-    /// Its frame or its moment has no place in the file, or the file failed.
+    /// Its link layer's header has no frame behind it. Nothing is written.
+    Link(LinkFault),
+    /// Its octets or its moment have no place in the file, or the file failed.
     Put(PutFault),
 }
 
 impl SinkFault {
-    /// What is wrong with the record, in the program's words: `link type`, `cut`, `length` or
-    /// `moment`. Nothing where the file failed.
+    /// What is wrong with the record, in the program's words: `link type`, `cut`, `L1`, `L2`,
+    /// `length` or `moment`. Nothing where the file failed.
     pub fn word(&self) -> Option<&'static str>
         ensures { MatchOption result (word_of self.now ≡ None)
             (λ w. word_of self.now ≡ Some w.now) }
@@ -36,6 +39,7 @@ impl SinkFault {
         match self {
             SinkFault::Record(RecordFault::LinkType) => Some("link type"),
             SinkFault::Record(RecordFault::CutFrame) => Some("cut"),
+            SinkFault::Link(fault) => Some(fault.code()),
             SinkFault::Put(PutFault::Length) => Some("length"),
             SinkFault::Put(PutFault::Moment) => Some("moment"),
             SinkFault::Put(_) => None,
@@ -51,10 +55,27 @@ impl From<PutFault> for SinkFault {
     }
 }
 
+impl From<RecordFault> for SinkFault {
+    ghost from_gives = { λ f s. s ≡ sink_faults.Record f };
+
+    fn from(fault: RecordFault) -> SinkFault {
+        SinkFault::Record(fault)
+    }
+}
+
+impl From<LinkFault> for SinkFault {
+    ghost from_gives = { λ f s. s ≡ sink_faults.Link f };
+
+    fn from(fault: LinkFault) -> SinkFault {
+        SinkFault::Link(fault)
+    }
+}
+
 impl fmt::Display for SinkFault {
     fn fmt<W: fmt::Write>(&self, f: &mut fmt::Formatter<W>) -> fmt::Result {
         match self {
             SinkFault::Record(fault) => write!(f, "{fault}"),
+            SinkFault::Link(fault) => write!(f, "{fault}"),
             SinkFault::Put(fault) => write!(f, "{fault}"),
         }
     }
@@ -68,44 +89,46 @@ pub trait RecordSink {
     /// The file: its format, its interfaces, and what its device has.
     ghost file: { Self → RecordFile };
 
-    /// Writes what a file begins with: the first call.
-    fn start(&mut self) -> Result<(), PutFault>
-        ensures { Starts (file self.old).format (file self.old) (file self.new) result };
+    /// Writes what a file begins with, whose records are of this link layer: the first call.
+    fn start_on(&mut self, layer: LinkLayer) -> Result<(), PutFault>
+        ensures { StartsOn layer (file self.old).format (file self.old) (file self.new) result };
 
-    /// Writes an interface with this name, or with none where it is empty, if the format has
-    /// interfaces. The first is number 0. All of them are written before the first record.
+    /// The same of frames of Ethernet.
+    fn start(&mut self) -> Result<(), PutFault>
+        ensures { Starts (file self.old).format (file self.old) (file self.new) result }
+    {
+        self.start_on(LinkLayer::Ethernet)
+    }
+
+    /// Writes an interface of this link layer with this name, or with none where it is empty, if
+    /// the format has interfaces. The first is number 0. All of them are written before the first
+    /// record.
+    fn add_interface_on(&mut self, layer: LinkLayer, name: &str) -> Result<(), PutFault>
+        ensures { AddsInterfaceOn layer (file self.old).format name.now (file self.old)
+            (file self.new) result };
+
+    /// The same of Ethernet.
     fn add_interface(&mut self, name: &str) -> Result<(), PutFault>
         ensures { AddsInterface (file self.old).format name.now (file self.old) (file self.new)
-            result };
+            result }
+    {
+        self.add_interface_on(LinkLayer::Ethernet, name)
+    }
 
-    /// Writes a frame of Ethernet of this interface, where the format has any, at a moment in
-    /// milliseconds.
+    /// Writes a frame, or what the link layer has in its place, of this interface, where the format
+    /// has any, at a moment in milliseconds.
     fn put_frame(&mut self, interface: u32, moment: u64, frame: &[u8]) -> Result<(), PutFault>
         ensures { PutsFrame interface moment frame.now (file self.old) (file self.new) result };
-
-    /// Writes a record of the first interface: one that is no frame of Ethernet is refused first,
-    /// then one that was cut, then its length, then its moment.
-    fn put(&mut self, head: &Head, frame: &[u8]) -> Result<(), SinkFault>
-        ensures { PutsRecord (fault_of head.now)
-            (PutsFrame 0 head.now.moment frame.now (file self.old) (file self.new))
-            (file self.old) (file self.new) result }
-    {
-        if let Some(fault) = head.fault() {
-            return Err(SinkFault::Record(fault));
-        }
-        self.put_frame(0, head.moment, frame)?;
-        Ok(())
-    }
 }
 
 impl<W: Sink> RecordSink for CaptureWriter<W> {
     ghost file = { capture_file };
 
-    fn start(&mut self) -> Result<(), PutFault> {
+    fn start_on(&mut self, _layer: LinkLayer) -> Result<(), PutFault> {
         Ok(())
     }
 
-    fn add_interface(&mut self, _name: &str) -> Result<(), PutFault> {
+    fn add_interface_on(&mut self, _layer: LinkLayer, _name: &str) -> Result<(), PutFault> {
         Ok(())
     }
 
@@ -124,11 +147,11 @@ impl<W: Sink> RecordSink for CaptureWriter<W> {
 impl<W: Sink> RecordSink for PcapWriter<W> {
     ghost file = { pcap_file };
 
-    fn start(&mut self) -> Result<(), PutFault> {
-        self.start()
+    fn start_on(&mut self, layer: LinkLayer) -> Result<(), PutFault> {
+        self.start(layer)
     }
 
-    fn add_interface(&mut self, _name: &str) -> Result<(), PutFault> {
+    fn add_interface_on(&mut self, _layer: LinkLayer, _name: &str) -> Result<(), PutFault> {
         Ok(())
     }
 
@@ -140,12 +163,12 @@ impl<W: Sink> RecordSink for PcapWriter<W> {
 impl<W: Sink> RecordSink for PcapngWriter<W> {
     ghost file = { pcapng_file };
 
-    fn start(&mut self) -> Result<(), PutFault> {
+    fn start_on(&mut self, _layer: LinkLayer) -> Result<(), PutFault> {
         self.start()
     }
 
-    fn add_interface(&mut self, name: &str) -> Result<(), PutFault> {
-        self.add_interface(name)
+    fn add_interface_on(&mut self, layer: LinkLayer, name: &str) -> Result<(), PutFault> {
+        self.add_interface(layer, name)
     }
 
     fn put_frame(&mut self, interface: u32, moment: u64, frame: &[u8]) -> Result<(), PutFault> {
@@ -199,19 +222,19 @@ impl<W: Sink> AnySink<W> {
 impl<W: Sink> RecordSink for AnySink<W> {
     ghost file = { file_of_sink };
 
-    fn start(&mut self) -> Result<(), PutFault> {
+    fn start_on(&mut self, layer: LinkLayer) -> Result<(), PutFault> {
         match self {
-            AnySink::Capture(writer) => RecordSink::start(writer),
-            AnySink::Pcap(writer) => RecordSink::start(writer),
-            AnySink::Pcapng(writer) => RecordSink::start(writer),
+            AnySink::Capture(writer) => writer.start_on(layer),
+            AnySink::Pcap(writer) => writer.start_on(layer),
+            AnySink::Pcapng(writer) => writer.start_on(layer),
         }
     }
 
-    fn add_interface(&mut self, name: &str) -> Result<(), PutFault> {
+    fn add_interface_on(&mut self, layer: LinkLayer, name: &str) -> Result<(), PutFault> {
         match self {
-            AnySink::Capture(writer) => writer.add_interface(name),
-            AnySink::Pcap(writer) => writer.add_interface(name),
-            AnySink::Pcapng(writer) => RecordSink::add_interface(writer, name),
+            AnySink::Capture(writer) => writer.add_interface_on(layer, name),
+            AnySink::Pcap(writer) => writer.add_interface_on(layer, name),
+            AnySink::Pcapng(writer) => writer.add_interface_on(layer, name),
         }
     }
 

@@ -5,12 +5,13 @@ ghost use Rattle.std.specs.Prelude.{None};
 ghost use Rattle.its_linkframe.specs.declared.record.CaptureFault.TheVariants as captures;
 ghost use Rattle.its_pcap.specs.Begun.{left_of};
 ghost use Rattle.its_pcap.specs.Sources.{GivesCaptured, GivesClassic, GivesBlock, Gives};
-ghost use Rattle.its_pcap.specs.Sources.{format_of_source, IsAtStart, IsOpened};
+ghost use Rattle.its_pcap.specs.Sources.{format_of_source, layer_of_source, IsAtStart, IsOpened};
 ghost use Rattle.its_pcap.specs.declared.fault.SourceFault.TheVariants as faults;
 
 use crate::begun::Begun;
 use crate::fault::SourceFault;
 use crate::format::{Format, format_of};
+use crate::link::LinkLayer;
 use crate::pcap::PcapReader;
 use crate::pcapng::PcapngReader;
 use crate::record::{Head, Step};
@@ -94,7 +95,7 @@ impl<R: Source> RecordSource for CaptureSource<R> {
                     moment,
                     captured: size,
                     wire: size,
-                    is_ethernet: true,
+                    layer: Some(LinkLayer::Ethernet),
                 }))
             }
         }
@@ -151,6 +152,17 @@ impl<S: Source + Drop> AnySource<S> {
             Format::Capture => AnySource::Capture(CaptureSource::new(alloc, source)),
             Format::Pcap => AnySource::Pcap(PcapReader::new(source, keep)),
             Format::Pcapng => AnySource::Pcapng(PcapngReader::new(alloc, source, keep)),
+        }
+    }
+
+    /// The link layer of a file of classic pcap, between its header and its end or a fault. In
+    /// other formats each record has its own.
+    pub fn layer(&self) -> Option<LinkLayer>
+        ensures { result ≡ layer_of_source self.now }
+    {
+        match self {
+            AnySource::Pcap(reader) => reader.layer(),
+            AnySource::Capture(_) | AnySource::Pcapng(_) => None,
         }
     }
 

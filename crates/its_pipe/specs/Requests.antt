@@ -103,8 +103,9 @@ IsQueryWord members =
     IsWord members (codes "next_beacon") ⊎ IsWord members (codes "neighbours")
     ⊎ IsWord members (codes "look_up") ⊎ IsWord members (codes "read_frame")
 
--- the first bad key of a call is this one, where its moment is good
+-- the first bad key of a call is this one, where its moment is good: never that of the moment
 pub record IsBadCallKey (members : Data) (key : Key) : Type 0 where
+  pub what : ¬ (key ≡ keys.At)
   pub deliver : IsWord members (codes "deliver") → key ≡ keys.Do
   pub frame : IsWord members (codes "receive")
       → (key ≡ keys.Frame) × ((frame : List ℕ) → ¬ IsFrameText members frame)

@@ -179,7 +179,7 @@ fn read_moment(members: &Members<'_>, now: Option<u64>) -> Result<Option<u64>, K
     }
     match members.integer("at") {
         Some(moment) if moment >= 0 => Ok(Some(moment as u64)),
-        Some(_) => Err(KeyFault::Refused(Key::At, Wrong::Value)),
+        Some(moment) => Err(KeyFault::Refused(Key::At, Wrong::Range(moment))),
         None => Err(KeyFault::Refused(Key::At, Wrong::Kind)),
     }
 }
@@ -206,7 +206,7 @@ fn read_jitter(members: &Members<'_>) -> Result<u16, ReadFault>
 {
     match members.integer("jitter") {
         Some(jitter) if 0 <= jitter && jitter <= 65535 => Ok(jitter as u16),
-        Some(_) => Err(bad(QueryKey::Jitter, Wrong::Value)),
+        Some(jitter) => Err(bad(QueryKey::Jitter, Wrong::Range(jitter))),
         None => Err(unlike(members, "jitter", QueryKey::Jitter)),
     }
 }

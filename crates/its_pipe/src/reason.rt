@@ -64,8 +64,8 @@ fn explain_query<W: fmt::Write>(
 ) -> fmt::Result {
     match (key, wrong) {
         (_, Wrong::Missing) => f.write_str("missing"),
-        (QueryKey::Jitter, Wrong::Kind) => f.write_str("not a whole number"),
-        (QueryKey::Jitter, _) => f.write_str("not in 0..=65535"),
+        (_, Wrong::Range(number)) => write!(f, "{number} is not in 0..=65535"),
+        (QueryKey::Jitter, _) => f.write_str("not a whole number"),
         (QueryKey::Frame, Wrong::Kind) => f.write_str("not a text"),
         (QueryKey::Frame, _) => f.write_str("not an even number of hexadecimal digits"),
         (QueryKey::After | QueryKey::Address, _) => {

@@ -2,6 +2,9 @@
 
 ghost use Rattle.std.specs.Prelude.{◌≡◌, MatchResult};
 
+use crate::cause::Cause;
+use crate::explanation::Explanation;
+use crate::options::OutputFormat;
 use crate::outputs::is_standard;
 use crate::status::Status;
 use its_gnvalue::NoMemory;
@@ -20,6 +23,12 @@ pub enum Fault<'a> {
     /// The file could not be created, or a write of it failed.
     #[error("geostation: cannot write {0}")]
     CannotWrite(&'a str),
+    /// The same, and why.
+    #[error("geostation: cannot read {0}")]
+    NotRead(&'a str, Cause),
+    /// The file could not be created, or a write of it failed, and why.
+    #[error("geostation: cannot write {0}")]
+    NotWritten(&'a str, Cause),
     /// An allocation failed.
     #[error("geostation: out of memory")]
     OutOfMemory(#[from(alloc)] AllocError),
@@ -31,17 +40,19 @@ pub enum Fault<'a> {
 impl Fault<'_> {
     /// The fault of a failed call on the file that is read: out of memory is told apart.
     pub fn of_read<'a>(error: &io::Error, file: &'a str) -> Fault<'a> {
-        match error.kind() {
-            io::ErrorKind::OutOfMemory => Fault::OutOfMemory(AllocError),
-            _ => Fault::CannotRead(file),
+        match (error.kind(), Cause::of(error)) {
+            (io::ErrorKind::OutOfMemory, _) => Fault::OutOfMemory(AllocError),
+            (_, Some(cause)) => Fault::NotRead(file, cause),
+            (_, None) => Fault::CannotRead(file),
         }
     }
 
     /// The fault of a failed call on the file that is written: out of memory is told apart.
     pub fn of_write<'a>(error: &io::Error, file: &'a str) -> Fault<'a> {
-        match error.kind() {
-            io::ErrorKind::OutOfMemory => Fault::OutOfMemory(AllocError),
-            _ => Fault::CannotWrite(file),
+        match (error.kind(), Cause::of(error)) {
+            (io::ErrorKind::OutOfMemory, _) => Fault::OutOfMemory(AllocError),
+            (_, Some(cause)) => Fault::NotWritten(file, cause),
+            (_, None) => Fault::CannotWrite(file),
         }
     }
 
@@ -62,13 +73,29 @@ impl Fault<'_> {
         Status::Failed
     }
 
+    /// The system's reason, where it gave one.
+    fn cause(&self) -> Option<Cause> {
+        match self {
+            Fault::NotRead(_, cause) | Fault::NotWritten(_, cause) => Some(*cause),
+            _ => None,
+        }
+    }
+
     /// Writes the line on standard error, and gives the exit status. What fails there is passed
     /// over.
     pub fn report<E: Write>(self, err: &mut E) -> Status
         ensures { result ≡ Status.Failed }
     {
+        self.report_as(OutputFormat::default(), err)
+    }
+
+    /// The same; with `explain` the line of a file goes on with the system's reason in parentheses.
+    pub fn report_as<E: Write>(self, lines: OutputFormat, err: &mut E) -> Status
+        ensures { result ≡ Status.Failed }
+    {
         if !matches!(&self, Fault::NoOutput(_)) {
-            let _ = writeln!(err, "{self}");
+            let cause = if lines.explain { self.cause() } else { None };
+            let _ = writeln!(err, "{self}{}", Explanation(cause));
         }
         self.status()
     }
@@ -90,14 +117,19 @@ impl From<JsonFault> for Fault<'_> {
     }
 }
 
-/// The exit status of a command that ended so, once a fault is reported.
-pub fn status_of<E: Write>(ended: Result<Status, Fault<'_>>, err: &mut E) -> Status
+/// The exit status of a command that ended so, once a fault is reported: with `explain` the line of
+/// a file goes on with the system's reason in parentheses.
+pub fn status_of<E: Write>(
+    ended: Result<Status, Fault<'_>>,
+    lines: OutputFormat,
+    err: &mut E,
+) -> Status
     ensures { MatchResult ended.entry
         (λ status. result ≡ status)
         (λ _. result ≡ Status.Failed) }
 {
     match ended {
         Ok(status) => status,
-        Err(fault) => fault.report(err),
+        Err(fault) => fault.report_as(lines, err),
     }
 }

@@ -3,6 +3,7 @@
 ghost use Rattle.std.specs.Prelude.{◌≡◌, ◌⊎◌, IfErr};
 
 use crate::fault::Fault;
+use crate::options::OutputFormat;
 use crate::outputs::{is_standard, refuse_same};
 use crate::status::Status;
 use std::alloc::AllocError;
@@ -12,6 +13,9 @@ use std::{fs, io};
 
 /// How many octets of a file are read or written at a time.
 const FILE_BUFFER: usize = 32 * 1024;
+
+/// The system's number of the error that a folder was to be read.
+const IS_A_FOLDER: i32 = 21;
 
 /// What a command reads.
 #[derive(Drop)]
@@ -48,6 +52,7 @@ pub fn create_apart<R: Files + AllocGlobal, E: Write>(
     rt: &R,
     written: &str,
     read: &str,
+    lines: OutputFormat,
     err: &mut E,
 ) -> Result<BufWriter<R::File>, Status>
 where
@@ -55,15 +60,17 @@ where
     ensures { IfErr result (λ status. (status ≡ Status.BadArguments) ⊎ (status ≡ Status.Failed)) }
 {
     keep_apart(rt, written, read, err)?;
-    create(rt, written, err)
+    create(rt, written, lines, err)
 }
 
 /// Opens a file for reading, with a buffer, or reports that it cannot be read or memory ran out.
-/// `input` is standard input.
+/// `input` is standard input. With `explain` the line of a file goes on with the system's reason in
+/// parentheses.
 pub fn open<R: Files + AllocGlobal, I: Read + Drop, E: Write>(
     rt: &R,
     file: &str,
     input: I,
+    lines: OutputFormat,
     err: &mut E,
 ) -> Result<BufReader<Opened<R::File, I>>, Status>
 where
@@ -76,11 +83,12 @@ where
                 |_| Fault::OutOfMemory(AllocError).report(err),
             )
         }
-        Err(error) => Err(Fault::of_read(&error, file).report(err)),
+        Err(error) => Err(Fault::of_read(&error, file).report_as(lines, err)),
     }
 }
 
-/// What the name stands for, opened for reading.
+/// What the name stands for, opened for reading. A folder is refused here, and not by its first
+/// read, so that the system's reason is at hand.
 fn named<R: Files, I: Read + Drop>(rt: &R, file: &str, input: I) -> io::Result<Opened<R::File, I>>
 where
     R::File: Read + Drop,
@@ -88,13 +96,19 @@ where
     if is_standard(file) {
         return Ok(Opened::Standard(input));
     }
-    Ok(Opened::File(fs::open(rt, file)?))
+    let opened = fs::open(rt, file)?;
+    if fs::metadata(rt, file).is_ok_and(|found| found.is_dir()) {
+        return Err(io::Error::from_raw_os_error(IS_A_FOLDER));
+    }
+    Ok(Opened::File(opened))
 }
 
-/// Creates a file, with a buffer, or reports that it cannot be written or memory ran out.
+/// Creates a file, with a buffer, or reports that it cannot be written or memory ran out. With
+/// `explain` the line of a file goes on with the system's reason in parentheses.
 pub fn create<R: Files + AllocGlobal, E: Write>(
     rt: &R,
     file: &str,
+    lines: OutputFormat,
     err: &mut E,
 ) -> Result<BufWriter<R::File>, Status>
 where
@@ -107,6 +121,6 @@ where
                 |_| Fault::OutOfMemory(AllocError).report(err),
             )
         }
-        Err(error) => Err(Fault::of_write(&error, file).report(err)),
+        Err(error) => Err(Fault::of_write(&error, file).report_as(lines, err)),
     }
 }

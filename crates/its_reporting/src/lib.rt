@@ -2,6 +2,7 @@
 //! that they read and write, and the lines of a text.
 #![tactic(auto)]
 
+mod cause;
 mod explanation;
 mod fault;
 mod files;
@@ -11,6 +12,7 @@ mod options;
 mod outputs;
 mod status;
 
+pub use cause::Cause;
 pub use explanation::{Explanation, FrameReason};
 pub use fault::{Fault, status_of};
 pub use files::{Opened, create, create_apart, keep_apart, open};

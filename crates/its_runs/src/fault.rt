@@ -5,7 +5,7 @@ ghost use Rattle.its_runs.specs.Runs.{run_fault_status};
 
 use its_air::AirFault;
 use its_reporting::{Explanation, Fault, OutputFormat, Status};
-use its_scenario::{Reason, ScenarioFault};
+use its_scenario::ScenarioFault;
 use std::alloc::AllocError;
 use std::io::Write;
 use thiserror::Error;
@@ -33,18 +33,18 @@ impl RunFault<'_> {
     }
 
     /// Writes the line on standard error, and gives the exit status. With `explain` the line of a
-    /// text that is no scenario goes on with its sentence in parentheses. What fails there is passed
-    /// over.
+    /// text that is no scenario goes on with its sentence in parentheses, that of a file with the
+    /// system's reason. What fails there is passed over.
     pub fn report_as<E: Write>(self, lines: OutputFormat, err: &mut E) -> Status
         ensures { result ≡ run_fault_status self.entry }
     {
         match self {
             RunFault::Scenario(fault) => {
-                let reason = lines.explain.then_some(Reason(&fault));
+                let reason = if lines.explain { fault.reason() } else { None };
                 let _ = writeln!(err, "geostation: {fault}{}", Explanation(reason));
                 Status::Refused
             }
-            RunFault::Stopped(fault) => fault.report(err),
+            RunFault::Stopped(fault) => fault.report_as(lines, err),
         }
     }
 }

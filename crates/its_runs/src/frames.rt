@@ -8,7 +8,7 @@ use crate::progress::Progress;
 use its_linkframe::Counted;
 use its_pcap::{AnySink, Format, PutFault, RecordSink, SinkFault};
 use its_reporting::{Fault, LeftOut, OutputFormat, Status};
-use its_simulation::{EventRecord, EventSink, SimulationFault};
+use its_simulation::{EventRecord, EventSink, Note, SimulationFault};
 use its_world::World;
 use std::alloc::Global;
 use std::io;
@@ -193,5 +193,10 @@ impl<L: EventSink, F: EventSink> EventSink for Both<L, F> {
     fn put(&mut self, world: &World, done: &EventRecord<'_>) -> Result<(), SimulationFault> {
         self.lines.put(world, done)?;
         self.frames.put(world, done)
+    }
+
+    fn note(&mut self, world: &World, moment: u64, note: &Note<'_>) -> Result<(), SimulationFault> {
+        self.lines.note(world, moment, note)?;
+        self.frames.note(world, moment, note)
     }
 }

@@ -1,20 +1,33 @@
 //! The command `sim`: a scenario is run, its lines are printed, and its frames go to a file.
 #![tactic(auto)]
 
+mod audience;
+mod busy;
 mod fault;
 mod files;
+mod findings;
 mod frames;
+mod full_tables;
+mod load_rows;
+mod open_send;
 mod options;
 mod progress;
+mod quantile;
+mod results;
+mod rows;
+mod send_rows;
 mod simulating;
+mod station_rows;
 mod summary;
 mod target;
+mod waiting_frames;
 mod watched;
 
 pub use fault::RunFault;
 pub use files::simulate_file;
 pub use frames::FrameFile;
 pub use options::RunOptions;
+pub use results::ResultFiles;
 pub use simulating::{read_scenario, read_scenario_without_air, simulate};
 pub use target::{FrameTarget, frame_target};
 pub use watched::is_done;

@@ -1,6 +1,7 @@
 //! What the arguments choose beside the scenario.
 
 use its_reporting::OutputFormat;
+use its_scenario::{AirSettings, Reading};
 
 /// How a scenario is run.
 #[derive(Clone, Copy, Debug, Default, PartialEq, Eq)]
@@ -13,5 +14,27 @@ pub struct RunOptions {
     /// Whether someone looks at standard error: a run that is summed up shows there how far it is.
     pub progress: bool,
     /// Whether an event that is refused makes the status `Refused`, where it would be `Done`.
+    /// A key of the scenario that is unknown is refused then, too.
     pub strict: bool,
+    /// Whether what happens in an air beside the events is printed among their lines. A scenario
+    /// without an air is refused then.
+    pub notes: bool,
+    /// Values that stand in place of those of the scenario's air.
+    pub settings: AirSettings,
+}
+
+impl RunOptions {
+    /// How the scenario is read. `has_results` says whether files of numbers are written.
+    pub(crate) fn reading(&self, has_results: bool) -> Reading {
+        Reading {
+            strict: self.strict,
+            needs_air: has_results || self.notes || !self.settings.is_empty(),
+            settings: self.settings,
+        }
+    }
+
+    /// Whether it is told of each packet for an area which stations it didn't reach.
+    pub(crate) fn tells_missed(&self) -> bool {
+        self.summary && self.lines.explain
+    }
 }

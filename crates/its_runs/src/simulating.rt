@@ -5,16 +5,18 @@ ghost use Rattle.its_reporting.specs.Statuses.{IsCommandStatus};
 ghost use Rattle.its_runs.specs.Runs.{IsRunStatus};
 
 use crate::fault::{RunFault, fault_of_air};
+use crate::findings::{Finding, Findings, Found};
 use crate::frames::{Both, FrameFile, Frames, NoFrames};
 use crate::options::RunOptions;
 use crate::progress::Progress;
+use crate::results::Results;
 use crate::summary::print_summary;
 use crate::target::FrameTarget;
 use crate::watched::Watched;
 use its_air::{AirFault, Tally, run_scenario};
 use its_reporting::{Fault, Status, status_of};
-use its_scenario::Scenario;
-use its_simulation::{EventSink, JsonLines, TextLines};
+use its_scenario::{Reading, Scenario};
+use its_simulation::{EventSink, JsonLines, SimulationFault, TextLines};
 use std::alloc::Global;
 use std::io::{Read, Write};
 
@@ -37,18 +39,21 @@ pub fn simulate<R: Read + Drop, W: Write, E: Write>(
 ) -> Status
     ensures { IsCommandStatus result }
 {
-    match read_scenario(alloc, file, reader, MOST_STATIONS) {
+    match read_scenario(alloc, file, reader, MOST_STATIONS, &options.reading(false)) {
         Ok(scenario) => {
-            let ended = run_without_frames(alloc, &scenario, options, out, err);
-            status_of(ended, err)
+            let results: Results<'_, Vec<u8>> = Results::none();
+            let ended = run_without_frames(alloc, &scenario, results, options, out, err);
+            status_of(ended, options.lines, err)
         }
         Err(fault) => fault.report_as(options.lines, err),
     }
 }
 
-fn run_without_frames<'a, W: Write, E: Write>(
+/// Runs a scenario, and writes these files of numbers.
+pub(crate) fn run_without_frames<'a, F: Write + Drop, W: Write, E: Write>(
     alloc: Global,
     scenario: &Scenario,
+    results: Results<'a, F>,
     options: RunOptions,
     out: &mut W,
     err: &mut E,
@@ -57,16 +62,18 @@ fn run_without_frames<'a, W: Write, E: Write>(
     ensures { IfOk result IsCommandStatus }
 {
     let mut progress = Progress::of(scenario, options);
+    let mut findings = Findings::new(alloc, scenario, options, results);
     let frames = NoFrames {
         progress: &mut progress,
         err: &mut *err,
     };
-    let ran = run(alloc, scenario, options, frames, out);
+    let ran = run(alloc, scenario, options, &mut findings, frames, out);
     progress.end(err);
-    ran
+    findings.end(ran, err)
 }
 
-/// Runs a scenario, and also writes each frame that a station gives to the file `target`.
+/// Runs a scenario, and also writes each frame that a station gives to the file `target`, and these
+/// files of numbers.
 ///
 /// `Refused` where a frame was left out and, with `strict`, where an event was refused; `Failed`
 /// where the file or standard output could not be written or memory ran out.
@@ -75,6 +82,7 @@ pub(crate) fn simulate_with_frames<F: Write + Drop, W: Write, E: Write>(
     scenario: &Scenario,
     target: FrameTarget<'_>,
     writer: F,
+    results: Results<'_, F>,
     options: RunOptions,
     out: &mut W,
     err: &mut E,
@@ -84,16 +92,17 @@ pub(crate) fn simulate_with_frames<F: Write + Drop, W: Write, E: Write>(
 {
     let stations = scenario.stations.len();
     let ended = match FrameFile::start(alloc, writer, target.name, target.format, stations) {
-        Ok(file) => run_with_frames(alloc, scenario, file, options, out, err),
+        Ok(file) => run_with_frames(alloc, scenario, file, results, options, out, err),
         Err(fault) => Err(fault),
     };
-    status_of(ended, err)
+    status_of(ended, options.lines, err)
 }
 
 fn run_with_frames<'a, F: Write + Drop, W: Write, E: Write>(
     alloc: Global,
     scenario: &Scenario,
     file: FrameFile<'a, F>,
+    results: Results<'a, F>,
     options: RunOptions,
     out: &mut W,
     err: &mut E,
@@ -103,33 +112,39 @@ fn run_with_frames<'a, F: Write + Drop, W: Write, E: Write>(
 {
     let mut file = file;
     let mut progress = Progress::of(scenario, options);
+    let mut findings = Findings::new(alloc, scenario, options, results);
     let frames = Frames {
         file: &mut file,
         lines: options.lines,
         progress: &mut progress,
         err: &mut *err,
     };
-    let ran = run(alloc, scenario, options, frames, out);
+    let ran = run(alloc, scenario, options, &mut findings, frames, out);
     progress.end(err);
-    file.end(ran)
+    file.end(findings.end(ran, err))
 }
 
 /// Runs a scenario and prints its lines, or what came of it, with a sink for its frames: how `sim`
-/// ends then.
-fn run<'a, F: EventSink + Drop, W: Write>(
+/// ends then, but for what was found out.
+fn run<'a, F: EventSink + Drop, R: Write + Drop, W: Write>(
     alloc: Global,
     scenario: &Scenario,
     options: RunOptions,
+    findings: &mut Findings<'_, '_, R>,
     frames: F,
     out: &mut W,
 ) -> Result<Status, Fault<'a>>
     requires { vec_len scenario.now.stations ≤ 65535 }
     ensures { IfOk result (IsRunStatus options.strict scenario.now) }
 {
+    let besides = Finding {
+        findings,
+        sink: frames,
+    };
     let ran = if options.summary {
-        run_summed_up(alloc, scenario, options, frames, out)
+        run_summed_up(alloc, scenario, options, besides, out)
     } else {
-        run_printed(alloc, scenario, options, frames, out)
+        run_printed(alloc, scenario, options, besides, out)
     };
     ran.map_err(|fault| fault_of_air(fault))
 }
@@ -146,8 +161,8 @@ fn run_printed<F: EventSink + Drop, W: Write>(
     ensures { IfOk result (IsRunStatus options.strict scenario.now) }
 {
     if options.lines.json {
-        let mut objects = JsonLines::new(alloc, out)?;
-        objects.stations(scenario.stations.as_slice())?;
+        let mut objects = JsonLines::new(alloc, out)?.noting(options.notes);
+        print_beginning(&mut objects, scenario)?;
         let mut watched = Watched::new(Both {
             lines: objects,
             frames,
@@ -160,14 +175,29 @@ fn run_printed<F: EventSink + Drop, W: Write>(
         None => TextLines::new(out, explain),
     };
     let mut watched = Watched::new(Both {
-        lines: words,
+        lines: words.noting(options.notes),
         frames,
     });
     run_watched(alloc, scenario, &mut watched, options.strict)
 }
 
+/// Prints the object of the stations, and of the air where there is one.
+fn print_beginning<W: Write>(
+    objects: &mut JsonLines<'_, W>,
+    scenario: &Scenario,
+) -> Result<(), SimulationFault> {
+    let stations = scenario.stations.as_slice();
+    match &scenario.air {
+        Some(air) => {
+            let end = air.end(scenario.events.as_slice());
+            objects.stations_in_air(stations, air, Some(end))
+        }
+        None => objects.stations(stations),
+    }
+}
+
 /// Runs a scenario and prints what came of it: how `sim` ends then.
-fn run_summed_up<F: EventSink + Drop, W: Write>(
+fn run_summed_up<F: EventSink + Found + Drop, W: Write>(
     alloc: Global,
     scenario: &Scenario,
     options: RunOptions,
@@ -182,7 +212,8 @@ fn run_summed_up<F: EventSink + Drop, W: Write>(
         frames,
     });
     let status = run_watched(alloc, scenario, &mut watched, options.strict)?;
-    print_summary(alloc, &watched.sink.lines, options.lines, out)?;
+    let Both { lines, frames } = &watched.sink;
+    print_summary(alloc, lines, frames, options.lines, out)?;
     Ok(status)
 }
 
@@ -201,8 +232,8 @@ fn run_watched<S: EventSink>(
     Ok(watched.status(strict))
 }
 
-/// Reads to the end of the reader, and what it gave as a scenario of at most so many stations.
-/// `file` is its name.
+/// Reads to the end of the reader, and what it gave as a scenario of at most so many stations, in
+/// this way. `file` is its name.
 ///
 /// The fault is that of the scenario, or that a read failed or memory ran out.
 pub fn read_scenario<'a, R: Read + Drop>(
@@ -210,25 +241,28 @@ pub fn read_scenario<'a, R: Read + Drop>(
     file: &'a str,
     reader: R,
     most_stations: usize,
+    reading: &Reading,
 ) -> Result<Scenario, RunFault<'a>>
     ensures { IfOk result (λ scenario. vec_len scenario.stations ≤ most_stations) }
 {
     let text = read_text(alloc, file, reader)?;
-    Ok(Scenario::from_toml(alloc, text.as_slice(), most_stations)?)
+    Ok(Scenario::read(alloc, text.as_slice(), most_stations, reading)?)
 }
 
-/// The same, but that whatever stands under `air` is passed over.
+/// The same, but that whatever stands under `air` and `expect` is passed over. With `strict` a key
+/// that is unknown is refused.
 pub fn read_scenario_without_air<'a, R: Read + Drop>(
     alloc: Global,
     file: &'a str,
     reader: R,
     most_stations: usize,
+    strict: bool,
 ) -> Result<Scenario, RunFault<'a>>
     ensures few { IfOk result (λ scenario. vec_len scenario.stations ≤ most_stations) }
     ensures none { IfOk result (λ scenario. scenario.air ≡ None) }
 {
     let text = read_text(alloc, file, reader)?;
-    Ok(Scenario::from_toml_without_air(alloc, text.as_slice(), most_stations)?)
+    Ok(Scenario::read_without_air(alloc, text.as_slice(), most_stations, strict)?)
 }
 
 /// All that the reader gives. `file` is its name.

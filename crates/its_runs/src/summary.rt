@@ -1,40 +1,113 @@
 //! The lines of a run that is summed up.
 
-use its_air::{Tally, Total};
+use crate::findings::Found;
+use its_air::{SendSummary, Tally, Totals};
+use its_gnvalue::NoMemory;
 use its_json::JsonLine;
 use its_reporting::OutputFormat;
 use its_simulation::SimulationFault;
+use serde::Serialize;
 use std::alloc::Global;
+use std::fmt;
 use std::io::Write;
 
 /// Prints a line for each packet for an area that was sent, in order, and one of the counts of all
-/// events.
-pub(crate) fn print_summary<W: Write>(
+/// events. With `explain` each goes on with the stations that it didn't reach.
+pub(crate) fn print_summary<F: Found, W: Write>(
     alloc: Global,
     tally: &Tally,
+    found: &F,
     lines: OutputFormat,
     out: &mut W,
 ) -> Result<(), SimulationFault> {
     if lines.json {
-        return print_objects(alloc, tally, out);
+        return print_objects(alloc, tally, found, lines.explain, out);
     }
-    for send in tally.sends() {
-        writeln!(out, "{send}")?;
+    for (place, send) in tally.sends().iter().enumerate() {
+        let missed = missed_of(alloc, found, place, lines.explain)?;
+        writeln!(out, "{send}{}", MissedText(&missed))?;
     }
     writeln!(out, "{}", tally.totals())?;
     Ok(())
 }
 
-fn print_objects<W: Write>(
+fn print_objects<F: Found, W: Write>(
     alloc: Global,
     tally: &Tally,
+    found: &F,
+    explain: bool,
     out: &mut W,
 ) -> Result<(), SimulationFault> {
     let mut line = JsonLine::new(alloc)?;
-    for send in tally.sends() {
-        out.write_all(line.of(send)?)?;
+    for (place, send) in tally.sends().iter().enumerate() {
+        let missed = missed_of(alloc, found, place, explain)?;
+        out.write_all(line.of(&SendLine { send, missed })?)?;
     }
-    let total = tally.totals();
-    out.write_all(line.of(&Total { total })?)?;
+    let total = CountsLine {
+        counts: tally.totals(),
+        table_full: found.table_full(),
+    };
+    out.write_all(line.of(&TotalLine { total })?)?;
     Ok(())
+}
+
+/// A station that a packet didn't reach, and how far it came there.
+type Miss = (usize, &'static str);
+
+/// The stations that a packet didn't reach, where they are told.
+fn missed_of<F: Found>(
+    alloc: Global,
+    found: &F,
+    send: usize,
+    are_told: bool,
+) -> Result<Option<Vec<Miss>>, NoMemory> {
+    match found.audience(send) {
+        Some(audience) if are_told => Ok(Some(audience.missed(alloc)?)),
+        _ => Ok(None),
+    }
+}
+
+/// The stations that a packet didn't reach, as ` (missed: 10 lost, 11 full)`, or nothing.
+#[derive(Clone, Copy)]
+struct MissedText<'a>(&'a Option<Vec<Miss>>);
+
+impl fmt::Display for MissedText<'_> {
+    fn fmt<W: fmt::Write>(&self, f: &mut fmt::Formatter<W>) -> fmt::Result {
+        let Some(missed) = self.0 else {
+            return Ok(());
+        };
+        for (place, (station, word)) in missed.iter().enumerate() {
+            let before = if place == 0 { " (missed:" } else { "," };
+            write!(f, "{before} {station} {word}")?;
+        }
+        if missed.is_empty() {
+            Ok(())
+        } else {
+            f.write_str(")")
+        }
+    }
+}
+
+/// What the JSON of a packet for an area tells.
+#[derive(Drop, Serialize)]
+struct SendLine<'a> {
+    #[serde(flatten)]
+    send: &'a SendSummary,
+    #[serde(skip_serializing_if = "Option::is_none")]
+    missed: Option<Vec<Miss>>,
+}
+
+/// The counts of a run, and how many receptions met a full location table, where any did.
+#[derive(Clone, Copy, Serialize)]
+struct CountsLine {
+    #[serde(flatten)]
+    counts: Totals,
+    #[serde(skip_serializing_if = "Option::is_none")]
+    table_full: Option<usize>,
+}
+
+/// The same, under their key.
+#[derive(Clone, Copy, Serialize)]
+struct TotalLine {
+    total: CountsLine,
 }

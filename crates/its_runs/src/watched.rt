@@ -6,7 +6,7 @@ ghost use Rattle.its_world.specs.declared.entry.Entry.{Entry as Told};
 ghost use Rattle.its_runs.specs.Runs.{run_status, was_done};
 
 use its_reporting::Status;
-use its_simulation::{EventRecord, EventSink, SimulationFault};
+use its_simulation::{EventRecord, EventSink, Note, SimulationFault};
 use its_world::{Entry, World};
 
 /// A sink, and whether an event was refused.
@@ -50,6 +50,10 @@ impl<S: EventSink> EventSink for Watched<S> {
         self.sink.put(world, done)?;
         self.all_done &= is_done(done.entry);
         Ok(())
+    }
+
+    fn note(&mut self, world: &World, moment: u64, note: &Note<'_>) -> Result<(), SimulationFault> {
+        self.sink.note(world, moment, note)
     }
 }
 

@@ -15,6 +15,7 @@ least_of keys.Remember = pos 1
 least_of keys.A = pos 1
 least_of keys.B = pos 1
 least_of keys.Range = pos 1
+least_of keys.Period = pos 1
 least_of key = pos 0
 
 -- the greatest number that a key takes; 0 where its value is no number
@@ -41,6 +42,17 @@ most_of keys.Loss = pos 100
 most_of keys.Seed = pos 9223372036854775807
 most_of keys.Beacons = pos 0
 most_of keys.Until = pos 4611686018427387904
+most_of keys.Period = pos 4294967295
+most_of keys.Octets = pos 1394
+most_of keys.Send = pos 4294967295
+most_of keys.Within = pos 4611686018427387904
+most_of keys.Absent = pos 0
+most_of keys.Id = pos 0
+most_of keys.Event = pos 0
+most_of keys.Air = pos 0
+most_of keys.Every = pos 0
+most_of keys.Moves = pos 0
+most_of keys.Expect = pos 0
 most_of key = pos 65535
 
 -- the number is one that the key takes

@@ -1,7 +1,8 @@
 //! The events of a scenario.
 
-ghost use Rattle.std.specs.Prelude.{IfOk};
+ghost use Rattle.std.specs.Prelude.{IfOk, IfErr};
 ghost use Rattle.its_scenario.specs.Events.{FitsEvent, FitsWhat};
+ghost use Rattle.its_scenario.specs.Faults.{IsWhatFault};
 
 use crate::fault::{KeyFault, Wrong};
 use crate::fields::Fields;
@@ -32,7 +33,8 @@ pub(crate) fn read_event<F: Fields>(alloc: Global, fields: &F) -> Result<Event, 
 ///
 /// The first key that is missing, of another kind or out of range is refused.
 pub fn read_what<F: Fields>(alloc: Global, fields: &F) -> Result<What, KeyFault>
-    ensures { IfOk result FitsWhat }
+    ensures fits { IfOk result FitsWhat }
+    ensures fault { IfErr result IsWhatFault }
 {
     match text(fields, Key::Do)? {
         "move" => read_move(fields),
@@ -50,7 +52,8 @@ pub fn read_what<F: Fields>(alloc: Global, fields: &F) -> Result<What, KeyFault>
 
 /// Reads a move: `lat`, `lon`, `pai`, `speed`, `heading`, checked in this order.
 fn read_move<F: Fields>(fields: &F) -> Result<What, KeyFault>
-    ensures { IfOk result FitsWhat }
+    ensures fits { IfOk result FitsWhat }
+    ensures fault { IfErr result IsWhatFault }
 {
     Ok(What::MoveTo {
         place: place(fields, Key::Lat, Key::Lon)?,
@@ -61,7 +64,9 @@ fn read_move<F: Fields>(fields: &F) -> Result<What, KeyFault>
 }
 
 /// Reads a single-hop broadcast: `port`, `info`, `tc`, `payload`, checked in this order.
-fn read_single_hop<F: Fields>(alloc: Global, fields: &F) -> Result<OwnedShbRequest, KeyFault> {
+fn read_single_hop<F: Fields>(alloc: Global, fields: &F) -> Result<OwnedShbRequest, KeyFault>
+    ensures fault { IfErr result IsWhatFault }
+{
     Ok(OwnedShbRequest {
         port: number(fields, Key::Port)?,
         info: number(fields, Key::Info)?,

@@ -7,13 +7,15 @@ ghost use Rattle.its_scenario.specs.declared.fault.ScenarioFault.TheVariants.{Ou
 
 use crate::key::Key;
 use crate::position::TomlFault;
+use crate::reason::{Reason, WrongOf};
+use crate::unknown::UnknownKey;
 use its_world::WorldFault;
 use std::alloc::{AllocError, AllocFailed};
 use thiserror::Error;
 
 /// The first fault of a scenario, in the order in which faults are checked. Its text is what
 /// follows `geostation: ` on standard error.
-#[derive(Clone, Copy, Debug, PartialEq, Eq, Error)]
+#[derive(Debug, Drop, PartialEq, Eq, Error)]
 pub enum ScenarioFault {
     /// The text is no TOML document.
     #[error("scenario: not TOML")]
@@ -24,9 +26,15 @@ pub enum ScenarioFault {
     /// `event` is there and no array of tables.
     #[error("scenario: event")]
     Events,
-    /// `air` is there and no table.
+    /// `air` is no table, or missing where the command needs it.
     #[error("scenario: air")]
-    Air,
+    Air(Wrong),
+    /// `every` is there and no array of tables.
+    #[error("scenario: every")]
+    Every,
+    /// `expect` is there and no array of tables.
+    #[error("scenario: expect")]
+    Expectations,
     /// There are more stations than are taken.
     #[error("scenario: too many stations")]
     TooManyStations,
@@ -36,9 +44,18 @@ pub enum ScenarioFault {
     /// A key of the air is missing, of another kind or out of range.
     #[error("scenario: air: {0}")]
     AirKey(Key, Wrong),
+    /// A key of a traffic, counted from 0, is missing, of another kind or out of range.
+    #[error("scenario: every {0}: {1}")]
+    EveryKey(usize, Key, Wrong),
     /// A key of an event, counted from 0, is missing, of another kind or out of range.
     #[error("scenario: event {0}: {1}")]
     Event(usize, Key, Wrong),
+    /// A key of what is expected, counted from 0, is missing, of another kind or out of range.
+    #[error("scenario: expect {0}: {1}")]
+    Expectation(usize, Key, Wrong),
+    /// A key is none of the words of its table.
+    #[error("scenario: {0}")]
+    Unknown(UnknownKey),
     /// Two stations, counted from 0, have the same MID: the second is the first that has one of
     /// before.
     #[error("scenario: stations {0} and {1} share a MID")]
@@ -46,6 +63,17 @@ pub enum ScenarioFault {
     /// An allocation failed.
     #[error("out of memory")]
     OutOfMemory,
+}
+
+impl ScenarioFault {
+    /// What was wrong, as a sentence. There is none for a key that is no word of its table, where no
+    /// word is near.
+    pub fn reason(&self) -> Option<Reason<'_>> {
+        match self {
+            ScenarioFault::Unknown(key) if key.nearest().is_none() => None,
+            _ => Some(Reason(self)),
+        }
+    }
 }
 
 impl From<AllocError> for ScenarioFault {
@@ -82,7 +110,9 @@ pub enum Wrong {
     Missing,
     /// It is of another kind than the key takes.
     Kind,
-    /// It is out of the key's range, or a text that it doesn't take.
+    /// It is this whole number, which is out of the key's range.
+    Range(i64),
+    /// It is one of its kind that the key doesn't take.
     Value,
     /// It isn't 0, as it has to be of a circle.
     OfCircle,
@@ -114,6 +144,34 @@ impl KeyFault {
     {
         match self {
             KeyFault::Refused(key, wrong) => ScenarioFault::AirKey(key, wrong),
+            KeyFault::OutOfMemory => ScenarioFault::OutOfMemory,
+        }
+    }
+
+    /// The fault of the scenario whose traffic of this number has the key.
+    pub(crate) fn of_every(self, number: usize) -> ScenarioFault
+        ensures { IsPastToml result }
+    {
+        match self {
+            KeyFault::Refused(key, wrong) => ScenarioFault::EveryKey(number, key, wrong),
+            KeyFault::OutOfMemory => ScenarioFault::OutOfMemory,
+        }
+    }
+
+    /// What is wrong with the value of the key.
+    pub(crate) fn wrong(self) -> Option<WrongOf> {
+        match self {
+            KeyFault::Refused(key, wrong) => Some(WrongOf(key, wrong)),
+            KeyFault::OutOfMemory => None,
+        }
+    }
+
+    /// The fault of the scenario of which something is expected, of this number, that has the key.
+    pub(crate) fn of_expectation(self, number: usize) -> ScenarioFault
+        ensures { IsPastToml result }
+    {
+        match self {
+            KeyFault::Refused(key, wrong) => ScenarioFault::Expectation(number, key, wrong),
             KeyFault::OutOfMemory => ScenarioFault::OutOfMemory,
         }
     }

@@ -1,5 +1,9 @@
 //! The geobroadcasts and geoanycasts of a scenario.
 
+ghost use Rattle.std.specs.Prelude.{IfErr};
+ghost use Rattle.its_scenario.specs.Faults.{IsFaultOf, IsWhatFault};
+ghost use Rattle.its_scenario.specs.declared.key.Key.TheVariants as keys;
+
 use crate::fault::{KeyFault, Wrong};
 use crate::fields::Fields;
 use crate::key::Key;
@@ -14,7 +18,9 @@ use std::alloc::Global;
 pub(crate) fn read_geocast<F: Fields>(
     alloc: Global,
     fields: &F,
-) -> Result<OwnedGbcRequest, KeyFault> {
+) -> Result<OwnedGbcRequest, KeyFault>
+    ensures fault { IfErr result IsWhatFault }
+{
     Ok(OwnedGbcRequest {
         port: number(fields, Key::Port)?,
         info: number(fields, Key::Info)?,
@@ -27,7 +33,9 @@ pub(crate) fn read_geocast<F: Fields>(
 }
 
 /// Reads the area: a circle has `b` and `angle` 0.
-fn read_area<F: Fields>(fields: &F) -> Result<Area, KeyFault> {
+fn read_area<F: Fields>(fields: &F) -> Result<Area, KeyFault>
+    ensures fault { IfErr result IsWhatFault }
+{
     let shape = read_shape(fields)?;
     let centre = place(fields, Key::Alat, Key::Alon)?;
     let a = number(fields, Key::A)?;
@@ -49,7 +57,9 @@ fn read_area<F: Fields>(fields: &F) -> Result<Area, KeyFault> {
     area.map_err(|_| KeyFault::Refused(Key::Angle, Wrong::Value))
 }
 
-fn read_shape<F: Fields>(fields: &F) -> Result<Shape, KeyFault> {
+fn read_shape<F: Fields>(fields: &F) -> Result<Shape, KeyFault>
+    ensures fault { IfErr result (IsFaultOf keys.Shape) }
+{
     match text(fields, Key::Shape)? {
         "circle" => Ok(Shape::Circle),
         "rectangle" => Ok(Shape::Rectangle),
@@ -59,7 +69,9 @@ fn read_shape<F: Fields>(fields: &F) -> Result<Shape, KeyFault> {
 }
 
 /// Refuses a key that is not 0, as those have to be that a circle has no use for.
-fn refuse_length<F: Fields>(fields: &F, key: Key) -> Result<(), KeyFault> {
+fn refuse_length<F: Fields>(fields: &F, key: Key) -> Result<(), KeyFault>
+    ensures fault { IfErr result (IsFaultOf key) }
+{
     match fields.integer(key.word()) {
         Some(0) => Ok(()),
         Some(_) => Err(KeyFault::Refused(key, Wrong::OfCircle)),

@@ -1,11 +1,11 @@
-//! The keys of stations, of the air and of events: the one table of their words and ranges.
+//! The keys of a scenario and of its tables: the one table of their words and ranges.
 
 ghost use Rattle.std.specs.Prelude.{◌≡◌};
 ghost use Rattle.its_scenario.specs.Keys.{least_of, most_of};
 
 use std::fmt;
 
-/// A key of a station, of the air or of an event. It prints as its word in the document.
+/// A key of a scenario or of one of its tables. It prints as its word in the document.
 #[derive(Clone, Copy, Debug, PartialEq, Eq)]
 pub enum Key {
     /// The address of a station: 16 hexadecimal digits, no group MID.
@@ -18,8 +18,12 @@ pub enum Key {
     Capacity,
     /// How many numbers a location table remembers of a source: 1 to 64, else 8.
     Remember,
+    /// Whether a station is away at the start: true or false, else false.
+    Absent,
     /// The station of an event, counted from 0: 0 to 65535.
     Station,
+    /// The station of an event by the id of its rows in a file of moves.
+    Id,
     /// The moment of an event in milliseconds: 0 to 2^63 - 1.
     At,
     /// What the station does.
@@ -72,7 +76,91 @@ pub enum Key {
     Beacons,
     /// The last moment that is run: 0 to 2^62.
     Until,
+    /// The milliseconds from one send to the next: 1 to 4294967295.
+    Period,
+    /// How many octets are sent: 0 to 1394.
+    Octets,
+    /// The send that something is expected of, counted from 0: 0 to 4294967295.
+    Send,
+    /// At how many stations it has to be delivered: 0 to 65535, or `all`.
+    Reached,
+    /// In how many milliseconds: 0 to 2^62.
+    Within,
+    /// The events of a scenario.
+    Event,
+    /// How frames go from station to station by themselves.
+    Air,
+    /// What stations send again and again.
+    Every,
+    /// How moves from a file are read.
+    Moves,
+    /// What is expected of a run.
+    Expect,
 }
+
+/// The keys of a scenario.
+pub(crate) const SCENARIO_KEYS: [Key; 6] = [
+    Key::Station,
+    Key::Event,
+    Key::Air,
+    Key::Every,
+    Key::Moves,
+    Key::Expect,
+];
+
+/// The keys of a station, in the order in which they are checked.
+pub(crate) const STATION_KEYS: [Key; 6] = [
+    Key::Address,
+    Key::Lat,
+    Key::Lon,
+    Key::Capacity,
+    Key::Remember,
+    Key::Absent,
+];
+
+/// The keys of the air, in the order in which they are checked.
+pub(crate) const AIR_KEYS: [Key; 6] = [
+    Key::Range,
+    Key::Delay,
+    Key::Loss,
+    Key::Seed,
+    Key::Beacons,
+    Key::Until,
+];
+
+/// The keys of traffic, in the order in which they are checked.
+pub(crate) const TRAFFIC_KEYS: [Key; 5] = [Key::Period, Key::Port, Key::Info, Key::Tc, Key::Octets];
+
+/// The keys of events, whatever they do, in the order in which they are checked.
+pub(crate) const EVENT_KEYS: [Key; 24] = [
+    Key::Station,
+    Key::Id,
+    Key::At,
+    Key::Do,
+    Key::Lat,
+    Key::Lon,
+    Key::Pai,
+    Key::Speed,
+    Key::Heading,
+    Key::Jitter,
+    Key::Number,
+    Key::Frame,
+    Key::Port,
+    Key::Info,
+    Key::Tc,
+    Key::Lt,
+    Key::Hops,
+    Key::Shape,
+    Key::Alat,
+    Key::Alon,
+    Key::A,
+    Key::B,
+    Key::Angle,
+    Key::Payload,
+];
+
+/// The keys of what is expected, in the order in which they are checked.
+pub(crate) const EXPECTATION_KEYS: [Key; 3] = [Key::Send, Key::Reached, Key::Within];
 
 impl Key {
     /// The word in the document.
@@ -83,7 +171,9 @@ impl Key {
             Key::Lon => "lon",
             Key::Capacity => "capacity",
             Key::Remember => "remember",
+            Key::Absent => "absent",
             Key::Station => "station",
+            Key::Id => "id",
             Key::At => "at",
             Key::Do => "do",
             Key::Pai => "pai",
@@ -110,6 +200,16 @@ impl Key {
             Key::Seed => "seed",
             Key::Beacons => "beacons",
             Key::Until => "until",
+            Key::Period => "period",
+            Key::Octets => "octets",
+            Key::Send => "send",
+            Key::Reached => "reached",
+            Key::Within => "within",
+            Key::Event => "event",
+            Key::Air => "air",
+            Key::Every => "every",
+            Key::Moves => "moves",
+            Key::Expect => "expect",
         }
     }
 
@@ -121,7 +221,7 @@ impl Key {
             Key::Lat | Key::Alat => -900_000_000,
             Key::Lon | Key::Alon => -1_800_000_000,
             Key::Speed => -16384,
-            Key::Capacity | Key::Remember | Key::A | Key::B | Key::Range => 1,
+            Key::Capacity | Key::Remember | Key::A | Key::B | Key::Range | Key::Period => 1,
             _ => 0,
         }
     }
@@ -132,6 +232,8 @@ impl Key {
     {
         match self {
             Key::Address | Key::Do | Key::Pai | Key::Payload | Key::Shape | Key::Beacons => 0,
+            Key::Absent | Key::Id => 0,
+            Key::Event | Key::Air | Key::Every | Key::Moves | Key::Expect => 0,
             Key::Lat | Key::Alat => 900_000_000,
             Key::Lon | Key::Alon => 1_800_000_000,
             Key::Speed => 16383,
@@ -140,8 +242,9 @@ impl Key {
             Key::Loss => 100,
             Key::Tc | Key::Lt | Key::Hops => 255,
             Key::Angle => 359,
-            Key::Frame => 4_294_967_295,
-            Key::Until => 1 << 62,
+            Key::Frame | Key::Send | Key::Period => 4_294_967_295,
+            Key::Octets => 1394,
+            Key::Until | Key::Within => 1 << 62,
             Key::At | Key::Seed => i64::MAX,
             _ => 65535,
         }
@@ -150,8 +253,14 @@ impl Key {
     /// What a value of another kind than it takes is not.
     pub(crate) fn kind(self) -> &'static str {
         match self {
-            Key::Address | Key::Do | Key::Payload | Key::Shape => "a text",
-            Key::Pai | Key::Beacons => "true or false",
+            Key::Address | Key::Do | Key::Payload | Key::Shape | Key::Id => "a text",
+            Key::Pai | Key::Beacons | Key::Absent => "true or false",
+            Key::Reached => "a whole number or all",
+            Key::Lat | Key::Lon | Key::Alat | Key::Alon => {
+                "a whole number of tenths of a microdegree: 481000000 is 48.1 degrees"
+            }
+            Key::Air | Key::Moves => "a table",
+            Key::Event | Key::Every | Key::Expect => "an array of tables",
             _ => "a whole number",
         }
     }

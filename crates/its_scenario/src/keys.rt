@@ -1,6 +1,7 @@
 //! The values of keys.
 
-ghost use Rattle.std.specs.Prelude.{◌≤ℤ◌, pos, negsuc, IfOk};
+ghost use Rattle.std.specs.Prelude.{◌≤ℤ◌, ◌⊎◌, pos, negsuc, IfOk, IfErr};
+ghost use Rattle.its_scenario.specs.Faults.{IsFaultOf};
 ghost use Rattle.its_scenario.specs.Keys.{IsTakenBy, least_of, most_of};
 
 use crate::fault::{KeyFault, Wrong};
@@ -10,7 +11,9 @@ use its_gnvalue::Place;
 use std::alloc::Global;
 
 /// The fault of a key that has no value of the kind that it takes.
-pub(crate) fn unlike<F: Fields>(fields: &F, key: Key) -> KeyFault {
+pub(crate) fn unlike<F: Fields>(fields: &F, key: Key) -> KeyFault
+    ensures { IsFaultOf key result }
+{
     let wrong = if fields.has(key.word()) {
         Wrong::Kind
     } else {
@@ -21,11 +24,12 @@ pub(crate) fn unlike<F: Fields>(fields: &F, key: Key) -> KeyFault {
 
 /// The whole number under a key, in the range of that key.
 pub(crate) fn whole<F: Fields>(fields: &F, key: Key) -> Result<i64, KeyFault>
-    ensures { IfOk result (IsTakenBy key) }
+    ensures taken { IfOk result (IsTakenBy key) }
+    ensures fault { IfErr result (IsFaultOf key) }
 {
     match fields.integer(key.word()) {
         Some(number) if key.least() <= number && number <= key.most() => Ok(number),
-        Some(_) => Err(KeyFault::Refused(key, Wrong::Value)),
+        Some(number) => Err(KeyFault::Refused(key, Wrong::Range(number))),
         None => Err(unlike(fields, key)),
     }
 }
@@ -33,7 +37,8 @@ pub(crate) fn whole<F: Fields>(fields: &F, key: Key) -> Result<i64, KeyFault>
 /// The whole number of 16 bits under a key.
 pub(crate) fn number<F: Fields>(fields: &F, key: Key) -> Result<u16, KeyFault>
     requires { (pos 0 ≤ℤ least_of key) × (most_of key ≤ℤ pos 65535) }
-    ensures { IfOk result (λ n. IsTakenBy key (pos n)) }
+    ensures taken { IfOk result (λ n. IsTakenBy key (pos n)) }
+    ensures fault { IfErr result (IsFaultOf key) }
 {
     Ok(whole(fields, key)? as u16)
 }
@@ -41,7 +46,8 @@ pub(crate) fn number<F: Fields>(fields: &F, key: Key) -> Result<u16, KeyFault>
 /// The octet under a key.
 pub(crate) fn octet<F: Fields>(fields: &F, key: Key) -> Result<u8, KeyFault>
     requires { (pos 0 ≤ℤ least_of key) × (most_of key ≤ℤ pos 255) }
-    ensures { IfOk result (λ n. IsTakenBy key (pos n)) }
+    ensures taken { IfOk result (λ n. IsTakenBy key (pos n)) }
+    ensures fault { IfErr result (IsFaultOf key) }
 {
     Ok(whole(fields, key)? as u8)
 }
@@ -49,7 +55,8 @@ pub(crate) fn octet<F: Fields>(fields: &F, key: Key) -> Result<u8, KeyFault>
 /// The whole number under a key, or another of its range where the key is missing.
 pub(crate) fn whole_or<F: Fields>(fields: &F, key: Key, other: i64) -> Result<i64, KeyFault>
     requires { IsTakenBy key other }
-    ensures { IfOk result (IsTakenBy key) }
+    ensures taken { IfOk result (IsTakenBy key) }
+    ensures fault { IfErr result (IsFaultOf key) }
 {
     if fields.has(key.word()) {
         whole(fields, key)
@@ -59,12 +66,16 @@ pub(crate) fn whole_or<F: Fields>(fields: &F, key: Key, other: i64) -> Result<i6
 }
 
 /// True or false under a key.
-pub(crate) fn truth<F: Fields>(fields: &F, key: Key) -> Result<bool, KeyFault> {
+pub(crate) fn truth<F: Fields>(fields: &F, key: Key) -> Result<bool, KeyFault>
+    ensures fault { IfErr result (IsFaultOf key) }
+{
     fields.truth(key.word()).ok_or_else(|| unlike(fields, key))
 }
 
 /// The text under a key.
-pub(crate) fn text<'a, F: Fields>(fields: &'a F, key: Key) -> Result<&'a str, KeyFault> {
+pub(crate) fn text<'a, F: Fields>(fields: &'a F, key: Key) -> Result<&'a str, KeyFault>
+    ensures fault { IfErr result (IsFaultOf key) }
+{
     match fields.text(key.word()) {
         Some(text) => Ok(text),
         None => Err(unlike(fields, key)),
@@ -72,7 +83,9 @@ pub(crate) fn text<'a, F: Fields>(fields: &'a F, key: Key) -> Result<&'a str, Ke
 }
 
 /// The octets of the hexadecimal digits under a key, in either letter case.
-pub(crate) fn octets<F: Fields>(alloc: Global, fields: &F, key: Key) -> Result<Vec<u8>, KeyFault> {
+pub(crate) fn octets<F: Fields>(alloc: Global, fields: &F, key: Key) -> Result<Vec<u8>, KeyFault>
+    ensures fault { IfErr result (IsFaultOf key) }
+{
     match hex::decode(alloc, text(fields, key)?) {
         Ok(octets) => Ok(octets),
         Err(hex::FromHexError::OutOfMemory) => Err(KeyFault::OutOfMemory),
@@ -85,6 +98,7 @@ pub(crate) fn octets<F: Fields>(alloc: Global, fields: &F, key: Key) -> Result<V
 pub(crate) fn place<F: Fields>(fields: &F, lat_key: Key, lon_key: Key) -> Result<Place, KeyFault>
     requires latitude { (negsuc 899999999 ≤ℤ least_of lat_key) × (most_of lat_key ≤ℤ pos 900000000) }
     requires longitude { (negsuc 1799999999 ≤ℤ least_of lon_key) × (most_of lon_key ≤ℤ pos 1800000000) }
+    ensures fault { IfErr result (λ fault. IsFaultOf lat_key fault ⊎ IsFaultOf lon_key fault) }
 {
     let lat = whole(fields, lat_key)? as i32;
     let lon = whole(fields, lon_key)? as i32;

@@ -4,6 +4,7 @@
 
 mod air;
 mod event;
+mod expectation;
 mod fault;
 mod fields;
 mod geocast;
@@ -12,14 +13,21 @@ mod keys;
 mod position;
 mod reason;
 mod scenario;
+mod settings;
 mod station;
+mod traffic;
+mod unknown;
 
 pub use air::Air;
 pub use event::read_what;
+pub use expectation::{Expectation, Reached};
 pub use fault::{KeyFault, ScenarioFault, Wrong};
 pub use fields::Fields;
 pub use key::Key;
 pub use position::TomlFault;
 pub use reason::{Reason, WrongOf};
-pub use scenario::Scenario;
+pub use scenario::{Reading, Scenario};
+pub use settings::{AirSettings, SettingFault};
 pub use station::read_station;
+pub use traffic::Traffic;
+pub use unknown::{Owner, UnknownKey};

@@ -13,14 +13,21 @@ impl fmt::Display for Reason<'_> {
     fn fmt<W: fmt::Write>(&self, f: &mut fmt::Formatter<W>) -> fmt::Result {
         match self.0 {
             ScenarioFault::NotToml(fault) => write!(f, "{fault}"),
-            ScenarioFault::Stations | ScenarioFault::Events => {
-                f.write_str("not an array of tables")
-            }
-            ScenarioFault::Air => f.write_str("not a table"),
+            ScenarioFault::Stations
+            | ScenarioFault::Events
+            | ScenarioFault::Every
+            | ScenarioFault::Expectations => { f.write_str("not an array of tables") }
+            ScenarioFault::Air(wrong) => explain(f, Key::Air, *wrong),
             ScenarioFault::TooManyStations => f.write_str("more than the command takes"),
             ScenarioFault::Station(_, key, wrong)
             | ScenarioFault::AirKey(key, wrong)
+            | ScenarioFault::EveryKey(_, key, wrong)
+            | ScenarioFault::Expectation(_, key, wrong)
             | ScenarioFault::Event(_, key, wrong) => explain(f, *key, *wrong),
+            ScenarioFault::Unknown(key) => match key.nearest() {
+                Some(word) => write!(f, "did you mean '{word}'?"),
+                None => f.write_str("not a key of its table"),
+            },
             ScenarioFault::SharedMid(..) => {
                 f.write_str("the last 48 bits of their addresses are the same")
             }
@@ -29,7 +36,7 @@ impl fmt::Display for Reason<'_> {
     }
 }
 
-/// What is wrong with the value of a key, as words: `missing`, `not in 0..=65535`.
+/// What is wrong with the value of a key, as words: `missing`, `65536 is not in 0..=65535`.
 #[derive(Clone, Copy, Debug, PartialEq, Eq)]
 pub struct WrongOf(pub Key, pub Wrong);
 
@@ -44,6 +51,7 @@ fn explain<W: fmt::Write>(f: &mut fmt::Formatter<W>, key: Key, wrong: Wrong) -> 
         Wrong::Missing => f.write_str("missing"),
         Wrong::Kind => write!(f, "not {}", key.kind()),
         Wrong::OfCircle => f.write_str("not 0, as it is of a circle"),
+        Wrong::Range(number) => { write!(f, "{number} is not in {}..={}", key.least(), key.most()) }
         Wrong::Value => match key.form() {
             Some(form) => write!(f, "not {form}"),
             None => write!(f, "not in {}..={}", key.least(), key.most()),

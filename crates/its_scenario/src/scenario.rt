@@ -8,14 +8,19 @@ ghost use Rattle.its_world.specs.Mids.{AreApart};
 
 use crate::air::{Air, read_air};
 use crate::event::read_event;
-use crate::fault::ScenarioFault;
+use crate::expectation::{Expectation, read_expectation};
+use crate::fault::{ScenarioFault, Wrong};
+use crate::key::{AIR_KEYS, EXPECTATION_KEYS};
 use crate::position::TomlFault;
+use crate::settings::{AirSettings, SetAir};
 use crate::station::read_station;
+use crate::traffic::{Traffic, read_every};
+use crate::unknown::{Owner, refuse_all_unknown, refuse_unknown};
 use its_world::{Config, Event, refuse_shared};
 use std::alloc::Global;
 use toml::{Table, Value};
 
-/// Stations, the air and events, in the order of the document.
+/// Stations, the air, events and what is expected, in the order of the document.
 #[derive(Debug, Drop, PartialEq, Eq)]
 pub struct Scenario {
     /// The stations, no two of which have the same MID.
@@ -25,18 +30,36 @@ pub struct Scenario {
     pub events: Vec<Event>,
     /// How frames go from station to station by themselves. Without it they go by events alone.
     pub air: Option<Air>,
+    /// What each station of the air sends by itself. Without an air there is none.
+    pub every: Vec<Traffic>,
+    /// What is expected of the run.
+    pub expectations: Vec<Expectation>,
     ghost configs: { All IsConfig stations.items },
     ghost apart: { AreApart stations.items },
     ghost in_range: { All FitsEvent events.items },
 }
 
+/// How a document is read as a scenario. `default` is how `from_toml` reads it.
+#[derive(Clone, Copy, Debug, Default, PartialEq, Eq)]
+pub struct Reading {
+    /// Whether a key that is unknown is refused, wherever it stands.
+    pub strict: bool,
+    /// Whether a document without the table `air` is refused.
+    pub needs_air: bool,
+    /// Values that stand in place of those of the air.
+    pub settings: AirSettings,
+}
+
 impl Scenario {
-    /// Reads a TOML document with the arrays of tables `station` and `event` and the table `air`,
-    /// each of which may be missing. Other keys are passed over. At most so many stations are taken.
+    /// Reads a TOML document with the arrays of tables `station`, `event` and `expect`, the table
+    /// `air` and, where there is one, the array of tables `every`, each of which may be missing. A key
+    /// of the air, of traffic or of what is expected that is none of its words is refused; other keys
+    /// are passed over. At most so many stations are taken.
     ///
-    /// The first fault is given: that of the document, of its arrays, of the air's kind, of the
-    /// number of stations, of each station in turn, of the air, of each event in turn, of two
-    /// stations with the same MID.
+    /// The first fault is given: that of the document, of its arrays `station` and `event`, of the
+    /// kind of `air`, of `every` and of `expect`, of the number of stations, of each station in turn,
+    /// of the air, of each traffic in turn, of each event in turn, of each table of what is expected,
+    /// of two stations with the same MID.
     pub fn from_toml(
         alloc: Global,
         text: &[u8],
@@ -46,13 +69,10 @@ impl Scenario {
         ensures refused { IfErr result (λ fault. IsOfToml fault → ¬ IsToml text.now) }
         ensures few { IfOk result (λ scenario. vec_len scenario.stations ≤ most_stations) }
     {
-        let document = document_of(alloc, text)?;
-        let arrays = Arrays::of(&document)?;
-        let air = air_of(&document)?;
-        arrays.read(alloc, most_stations, air)
+        Scenario::read(alloc, text, most_stations, &Reading::default())
     }
 
-    /// The same, but that `air` is one of the keys that are passed over.
+    /// The same, but that `air`, `every` and `expect` are among the keys that are passed over.
     pub fn from_toml_without_air(
         alloc: Global,
         text: &[u8],
@@ -63,67 +83,170 @@ impl Scenario {
         ensures few { IfOk result (λ scenario. vec_len scenario.stations ≤ most_stations) }
         ensures none { IfOk result (λ scenario. scenario.air ≡ None) }
     {
+        Scenario::read_without_air(alloc, text, most_stations, false)
+    }
+
+    /// Reads a document as `from_toml` does, in this way: with values in place of the air's own; one
+    /// without an air is refused where it is needed, where the air's kind is checked; and where the
+    /// reading is strict, each key of the document, of its stations and of its events that is none
+    /// of their words is refused, last of all, in this order.
+    pub fn read(
+        alloc: Global,
+        text: &[u8],
+        most_stations: usize,
+        reading: &Reading,
+    ) -> Result<Scenario, ScenarioFault>
+        ensures toml { IfOk result (λ _. IsToml text.now) }
+        ensures refused { IfErr result (λ fault. IsOfToml fault → ¬ IsToml text.now) }
+        ensures few { IfOk result (λ scenario. vec_len scenario.stations ≤ most_stations) }
+    {
         let document = document_of(alloc, text)?;
-        Arrays::of(&document)?.read(alloc, most_stations, None)
+        let tables = Tables::of(&document, reading)?;
+        let scenario = tables.read(alloc, most_stations)?;
+        tables.refuse_unknown(alloc, &document, reading.strict)?;
+        Ok(scenario)
+    }
+
+    /// Reads a document as `from_toml_without_air` does; where the reading is strict, keys that are
+    /// unknown are refused as by `read`.
+    pub fn read_without_air(
+        alloc: Global,
+        text: &[u8],
+        most_stations: usize,
+        strict: bool,
+    ) -> Result<Scenario, ScenarioFault>
+        ensures toml { IfOk result (λ _. IsToml text.now) }
+        ensures refused { IfErr result (λ fault. IsOfToml fault → ¬ IsToml text.now) }
+        ensures few { IfOk result (λ scenario. vec_len scenario.stations ≤ most_stations) }
+        ensures none { IfOk result (λ scenario. scenario.air ≡ None) }
+    {
+        let document = document_of(alloc, text)?;
+        let tables = Tables::without_air(&document)?;
+        let scenario = tables.read(alloc, most_stations)?;
+        tables.refuse_unknown(alloc, &document, strict)?;
+        Ok(scenario)
     }
 }
 
-/// The tables of a document's stations and events.
+/// The tables of a document that are read.
 #[derive(Clone, Copy)]
-struct Arrays<'a> {
+struct Tables<'a> {
     stations: &'a [Value],
     events: &'a [Value],
+    air: Option<SetAir<'a>>,
+    every: &'a [Value],
+    expectations: &'a [Value],
 }
 
-impl<'a> Arrays<'a> {
-    /// Those of a document, where both are arrays of tables or missing.
-    fn of(document: &'a Table) -> Result<Arrays<'a>, ScenarioFault>
-        ensures { IfErr result IsPastToml }
+impl<'a> Tables<'a> {
+    /// Those of a document, without an air and what is expected.
+    fn without_air(document: &'a Table) -> Result<Tables<'a>, ScenarioFault>
+        ensures refused { IfErr result IsPastToml }
+        ensures none { IfOk result (λ tables. tables.air ≡ None) }
     {
-        Ok(Arrays {
-            stations: tables(document, "station").ok_or(ScenarioFault::Stations)?,
-            events: tables(document, "event").ok_or(ScenarioFault::Events)?,
+        Ok(Tables {
+            stations: array_of_tables(document, "station").ok_or(ScenarioFault::Stations)?,
+            events: array_of_tables(document, "event").ok_or(ScenarioFault::Events)?,
+            air: None,
+            every: &[],
+            expectations: &[],
         })
     }
 
-    /// The scenario of them and of the table of an air.
-    fn read(
-        self,
-        alloc: Global,
-        most_stations: usize,
-        air: Option<&Table>,
-    ) -> Result<Scenario, ScenarioFault>
+    /// All of a document.
+    fn of(document: &'a Table, reading: &'a Reading) -> Result<Tables<'a>, ScenarioFault>
+        ensures { IfErr result IsPastToml }
+    {
+        let first = Tables::without_air(document)?;
+        let air = air_of(document, reading)?;
+        let every = every_of(document, air.is_some())?;
+        let expectations = array_of_tables(document, "expect").ok_or(ScenarioFault::Expectations)?;
+        Ok(Tables {
+            air,
+            every,
+            expectations,
+            ..first
+        })
+    }
+
+    /// The scenario of them.
+    fn read(self, alloc: Global, most_stations: usize) -> Result<Scenario, ScenarioFault>
         ensures refused { IfErr result IsPastToml }
         ensures few { IfOk result (λ scenario. vec_len scenario.stations ≤ most_stations) }
-        ensures none { air.entry ≡ None → IfOk result (λ scenario. scenario.air ≡ None) }
+        ensures none { self.entry.air ≡ None → IfOk result (λ scenario. scenario.air ≡ None) }
     {
         if self.stations.len() > most_stations {
             return Err(ScenarioFault::TooManyStations);
         }
         let stations = read_stations(alloc, self.stations)?;
-        let air = match air {
-            Some(table) => Some(read_air(table).map_err(|fault| fault.of_air())?),
+        let air = match self.air {
+            Some(fields) => Some(read_known_air(alloc, fields)?),
             None => None,
         };
+        let every = read_every(alloc, self.every)?;
         let events = read_events(alloc, self.events)?;
+        let expectations = read_expectations(alloc, self.expectations)?;
         refuse_shared(alloc, stations.as_slice())?;
         Ok(Scenario {
             stations,
             events,
             air,
+            every,
+            expectations,
         })
+    }
+
+    /// Refuses each key that is unknown, where the reading is strict.
+    fn refuse_unknown(
+        self,
+        alloc: Global,
+        document: &Table,
+        strict: bool,
+    ) -> Result<(), ScenarioFault>
+        ensures { IfErr result IsPastToml }
+    {
+        if strict {
+            refuse_all_unknown(alloc, document, self.stations, self.events)
+        } else {
+            Ok(())
+        }
     }
 }
 
-/// The table of the air, where there is one.
-fn air_of(document: &Table) -> Result<Option<&Table>, ScenarioFault>
+/// The table of the air with what is set of it, where there is one. `Air` where it is no table, and
+/// where there is none and the reading needs it.
+fn air_of<'a>(
+    document: &'a Table,
+    reading: &'a Reading,
+) -> Result<Option<SetAir<'a>>, ScenarioFault>
     ensures { IfErr result IsPastToml }
 {
+    let settings = &reading.settings;
     match document.get("air") {
+        None if reading.needs_air => Err(ScenarioFault::Air(Wrong::Missing)),
         None => Ok(None),
-        Some(Value::Table(table)) => Ok(Some(table)),
-        Some(_) => Err(ScenarioFault::Air),
+        Some(Value::Table(table)) => Ok(Some(SetAir { table, settings })),
+        Some(_) => Err(ScenarioFault::Air(Wrong::Kind)),
     }
+}
+
+/// The tables of the traffic of an air. Where there is no air, the key is passed over.
+fn every_of(document: &Table, has_air: bool) -> Result<&[Value], ScenarioFault>
+    ensures { IfErr result IsPastToml }
+{
+    if !has_air {
+        return Ok(&[]);
+    }
+    array_of_tables(document, "every").ok_or(ScenarioFault::Every)
+}
+
+/// Reads an air, in which each key is known.
+fn read_known_air(alloc: Global, fields: SetAir<'_>) -> Result<Air, ScenarioFault>
+    ensures { IfErr result IsPastToml }
+{
+    let air = read_air(&fields).map_err(|fault| fault.of_air())?;
+    refuse_unknown(alloc, fields.table, &AIR_KEYS, Owner::Air)?;
+    Ok(air)
 }
 
 fn document_of(alloc: Global, text: &[u8]) -> Result<Table, ScenarioFault>
@@ -139,7 +262,7 @@ fn document_of(alloc: Global, text: &[u8]) -> Result<Table, ScenarioFault>
 
 /// The tables of the array under a key: none where the key is missing, `None` where its value is no
 /// array of tables.
-fn tables<'a>(document: &'a Table, key: &str) -> Option<&'a [Value]> {
+fn array_of_tables<'a>(document: &'a Table, key: &str) -> Option<&'a [Value]> {
     match document.get(key) {
         None => Some(&[]),
         Some(Value::Array(items)) if items.iter().all(|item| matches!(item, Value::Table(_))) => {
@@ -156,7 +279,7 @@ fn read_stations(alloc: Global, items: &[Value]) -> Result<Vec<Config>, Scenario
 {
     let mut stations = Vec::with_capacity(alloc, items.len())?;
     for (number, item) in items.iter().enumerate() {
-        // `tables` has seen that each item is one.
+        // `array_of_tables` has seen that each item is one.
         let Value::Table(table) = item else {
             return Err(ScenarioFault::Stations);
         };
@@ -172,11 +295,42 @@ fn read_events(alloc: Global, items: &[Value]) -> Result<Vec<Event>, ScenarioFau
 {
     let mut events = Vec::with_capacity(alloc, items.len())?;
     for (number, item) in items.iter().enumerate() {
-        // `tables` has seen that each item is one.
+        // `array_of_tables` has seen that each item is one.
         let Value::Table(table) = item else {
             return Err(ScenarioFault::Events);
         };
         events.push(read_event(alloc, table).map_err(|fault| fault.of_event(number))?)?;
     }
     Ok(events)
+}
+
+fn read_expectations(alloc: Global, items: &[Value]) -> Result<Vec<Expectation>, ScenarioFault>
+    ensures refused { IfErr result IsPastToml }
+{
+    let mut expectations = Vec::with_capacity(alloc, items.len())?;
+    for (number, item) in items.iter().enumerate() {
+        // `array_of_tables` has seen that each item is one.
+        let Value::Table(table) = item else {
+            return Err(ScenarioFault::Expectations);
+        };
+        expectations.push(read_known_expectation(alloc, table, number)?)?;
+    }
+    Ok(expectations)
+}
+
+/// Reads what is expected, of this number, in which each key is known.
+fn read_known_expectation(
+    alloc: Global,
+    table: &Table,
+    number: usize,
+) -> Result<Expectation, ScenarioFault>
+    ensures { IfErr result IsPastToml }
+{
+    match read_expectation(table) {
+        Ok(expectation) => {
+            refuse_unknown(alloc, table, &EXPECTATION_KEYS, Owner::Expectation(number))?;
+            Ok(expectation)
+        }
+        Err(fault) => Err(fault.of_expectation(number)),
+    }
 }

@@ -1,5 +1,6 @@
 //! The lines of a simulation, as JSON.
 
+use crate::entry::Told;
 use crate::fault::SimulationFault;
 use crate::note::{Note, NoteLine};
 use crate::record::{EventLine, EventRecord};
@@ -7,7 +8,7 @@ use crate::sink::EventSink;
 use its_gnvalue::{GnAddress, Place};
 use its_json::{Digits, JsonLine};
 use its_scenario::Air;
-use its_world::{Config, World};
+use its_world::{Config, Entry, World};
 use serde::{Described, Serialize, Serializer};
 use std::alloc::{AllocError, Global};
 use std::io::Write;
@@ -61,6 +62,25 @@ impl<'a, W: Write> JsonLines<'a, W> {
         let stations = StationList(configs);
         let air = AirText::of(air, until);
         self.write(&AirLine { stations, air })
+    }
+
+    /// Writes the line of a call that is no event of a world: `moment`, `station` and `do`, which is
+    /// this word, and what is told of it from `result` on.
+    ///
+    /// `OutOfMemory` where an allocation failed, `Output` where a write did.
+    pub fn call(
+        &mut self,
+        moment: u64,
+        station: usize,
+        word: &'static str,
+        entry: &Entry,
+    ) -> Result<(), SimulationFault> {
+        self.write(&CallLine {
+            moment,
+            station,
+            word,
+            told: Told::of(entry),
+        })
     }
 
     /// Writes the line of a station that was made in a run.
@@ -134,6 +154,17 @@ impl AirText {
             until,
         }
     }
+}
+
+/// What is told of a call.
+#[derive(Clone, Copy, Serialize)]
+struct CallLine<'a> {
+    moment: u64,
+    station: usize,
+    #[serde(rename = "do")]
+    word: &'static str,
+    #[serde(flatten)]
+    told: Told<'a>,
 }
 
 /// What is told of a station that was made in a run.

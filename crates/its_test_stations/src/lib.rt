@@ -1,19 +1,28 @@
-//! For tests: stations in a few places, their first frames, and what becomes of a frame. An error
-//! says which call of a fixture failed.
+//! For tests: stations in a few places, what becomes of a frame, and tables of calls, each with what
+//! becomes of it. An error says which call of a fixture failed.
 #![tactic(auto)]
+
+mod rows;
+mod site;
 
 use its_faults::FrameFault;
 use its_geometry::Area;
-use its_gnvalue::{GnAddress, Lifetime, Place, TrafficClass};
+use its_gnvalue::{Lifetime, TrafficClass};
 use its_loctable::LocationStore;
 use its_station::{GbcRequest, Handed, Outcome, Refused, Reply, Station, Why};
-use its_vectors::{FIRST, LINK, PORT, SECOND};
-use std::alloc::Global;
+use its_vectors::{LINK, PORT};
+pub use rows::{Cast, HI, Known, Other, Row, Step, first_other, frames_of};
+pub use site::{CLOSED, FAR, NEAR, SENDER, Site, circle, receiver, station_at};
 
 /// The beacon of the first station, as hexadecimal digits.
 pub static BEACON: &str =
     "ffffffffffff020000000001894711001a0100100080000001001400020000000001000000000000000000\
     00000000000000";
+
+/// The single-hop broadcast of the first station, as hexadecimal digits.
+pub static SINGLE_HOP: &str =
+    "ffffffffffff020000000001894711001a0120500080000601001400020000000001000000000000000000\
+    000000000000000000000007d200006869";
 
 /// What becomes of a packet that came before.
 pub const DUPLICATE: Fate = Fate::Ignored(Why::Duplicate);
@@ -97,59 +106,29 @@ pub fn fate_of_reply(reply: &Reply) -> Fate {
     }
 }
 
-/// A station with no open port, which remembers eight numbers of each of 64 sources.
-pub fn station<S: LocationStore>(
-    alloc: Global,
-    address: u64,
-    lat: i32,
-    lon: i32,
-) -> Result<Station<S>, &'static str> {
-    let address = GnAddress::from_u64(address).map_err(|_| "address")?;
-    let place = Place::new(lat, lon).map_err(|_| "place")?;
-    Station::new(alloc, address, place, 64, 8).map_err(|_| "station")
-}
-
-/// The first station, at the centre of the areas.
-pub fn sender<S: LocationStore>(alloc: Global) -> Result<Station<S>, &'static str> {
-    station(alloc, FIRST, 0, 0)
-}
-
-/// The second station, with its port open: inside of the areas at latitude 449, outside at 100000.
-pub fn receiver<S: LocationStore>(alloc: Global, lat: i32) -> Result<Station<S>, &'static str> {
-    let mut made = station(alloc, SECOND, lat, 0)?;
-    made.open(0, PORT).map_err(|_| "port")?;
-    Ok(made)
-}
-
-/// All places within 100 m of the origin.
-pub fn circle() -> Result<Area, &'static str> {
-    let centre = Place::new(0, 0).map_err(|_| "centre")?;
-    Area::circle(centre, 100).map_err(|_| "circle")
-}
-
 /// A payload for `PORT`, to all stations in an area, over at most ten hops.
 pub fn request<'a>(area: Area, payload: &'a [u8]) -> GbcRequest<'a> {
+    request_of(area, 10, payload)
+}
+
+/// The same, over at most so many hops.
+fn request_of<'a>(area: Area, max_hops: u8, payload: &'a [u8]) -> GbcRequest<'a> {
     GbcRequest {
         port: PORT,
         info: 0,
         class: TrafficClass::from_octet(0),
         lifetime: Lifetime::from_octet(26),
-        max_hops: 10,
+        max_hops,
         area,
         payload,
     }
 }
 
-/// The first geobroadcast of the first station.
-pub fn geobroadcast<S: LocationStore>(alloc: Global) -> Result<Vec<u8>, &'static str> {
-    let request = request(circle()?, b"hi");
-    let sent = sender::<S>(alloc)?.send_geobroadcast(1000, &request);
-    sent.map_err(|_| "geobroadcast")
-}
-
 /// The frame in which the second station passes on one that came with ten hops left.
 pub fn relay_of(frame: &Vec<u8>) -> Result<Vec<u8>, &'static str> {
-    let mut relay = frame.clone().map_err(|_| "out of memory")?;
+    let Ok(mut relay) = frame.clone() else {
+        return Err("out of memory");
+    };
     *relay.get_mut(11).ok_or("short")? = 2;
     *relay.get_mut(LINK + 3).ok_or("short")? = 9;
     Ok(relay)

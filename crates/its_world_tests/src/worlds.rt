@@ -1,6 +1,6 @@
 //! Worlds of stations: schedules, refusals, and memory that runs out.
 
-ghost use Rattle.std.specs.Prelude.{IfOk};
+ghost use Rattle.std.specs.Prelude.{◌≤◌, All, IfOk, length};
 ghost use Rattle.its_world.specs.Events.{IsConfig, IsInRange};
 
 mod memory;
@@ -12,9 +12,35 @@ use its_geometry::Area;
 use its_gnvalue::{GnAddress, Lifetime, Place, TrafficClass};
 use its_station::{OwnedGbcRequest, Why};
 use its_vectors::PORT;
-use its_world::{Config, Entry, EntryFault, Event, What};
+use its_world::{Config, Entry, EntryFault, Event, Run, What, World, WorldFault};
 use std::alloc::Global;
 use std::test::Fail;
+
+// The calls of a world stand in functions of their own, which promise nothing: all that the
+// contracts say of a world would else be carried along in the proof of each test.
+
+/// `World::new`.
+fn new_world(alloc: Global, configs: &[Config]) -> Result<World, WorldFault>
+    requires configs { All IsConfig configs.now }
+    requires few { length configs.now ≤ 65535 }
+{
+    World::new(alloc, configs)
+}
+
+/// `World::run`.
+fn run(world: &mut World, events: &[Event]) -> Run
+    requires { All (λ event. IsInRange event.what) events.now }
+{
+    world.run(events)
+}
+
+/// What came of one event, which is run alone.
+fn fate_in(world: &mut World, event: Event) -> Option<Fate>
+    requires { IsInRange event.what }
+{
+    let ran = run(world, &[event]);
+    ran.log.first().map(|entry| fate_of(entry))
+}
 
 /// What came of an event. A packet counts as delivered where it is "hi" for `PORT`, with info 0.
 #[derive(Clone, Copy, Debug, PartialEq, Eq)]

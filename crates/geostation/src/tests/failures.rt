@@ -17,10 +17,12 @@ Usage: geostation <COMMAND>
 Commands:
   show     Prints a line for each record of a capture
   check    Prints a line for each refused record of a capture, and a count
+  stats    Counts the records of a capture by kind, source, port and second
   convert  Writes the records of a capture in the format of another file's name
   import   Makes a capture of lines of a moment and hexadecimal digits
   sim      Runs a scenario and prints a line for each event
   mesh     Runs a scenario over UDP sockets on the loopback
+  replay   Prints what a station would have done with the frames of a capture
   station  Runs one station on JSON lines
   help     Print this message or the help of the given subcommand(s)
 

@@ -1,42 +1,21 @@
 //! Readers and writers that fail.
 
 use super::{BEACON, BEACON_LINE, EMPTY, SHORT, check_of, joined, show_of};
-use its_commands::{check, read_lines, show, write_records};
+use its_commands::{Selection, Showing, check, read_lines, show, write_records};
 use its_linkframe::Record;
 use its_reporting::{OutputFormat, Status};
+use its_test_devices::{Failing, Full};
 use std::alloc::Global;
 use std::io;
-use std::io::{BufReader, Read, Write};
+use std::io::BufReader;
 use std::process::Abort;
 use std::test::Fail;
 
 static CANNOT_WRITE: &[u8] = b"geostation: cannot write a.cap\n";
 
 /// A reader that gives one octet a call, and fails at the call `fails_at`, counted from 1.
-#[derive(Drop)]
-struct Failing<'a> {
-    octets: &'a [u8],
-    fails_at: u64,
-}
-
-impl Read for Failing<'_> {
-    fn read(&mut self, buf: &mut [u8]) -> io::Result<usize> {
-        if self.fails_at <= 1 {
-            return Err(io::Error::from(io::ErrorKind::Other));
-        }
-        self.fails_at -= 1;
-        if buf.is_empty() {
-            return Ok(0);
-        }
-        match self.octets.split_first() {
-            Some((octet, rest)) => {
-                self.octets = rest;
-                buf[0] = *octet;
-                Ok(1)
-            }
-            None => Ok(0),
-        }
-    }
+fn failing(octets: &[u8], fails_at: u64) -> Failing<'_> {
+    Failing::at(octets, fails_at, io::ErrorKind::Other)
 }
 
 #[test]
@@ -46,8 +25,8 @@ fn a_capture_ends_at_the_read_that_fails(rt: HostRuntime) -> Result<(), Fail> {
     for fails_at in 1..62u64 {
         let octets = capture.as_slice();
         let printed = if fails_at == 61 { BEACON_LINE } else { "" };
-        let shown = show_of(alloc, Failing { octets, fails_at });
-        let checked = check_of(alloc, Failing { octets, fails_at });
+        let shown = show_of(alloc, failing(octets, fails_at));
+        let checked = check_of(alloc, failing(octets, fails_at));
         let said = "geostation: cannot read a.cap\n";
         shown.expect(&rt, Status::Failed, printed.as_bytes(), said.as_bytes());
         checked.expect_err(&rt, Status::Failed, said);
@@ -67,7 +46,7 @@ fn an_import_ends_at_the_read_that_fails(rt: HostRuntime) -> Result<(), Fail> {
             "geostation: cannot read a.txt\n"
         };
         let mut err = Vec::new(alloc);
-        let reader = BufReader::new(alloc, Failing { octets, fails_at })?;
+        let reader = BufReader::new(alloc, failing(octets, fails_at))?;
         let read = read_lines(alloc, "a.txt", reader, OutputFormat::default(), &mut err).err();
         let status = if is_read { None } else { Some(Status::Failed) };
         assert_eq!(rt; read, status, "{fails_at}");
@@ -80,54 +59,6 @@ fn an_import_ends_at_the_read_that_fails(rt: HostRuntime) -> Result<(), Fail> {
 fn expect_cut(rt: &impl Abort, status: Status, taken: &[u8], whole: &[u8], room: usize) {
     assert_eq!(rt; status, Status::Failed, "{room}");
     assert_eq!(rt; Some(taken), whole.get(..room));
-}
-
-/// A writer that takes so many octets and then fails, as a pipe that nobody reads any more, or that
-/// fails only at a flush.
-#[derive(Drop)]
-struct Full {
-    taken: Vec<u8>,
-    room: usize,
-    flushes: bool,
-}
-
-impl Full {
-    fn with_room(alloc: Global, room: usize) -> Full {
-        Full {
-            taken: Vec::new(alloc),
-            room,
-            flushes: true,
-        }
-    }
-
-    /// A writer with room for all, whose flush fails.
-    fn that_never_flushes(alloc: Global) -> Full {
-        Full {
-            taken: Vec::new(alloc),
-            room: usize::MAX,
-            flushes: false,
-        }
-    }
-}
-
-impl Write for Full {
-    fn write(&mut self, buf: &[u8]) -> io::Result<usize> {
-        if self.room == 0 && !buf.is_empty() {
-            return Err(io::Error::from(io::ErrorKind::BrokenPipe));
-        }
-        let count = self.room.min(buf.len());
-        self.taken.extend_from_slice(&buf[..count])?;
-        self.room -= count;
-        Ok(count)
-    }
-
-    fn flush(&mut self) -> io::Result<()> {
-        if self.flushes {
-            Ok(())
-        } else {
-            Err(io::Error::from(io::ErrorKind::Other))
-        }
-    }
 }
 
 #[test]
@@ -145,8 +76,9 @@ fn show_ends_at_the_write_that_fails(rt: HostRuntime) -> Result<(), Fail> {
             alloc,
             "a.cap",
             capture.as_slice(),
+            &Selection::all(),
+            Showing::of(OutputFormat::default()),
             None,
-            OutputFormat::default(),
             &mut out,
             &mut err,
         );
@@ -169,7 +101,7 @@ fn check_ends_at_the_write_that_fails(rt: HostRuntime) -> Result<(), Fail> {
             alloc,
             "a.cap",
             capture.as_slice(),
-            None,
+            &Selection::all(),
             OutputFormat::default(),
             &mut out,
             &mut err,
@@ -209,7 +141,7 @@ fn import_ends_at_the_write_that_fails(rt: HostRuntime) -> Result<(), Fail> {
 fn import_ends_at_the_flush_that_fails(rt: HostRuntime) -> Result<(), Fail> {
     let alloc = rt.alloc();
     let (records, whole) = two_records(alloc)?;
-    let (mut out, mut err) = (Full::that_never_flushes(alloc), Vec::new(alloc));
+    let (mut out, mut err) = (Full::after_flushes(alloc, 0), Vec::new(alloc));
     let status = write_records("a.cap", records.as_slice(), &mut out, &mut err);
     expect_cut(&rt, status, &out.taken, &whole, whole.len());
     assert_eq!(rt; err.as_slice(), CANNOT_WRITE);

@@ -1,7 +1,9 @@
 //! Each command with every budget of memory from none to enough.
 
 use super::{BEACON, BEACON_LINE, GBC, GBC_LINE, NOTHING, joined};
-use its_commands::{check, check_file, import_file, read_lines, show, show_file};
+use its_commands::{
+    Selection, Showing, check, check_file, import_file, read_lines, show, show_file,
+};
 use its_reporting::{OutputFormat, Status, create};
 use its_shortage::{MOST, STEP, Shortage, written};
 use std::process::Abort;
@@ -67,8 +69,9 @@ fn shows_short_of_memory(rt: HostRuntime) -> Result<(), Fail> {
             alloc,
             "a.cap",
             capture.as_slice(),
+            &Selection::all(),
+            Showing::of(OutputFormat::default()),
             None,
-            OutputFormat::default(),
             &mut out,
             &mut err,
         );
@@ -95,7 +98,7 @@ fn checks_short_of_memory(rt: HostRuntime) -> Result<(), Fail> {
             alloc,
             "a.cap",
             capture.as_slice(),
-            None,
+            &Selection::all(),
             OutputFormat::default(),
             &mut out,
             &mut err,
@@ -134,7 +137,8 @@ fn imports_short_of_memory(rt: HostRuntime) -> Result<(), Fail> {
     Ok(())
 }
 
-/// The buffer of the file that is read is one of the allocations here.
+/// The buffer of the file that is read is one of the allocations here. With that of the longest
+/// record it takes more than the largest budget, so the last two runs have ample memory.
 #[test]
 fn shows_and_checks_a_file_short_of_memory(rt: HostRuntime) -> Result<(), Fail> {
     let alloc = rt.alloc();
@@ -142,10 +146,15 @@ fn shows_and_checks_a_file_short_of_memory(rt: HostRuntime) -> Result<(), Fail> 
     let made = folder.join(alloc, "geostation-memory.cap")?;
     let capture = hex::decode(alloc, BEACON)?;
     fs::write(&rt, made.as_str(), capture.as_slice())?;
-    let mut shortage = Shortage::new(alloc)?;
+    let mut shortage = Some(Shortage::new(alloc)?);
     let mut budgets = Budgets::new();
-    for step in 0..BUDGETS {
-        assert!(rt; shortage.leave(step * STEP));
+    for step in 0..BUDGETS + 2 {
+        if step == BUDGETS {
+            shortage = None;
+        }
+        if let Some(shortage) = &mut shortage {
+            assert!(rt; shortage.leave(step * STEP));
+        }
         let (mut printed, mut said) = ([0u8; 400], [0u8; 64]);
         let (mut out, mut err) = (printed.as_mut_slice(), said.as_mut_slice());
         let status = match step % 2 {
@@ -153,8 +162,9 @@ fn shows_and_checks_a_file_short_of_memory(rt: HostRuntime) -> Result<(), Fail> 
                 &rt,
                 made.as_str(),
                 NOTHING,
+                &Selection::all(),
+                Showing::of(OutputFormat::default()),
                 None,
-                OutputFormat::default(),
                 &mut out,
                 &mut err,
             ),
@@ -162,7 +172,7 @@ fn shows_and_checks_a_file_short_of_memory(rt: HostRuntime) -> Result<(), Fail> 
                 &rt,
                 made.as_str(),
                 NOTHING,
-                None,
+                &Selection::all(),
                 OutputFormat::default(),
                 &mut out,
                 &mut err,
@@ -231,7 +241,7 @@ fn creates_a_file_short_of_memory(rt: HostRuntime) -> Result<(), Fail> {
         assert!(rt; shortage.leave(step * STEP));
         let mut said = [0u8; 64];
         let mut err = said.as_mut_slice();
-        let created = create(&rt, made.as_str(), &mut err);
+        let created = create(&rt, made.as_str(), OutputFormat::default(), &mut err);
         let status = created.err().unwrap_or(Status::Done);
         budgets.count(&rt, status, &said);
     }

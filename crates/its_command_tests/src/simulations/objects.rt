@@ -7,28 +7,30 @@ use its_shortage::{MOST, STEP, Shortage, written};
 use std::alloc::Global;
 use std::test::Fail;
 
-static OBJECTS: RunOptions = RunOptions {
-    lines: OutputFormat {
-        json: true,
-        explain: false,
-    },
-    summary: false,
-    progress: false,
-    strict: false,
-};
+/// Lines as objects.
+fn objects() -> RunOptions {
+    RunOptions {
+        lines: OutputFormat {
+            json: true,
+            explain: false,
+        },
+        ..RunOptions::default()
+    }
+}
 
 /// The lines of two events that give a frame, in an output with room for less than all.
 #[test]
 fn a_write_that_fails_ends_it(rt: HostRuntime) -> Result<(), Fail> {
     let text = scenario(rt.alloc(), STATIONS, &[OPEN, SEND, DELIVER])?;
-    let whole = simulation_with(rt.alloc(), OBJECTS, text.as_bytes());
+    let whole = simulation_with(rt.alloc(), objects(), text.as_bytes());
     for room in 0..whole.out.len() {
         let mut printed = [0u8; 1200];
         assert!(rt; room <= printed.len(), "{room}");
         let mut err = Vec::new(rt.alloc());
         let mut out = &mut printed[..room];
         let reader = text.as_bytes();
-        let status = its_runs::simulate(rt.alloc(), "a.toml", reader, OBJECTS, &mut out, &mut err);
+        let options = objects();
+        let status = its_runs::simulate(rt.alloc(), "a.toml", reader, options, &mut out, &mut err);
         assert_eq!(rt; status, Status::Failed, "{room}");
         assert!(rt; err.is_empty(), "{room}");
         assert_eq!(rt; &printed[..room], &whole.out.as_slice()[..room], "{room}");
@@ -43,7 +45,7 @@ fn short_of_memory(alloc: Global, text: &str, printed: &mut [u8], said: &mut [u8
         alloc,
         "a.toml",
         text.as_bytes(),
-        OBJECTS,
+        objects(),
         &mut out,
         &mut err,
     )
@@ -55,7 +57,7 @@ fn short_of_memory(alloc: Global, text: &str, printed: &mut [u8], said: &mut [u8
 fn it_runs_short_of_memory(rt: HostRuntime) -> Result<(), Fail> {
     let alloc = rt.alloc();
     let text = scenario(alloc, STATIONS, &[OPEN, SEND, DELIVER])?;
-    let whole = simulation_with(alloc, OBJECTS, text.as_bytes());
+    let whole = simulation_with(alloc, objects(), text.as_bytes());
     let mut shortage = Shortage::new(alloc)?;
     let (mut done, mut refused) = (0u32, 0u32);
     for step in 0..=MOST / STEP {

@@ -2,29 +2,45 @@
 
 use its_faults::{Fault, FaultKind, FrameFault};
 use its_loctable::{LocationStore, OrderedTable, SortedTable};
-use its_station::{Refused, Why};
+use its_station::{Refused, Station, Why};
+use its_test_stations::Fate::Sent;
+use its_test_stations::Row::Call;
+use its_test_stations::Step::SendGeobroadcast;
 use its_test_stations::{
-    DUPLICATE, Fate, circle, deliver, fate_of, receiver, relay_of, request, sender,
+    DUPLICATE, Fate, HI, Row, SENDER, deliver, fate_of, frames_of, receiver, relay_of,
 };
 use its_vectors::LINK;
 use std::alloc::Global;
 use std::process::Abort;
 use std::test::Fail;
 
+static TWO_SENDS: [Row; 2] = [
+    Call(0, 1000, SendGeobroadcast(HI), Sent),
+    Call(0, 1000, SendGeobroadcast(HI), Sent),
+];
+
 /// Two good frames of one source, and the frame in which the second goes on.
-#[derive(Drop)]
-struct Good {
-    first: Vec<u8>,
-    second: Vec<u8>,
-    relay: Vec<u8>,
+fn good_frames<S: LocationStore>(alloc: Global) -> Result<Vec<Vec<u8>>, &'static str> {
+    let mut frames = frames_of::<S>(alloc, &[SENDER], &TWO_SENDS)?;
+    let relay = relay_of(frames.get(1).ok_or("no second frame")?)?;
+    match frames.push(relay) {
+        Ok(()) => Ok(frames),
+        Err(_) => Err("out of memory"),
+    }
 }
 
-fn two_good<S: LocationStore>(alloc: Global) -> Result<Good, Fail> {
-    let request = request(circle()?, b"hi");
-    let mut source = sender::<S>(alloc)?;
-    let first = source.send_geobroadcast(1000, &request)?;
-    let second = source.send_geobroadcast(1000, &request)?;
-    let relay = relay_of(&second)?;
+/// The good frames, by what they are.
+#[derive(Clone, Copy)]
+struct Good<'a> {
+    first: &'a [u8],
+    second: &'a [u8],
+    relay: &'a [u8],
+}
+
+fn good_of<'a>(frames: &'a [Vec<u8>]) -> Result<Good<'a>, &'static str> {
+    let [first, second, relay] = frames else {
+        return Err("not three frames");
+    };
     Ok(Good {
         first,
         second,
@@ -35,35 +51,45 @@ fn two_good<S: LocationStore>(alloc: Global) -> Result<Good, Fail> {
 /// What becomes of a frame after the first good one, and of the second good one after it.
 fn between<S: LocationStore>(
     rt: &impl Abort,
-    alloc: Global,
-    good: &Good,
+    near: &mut Station<S>,
+    good: Good<'_>,
     damaged: &[u8],
-) -> Result<(Fate, Fate), Fail> {
-    let mut near = receiver::<S>(alloc, 449)?;
-    deliver(&mut near, 1010, &good.first);
-    let found = fate_of(&mut near, 1011, damaged);
-    let (second, sent) = deliver(&mut near, 1012, &good.second);
+) -> (Fate, Fate) {
+    deliver(near, 1010, good.first);
+    let found = fate_of(near, 1011, damaged);
+    let (second, sent) = deliver(near, 1012, good.second);
     if let Some(sent) = sent {
-        assert_eq!(rt; sent.as_slice(), good.relay.as_slice());
+        assert_eq!(rt; sent.as_slice(), good.relay);
     }
-    Ok((found, second))
+    (found, second)
+}
+
+/// The fault of a frame that is cut behind so many octets.
+fn cut_at(length: usize) -> Fate {
+    let fault = match length.checked_sub(LINK) {
+        None => FrameFault::Short,
+        Some(at) => FrameFault::Packet(Fault {
+            at,
+            kind: FaultKind::Truncated,
+        }),
+    };
+    Fate::Refused(Refused::Frame(fault))
 }
 
 /// Each cut is refused where it ends, and changes nothing.
-fn cuts<S: LocationStore>(rt: &impl Abort, alloc: Global) -> Result<(), Fail> {
-    let good = two_good::<S>(alloc)?;
+fn cuts<S: LocationStore>(
+    rt: &impl Abort,
+    alloc: Global,
+    good: Good<'_>,
+) -> Result<(), &'static str> {
     for length in 0..76 {
         let cut = good.first.get(..length).ok_or("short")?;
-        let fault = match length.checked_sub(LINK) {
-            None => FrameFault::Short,
-            Some(at) => FrameFault::Packet(Fault {
-                at,
-                kind: FaultKind::Truncated,
-            }),
-        };
-        let (found, second) = between::<S>(rt, alloc, &good, cut)?;
-        assert_eq!(rt; found, Fate::Refused(Refused::Frame(fault)), "{length}");
-        assert_eq!(rt; second, Fate::DeliveredAndRelayed, "{length}");
+        let fates = between(rt, &mut receiver::<S>(alloc, 449)?, good, cut);
+        assert_eq!(rt;
+            fates,
+            (cut_at(length), Fate::DeliveredAndRelayed),
+            "{length}"
+        );
     }
     Ok(())
 }
@@ -78,61 +104,82 @@ struct Counts {
 }
 
 impl Counts {
-    fn count(&mut self, found: Fate) -> Result<(), Fail> {
+    fn count(&mut self, found: Fate) -> Result<(), &'static str> {
         let counter = match found {
             Fate::Refused(Refused::Frame(_)) => &mut self.refused,
             Fate::Ignored(Why::NotForMe) => &mut self.to_others,
             Fate::Ignored(Why::Duplicate) => &mut self.duplicates,
             Fate::DeliveredAndRelayed => &mut self.new,
-            _ => return Err(Fail::from("a frame with one bit turned is answered otherwise")),
+            _ => return Err("a frame with one bit turned is answered otherwise"),
         };
         *counter = counter.saturating_add(1);
         Ok(())
     }
 }
 
+const COUNTS: Counts = Counts {
+    refused: 158,
+    to_others: 48,
+    duplicates: 323,
+    new: 79,
+};
+
+/// What becomes of the first good frame with a bit of an octet turned, and of the second after it.
+fn with_a_bit_turned<S: LocationStore>(
+    rt: &impl Abort,
+    alloc: Global,
+    good: Good<'_>,
+    octet: usize,
+    bit: u32,
+) -> Result<(Fate, Fate), &'static str> {
+    let Ok(mut damaged) = Vec::from_slice(alloc, good.first) else {
+        return Err("out of memory");
+    };
+    *damaged.get_mut(octet).ok_or("short")? ^= 1u8.checked_shl(bit).ok_or("bit")?;
+    Ok(between(rt, &mut receiver::<S>(alloc, 449)?, good, &damaged))
+}
+
 /// Of the 76 octets the 48 bits of the target make a frame for others, and those of the source
 /// change nothing. The 16 of the type and 142 of the packet are refused. New packets are those of
 /// another number (16 bits) or of another address (63, since one makes a group address). The second
 /// good frame is a duplicate only where the damaged one took its number.
-fn bits<S: LocationStore>(rt: &impl Abort, alloc: Global) -> Result<(), Fail> {
-    let good = two_good::<S>(alloc)?;
-    let mut damaged = good.first.clone()?;
+fn bits<S: LocationStore>(
+    rt: &impl Abort,
+    alloc: Global,
+    good: Good<'_>,
+) -> Result<(), &'static str> {
     let mut counts = Counts {
         refused: 0,
         to_others: 0,
         duplicates: 0,
         new: 0,
     };
-    for octet in 0..76 {
-        for bit in 0..8u32 {
-            *damaged.get_mut(octet).ok_or("short")? ^= 1 << bit;
-            let (found, second) = between::<S>(rt, alloc, &good, &damaged)?;
-            *damaged.get_mut(octet).ok_or("short")? ^= 1 << bit;
-            counts.count(found)?;
-            let takes_number = octet == LINK + 13 && bit == 0;
-            let want = if takes_number {
-                DUPLICATE
-            } else {
-                Fate::DeliveredAndRelayed
-            };
-            assert_eq!(rt; second, want, "octet {octet} bit {bit}");
-        }
+    for place in 0..608u32 {
+        let (octet, bit) = ((place / 8) as usize, place % 8);
+        let (found, second) = with_a_bit_turned::<S>(rt, alloc, good, octet, bit)?;
+        counts.count(found)?;
+        let takes_number = octet == LINK + 13 && bit == 0;
+        let want = if takes_number {
+            DUPLICATE
+        } else {
+            Fate::DeliveredAndRelayed
+        };
+        assert_eq!(rt; second, want, "octet {octet} bit {bit}");
     }
-    let want = Counts {
-        refused: 158,
-        to_others: 48,
-        duplicates: 323,
-        new: 79,
-    };
-    assert_eq!(rt; counts, want);
+    assert_eq!(rt; counts, COUNTS);
     Ok(())
+}
+
+fn damage<S: LocationStore>(rt: &impl Abort, alloc: Global) -> Result<(), &'static str> {
+    let frames = good_frames::<S>(alloc)?;
+    let good = good_of(&frames)?;
+    cuts::<S>(rt, alloc, good)?;
+    bits::<S>(rt, alloc, good)
 }
 
 #[test]
 fn damage_over_both_tables(rt: HostRuntime) -> Result<(), Fail> {
-    cuts::<OrderedTable>(&rt, rt.alloc())?;
-    cuts::<SortedTable>(&rt, rt.alloc())?;
-    bits::<OrderedTable>(&rt, rt.alloc())?;
-    bits::<SortedTable>(&rt, rt.alloc())
+    damage::<OrderedTable>(&rt, rt.alloc())?;
+    damage::<SortedTable>(&rt, rt.alloc())?;
+    Ok(())
 }

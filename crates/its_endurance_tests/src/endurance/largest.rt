@@ -2,12 +2,26 @@
 
 use its_loctable::{LocationStore, OrderedTable, SortedTable};
 use its_station::{Outcome, Station};
-use its_test_stations::{circle, receiver, request, sender};
+use its_test_stations::Fate::Sent;
+use its_test_stations::Row::Call;
+use its_test_stations::Step::{SendGeoanycast, SendGeobroadcast};
+use its_test_stations::{Cast, HI, Row, SENDER, frames_of, receiver};
 use std::alloc::Global;
 use std::process::Abort;
 use std::test::Fail;
 
 const LONGEST: [u8; 1394] = [0x5a; 1394];
+
+const LONG: Cast = Cast {
+    payload: &LONGEST,
+    ..HI
+};
+
+/// A geobroadcast and a geoanycast.
+static SENDS: [Row; 2] = [
+    Call(0, 1000, SendGeobroadcast(LONG), Sent),
+    Call(0, 1000, SendGeoanycast(LONG), Sent),
+];
 
 /// The frame is of 1468 octets, and ends with port 2002, info 0 and the payload.
 fn is_longest(rt: &impl Abort, frame: &[u8]) {
@@ -22,30 +36,40 @@ fn delivers<S: LocationStore>(
     rt: &impl Abort,
     near: &mut Station<S>,
     frame: &[u8],
-) -> Result<Option<Vec<u8>>, Fail> {
-    let Outcome::Accepted { handed, sent } = near.receive(1010, frame)? else {
-        return Err("ignored")?;
+) -> Result<Option<Vec<u8>>, &'static str> {
+    let Ok(Outcome::Accepted { handed, sent }) = near.receive(1010, frame) else {
+        return Err("refused or ignored");
     };
-    let handed = handed.ok_or("not delivered")?;
-    assert_eq!(rt; handed.payload, LONGEST.as_slice());
+    let payload = handed.map(|delivery| delivery.payload);
+    assert_eq!(rt; payload, Some(LONGEST.as_slice()));
     Ok(sent)
 }
 
-fn longest<S: LocationStore>(rt: &impl Abort, alloc: Global) -> Result<(), Fail> {
-    let request = request(circle()?, &LONGEST);
-    let (mut first, mut near) = (sender::<S>(alloc)?, receiver::<S>(alloc, 449)?);
-    let broadcast = first.send_geobroadcast(1000, &request)?;
-    let anycast = first.send_geoanycast(1000, &request)?;
-    is_longest(rt, &broadcast);
-    is_longest(rt, &anycast);
-    let relayed = delivers(rt, &mut near, &broadcast)?.ok_or("not relayed")?;
+/// The geobroadcast goes on, the geoanycast doesn't.
+fn delivers_both<S: LocationStore>(
+    rt: &impl Abort,
+    near: &mut Station<S>,
+    frames: &[Vec<u8>],
+) -> Result<(), &'static str> {
+    let [broadcast, anycast] = frames else {
+        return Err("not two frames");
+    };
+    is_longest(rt, broadcast);
+    is_longest(rt, anycast);
+    let relayed = delivers(rt, near, broadcast)?.ok_or("not relayed")?;
     is_longest(rt, &relayed);
-    assert!(rt; delivers(rt, &mut near, &anycast)?.is_none());
+    assert!(rt; delivers(rt, near, anycast)?.is_none());
     Ok(())
+}
+
+fn longest<S: LocationStore>(rt: &impl Abort, alloc: Global) -> Result<(), &'static str> {
+    let frames = frames_of::<S>(alloc, &[SENDER], &SENDS)?;
+    delivers_both(rt, &mut receiver::<S>(alloc, 449)?, &frames)
 }
 
 #[test]
 fn the_longest_payload_over_both_tables(rt: HostRuntime) -> Result<(), Fail> {
     longest::<OrderedTable>(&rt, rt.alloc())?;
-    longest::<SortedTable>(&rt, rt.alloc())
+    longest::<SortedTable>(&rt, rt.alloc())?;
+    Ok(())
 }

@@ -37,8 +37,8 @@ fn left_by(
 #[test]
 fn refusals_count_where_the_mesh_is_strict(rt: HostRuntime) -> Result<(), Fail> {
     let strict = MeshOptions {
-        explain: false,
         strict: true,
+        ..MeshOptions::default()
     };
     let failed = Some((2, Trouble::Failed));
     let cases: [(MeshOptions, &[&str], Option<(u32, Trouble)>, Status); 4] = [

@@ -2,60 +2,13 @@
 
 use super::{BEACON, OPEN, OPENED, config, first};
 use its_pipe::{Ended, run_station};
+use its_test_devices::{Failing, Full};
 use its_vectors::FIRST;
 use std::alloc::{AllocError, Global};
-use std::io::{Read, Write};
 use std::test::Fail;
 use std::{io, str};
 
 static CANNOT_READ: &str = "geostation: cannot read -\n";
-
-/// A reader that gives one octet a call, and fails at the call `fails_at`, counted from 1. Each
-/// other call is interrupted where it is `halting`.
-#[derive(Drop)]
-struct Failing<'a> {
-    octets: &'a [u8],
-    fails_at: u64,
-    kind: io::ErrorKind,
-    halting: bool,
-    halts: bool,
-}
-
-impl<'a> Failing<'a> {
-    fn at(octets: &'a [u8], fails_at: u64, kind: io::ErrorKind) -> Failing<'a> {
-        Failing {
-            octets,
-            fails_at,
-            kind,
-            halting: false,
-            halts: false,
-        }
-    }
-}
-
-impl Read for Failing<'_> {
-    fn read(&mut self, buf: &mut [u8]) -> io::Result<usize> {
-        self.halts = self.halting && !self.halts;
-        if self.halts {
-            return Err(io::Error::from(io::ErrorKind::Interrupted));
-        }
-        if self.fails_at <= 1 {
-            return Err(io::Error::from(self.kind));
-        }
-        self.fails_at -= 1;
-        if buf.is_empty() {
-            return Ok(0);
-        }
-        match self.octets.split_first() {
-            Some((octet, rest)) => {
-                self.octets = rest;
-                buf[0] = *octet;
-                Ok(1)
-            }
-            None => Ok(0),
-        }
-    }
-}
 
 /// The answers of the lines that were whole before the read that fails, and no other: a line that
 /// was cut by it is none.
@@ -93,47 +46,9 @@ fn reads_of_other_kinds(rt: HostRuntime) -> Result<(), Fail> {
     Ok(())
 }
 
-/// A writer that takes so many octets and then fails, as a pipe that nobody reads any more, or that
-/// fails at a flush.
-#[derive(Drop)]
-struct Full {
-    taken: Vec<u8>,
-    room: usize,
-    flushes: u64,
-}
-
-impl Write for Full {
-    fn write(&mut self, buf: &[u8]) -> io::Result<usize> {
-        if self.room == 0 && !buf.is_empty() {
-            return Err(io::Error::from(io::ErrorKind::BrokenPipe));
-        }
-        let count = self.room.min(buf.len());
-        self.taken.extend_from_slice(&buf[..count])?;
-        self.room -= count;
-        Ok(count)
-    }
-
-    fn flush(&mut self) -> io::Result<()> {
-        if self.flushes == 0 {
-            return Err(io::Error::from(io::ErrorKind::Other));
-        }
-        self.flushes -= 1;
-        Ok(())
-    }
-}
-
 /// What is written before the output fails, and the status, beside what is said of it.
-fn run_to_full(
-    alloc: Global,
-    lines: &str,
-    room: usize,
-    flushes: u64,
-) -> Result<(Vec<u8>, Ended, Vec<u8>), Fail> {
-    let mut out = Full {
-        taken: Vec::new(alloc),
-        room,
-        flushes,
-    };
+fn run_to_full(alloc: Global, lines: &str, out: Full) -> Result<(Vec<u8>, Ended, Vec<u8>), Fail> {
+    let mut out = out;
     let mut err = Vec::new(alloc);
     let status = run_station(
         alloc,
@@ -165,7 +80,11 @@ fn each_write_fails_in_turn(rt: HostRuntime) -> Result<(), Fail> {
     let alloc = rt.alloc();
     let (lines, answers) = conversation(alloc)?;
     for room in 0..=answers.len() {
-        let (taken, status, err) = run_to_full(alloc, lines.as_str(), room, 100)?;
+        let (taken, status, err) = run_to_full(
+            alloc,
+            lines.as_str(),
+            Full::with_room(alloc, room),
+        )?;
         assert_eq!(rt; Some(taken.as_slice()), answers.as_bytes().get(..room));
         let want = if room == answers.len() {
             Ended::Refused
@@ -184,7 +103,11 @@ fn each_flush_fails_in_turn(rt: HostRuntime) -> Result<(), Fail> {
     let alloc = rt.alloc();
     let (lines, answers) = conversation(alloc)?;
     for flushes in 0..=3u64 {
-        let (taken, status, err) = run_to_full(alloc, lines.as_str(), usize::MAX, flushes)?;
+        let (taken, status, err) = run_to_full(
+            alloc,
+            lines.as_str(),
+            Full::after_flushes(alloc, flushes),
+        )?;
         let written = str::from_utf8(taken.as_slice())?;
         let want = if flushes == 3 {
             Ended::Refused

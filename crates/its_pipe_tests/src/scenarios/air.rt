@@ -46,7 +46,7 @@ fn keys_of_the_air(rt: HostRuntime) -> Result<(), Fail> {
             whole,
         ),
         (
-            "range = 1\ndelay = 0\nloss = 0\nseed = 0\nbeacons = false\nuntil = 0\nother = 1\n",
+            "range = 1\ndelay = 0\nloss = 0\nseed = 0\nbeacons = false\nuntil = 0\n",
             least,
         ),
     ];

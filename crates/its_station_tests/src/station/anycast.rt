@@ -1,97 +1,86 @@
 //! Geoanycasts, which stop at the first station inside of the area.
 
-use super::expect;
+use super::expect_rows;
 use its_faults::{Fault, FaultKind, FrameFault};
-use its_loctable::{LocationStore, OrderedTable, SortedTable};
 use its_station::Refused;
-use its_test_stations::{
-    BEACON, DUPLICATE, Fate, circle, fate_of, receiver, request, sender, station,
-};
-use its_vectors::{GEOBROADCAST, LINK, SECOND};
-use std::alloc::Global;
-use std::process::Abort;
+use its_test_stations::Fate::{Delivered, DeliveredAndRelayed, Done, Kept, Relayed, Sent};
+use its_test_stations::Known::{Beacon, Geobroadcast};
+use its_test_stations::Row::{AreSame, Call, Frame, Has, Put};
+use its_test_stations::Step::{Receive, Restart, SendGeoanycast, SendGeobroadcast};
+use its_test_stations::{CLOSED, DUPLICATE, FAR, Fate, HI, NEAR, Row, SENDER};
+use its_vectors::LINK;
 use std::test::Fail;
 
 /// The first geoanycast of the first station.
-fn geoanycast<S: LocationStore>(alloc: Global) -> Result<Vec<u8>, Fail> {
-    let request = request(circle()?, b"hi");
-    Ok(sender::<S>(alloc)?.send_geoanycast(1000, &request)?)
-}
+static ONE_OCTET: [Row; 4] = [
+    Call(0, 1000, SendGeoanycast(HI), Sent),
+    Frame(Geobroadcast),
+    Put(1, LINK + 5, 0x30),
+    AreSame(0, 1),
+];
 
 /// It differs from a geobroadcast in its type alone.
-fn one_octet_differs<S: LocationStore>(rt: &impl Abort, alloc: Global) -> Result<(), Fail> {
-    let mut want = hex::decode(alloc, GEOBROADCAST)?;
-    *want.get_mut(LINK + 5).ok_or("short")? = 0x30;
-    assert_eq!(rt; geoanycast::<S>(alloc)?.as_slice(), want.as_slice());
-    Ok(())
+#[test]
+fn one_octet_differs(rt: HostRuntime) -> Result<(), Fail> {
+    expect_rows(&rt, rt.alloc(), &[SENDER], &ONE_OCTET)
 }
+
+static INSIDE: [Row; 5] = [
+    Call(0, 1000, SendGeoanycast(HI), Sent),
+    Call(1, 1010, Receive(0), Delivered),
+    Call(1, 1011, Receive(0), DUPLICATE),
+    Call(2, 1010, Receive(0), Relayed),
+    Call(3, 1010, Receive(0), Kept),
+];
 
 /// Inside it is delivered and doesn't go on, whether the port is open or not; outside it goes on.
-fn stops_inside<S: LocationStore>(rt: &impl Abort, alloc: Global) -> Result<(), Fail> {
-    let frame = geoanycast::<S>(alloc)?;
-    let mut near = receiver::<S>(alloc, 449)?;
-    expect(rt, &mut near, 1010, &frame, Fate::Delivered);
-    expect(rt, &mut near, 1011, &frame, DUPLICATE);
-    let mut far = receiver::<S>(alloc, 100_000)?;
-    expect(rt, &mut far, 1010, &frame, Fate::Relayed);
-    let mut closed = station::<S>(alloc, SECOND, 449, 0)?;
-    expect(rt, &mut closed, 1010, &frame, Fate::Kept);
-    Ok(())
+#[test]
+fn it_stops_inside(rt: HostRuntime) -> Result<(), Fail> {
+    expect_rows(&rt, rt.alloc(), &[SENDER, NEAR, FAR, CLOSED], &INSIDE)
 }
 
-/// The sequence number of a packet for an area is this.
-fn expect_number(rt: &impl Abort, frame: &[u8], want: [u8; 2]) {
-    assert_eq!(rt; frame.get(LINK + 12..LINK + 14), Some(want.as_slice()));
-}
+static ONE_COUNT: [Row; 9] = [
+    Call(0, 1000, SendGeobroadcast(HI), Sent),
+    Call(0, 1000, SendGeoanycast(HI), Sent),
+    Has(0, LINK + 12, &[0, 0]),
+    Has(1, LINK + 12, &[0, 1]),
+    Call(1, 1010, Receive(0), DeliveredAndRelayed),
+    Call(1, 1010, Receive(1), Delivered),
+    Call(0, 1020, Restart(0), Done),
+    // The relay of the first has the number 2.
+    Call(0, 1030, SendGeoanycast(HI), Sent),
+    Call(1, 1040, Receive(3), DUPLICATE),
+];
 
 /// Geobroadcasts and geoanycasts have their numbers of one count, and are checked together.
-fn one_count<S: LocationStore>(rt: &impl Abort, alloc: Global) -> Result<(), Fail> {
-    let request = request(circle()?, b"hi");
-    let (mut first, mut near) = (sender::<S>(alloc)?, receiver::<S>(alloc, 449)?);
-    let geobroadcast = first.send_geobroadcast(1000, &request)?;
-    let geoanycast = first.send_geoanycast(1000, &request)?;
-    expect_number(rt, &geobroadcast, [0, 0]);
-    expect_number(rt, &geoanycast, [0, 1]);
-    expect(
-        rt,
-        &mut near,
-        1010,
-        &geobroadcast,
-        Fate::DeliveredAndRelayed,
-    );
-    expect(rt, &mut near, 1010, &geoanycast, Fate::Delivered);
-
-    first.restart(1020, 0)?;
-    let again = first.send_geoanycast(1030, &request)?;
-    expect(rt, &mut near, 1040, &again, DUPLICATE);
-    Ok(())
+#[test]
+fn one_count(rt: HostRuntime) -> Result<(), Fail> {
+    expect_rows(&rt, rt.alloc(), &[SENDER, NEAR], &ONE_COUNT)
 }
 
-/// What a frame is refused for whose octets 4 and 5 of the packet are these.
-fn with_types<S: LocationStore>(alloc: Global, digits: &str, types: [u8; 2]) -> Result<Fate, Fail> {
-    let mut frame = hex::decode(alloc, digits)?;
-    *frame.get_mut(LINK + 4).ok_or("short")? = types[0];
-    *frame.get_mut(LINK + 5).ok_or("short")? = types[1];
-    Ok(fate_of(&mut receiver::<S>(alloc, 449)?, 1010, &frame))
-}
+const WRONG_SUB_TYPE: Fate = Fate::Refused(Refused::Frame(FrameFault::Packet(Fault {
+    at: 5,
+    kind: FaultKind::SubType,
+})));
 
-fn geoanycasts<S: LocationStore>(rt: &impl Abort, alloc: Global) -> Result<(), Fail> {
-    one_octet_differs::<S>(rt, alloc)?;
-    stops_inside::<S>(rt, alloc)?;
-    one_count::<S>(rt, alloc)?;
-    for (digits, types, kind) in [
-        (GEOBROADCAST, [0x20, 0x33], FaultKind::SubType),
-        (BEACON, [0x00, 0x30], FaultKind::HeaderType),
-    ] {
-        let fault = FrameFault::Packet(Fault { at: 5, kind });
-        let found = with_types::<S>(alloc, digits, types)?;
-        assert_eq!(rt; found, Fate::Refused(Refused::Frame(fault)));
-    }
-    Ok(())
-}
+const WRONG_TYPE: Fate = Fate::Refused(Refused::Frame(FrameFault::Packet(Fault {
+    at: 5,
+    kind: FaultKind::HeaderType,
+})));
+
+/// The types are octets 4 and 5 of the packet.
+static TYPES: [Row; 8] = [
+    Frame(Geobroadcast),
+    Put(0, LINK + 4, 0x20),
+    Put(0, LINK + 5, 0x33),
+    Call(0, 1010, Receive(0), WRONG_SUB_TYPE),
+    Frame(Beacon),
+    Put(1, LINK + 4, 0x00),
+    Put(1, LINK + 5, 0x30),
+    Call(1, 1010, Receive(1), WRONG_TYPE),
+];
 
 #[test]
-fn geoanycasts_over_both_tables(rt: HostRuntime) -> Result<(), Fail> {
-    geoanycasts::<OrderedTable>(&rt, rt.alloc())?;
-    geoanycasts::<SortedTable>(&rt, rt.alloc())
+fn wrong_types(rt: HostRuntime) -> Result<(), Fail> {
+    expect_rows(&rt, rt.alloc(), &[NEAR, NEAR], &TYPES)
 }

@@ -1,77 +1,77 @@
 //! The sequence numbers of a source: how they count, and how many are remembered.
 
-ghost use Rattle.std.specs.Prelude.{◌≤◌};
-
-use super::expect;
-use its_gnvalue::{GnAddress, Place};
-use its_loctable::{LocationStore, OrderedTable, SortedTable};
-use its_station::Station;
-use its_test_stations::{DUPLICATE, Fate, circle, fate_of, receiver, request, sender};
-use its_vectors::{LINK, PORT, SECOND};
-use std::alloc::Global;
+use super::expect_rows;
+use its_test_stations::Fate::{DeliveredAndRelayed, Sent};
+use its_test_stations::Row::{AreSame, Call, Has};
+use its_test_stations::Step::{Receive, SendGeobroadcast};
+use its_test_stations::{DUPLICATE, Fate, HI, NEAR, Row, SENDER, Site};
+use its_vectors::LINK;
+use std::alloc::{AllocError, Global};
 use std::process::Abort;
 use std::test::Fail;
 
-/// What becomes of the first of so many geobroadcasts, at a station that remembers so many numbers,
-/// where it comes again after the last.
-fn first_again<S: LocationStore>(alloc: Global, remember: u8, sends: u64) -> Result<Fate, Fail>
-    requires { (1 ≤ remember) × (remember ≤ 64) }
-{
-    let (address, place) = (GnAddress::from_u64(SECOND)?, Place::new(449, 0)?);
-    let mut near: Station<S> = Station::new(alloc, address, place, 64, remember)?;
-    near.open(0, PORT)?;
-    let (mut first, request) = (sender::<S>(alloc)?, request(circle()?, b"hi"));
-    let frame = first.send_geobroadcast(1000, &request)?;
-    let mut found = fate_of(&mut near, 1010, &frame);
-    for _ in 1..sends {
-        if found != Fate::DeliveredAndRelayed {
-            return Err(Fail::from("a packet that is new wasn't delivered and relayed"));
-        }
-        let next = first.send_geobroadcast(1000, &request)?;
-        found = fate_of(&mut near, 1010, &next);
+/// So many geobroadcasts, each delivered and relayed as it is sent, and then the first again, of
+/// which this becomes. A send gives a frame and then its relay.
+fn first_again(alloc: Global, sends: usize, want: Fate) -> Result<Vec<Row>, AllocError> {
+    let mut rows = Vec::new(alloc);
+    for send in 0..sends {
+        rows.push(Call(0, 1000, SendGeobroadcast(HI), Sent))?;
+        rows.push(Call(
+            1,
+            1010,
+            Receive(send.saturating_mul(2)),
+            DeliveredAndRelayed,
+        ))?;
     }
-    Ok(fate_of(&mut near, 1011, &frame))
+    rows.push(Call(1, 1011, Receive(0), want))?;
+    Ok(rows)
 }
 
-fn remembered<S: LocationStore>(rt: &impl Abort, alloc: Global) -> Result<(), Fail> {
-    let (new, old) = (Fate::DeliveredAndRelayed, DUPLICATE);
-    assert_eq!(rt; first_again::<S>(alloc, 1, 2)?, new);
-    assert_eq!(rt; first_again::<S>(alloc, 2, 2)?, old);
-    assert_eq!(rt; first_again::<S>(alloc, 8, 9)?, new);
-    assert_eq!(rt; first_again::<S>(alloc, 8, 8)?, old);
-    assert_eq!(rt; first_again::<S>(alloc, 64, 65)?, new);
-    assert_eq!(rt; first_again::<S>(alloc, 64, 64)?, old);
-    Ok(())
+/// This becomes of the first of so many geobroadcasts, at a station that remembers so many numbers,
+/// where it comes again after the last.
+fn expect_first_again(
+    rt: &impl Abort,
+    alloc: Global,
+    remember: u8,
+    sends: usize,
+    want: Fate,
+) -> Result<(), Fail> {
+    let near = Site { remember, ..NEAR };
+    let rows = first_again(alloc, sends, want)?;
+    expect_rows(rt, alloc, &[SENDER, near], &rows)
 }
 
 #[test]
-fn remembered_numbers_over_both_tables(rt: HostRuntime) -> Result<(), Fail> {
-    remembered::<OrderedTable>(&rt, rt.alloc())?;
-    remembered::<SortedTable>(&rt, rt.alloc())
+fn remembered_numbers(rt: HostRuntime) -> Result<(), Fail> {
+    for (remember, sends, want) in [
+        (1, 2, DeliveredAndRelayed),
+        (2, 2, DUPLICATE),
+        (8, 9, DeliveredAndRelayed),
+        (8, 8, DUPLICATE),
+        (64, 65, DeliveredAndRelayed),
+        (64, 64, DUPLICATE),
+    ] {
+        expect_first_again(&rt, rt.alloc(), remember, sends, want)?;
+    }
+    Ok(())
 }
+
+/// What is asked of 65537 geobroadcasts.
+static COUNTED: [Row; 4] = [
+    Has(65_535, LINK + 12, &[0xff, 0xff]),
+    AreSame(65_536, 0),
+    Call(1, 1010, Receive(0), DeliveredAndRelayed),
+    Call(1, 1010, Receive(65_536), DUPLICATE),
+];
 
 /// Numbers count up from 0 and begin anew after 65535, so that the last of 65537 geobroadcasts is
 /// the first again.
-fn counted<S: LocationStore>(rt: &impl Abort, alloc: Global) -> Result<(), Fail> {
-    let (mut source, request) = (sender::<S>(alloc)?, request(circle()?, b"hi"));
-    let first = source.send_geobroadcast(1000, &request)?;
-    for _ in 1..65_535 {
-        source.send_geobroadcast(1000, &request)?;
-    }
-    let greatest = source.send_geobroadcast(1000, &request)?;
-    let number = greatest.get(LINK + 12..LINK + 14);
-    assert_eq!(rt; number, Some([0xff, 0xff].as_slice()));
-    let last = source.send_geobroadcast(1000, &request)?;
-    assert_eq!(rt; last.as_slice(), first.as_slice());
-
-    let mut near = receiver::<S>(alloc, 449)?;
-    expect(rt, &mut near, 1010, &first, Fate::DeliveredAndRelayed);
-    expect(rt, &mut near, 1010, &last, DUPLICATE);
-    Ok(())
-}
-
 #[test]
-fn numbers_begin_anew_over_both_tables(rt: HostRuntime) -> Result<(), Fail> {
-    counted::<OrderedTable>(&rt, rt.alloc())?;
-    counted::<SortedTable>(&rt, rt.alloc())
+fn numbers_begin_anew(rt: HostRuntime) -> Result<(), Fail> {
+    let mut rows = Vec::new(rt.alloc());
+    for _ in 0..65_537 {
+        rows.push(Call(0, 1000, SendGeobroadcast(HI), Sent))?;
+    }
+    rows.extend_from_slice(&COUNTED)?;
+    expect_rows(&rt, rt.alloc(), &[SENDER, NEAR], &rows)
 }

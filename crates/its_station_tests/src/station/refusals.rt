@@ -1,15 +1,16 @@
 //! What refuses a call: which refusal comes first, that it changes nothing, and what it prints.
 
-use super::expect;
+use super::expect_rows;
 use its_btp::PortFault;
 use its_faults::{Fault, FaultKind, FrameFault};
-use its_gnvalue::{Place, TrafficClass};
-use its_loctable::{LocationStore, OrderedTable, SortedTable};
-use its_station::{LAST_MOMENT, MAX_PAYLOAD, Refused, ShbRequest, Station};
-use its_test_stations::{Fate, circle, receiver, request, sender, station};
-use its_vectors::{PORT, SECOND};
-use std::alloc::Global;
-use std::process::Abort;
+use its_station::{LAST_MOMENT, MAX_PAYLOAD, Refused};
+use its_test_stations::Fate::{Delivered, Done, Sent};
+use its_test_stations::Row::{Call, HasLength};
+use its_test_stations::Step::{
+    Close, Junk, Move, Open, OpenBelow, Receive, Restart, SendGeoanycast, SendShb, Tick,
+};
+use its_test_stations::{CLOSED, Cast, Fate, HI, NEAR, Row, SENDER, Step};
+use its_vectors::PORT;
 use std::test::Fail;
 
 const OPEN_TWICE: Refused = Refused::Port(PortFault::AlreadyOpen);
@@ -18,136 +19,121 @@ const NO_PORT_LEFT: Refused = Refused::Port(PortFault::Full);
 
 const NOT_OPEN: Refused = Refused::Port(PortFault::NotOpen);
 
-/// A station with 64 open ports, with the clock at 1000.
-fn with_64_ports<S: LocationStore>(alloc: Global) -> Result<Station<S>, Fail> {
-    let mut near = station::<S>(alloc, SECOND, 449, 0)?;
-    for port in 0..64 {
-        near.open(1000, port)?;
-    }
-    Ok(near)
-}
+const EARLY: Fate = Fate::Refused(Refused::MomentEarlier);
+
+const LATE: Fate = Fate::Refused(Refused::MomentTooLate);
+
+const TOO_LONG: Fate = Fate::Refused(Refused::PayloadTooLong);
+
+static PORTS: [Row; 10] = [
+    Call(0, 1000, OpenBelow(64), Done),
+    Call(0, 999, Open(0), EARLY),
+    Call(0, LAST_MOMENT + 1, Open(0), LATE),
+    Call(0, 5000, Open(0), Fate::Refused(OPEN_TWICE)),
+    Call(0, 5000, Open(63), Fate::Refused(OPEN_TWICE)),
+    Call(0, 5000, Open(64), Fate::Refused(NO_PORT_LEFT)),
+    Call(0, 999, Close(64), EARLY),
+    Call(0, LAST_MOMENT + 1, Close(64), LATE),
+    Call(0, 5000, Close(64), Fate::Refused(NOT_OPEN)),
+    Call(0, 1000, Close(0), Done),
+];
 
 /// Moments are checked before ports.
-fn of_ports<S: LocationStore>(rt: &impl Abort, alloc: Global) -> Result<(), Fail> {
-    let mut near = with_64_ports::<S>(alloc)?;
-    for (now, port, want) in [
-        (999, 0, Refused::MomentEarlier),
-        (LAST_MOMENT + 1, 0, Refused::MomentTooLate),
-        (5000, 0, OPEN_TWICE),
-        (5000, 63, OPEN_TWICE),
-        (5000, 64, NO_PORT_LEFT),
-    ] {
-        assert_eq!(rt; near.open(now, port), Err(want), "open {port} at {now}");
-    }
-    for (now, port, want) in [
-        (999, 64, Refused::MomentEarlier),
-        (LAST_MOMENT + 1, 64, Refused::MomentTooLate),
-        (5000, 64, NOT_OPEN),
-    ] {
-        assert_eq!(rt; near.close(now, port), Err(want), "close {port} at {now}");
-    }
-    near.close(1000, 0)?;
-    Ok(())
+#[test]
+fn refused_ports(rt: HostRuntime) -> Result<(), Fail> {
+    expect_rows(&rt, rt.alloc(), &[CLOSED], &PORTS)
 }
 
+static CLOSED_PORTS: [Row; 7] = [
+    Call(0, 1000, OpenBelow(64), Done),
+    Call(0, 1000, Close(0), Done),
+    Call(0, 1000, Close(0), Fate::Refused(NOT_OPEN)),
+    Call(0, 1000, Open(64), Done),
+    Call(0, 1000, Open(0), Fate::Refused(NO_PORT_LEFT)),
+    Call(0, LAST_MOMENT, Close(64), Done),
+    Call(0, LAST_MOMENT - 1, Close(1), EARLY),
+];
+
 /// A port that was closed leaves its place to another, and the last moment is a good one.
-fn of_closed_ports<S: LocationStore>(rt: &impl Abort, alloc: Global) -> Result<(), Fail> {
-    let mut near = with_64_ports::<S>(alloc)?;
-    near.close(1000, 0)?;
-    assert_eq!(rt; near.close(1000, 0), Err(NOT_OPEN));
-    near.open(1000, 64)?;
-    assert_eq!(rt; near.open(1000, 0), Err(NO_PORT_LEFT));
-    near.close(LAST_MOMENT, 64)?;
-    assert_eq!(rt; near.close(LAST_MOMENT - 1, 1), Err(Refused::MomentEarlier));
-    Ok(())
+#[test]
+fn closed_ports(rt: HostRuntime) -> Result<(), Fail> {
+    expect_rows(&rt, rt.alloc(), &[CLOSED], &CLOSED_PORTS)
 }
+
+const LONGEST: [u8; MAX_PAYLOAD] = [0x5a; MAX_PAYLOAD];
+
+const LONGER: [u8; MAX_PAYLOAD + 1] = [0x5a; MAX_PAYLOAD + 1];
+
+static SINGLE_HOPS: [Row; 7] = [
+    Call(0, 1000, Open(PORT), Done),
+    Call(0, 999, SendShb(&LONGER), EARLY),
+    Call(0, LAST_MOMENT + 1, SendShb(&LONGER), LATE),
+    Call(0, 5000, SendShb(&LONGER), TOO_LONG),
+    Call(0, 1000, Tick(0), Sent),
+    Call(0, 1000, SendShb(&LONGEST), Sent),
+    HasLength(1, 1452),
+];
 
 /// Moments are checked before the length of a payload; a refused broadcast sets no clock, and the
 /// beacon stays due.
-fn of_single_hops<S: LocationStore>(rt: &impl Abort, alloc: Global) -> Result<(), Fail> {
-    let octets = [0x5a; MAX_PAYLOAD + 1];
-    let with = |payload| ShbRequest {
-        port: PORT,
-        info: 0,
-        class: TrafficClass::from_octet(0),
-        payload,
-    };
-    let (long, longest) = (with(&octets), with(&octets[..MAX_PAYLOAD]));
-    let mut first = sender::<S>(alloc)?;
-    first.open(1000, PORT)?;
-    for (now, want) in [
-        (999, Refused::MomentEarlier),
-        (LAST_MOMENT + 1, Refused::MomentTooLate),
-        (5000, Refused::PayloadTooLong),
-    ] {
-        assert_eq!(rt; first.send_shb(now, &long).err(), Some(want), "at {now}");
-    }
-    assert!(rt; first.tick(1000, 0)?.is_some());
-    let frame = first.send_shb(1000, &longest)?;
-    assert_eq!(rt; frame.len(), 1452);
-    Ok(())
+#[test]
+fn refused_single_hops(rt: HostRuntime) -> Result<(), Fail> {
+    expect_rows(&rt, rt.alloc(), &[SENDER], &SINGLE_HOPS)
 }
+
+const HOPLESS: Cast = Cast { max_hops: 0, ..HI };
+
+const LONG: Cast = Cast {
+    max_hops: 0,
+    payload: &LONGER,
+    ..HI
+};
+
+static GEOANYCASTS: [Row; 7] = [
+    Call(0, 1000, Open(PORT), Done),
+    Call(0, 999, SendGeoanycast(LONG), EARLY),
+    Call(0, LAST_MOMENT + 1, SendGeoanycast(LONG), LATE),
+    Call(0, 5000, SendGeoanycast(LONG), TOO_LONG),
+    Call(
+        0,
+        5000,
+        SendGeoanycast(HOPLESS),
+        Fate::Refused(Refused::HopLimitZero),
+    ),
+    Call(0, 1000, SendGeoanycast(HI), Sent),
+    Call(1, 1000, Receive(0), Delivered),
+];
 
 /// A geoanycast is refused as a geobroadcast is.
-fn of_geoanycasts<S: LocationStore>(rt: &impl Abort, alloc: Global) -> Result<(), Fail> {
-    let octets = [0x5a; MAX_PAYLOAD + 1];
-    let area = circle()?;
-    let (mut hopless, mut long) = (request(area, b"hi"), request(area, &octets));
-    hopless.max_hops = 0;
-    long.max_hops = 0;
-    let mut first = sender::<S>(alloc)?;
-    first.open(1000, PORT)?;
-    for (anycast, now, want) in [
-        (&long, 999, Refused::MomentEarlier),
-        (&long, LAST_MOMENT + 1, Refused::MomentTooLate),
-        (&long, 5000, Refused::PayloadTooLong),
-        (&hopless, 5000, Refused::HopLimitZero),
-    ] {
-        let refused = first.send_geoanycast(now, anycast).err();
-        assert_eq!(rt; refused, Some(want), "at {now}");
-    }
-    let good = first.send_geoanycast(1000, &request(area, b"hi"))?;
-    expect(
-        rt,
-        &mut receiver::<S>(alloc, 449)?,
-        1000,
-        &good,
-        Fate::Delivered,
-    );
-    Ok(())
+#[test]
+fn refused_geoanycasts(rt: HostRuntime) -> Result<(), Fail> {
+    expect_rows(&rt, rt.alloc(), &[SENDER, NEAR], &GEOANYCASTS)
 }
+
+const MOVE: Step = Move {
+    lat: 0,
+    accurate: true,
+    speed: 1,
+    heading: 1,
+};
+
+static MOMENTS: [Row; 10] = [
+    Call(0, 1000, Open(PORT), Done),
+    Call(0, 999, MOVE, EARLY),
+    Call(0, 999, Restart(9), EARLY),
+    Call(0, 999, Tick(751), EARLY),
+    Call(0, 999, Junk(&[]), EARLY),
+    Call(0, LAST_MOMENT + 1, MOVE, LATE),
+    Call(0, LAST_MOMENT + 1, Restart(9), LATE),
+    Call(0, LAST_MOMENT + 1, Tick(751), LATE),
+    Call(0, LAST_MOMENT + 1, Junk(&[]), LATE),
+    Call(0, 1000, Tick(0), Sent),
+];
 
 /// A move, a restart, a tick and a frame are refused for their moments first.
-fn of_moments<S: LocationStore>(rt: &impl Abort, alloc: Global) -> Result<(), Fail> {
-    let place = Place::new(0, 0)?;
-    let mut first = sender::<S>(alloc)?;
-    first.open(1000, PORT)?;
-    for (now, want) in [
-        (999, Refused::MomentEarlier),
-        (LAST_MOMENT + 1, Refused::MomentTooLate),
-    ] {
-        let moved = first.move_to(now, place, true, 1, 1);
-        assert_eq!(rt; moved, Err(want), "at {now}");
-        assert_eq!(rt; first.restart(now, 9), Err(want), "at {now}");
-        assert_eq!(rt; first.tick(now, 751).err(), Some(want), "at {now}");
-        expect(rt, &mut first, now, &[], Fate::Refused(want));
-    }
-    assert!(rt; first.tick(1000, 0)?.is_some());
-    Ok(())
-}
-
-fn refused_calls<S: LocationStore>(rt: &impl Abort, alloc: Global) -> Result<(), Fail> {
-    of_ports::<S>(rt, alloc)?;
-    of_closed_ports::<S>(rt, alloc)?;
-    of_single_hops::<S>(rt, alloc)?;
-    of_geoanycasts::<S>(rt, alloc)?;
-    of_moments::<S>(rt, alloc)
-}
-
 #[test]
-fn refused_calls_over_both_tables(rt: HostRuntime) -> Result<(), Fail> {
-    refused_calls::<OrderedTable>(&rt, rt.alloc())?;
-    refused_calls::<SortedTable>(&rt, rt.alloc())
+fn refused_moments(rt: HostRuntime) -> Result<(), Fail> {
+    expect_rows(&rt, rt.alloc(), &[SENDER], &MOMENTS)
 }
 
 #[test]

@@ -1,78 +1,89 @@
 //! Stations that begin anew.
 
-use super::expect;
-use its_gnvalue::Place;
-use its_loctable::{LocationStore, OrderedTable, SortedTable};
+use super::expect_rows;
 use its_station::Refused;
-use its_test_stations::{
-    DUPLICATE, Fate, circle, deliver, fate_of, geobroadcast, receiver, request, sender,
-};
+use its_test_stations::Fate::{DeliveredAndRelayed, Done, Relayed, Sent};
+use its_test_stations::Row::Call;
+use its_test_stations::Step::{Move, Open, Receive, Restart, SendGeobroadcast};
+use its_test_stations::{DUPLICATE, FAR, Fate, HI, NEAR, Row, SENDER, Step};
 use its_vectors::PORT;
-use std::alloc::Global;
-use std::process::Abort;
 use std::test::Fail;
 
+/// One station opens its port again, the other doesn't.
+static RECEIVERS: [Row; 8] = [
+    Call(0, 1000, SendGeobroadcast(HI), Sent),
+    Call(1, 1010, Receive(0), DeliveredAndRelayed),
+    Call(1, 1011, Restart(0), Done),
+    Call(1, 1012, Open(PORT), Done),
+    Call(1, 1013, Receive(0), DeliveredAndRelayed),
+    Call(2, 1010, Receive(0), DeliveredAndRelayed),
+    Call(2, 1011, Restart(0), Done),
+    Call(2, 1013, Receive(0), Relayed),
+];
+
 /// What was heard is forgotten and the ports are closed.
-fn of_the_receiver<S: LocationStore>(rt: &impl Abort, alloc: Global) -> Result<(), Fail> {
-    let frame = geobroadcast::<S>(alloc)?;
-    for (open, want) in [(true, Fate::DeliveredAndRelayed), (false, Fate::Relayed)] {
-        let mut near = receiver::<S>(alloc, 449)?;
-        expect(rt, &mut near, 1010, &frame, Fate::DeliveredAndRelayed);
-        near.restart(1011, 0)?;
-        if open {
-            near.open(1012, PORT)?;
-        }
-        expect(rt, &mut near, 1013, &frame, want);
-    }
-    Ok(())
+#[test]
+fn restart_of_the_receiver(rt: HostRuntime) -> Result<(), Fail> {
+    expect_rows(&rt, rt.alloc(), &[SENDER, NEAR, NEAR], &RECEIVERS)
 }
+
+/// To a place inside of the area.
+const MOVE_INSIDE: Step = Move {
+    lat: 449,
+    accurate: false,
+    speed: 0,
+    heading: 0,
+};
+
+static PLACE: [Row; 5] = [
+    Call(0, 1000, SendGeobroadcast(HI), Sent),
+    Call(1, 500, MOVE_INSIDE, Done),
+    Call(1, 1011, Restart(0), Done),
+    Call(1, 1012, Open(PORT), Done),
+    Call(1, 1013, Receive(0), DeliveredAndRelayed),
+];
 
 /// The place stays.
-fn of_the_place<S: LocationStore>(rt: &impl Abort, alloc: Global) -> Result<(), Fail> {
-    let (frame, inside) = (geobroadcast::<S>(alloc)?, Place::new(449, 0)?);
-    let mut moved = receiver::<S>(alloc, 100_000)?;
-    moved.move_to(500, inside, false, 0, 0)?;
-    moved.restart(1011, 0)?;
-    moved.open(1012, PORT)?;
-    expect(rt, &mut moved, 1013, &frame, Fate::DeliveredAndRelayed);
-    Ok(())
+#[test]
+fn restart_keeps_the_place(rt: HostRuntime) -> Result<(), Fail> {
+    expect_rows(&rt, rt.alloc(), &[SENDER, FAR], &PLACE)
 }
 
-/// What becomes of the next geobroadcast of a source that restarted with a sequence number, where
-/// its number 0 came before.
-fn of_the_sender<S: LocationStore>(alloc: Global, number: u16) -> Result<Fate, Fail> {
-    let request = request(circle()?, b"hi");
-    let (mut first, mut near) = (sender::<S>(alloc)?, receiver::<S>(alloc, 449)?);
-    let frame = first.send_geobroadcast(1000, &request)?;
-    deliver(&mut near, 1010, &frame);
-    first.restart(1020, number)?;
-    let frame = first.send_geobroadcast(1030, &request)?;
-    Ok(fate_of(&mut near, 1040, &frame))
+/// The number 0 came before. The relay of the first frame has the number 1.
+static SENDER_FROM_0: [Row; 5] = [
+    Call(0, 1000, SendGeobroadcast(HI), Sent),
+    Call(1, 1010, Receive(0), DeliveredAndRelayed),
+    Call(0, 1020, Restart(0), Done),
+    Call(0, 1030, SendGeobroadcast(HI), Sent),
+    Call(1, 1040, Receive(2), DUPLICATE),
+];
+
+static SENDER_FROM_7: [Row; 5] = [
+    Call(0, 1000, SendGeobroadcast(HI), Sent),
+    Call(1, 1010, Receive(0), DeliveredAndRelayed),
+    Call(0, 1020, Restart(7), Done),
+    Call(0, 1030, SendGeobroadcast(HI), Sent),
+    Call(1, 1040, Receive(2), DeliveredAndRelayed),
+];
+
+/// The next geobroadcast of a source that restarted has the number with which it did.
+#[test]
+fn restart_of_the_sender(rt: HostRuntime) -> Result<(), Fail> {
+    expect_rows(&rt, rt.alloc(), &[SENDER, NEAR], &SENDER_FROM_0)?;
+    expect_rows(&rt, rt.alloc(), &[SENDER, NEAR], &SENDER_FROM_7)
 }
+
+static REFUSED: [Row; 6] = [
+    Call(0, 1000, SendGeobroadcast(HI), Sent),
+    Call(1, 1010, Receive(0), DeliveredAndRelayed),
+    Call(1, 1009, Restart(0), Fate::Refused(Refused::MomentEarlier)),
+    Call(1, 1011, Receive(0), DUPLICATE),
+    Call(0, 1012, SendGeobroadcast(HI), Sent),
+    Call(1, 1012, Receive(2), DeliveredAndRelayed),
+];
 
 /// A restart that is refused forgets nothing and closes no port.
-fn refused<S: LocationStore>(rt: &impl Abort, alloc: Global) -> Result<(), Fail> {
-    let request = request(circle()?, b"hi");
-    let (mut first, mut near) = (sender::<S>(alloc)?, receiver::<S>(alloc, 449)?);
-    let frame = first.send_geobroadcast(1000, &request)?;
-    expect(rt, &mut near, 1010, &frame, Fate::DeliveredAndRelayed);
-    assert_eq!(rt; near.restart(1009, 0), Err(Refused::MomentEarlier));
-    expect(rt, &mut near, 1011, &frame, DUPLICATE);
-    let next = first.send_geobroadcast(1012, &request)?;
-    expect(rt, &mut near, 1012, &next, Fate::DeliveredAndRelayed);
-    Ok(())
-}
-
-fn restarts<S: LocationStore>(rt: &impl Abort, alloc: Global) -> Result<(), Fail> {
-    of_the_receiver::<S>(rt, alloc)?;
-    of_the_place::<S>(rt, alloc)?;
-    assert_eq!(rt; of_the_sender::<S>(alloc, 0)?, DUPLICATE);
-    assert_eq!(rt; of_the_sender::<S>(alloc, 7)?, Fate::DeliveredAndRelayed);
-    refused::<S>(rt, alloc)
-}
-
 #[test]
-fn restarts_over_both_tables(rt: HostRuntime) -> Result<(), Fail> {
-    restarts::<OrderedTable>(&rt, rt.alloc())?;
-    restarts::<SortedTable>(&rt, rt.alloc())
+fn refused_restart(rt: HostRuntime) -> Result<(), Fail> {
+    expect_rows(&rt, rt.alloc(), &[SENDER, NEAR], &REFUSED)
 }

@@ -4,7 +4,7 @@
 ghost use Rattle.std.specs.Prelude.{◌≤◌, All, IfOk, length};
 ghost use Rattle.its_world.specs.Events.{IsConfig, IsInRange};
 
-use super::{Fate, config, deliver, fate_of, open, send};
+use super::{Fate, config, deliver, fate_of, new_world, open, run, send};
 use its_shortage::Shortage;
 use its_vectors::{FIRST, GEOBROADCAST, RELAYED, SECOND};
 use its_world::{Config, Event, Run, World, WorldFault};
@@ -30,6 +30,20 @@ fn small(address: u64, lat: i32) -> Result<Config, Fail>
     Ok(made)
 }
 
+/// The frames at the end.
+#[derive(Drop)]
+struct Frames {
+    sent: Vec<u8>,
+    relayed: Vec<u8>,
+}
+
+fn frames_at_the_end(alloc: Global) -> Result<Frames, Fail> {
+    Ok(Frames {
+        sent: hex::decode(alloc, GEOBROADCAST)?,
+        relayed: hex::decode(alloc, RELAYED)?,
+    })
+}
+
 /// A world that may have stopped short of the last event, and what it told until then.
 #[derive(Drop)]
 struct Begun {
@@ -50,10 +64,10 @@ fn begin(
     requires few { length configs.now ≤ 65535 }
     requires events { All (λ event. IsInRange event.what) events.now }
 {
-    let mut world = World::new(alloc, configs)?;
+    let mut world = new_world(alloc, configs)?;
     let mut shortage = Shortage::new(alloc)?;
     assert!(rt; shortage.leave(octets), "{octets}");
-    let run = world.run(events);
+    let run = run(&mut world, events);
     Ok(Begun { world, run })
 }
 
@@ -71,9 +85,9 @@ fn make_and_begin(
 {
     let mut shortage = Shortage::new(alloc)?;
     assert!(rt; shortage.leave(octets), "{octets}");
-    match World::new(alloc, configs) {
+    match new_world(alloc, configs) {
         Ok(mut world) => {
-            let run = world.run(events);
+            let run = run(&mut world, events);
             Ok(Some(Begun { world, run }))
         }
         Err(fault) => {
@@ -91,23 +105,73 @@ fn has_fates(rt: &impl Abort, run: &Run, from: usize) {
     }
 }
 
-/// With ample memory a world goes on where it stopped, and its log and frames are the whole ones.
-fn goes_on(rt: &impl Abort, begun: Begun, events: &[Event], frames: [&[u8]; 2]) -> Result<(), Fail>
-    requires { All (λ event. IsInRange event.what) events.now }
+/// With ample memory a world goes on where it stopped.
+fn does_the_rest(rt: &impl Abort, world: &mut World, rest: &[Event], done: usize)
+    requires { All (λ event. IsInRange event.what) rest.now }
 {
-    let Begun { mut world, run } = begun;
-    let done = run.done;
-    assert_eq!(rt; run.out_of_memory, done < FATES.len());
-    has_fates(rt, &run, 0);
-    let rest = events.get(done..).ok_or("too many are done")?;
-    let run = world.run(rest);
+    let run = run(world, rest);
     assert!(rt; !run.out_of_memory && run.done == rest.len());
     has_fates(rt, &run, done);
+}
+
+fn has_frames(rt: &impl Abort, world: &World, frames: &Frames) {
     assert_eq!(rt; world.frames(), 2);
-    let [sent, relayed] = frames;
-    assert_eq!(rt; world.frame(0), sent);
-    assert_eq!(rt; world.frame(1), relayed);
+    assert_eq!(rt; world.frame(0), frames.sent.as_slice());
+    assert_eq!(rt; world.frame(1), frames.relayed.as_slice());
+}
+
+/// With ample memory a world goes on where it stopped, and its log and frames are the whole ones.
+fn goes_on(
+    rt: &impl Abort,
+    begun: &mut Begun,
+    events: &[Event],
+    frames: &Frames,
+) -> Result<(), Fail>
+    requires { All (λ event. IsInRange event.what) events.now }
+{
+    let done = begun.run.done;
+    assert_eq!(rt; begun.run.out_of_memory, done < FATES.len());
+    has_fates(rt, &begun.run, 0);
+    let rest = events.get(done..).ok_or("too many are done")?;
+    does_the_rest(rt, &mut begun.world, rest, done);
+    has_frames(rt, &begun.world, frames);
     Ok(())
+}
+
+/// How many events are done with so many octets, after which the world goes on.
+fn done_with(
+    rt: &impl Abort,
+    alloc: Global,
+    events: &[Event],
+    frames: &Frames,
+    octets: usize,
+) -> Result<usize, Fail>
+    requires { All (λ event. IsInRange event.what) events.now }
+{
+    let configs = [config(FIRST, 0, 0)?, config(SECOND, 449, 0)?];
+    let mut begun = begin(rt, alloc, &configs, events, octets)?;
+    let done = begun.run.done;
+    goes_on(rt, &mut begun, events, frames)?;
+    Ok(done)
+}
+
+/// The same of a world that is made with them too; `None` where they were too few to make it.
+fn made_and_done_with(
+    rt: &impl Abort,
+    alloc: Global,
+    events: &[Event],
+    frames: &Frames,
+    octets: usize,
+) -> Result<Option<usize>, Fail>
+    requires { All (λ event. IsInRange event.what) events.now }
+{
+    let configs = [small(FIRST, 0)?, small(SECOND, 449)?];
+    let Some(mut begun) = make_and_begin(rt, alloc, &configs, events, octets)? else {
+        return Ok(None);
+    };
+    let done = begun.run.done;
+    goes_on(rt, &mut begun, events, frames)?;
+    Ok(Some(done))
 }
 
 #[test]
@@ -118,7 +182,7 @@ fn a_world_is_made_short_of_memory(rt: HostRuntime) -> Result<(), Fail> {
     let mut refused = 0;
     for step in 0..BUDGETS {
         assert!(rt; shortage.leave(step * APART), "at step {step}");
-        let Err(fault) = World::new(alloc, &configs) else {
+        let Err(fault) = new_world(alloc, &configs) else {
             break;
         };
         assert_eq!(rt; fault, WorldFault::NoMemory);
@@ -132,17 +196,15 @@ fn a_world_is_made_short_of_memory(rt: HostRuntime) -> Result<(), Fail> {
 #[test]
 fn a_world_runs_short_of_memory(rt: HostRuntime) -> Result<(), Fail> {
     let alloc = rt.alloc();
-    let configs = [config(FIRST, 0, 0)?, config(SECOND, 449, 0)?];
-    let events = [open(1), send(alloc)?, deliver(1, 0)];
-    let sent = hex::decode(alloc, GEOBROADCAST)?;
-    let relayed = hex::decode(alloc, RELAYED)?;
+    let (events, frames) = (
+        [open(1), send(alloc)?, deliver(1, 0)],
+        frames_at_the_end(alloc)?,
+    );
     let mut ends = [0u32; 4];
     for step in 0..BUDGETS {
-        let begun = begin(&rt, alloc, &configs, &events, step * APART)?;
-        let done = begun.run.done;
+        let done = done_with(&rt, alloc, &events, &frames, step * APART)?;
         let end = ends.get_mut(done).ok_or("too many are done")?;
         *end = end.saturating_add(1);
-        goes_on(&rt, begun, &events, [&sent, &relayed])?;
         if done == FATES.len() {
             break;
         }
@@ -156,19 +218,17 @@ fn a_world_runs_short_of_memory(rt: HostRuntime) -> Result<(), Fail> {
 #[test]
 fn a_world_is_made_and_runs_short_of_memory(rt: HostRuntime) -> Result<(), Fail> {
     let alloc = rt.alloc();
-    let configs = [small(FIRST, 0)?, small(SECOND, 449)?];
-    let events = [open(1), send(alloc)?, deliver(1, 0)];
-    let sent = hex::decode(alloc, GEOBROADCAST)?;
-    let relayed = hex::decode(alloc, RELAYED)?;
+    let (events, frames) = (
+        [open(1), send(alloc)?, deliver(1, 0)],
+        frames_at_the_end(alloc)?,
+    );
     let (mut refused, mut is_whole) = (0u32, false);
     for step in 0..BUDGETS {
-        let octets = step * APART;
-        let Some(begun) = make_and_begin(&rt, alloc, &configs, &events, octets)? else {
+        let done = made_and_done_with(&rt, alloc, &events, &frames, step * APART)?;
+        if done.is_none() {
             refused = refused.saturating_add(1);
-            continue;
-        };
-        is_whole = begun.run.done == FATES.len();
-        goes_on(&rt, begun, &events, [&sent, &relayed])?;
+        }
+        is_whole = done == Some(FATES.len());
         if is_whole {
             break;
         }

@@ -2,7 +2,7 @@
 
 ghost use Rattle.std.specs.Prelude.{◌≤◌};
 
-use super::{Fate, config, deliver, fate_of, open, send};
+use super::{Fate, config, deliver, fate_in, new_world, open, run, send};
 use its_station::Why;
 use its_vectors::{FIRST, SECOND};
 use its_world::World;
@@ -16,17 +16,16 @@ fn pair(alloc: Global, remember: u8) -> Result<World, Fail>
 {
     let mut near = config(SECOND, 449, 0)?;
     near.remember = remember;
-    let mut world = World::new(alloc, &[config(FIRST, 0, 0)?, near])?;
-    world.run(&[open(1)]);
+    let mut world = new_world(alloc, &[config(FIRST, 0, 0)?, near])?;
+    run(&mut world, &[open(1)]);
     Ok(world)
 }
 
 /// So many geobroadcasts are sent, one after the other.
 fn send_all(rt: &impl Abort, world: &mut World, alloc: Global, sends: usize) -> Result<(), Fail> {
     for number in 0..sends {
-        let run = world.run(&[send(alloc)?]);
-        let found = run.log.first().map(|entry| fate_of(entry));
-        assert_eq!(rt; found, Some(Fate::Sent(number)));
+        let sent = send(alloc)?;
+        assert_eq!(rt; fate_in(world, sent), Some(Fate::Sent(number)));
     }
     Ok(())
 }
@@ -34,52 +33,56 @@ fn send_all(rt: &impl Abort, world: &mut World, alloc: Global, sends: usize) -> 
 /// Each of them is delivered once, in order, and relayed behind all that were sent.
 fn deliver_all(rt: &impl Abort, world: &mut World, sends: usize) {
     for number in 0..sends {
-        let run = world.run(&[deliver(1, number)]);
-        let found = run.log.first().map(|entry| fate_of(entry));
         let relay = sends.saturating_add(number);
-        assert_eq!(rt; found, Some(Fate::Relayed(relay)));
+        assert_eq!(rt;
+            fate_in(world, deliver(1, number)),
+            Some(Fate::Relayed(relay))
+        );
     }
 }
 
-/// What comes of the first of so many geobroadcasts, delivered again after the last.
-fn first_again(
+/// This comes of the first of so many geobroadcasts, delivered again after the last.
+fn expect_first_again(
     rt: &impl Abort,
     alloc: Global,
     remember: u8,
     sends: usize,
-) -> Result<Option<Fate>, Fail>
+    want: Fate,
+) -> Result<(), Fail>
     requires { (1 ≤ remember) × (remember ≤ 64) }
 {
     let mut world = pair(alloc, remember)?;
     send_all(rt, &mut world, alloc, sends)?;
     deliver_all(rt, &mut world, sends);
-    let run = world.run(&[deliver(1, 0)]);
-    Ok(run.log.first().map(|entry| fate_of(entry)))
+    assert_eq!(rt; fate_in(&mut world, deliver(1, 0)), Some(want));
+    Ok(())
 }
 
 /// It is new where more came since than are remembered, and then relayed as the next frame.
 #[test]
 fn the_first_again(rt: HostRuntime) -> Result<(), Fail> {
-    let old = Some(Fate::Ignored(Why::Duplicate));
-    let new = |frame| Some(Fate::Relayed(frame));
-    assert_eq!(rt; first_again(&rt, rt.alloc(), 1, 2)?, new(4));
-    assert_eq!(rt; first_again(&rt, rt.alloc(), 2, 2)?, old);
-    assert_eq!(rt; first_again(&rt, rt.alloc(), 8, 9)?, new(18));
-    assert_eq!(rt; first_again(&rt, rt.alloc(), 8, 8)?, old);
-    assert_eq!(rt; first_again(&rt, rt.alloc(), 64, 65)?, new(130));
-    assert_eq!(rt; first_again(&rt, rt.alloc(), 64, 64)?, old);
-    Ok(())
+    let old = Fate::Ignored(Why::Duplicate);
+    expect_first_again(&rt, rt.alloc(), 1, 2, Fate::Relayed(4))?;
+    expect_first_again(&rt, rt.alloc(), 2, 2, old)?;
+    expect_first_again(&rt, rt.alloc(), 8, 9, Fate::Relayed(18))?;
+    expect_first_again(&rt, rt.alloc(), 8, 8, old)?;
+    expect_first_again(&rt, rt.alloc(), 64, 65, Fate::Relayed(130))?;
+    expect_first_again(&rt, rt.alloc(), 64, 64, old)
 }
 
-/// The last relay is of the last geobroadcast, whose number is 4095.
+/// The last relay is of the last of 4096 geobroadcasts, whose number is 4095.
+fn expect_last_relay(rt: &impl Abort, world: &World) {
+    assert_eq!(rt; world.frames(), 8192);
+    let last = world.frame(8191);
+    assert_eq!(rt; last.get(6..12), Some([2, 0, 0, 0, 0, 2].as_slice()));
+    assert_eq!(rt; last.get(26..28), Some([0x0f, 0xff].as_slice()));
+}
+
 #[test]
 fn thousands_of_frames(rt: HostRuntime) -> Result<(), Fail> {
     let mut world = pair(rt.alloc(), 8)?;
     send_all(&rt, &mut world, rt.alloc(), 4096)?;
     deliver_all(&rt, &mut world, 4096);
-    assert_eq!(rt; world.frames(), 8192);
-    let last = world.frame(8191);
-    assert_eq!(rt; last.get(6..12), Some([2, 0, 0, 0, 0, 2].as_slice()));
-    assert_eq!(rt; last.get(26..28), Some([0x0f, 0xff].as_slice()));
+    expect_last_relay(&rt, &world);
     Ok(())
 }

@@ -1,9 +1,9 @@
 //! One geobroadcast among three stations, under every schedule of five deliveries.
 
-use super::{Fate, config, deliver, fate_of, open, send};
+use super::{Fate, config, deliver, fate_of, new_world, open, run, send};
 use its_station::Why;
-use its_vectors::{FIRST, GEOBROADCAST, LINK, SECOND, THIRD};
-use its_world::{EntryFault, World};
+use its_vectors::{FIRST, GEOBROADCAST, LINK, SECOND, THIRD, put};
+use its_world::{EntryFault, Run, World};
 use std::alloc::Global;
 use std::process::Abort;
 use std::test::Fail;
@@ -12,12 +12,16 @@ use std::test::Fail;
 /// stations.
 const SCHEDULES: usize = 59_049;
 
-/// A frame of the flood: which station gave it, and how many hops it has left.
+/// A frame of the flood: the end of the link address of the station that gave it, and how many hops
+/// it has left.
 #[derive(Clone, Copy)]
 struct Copied {
-    station: usize,
+    giver: u8,
     hops: u8,
 }
+
+/// The ends of the link addresses of the stations.
+const GIVERS: [u8; 3] = [1, 2, 3];
 
 /// The flood as a rule: each station of the area but the source takes the packet once, from
 /// whichever frame comes first, and passes it on to all.
@@ -30,10 +34,7 @@ struct Flood {
 impl Flood {
     fn new(alloc: Global) -> Result<Flood, Fail> {
         let mut frames = Vec::with_capacity(alloc, 3)?;
-        frames.push(Copied {
-            station: 0,
-            hops: 10,
-        })?;
+        frames.push(Copied { giver: 1, hops: 10 })?;
         Ok(Flood {
             frames,
             took: [false; 3],
@@ -54,7 +55,7 @@ impl Flood {
         *took = true;
         let number = self.frames.len();
         self.frames.push(Copied {
-            station,
+            giver: *GIVERS.get(station).ok_or("no such station")?,
             hops: came.hops.saturating_sub(1),
         })?;
         Ok(Fate::Relayed(number))
@@ -68,62 +69,86 @@ fn begun(rt: &impl Abort, alloc: Global) -> Result<World, Fail> {
         config(SECOND, 449, 0)?,
         config(THIRD, 0, 449)?,
     ];
-    let mut world = World::new(alloc, &configs)?;
-    let run = world.run(&[open(0), open(1), open(2), send(alloc)?]);
-    assert!(rt; !run.out_of_memory);
-    assert_eq!(rt;
-        run.log.last().map(|entry| fate_of(entry)),
-        Some(Fate::Sent(0))
-    );
+    let mut world = new_world(alloc, &configs)?;
+    let events = [open(0), open(1), open(2), send(alloc)?];
+    has_sent(rt, &run(&mut world, &events));
     Ok(world)
+}
+
+fn has_sent(rt: &impl Abort, ran: &Run) {
+    assert!(rt; !ran.out_of_memory);
+    let last = ran.log.last().map(|entry| fate_of(entry));
+    assert_eq!(rt; last, Some(Fate::Sent(0)));
+}
+
+/// The first frame, as this station gives it with so many hops left.
+fn given(alloc: Global, first: &[u8], copied: Copied) -> Result<Vec<u8>, Fail> {
+    let mut frame = Vec::from_slice(alloc, first)?;
+    put(frame.as_mut_slice(), 11, &[copied.giver]);
+    put(frame.as_mut_slice(), LINK + 3, &[copied.hops]);
+    Ok(frame)
 }
 
 /// The frames of the world are those of the flood: the first, but for who sent it on and the hops
 /// that are left.
-fn has_frames(rt: &impl Abort, world: &World, flood: &Flood, first: &[u8]) -> Result<(), Fail> {
+fn has_frames(
+    rt: &impl Abort,
+    alloc: Global,
+    world: &World,
+    flood: &Flood,
+    first: &[u8],
+) -> Result<(), Fail> {
     assert_eq!(rt; first.len(), 76);
-    let count = world.frames();
-    assert_eq!(rt; count, flood.frames.len());
-    for number in 0..count {
-        let copied = flood.frames.get(number).ok_or("no such frame")?;
-        let frame = world.frame(number);
-        assert_eq!(rt; frame.len(), 76);
-        assert_eq!(rt; &frame[..11], &first[..11]);
-        let giver = usize::from(frame[11]);
-        assert_eq!(rt; giver.checked_sub(1), Some(copied.station));
-        assert_eq!(rt; &frame[12..LINK + 3], &first[12..LINK + 3]);
-        assert_eq!(rt; frame[LINK + 3], copied.hops);
-        assert_eq!(rt; &frame[LINK + 4..], &first[LINK + 4..]);
+    assert_eq!(rt; world.frames(), flood.frames.len());
+    for number in 0..world.frames() {
+        let copied = *flood.frames.get(number).ok_or("no such frame")?;
+        let want = given(alloc, first, copied)?;
+        assert_eq!(rt; world.frame(number), want.as_slice());
     }
     Ok(())
 }
 
-/// One schedule: five digits to the base 9, each a station and a frame.
-fn one_schedule(rt: &impl Abort, alloc: Global, schedule: usize, first: &[u8]) -> Result<(), Fail> {
-    let (mut world, mut flood) = (begun(rt, alloc)?, Flood::new(alloc)?);
+/// One delivery comes out as in the flood; whether it was relayed.
+fn one_delivery(
+    rt: &impl Abort,
+    world: &mut World,
+    flood: &mut Flood,
+    station: usize,
+    frame: usize,
+) -> Result<bool, Fail> {
+    let want = flood.deliver(station, frame)?;
+    let ran = run(world, &[deliver(station, frame)]);
+    assert!(rt; !ran.out_of_memory && ran.done == 1);
+    let fate = ran.log.first().map(|entry| fate_of(entry));
+    assert_eq!(rt; fate, Some(want), "{frame} to {station}");
+    Ok(matches!(&want, Fate::Relayed(_)))
+}
+
+/// Five digits to the base 9, each a station and a frame. How often each station delivered.
+fn five_deliveries(
+    rt: &impl Abort,
+    world: &mut World,
+    flood: &mut Flood,
+    schedule: usize,
+) -> Result<[u32; 3], Fail> {
     let mut delivered = [0u32; 3];
     for unit in [1, 9, 81, 729, 6561] {
         let digit = schedule / unit % 9;
-        let (station, frame) = (digit / 3, digit % 3);
-        let run = world.run(&[deliver(station, frame)]);
-        let fate = run.log.first().map(|entry| fate_of(entry));
-        assert!(rt; !run.out_of_memory && run.done == 1, "schedule {schedule}");
-        assert_eq!(rt;
-            fate,
-            Some(flood.deliver(station, frame)?),
-            "schedule {schedule}"
-        );
-        if matches!(&fate, Some(Fate::Relayed(_))) {
-            delivered[station] = delivered[station].saturating_add(1);
+        if one_delivery(rt, world, flood, digit / 3, digit % 3)? {
+            delivered[digit / 3] = delivered[digit / 3].saturating_add(1);
         }
     }
-    assert!(rt; world.frames() <= 3, "schedule {schedule}");
-    let [source, second, third] = delivered;
+    Ok(delivered)
+}
+
+fn one_schedule(rt: &impl Abort, alloc: Global, schedule: usize, first: &[u8]) -> Result<(), Fail> {
+    let (mut world, mut flood) = (begun(rt, alloc)?, Flood::new(alloc)?);
+    let [source, second, third] = five_deliveries(rt, &mut world, &mut flood, schedule)?;
     assert!(rt;
-        source == 0 && second <= 1 && third <= 1,
+        world.frames() <= 3 && source == 0 && second <= 1 && third <= 1,
         "schedule {schedule}"
     );
-    has_frames(rt, &world, &flood, first)
+    has_frames(rt, alloc, &world, &flood, first)
 }
 
 /// At most three frames, at most one delivery to the port of each of the other stations, and none

@@ -12,6 +12,7 @@ use Rattle.std.proofs.Common.{Bool, false, suc}
 use Rattle.its_air.specs.AirTimed.{rules_of}
 use Rattle.its_air.specs.Keeps.{GoesOn}
 use Rattle.its_air.specs.Timetable.{air_opening, air_run}
+use Rattle.its_air.specs.Traffics.{all_traffic}
 use Rattle.its_air.proofs.run.run_air.Goals as goal
 
 pub loop-number-init : goal.loop-number-init
@@ -57,7 +58,7 @@ loop-number-preserved g c =
           let before = c.loop-number.invariant.run took in
           c.in_ok-go_on.ensures.run configs before.0 before.1;
       timed = λ took.
-          let rules = rules_of c.args.air.now (end_of c.args.air.now.until c.args.events.now) in
+          let rules = rules_of c.args.air.now (all_traffic c.args.every.now) (end_of c.args.air.now.until c.args.events.now) in
           let before = c.loop-number.invariant.timed took in
           let a = air_run rules configs before.0
           (air_opening rules configs (map event_of c.args.events.now)) in (
@@ -87,7 +88,7 @@ pub returns-then-not-branch-clause-timed : goal.returns-then-not-branch-clause-t
 returns-then-not-branch-clause-timed g c =
     λ took.
     let configs = map config_of c.args.configs.now in
-    let rules = rules_of c.args.air.now (end_of c.args.air.now.until c.args.events.now) in
+    let rules = rules_of c.args.air.now (all_traffic c.args.every.now) (end_of c.args.air.now.until c.args.events.now) in
     let before = c.loop-number.invariant.timed took in
     let a = air_run rules configs before.0
     (air_opening rules configs (map event_of c.args.events.now)) in

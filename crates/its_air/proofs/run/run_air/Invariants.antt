@@ -10,6 +10,7 @@ use Rattle.its_air.specs.Keeps.{IsTimed}
 use Rattle.its_air.specs.Runs.{IsUnderWay}
 use Rattle.its_air.specs.Standings.{AreStandingsOf}
 use Rattle.its_air.specs.Timetable.{air_opening, air_run}
+use Rattle.its_air.specs.Traffics.{all_traffic}
 use Rattle.its_air.proofs.run.run_air.Given as goal
 
 -- the run is under way, and the events of the file are those that wait
@@ -22,8 +23,8 @@ invariant-loop-number g l =
       run : g.S.EventSink.Took l.fn.sink [] [] → (past : List Event)
           × IsUnderWay (map config_of l.configs) past l.run (g.S.EventSink.Took l.sink);
       timed : g.S.EventSink.Took l.fn.sink [] [] → (steps : ℕ)
-          × IsTimed (rules_of l.air (end_of l.air.until l.events)) (map config_of l.configs)
-          (air_run (rules_of l.air (end_of l.air.until l.events)) (map config_of l.configs) steps
-          (air_opening (rules_of l.air (end_of l.air.until l.events)) (map config_of l.configs)
+          × IsTimed (rules_of l.air (all_traffic l.every) (end_of l.air.until l.events)) (map config_of l.configs)
+          (air_run (rules_of l.air (all_traffic l.every) (end_of l.air.until l.events)) (map config_of l.configs) steps
+          (air_opening (rules_of l.air (all_traffic l.every) (end_of l.air.until l.events)) (map config_of l.configs)
           (map event_of l.events))) l.run (g.S.EventSink.Took l.sink);
     }

@@ -27,7 +27,7 @@ use Rattle.std.proofs.cell.Inside.{one}
 use Rattle.std.proofs.raw_atomic.Walks.{proved_at, leaves}
 use Rattle.its_c.specs.Handles.{handle_owns}
 use Rattle.its_c.proofs.Values.{both}
-use Rattle.its_c.proofs.Helds.{Z, LZ, LooseHandle, ptr_good, both_good, handle_of}
+use Rattle.its_c.proofs.StationPtrs.{Z, LZ, RawHandle, ptr_good, both_good, handle_of}
 use Rattle.its_c.specs.contracts.heap.release as g
 use Rattle.its_c.proofs.heap.release.Met.{met}
 use Rattle.its_c.specs.contracts.heap.geostation_release.{ended, clauses}
@@ -56,7 +56,7 @@ geostation_release_spec 𝓤 𝓛 𝓜 𝓡 wired =
     let a = z.0.3.0 in let p = z.0.3.1.0 in let x = z.1 in
     let h = one (layout Z) z.0.4.0 ((LZ.lawful 𝓛).typed a z.0.4.0 are.0) in
     let v : Val = ptr_val p in let w : Val = both v h.0 in
-    let d : LooseHandle.Denot = record { at = p; alloc = a; value = x } in
+    let d : RawHandle.Denot = record { at = p; alloc = a; value = x } in
     let k = triple_of 𝓛 g.signature (g.spec 𝓛 𝓜.mem 𝓡.returns) in
     let y : k.Ghost = ((κs, qs, tt, (d, tt), (w ∷ [], tt)), tt) in
     qed 𝓛 ((raw (alive 𝓛 ended.signature κs qs) ⊛ ‵ (owns (types_at ended.signature.params κs)

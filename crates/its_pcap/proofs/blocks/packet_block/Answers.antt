@@ -92,5 +92,5 @@ returns-clause-answer g c =
       moment = c.in_ok-moment.moment;
       captured = c.in_ok-captured.captured;
       wire = c.in_ok-wire.wire;
-      is_ethernet = c.in_ok-interface.interface.is_ethernet;
+      layer = c.in_ok-interface.interface.layer;
     })) _))))))))

@@ -66,5 +66,5 @@ returns-clause-answer g c =
       moment = 0;
       captured = c.in_ok-wire.captured;
       wire = c.in_ok-wire.wire;
-      is_ethernet = c.in_ok-interface.interface.is_ethernet;
+      layer = c.in_ok-interface.interface.layer;
     })) _))))))

@@ -2,6 +2,7 @@ use Rattle.std.proofs.Common.{◌≡◌, ℕ, ◌%◌, ◌++◌, ◌∙◌, inl,
 use Rattle.std.proofs.Common.{length, length-append}
 use Rattle.std.proofs.KnownBytes.{Consumes-trans}
 use Rattle.std.proofs.lemmas.Result.{err_from_is_err_and}
+use Rattle.its_pcap.specs.LinkLayers.{layer_of}
 use Rattle.its_pcap.specs.Pcap.{HasWrongHeader, HasOtherLink, HasHeader}
 use Rattle.its_pcap.proofs.Parts.{IfSome-of}
 use Rattle.its_pcap.proofs.PcapHeaders.{HasMark-more, HasVersion-parts, version-behind}
@@ -86,9 +87,8 @@ returns-in_err-fill_whole-3-clause-fault g c =
     ))
     c.in_err-fill_whole-3.ensures.fault)
 
-pub returns-then-word_at-ne-ETHERNET-clause-fault :
-    goal.returns-then-word_at-ne-ETHERNET-clause-fault
-returns-then-word_at-ne-ETHERNET-clause-fault g c =
+pub returns-in-None-clause-fault : goal.returns-in-None-clause-fault
+returns-in-None-clause-fault g c =
     let m = c.in-Some.mark in
     let first = c.fill_whole.new.buf in
     let version = c.fill_whole-2.new.buf in
@@ -115,9 +115,9 @@ returns-then-word_at-ne-ETHERNET-clause-fault g c =
               all,
               length-append ((first ++ version) ++ others) v,
             ),
-            λ is. c.if-word_at-ne-ETHERNET.true
-                (ap (λ (t : ℕ). t % 65536) c.word_at.ensures
-                ∙ sym (link_type-parts m first version others v four two more) ∙ is),
+            ap layer_of (link_type-parts m first version others v four two more
+                ∙ ap (λ (t : ℕ). t % 65536) (sym c.word_at.ensures))
+                ∙ sym c.in-None.ensures,
           )),
       record {
         gone = (first ++ version) ++ others;
@@ -126,8 +126,8 @@ returns-then-word_at-ne-ETHERNET-clause-fault g c =
       },
     )
 
-pub returns-clause-header : goal.returns-clause-header
-returns-clause-header g c =
+pub returns-in-Some-link_layer-clause-header : goal.returns-in-Some-link_layer-clause-header
+returns-in-Some-link_layer-clause-header g c =
     let m = c.in-Some.mark in
     let first = c.fill_whole.new.buf in
     let version = c.fill_whole-2.new.buf in
@@ -140,7 +140,7 @@ returns-clause-header g c =
     let gone = Consumes-trans _ _ _ _ _ (Consumes-trans _ _ _ _ _ c.in_ok-fill_whole.ensures.octets
     c.in_ok-fill_whole-2.ensures.octets) c.in_ok-fill_whole-3.ensures.octets in
     record {
-      is = IfSome-of (HasHeader m) _ _ _ gone
+      is = IfSome-of (HasHeader (record { mark = m; layer = c.in-Some-link_layer.layer })) _ _ _ gone
           (λ v. (
             HasVersion-longer m first version others v four two
                 (sym c.read_u32.ensures ∙ c.in-Some.ensures)
@@ -154,9 +154,9 @@ returns-clause-header g c =
               all,
               length-append ((first ++ version) ++ others) v,
             ),
-            link_type-parts m first version others v four two more
-                ∙ ap (λ (t : ℕ). t % 65536) (sym c.word_at.ensures)
-                ∙ c.if-word_at-ne-ETHERNET.false,
+            ap layer_of (link_type-parts m first version others v four two more
+                ∙ ap (λ (t : ℕ). t % 65536) (sym c.word_at.ensures))
+                ∙ sym c.in-Some-link_layer.ensures,
           ));
       passes = record {
         gone = (first ++ version) ++ others;

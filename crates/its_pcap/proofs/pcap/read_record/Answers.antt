@@ -15,8 +15,8 @@ returns-in_err-fill_whole-clause-fault g c =
     let twelve : length head ≡ 12 = omega arith in
     let gone = Consumes-filled _ _ c.in-Some.n head (omega arith) c.in-Some.ensures.bytes in
     rw (p.1, p.2)
-    (IsRecordFault-cut c.args.mark _ _ _ head 4 _ gone
-    (λ v few. EndsInRecord-head c.args.mark head v c.word_at-captured.result twelve
+    (IsRecordFault-cut c.args.file.mark _ _ _ head 4 _ gone
+    (λ v few. EndsInRecord-head c.args.file.mark head v c.word_at-captured.result twelve
     c.word_at-captured.ensures (omega arith) few)
     c.in_err-fill_whole.ensures.fault)
 
@@ -32,17 +32,17 @@ returns-in_err-read_frame-clause-fault g c =
     (Consumes-filled _ _ c.in-Some.n head (omega arith) c.in-Some.ensures.bytes)
     c.in_ok-fill_whole.ensures.octets in
     rw (p.1, p.2)
-    (IsRecordFault-frame c.args.mark _ _ _ (head ++ wire) c.word_at-captured.result _ gone
+    (IsRecordFault-frame c.args.file.mark _ _ _ (head ++ wire) c.word_at-captured.result _ gone
     (omega (arith, twelve, four, length-append head wire))
-    (λ v. AnnouncesRecord-parts c.args.mark head wire v c.word_at-captured.result twelve
+    (λ v. AnnouncesRecord-parts c.args.file.mark head wire v c.word_at-captured.result twelve
     c.word_at-captured.ensures (omega arith))
-    (λ v few. EndsInRecord-parts c.args.mark head wire v c.word_at-captured.result twelve four
+    (λ v few. EndsInRecord-parts c.args.file.mark head wire v c.word_at-captured.result twelve four
     c.word_at-captured.ensures (omega arith) few)
     c.in_err-read_frame.ensures.fault)
 
 pub returns-clause-step : goal.returns-clause-step
 returns-clause-step g c =
-    let m = c.args.mark in
+    let f = c.args.file in
     let head = c.fill.new.buf in
     let wire = c.fill_whole.new.buf in
     let frame = c.in_ok-read_frame.ensures.frame in
@@ -52,8 +52,8 @@ returns-clause-step g c =
     (Consumes-filled _ _ c.in-Some.n head (omega arith) c.in-Some.ensures.bytes)
     c.in_ok-fill_whole.ensures.octets) frame.passes.consumes in
     record {
-      is = IfSome-of (HasRecord m c.args.keep _ c.read_frame.new.frame.items) _ _ _ gone
-          (λ v. HasRecord-parts m c.args.keep _ c.read_frame.new.frame.items head wire
+      is = IfSome-of (HasRecord f c.args.keep _ c.read_frame.new.frame.items) _ _ _ gone
+          (λ v. HasRecord-parts f c.args.keep _ c.read_frame.new.frame.items head wire
           frame.passes.gone v twelve four frame.passes.size c.word_at-captured.ensures
           (omega arith)
           (rw (c.moment_at.ensures, c.word_at-seconds.ensures, c.word_at-fraction.ensures) refl)

@@ -3,7 +3,8 @@ use Rattle.std.proofs.lemmas.List.{length-map}
 use Rattle.its_world.specs.Events.{config_of, event_of}
 use Rattle.its_air.specs.Draws.{draws_of}
 use Rattle.its_air.specs.Keeps.{Keeps}
-use Rattle.its_air.specs.Timetable.{Timetable, of_file, put_all, put_first_ticks}
+use Rattle.its_air.specs.Timetable.{Timetable, of_file, put_all, put_first_ticks, put_traffic}
+use Rattle.its_air.specs.Traffics.{all_traffic}
 use Rattle.its_air.proofs.Stepping.{keeps_opening}
 use Rattle.its_air.proofs.run.Run.begin.Goals.{then-air, else-air}
 use Rattle.its_air.proofs.run.Run.begin.Goals as goal
@@ -27,5 +28,11 @@ returns-clause-timed c =
       | else-air w ↦ w.ticking-is
           ∙ ap (λ (b : Bool). cond b (length (map config_of configs)) 0) (sym w.if-air.false)
     ]) in
+    let ticked : Keeps c.put_first_ticks.new.queue c.put_first_ticks.new.draws
+    (put_first_ticks (cond air.beacons (length (map config_of configs)) 0) t) =
     subst (λ n. Keeps c.put_first_ticks.new.queue c.put_first_ticks.new.draws (put_first_ticks n t))
-    ticking (c.in_ok-put_first_ticks.ensures.ticks t kept)
+    ticking (c.in_ok-put_first_ticks.ensures.ticks t kept) in
+    subst (λ n. Keeps c.put_traffic.new.queue c.put_traffic.new.draws
+    (put_traffic (all_traffic c.args.every.now) n
+    (put_first_ticks (cond air.beacons (length (map config_of configs)) 0) t))) many
+    (c.in_ok-put_traffic.ensures.sends _ ticked)

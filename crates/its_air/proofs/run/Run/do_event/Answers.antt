@@ -13,19 +13,23 @@ use Rattle.its_air.specs.Keeps.{Keeps}
 use Rattle.its_air.specs.Timetable.{Rules, given, spread_frame}
 use Rattle.its_air.specs.declared.waiting.Queue.{Queue}
 use Rattle.its_air.proofs.Keeping.{answered_last}
+use Rattle.its_air.proofs.Under.{told_on}
 
 pub returns-clause-run : goal.returns-clause-run
 returns-clause-run g c = λ configs events before.
     let e = event_of c.args.event.now in
     let done = c.in_ok-entry.ensures.run configs events before in
     elim c.match-frame.branch [
-      | in-Some+in_ok-spread w ↦ rw w.self-is (
+      | in-Some+in_ok-spread w ↦ rw w.self-is (rw w.sink-is (
           subst (λ (x : WorldState). IsSimulated configs (events ++ e ∷ []) x
-          (g.S.EventSink.Took c.do_event.new.sink))
-          (sym (w.spread.ensures.world ∙ c.follow.ensures.world)) done)
-      | in_default w ↦ rw w.self-is (
+          (g.S.EventSink.Took w.spread.new.sink))
+          (sym (w.spread.ensures.world ∙ c.follow.ensures.world))
+          (told_on configs (events ++ e ∷ []) c.do_event.new.world
+          (g.S.EventSink.Took c.do_event.new.sink) (g.S.EventSink.Took w.spread.new.sink)
+          w.in_ok-spread.ensures.told done)))
+      | in_default w ↦ rw w.self-is (rw w.sink-is (
           subst (λ (x : WorldState). IsSimulated configs (events ++ e ∷ []) x
-          (g.S.EventSink.Took c.do_event.new.sink)) (sym c.follow.ensures.world) done)
+          (g.S.EventSink.Took c.do_event.new.sink)) (sym c.follow.ensures.world) done))
     ]
 
 pub returns-clause-answered : goal.returns-clause-answered
@@ -37,7 +41,7 @@ returns-clause-answered g c = λ configs events before.
     record { answer = a.answer; tells = a.tells; gave = l.0; refused = l.1 }
 
 pub returns-clause-spread : goal.returns-clause-spread
-returns-clause-spread g c = λ configs events t before keeps.
+returns-clause-spread g c = λ configs events t every before keeps.
     let a = c.in_ok-entry.ensures.entry configs events before in
     let e = event_of c.args.event.now in
     let after = world_run (opening configs) (events ++ e ∷ []) in
@@ -45,16 +49,16 @@ returns-clause-spread g c = λ configs events t before keeps.
     a.last in
     let run = c.args.self.now in
     let moved = c.follow.new.self in
-    let rules = rules_of run.air run.queue.until in
+    let rules = rules_of run.air every run.queue.until in
     let stands : RepresentsWorld moved.world after =
     subst (λ (x : WorldState). RepresentsWorld x after) (sym c.follow.ensures.world)
     (c.in_ok-entry.ensures.run configs events before).stands in
     let kept : Keeps moved.queue moved.draws t =
     subst (λ (q : Queue). Keeps q moved.draws t) (sym c.follow.ensures.queue)
     (subst (λ (ws : List ℕ). Keeps run.queue ws t) (sym c.follow.ensures.draws) keeps) in
-    let same : rules_of moved.air moved.queue.until ≡ rules =
-    ap (λ (q : Queue). rules_of moved.air q.until) c.follow.ensures.queue
-    ∙ ap (λ (x : Air). rules_of x run.queue.until) c.follow.ensures.air in
+    let same : rules_of moved.air every moved.queue.until ≡ rules =
+    ap (λ (q : Queue). rules_of moved.air every q.until) c.follow.ensures.queue
+    ∙ ap (λ (x : Air). rules_of x every run.queue.until) c.follow.ensures.air in
     let frame : c.frame.result ≡ given after.log = c.frame.ensures a.answer a.tells ∙ sym l.0 in
     elim c.match-frame.branch [
       | in-Some+in_ok-spread w ↦ rw w.self-is (
@@ -62,7 +66,7 @@ returns-clause-spread g c = λ configs events t before keeps.
           (spread_frame rules e after o t)) (sym w.in-Some.is ∙ frame)
           (subst (λ (r : Rules). Keeps w.spread.new.self.queue w.spread.new.self.draws
           (spread_frame r e after (Some w.in-Some.frame) t)) same
-          (w.in_ok-spread.ensures.spread after t stands kept)))
+          (w.in_ok-spread.ensures.spread after t every stands kept)))
       | in_default w ↦ rw w.self-is (
           subst (λ (o : Option ℕ). Keeps moved.queue moved.draws (spread_frame rules e after o t))
           (sym w.in_default.is ∙ frame) kept)

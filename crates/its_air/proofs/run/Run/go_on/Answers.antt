@@ -2,7 +2,6 @@ use Rattle.std.proofs.Common.{[], ◌∷◌, ◌++◌, ◌∙◌}
 use Rattle.its_world.specs.Events.{event_of}
 use Rattle.its_air.specs.Runs.{IsUnderWay}
 use Rattle.its_air.proofs.Under.{under_file, under_own, under_same}
-use Rattle.its_air.proofs.run.Run.go_on.Goals.{then-is_tick+in_ok-put_next_tick-in-Some-Own, else-is_tick}
 use Rattle.its_air.proofs.run.Run.go_on.Goals as goal
 use Rattle.std.proofs.Common.{◌≡◌, ◌≤◌, ap, sym, subst}
 use Rattle.its_model.specs.World.{Event, opening, world_run}
@@ -10,11 +9,12 @@ use Rattle.its_scenario.specs.declared.air.Air.{Air}
 use Rattle.its_simulation.specs.Simulated.{IsSimulated}
 use Rattle.its_world.specs.State.{WorldState}
 use Rattle.its_air.specs.AirTimed.{rules_of}
-use Rattle.its_air.specs.Keeps.{Keeps}
-use Rattle.its_air.specs.Timetable.{Rules, Timetable, NoneWaits, of_file, of_air, spread}
-use Rattle.its_air.specs.Timetable.{is_tick, is_refusal}
+use Rattle.its_air.specs.Keeps.{Keeps, IsAnswered}
+use Rattle.its_air.specs.Queues.{happening_of}
+use Rattle.its_air.specs.Waits.{put_of}
+use Rattle.its_air.specs.Timetable.{Rules, Timetable, NoneWaits, of_file, spread, is_refusal}
 use Rattle.its_air.proofs.Stepping.{takes_file, takes_own, takes_none, timed_one}
-use Rattle.its_air.proofs.Stepping.{follow_yes, follow_no}
+use Rattle.its_air.proofs.Stepping.{follows}
 
 pub returns-in_ok-do_event-in-Some-OfFile-clause-run :
     goal.returns-in_ok-do_event-in-Some-OfFile-clause-run
@@ -29,10 +29,11 @@ returns-in_ok-do_event-in-Some-OfFile-clause-run g c =
           taken.0 (file.due ∙ c.take.ensures.due) (file.taken ∙ taken.1) under,
     )
 
-pub returns-after-is_tick-clause-run : goal.returns-after-is_tick-clause-run
-returns-after-is_tick-clause-run g c =
+pub returns-in_ok-put_next-in-Some-Own-clause-run :
+    goal.returns-in_ok-put_next-in-Some-Own-clause-run
+returns-in_ok-put_next-in-Some-Own-clause-run g c =
     λ configs events under.
-    let e = event_of c.event-event.result in
+    let e = event_of c.in_ok-event-in-Some-Own.event in
     let taken = rw c.in-Some-Own.field-0-is at c.in-Some-Own.ensures.taken in
     let done = c.do_event-in-Some-Own.new.self in
     let After = g.S.EventSink.Took c.do_event-in-Some-Own.new.sink in
@@ -42,12 +43,8 @@ returns-after-is_tick-clause-run g c =
     (c.in_ok-entry-in-Some-Own.ensures.run configs events)
     (file.due ∙ c.take.ensures.due) (file.taken ∙ taken) under in (
       events ++ e ∷ [],
-      elim c.if-is_tick.branch [
-        | then-is_tick+in_ok-put_next_tick-in-Some-Own w ↦ rw w.self-is (
-            under_same configs (events ++ e ∷ []) done w.put_next_tick.new.self After
-            w.put_next_tick.ensures.world w.put_next_tick.ensures.file own)
-        | else-is_tick w ↦ rw w.self-is own
-      ],
+      under_same configs (events ++ e ∷ []) done c.put_next.new.self After
+          c.put_next.ensures.world c.put_next.ensures.file own,
     )
 
 pub returns-in_ok-do_event-in-Some-OfFile-clause-timed :
@@ -65,19 +62,20 @@ returns-in_ok-do_event-in-Some-OfFile-clause-timed g c = λ rules configs a h.
     let got = takes_file run.queue queue run.draws a.timetable e taken.0 c.take.ensures.due taken.1
     c.take.ensures.until c.take.ensures.put left first h.keeps in
     let last : run.queue.until ≡ rules.until = ap (λ (r : Rules). r.until) h.rules_are in
-    let same : rules_of run.air queue.until ≡ rules =
-    ap (rules_of run.air) c.take.ensures.until ∙ h.rules_are in
+    let every = rules.every in
+    let same : rules_of run.air every queue.until ≡ rules =
+    ap (rules_of run.air every) c.take.ensures.until ∙ h.rules_are in
     let file = c.do_event.ensures.file in
     let done = c.in_ok-do_event-in-Some-OfFile.ensures in
     let t : Timetable = record { waiting = got.0; draws = a.timetable.draws } in
     let after = world_run (opening configs) (a.done ++ ev ∷ []) in
     timed_one rules configs a (of_file ev) got.0 new (g.S.EventSink.Took c.do_event.new.sink) got.1
     (subst (λ n. ev.moment ≤ n) last moment)
-    (ap (λ (x : Air). rules_of x new.queue.until) c.do_event.ensures.air
-    ∙ ap (rules_of run.air) file.until ∙ same)
+    (ap (λ (x : Air). rules_of x every new.queue.until) c.do_event.ensures.air
+    ∙ ap (rules_of run.air every) file.until ∙ same)
     (done.run configs a.done h.told)
     (subst (λ (r : Rules). Keeps new.queue new.draws (spread r ev after t)) same
-    (done.spread configs a.done t h.told got.2))
+    (done.spread configs a.done t every h.told got.2))
 
 pub returns-in-None-clause-timed : goal.returns-in-None-clause-timed
 returns-in-None-clause-timed g c = λ rules configs a h.
@@ -87,20 +85,23 @@ returns-in-None-clause-timed g c = λ rules configs a h.
     none.1 c.take.ensures.until c.take.ensures.put none.2 c.in-None.ensures.late h.keeps in (
       subst (λ n. NoneWaits n a.timetable.waiting) (ap (λ (r : Rules). r.until) h.rules_are) got.0,
       record {
-        rules_are = ap (rules_of run.air) c.take.ensures.until ∙ h.rules_are;
+        rules_are = ap (rules_of run.air rules.every) c.take.ensures.until ∙ h.rules_are;
         told = h.told;
         keeps = got.1;
       },
     )
 
-pub returns-after-is_tick-clause-timed : goal.returns-after-is_tick-clause-timed
-returns-after-is_tick-clause-timed g c = λ rules configs a h.
+pub returns-in_ok-put_next-in-Some-Own-clause-timed :
+    goal.returns-in_ok-put_next-in-Some-Own-clause-timed
+returns-in_ok-put_next-in-Some-Own-clause-timed g c = λ rules configs a h.
     let run = c.args.self.now in
     let new = c.do_event-in-Some-Own.new.self in
+    let last = c.put_next.new.self in
     let queue = c.take.new.self in
     let w = c.in-Some-Own.waiting in
-    let ev = event_of c.event-event.result in
-    let is = c.event-event.ensures.event in
+    let ev = event_of c.in_ok-event-in-Some-Own.event in
+    let is : ev ≡ happening_of w = c.in_ok-event-in-Some-Own.ensures.event in
+    let every = rules.every in
     let taken = rw c.in-Some-Own.field-0-is at c.in-Some-Own.ensures.taken in
     let left = rw c.in-Some-Own.field-0-is at c.in-Some-Own.ensures.left in
     let first = rw c.in-Some-Own.field-0-is at c.in-Some-Own.ensures.first in
@@ -108,45 +109,37 @@ returns-after-is_tick-clause-timed g c = λ rules configs a h.
     let got = takes_own run.queue queue run.draws a.timetable w c.take.ensures.due taken
     c.take.ensures.until c.take.ensures.put left first moment
     (λ e at. rw c.in-Some-Own.field-0-is at (c.in-Some-Own.ensures.file_first e at)) h.keeps in
-    let front : a.timetable.waiting ≡ of_air ev ∷ got.0 =
-    got.1 ∙ ap (λ (x : Event). of_air x ∷ got.0) (sym is) in
-    let last : run.queue.until ≡ rules.until = ap (λ (r : Rules). r.until) h.rules_are in
-    let in_time : ev.moment ≤ rules.until =
-    subst (λ n. ev.moment ≤ n) last
-    (subst (λ n. n ≤ run.queue.until) (sym (ap (λ (x : Event). x.moment) is)) moment) in
-    let same : rules_of run.air queue.until ≡ rules =
-    ap (rules_of run.air) c.take.ensures.until ∙ h.rules_are in
+    let until : run.queue.until ≡ rules.until = ap (λ (r : Rules). r.until) h.rules_are in
+    let in_time : w.moment ≤ rules.until = subst (λ n. w.moment ≤ n) until moment in
+    let same : rules_of run.air every queue.until ≡ rules =
+    ap (rules_of run.air every) c.take.ensures.until ∙ h.rules_are in
     let file = c.do_event-in-Some-Own.ensures.file in
-    let rules_new : rules_of new.air new.queue.until ≡ rules =
-    ap (λ (x : Air). rules_of x new.queue.until) c.do_event-in-Some-Own.ensures.air
-    ∙ ap (rules_of run.air) file.until ∙ same in
+    let rules_new : rules_of last.air every last.queue.until ≡ rules =
+    ap (λ (x : Air). rules_of x every last.queue.until) c.put_next.ensures.air
+    ∙ ap (rules_of new.air every) c.put_next.ensures.file.until
+    ∙ ap (λ (x : Air). rules_of x every new.queue.until) c.do_event-in-Some-Own.ensures.air
+    ∙ ap (rules_of run.air every) file.until ∙ same in
     let done = c.in_ok-entry-in-Some-Own.ensures in
     let t : Timetable = record { waiting = got.0; draws = a.timetable.draws } in
     let After = g.S.EventSink.Took c.do_event-in-Some-Own.new.sink in
-    let after = world_run (opening configs) (a.done ++ ev ∷ []) in
-    let told = done.run configs a.done h.told in
-    let kept : Keeps new.queue new.draws (spread rules ev after t) =
-    subst (λ (r : Rules). Keeps new.queue new.draws (spread r ev after t)) same
-    (done.spread configs a.done t h.told got.2) in
-    let said = done.answered configs a.done h.told in
-    let ticks : is_tick ev.what ≡ c.is_tick.result =
-    ap (λ (x : Event). is_tick x.what) is ∙ sym c.is_tick.ensures in
-    elim c.if-is_tick.branch [
-      | then-is_tick+in_ok-put_next_tick-in-Some-Own v ↦ rw v.self-is (
-          timed_one rules configs a (of_air ev) got.0 v.put_next_tick.new.self After front in_time
-          (ap (λ (x : Air). rules_of x v.put_next_tick.new.self.queue.until)
-          v.put_next_tick.ensures.air
-          ∙ ap (rules_of new.air) v.put_next_tick.ensures.file.until ∙ rules_new)
-          (subst (λ (x : WorldState). IsSimulated configs (a.done ++ ev ∷ []) x After)
-          (sym v.put_next_tick.ensures.world) told)
-          (subst (λ (u : Timetable). Keeps v.put_next_tick.new.self.queue
-          v.put_next_tick.new.self.draws u)
-          (follow_yes ev after (spread rules ev after t) (is_refusal said.answer)
-          (ticks ∙ v.if-is_tick.true) said.refused)
-          (v.in_ok-put_next_tick-in-Some-Own.ensures.tick after (spread rules ev after t)
-          said.answer told.stands said.tells kept)))
-      | else-is_tick v ↦ rw v.self-is (
-          timed_one rules configs a (of_air ev) got.0 new After front in_time rules_new told
-          (subst (λ (u : Timetable). Keeps new.queue new.draws u)
-          (follow_no ev after (spread rules ev after t) (ticks ∙ v.if-is_tick.false)) kept))
-    ]
+    let after = world_run (opening configs) (a.done ++ happening_of w ∷ []) in
+    let told : IsSimulated configs (a.done ++ happening_of w ∷ []) new.world After =
+    subst (λ (x : Event). IsSimulated configs (a.done ++ x ∷ []) new.world After) is
+    (done.run configs a.done h.told) in
+    let kept : Keeps new.queue new.draws (spread rules (happening_of w) after t) =
+    subst (λ (x : Event). Keeps new.queue new.draws
+    (spread rules x (world_run (opening configs) (a.done ++ x ∷ [])) t)) is
+    (subst (λ (r : Rules). Keeps new.queue new.draws
+    (spread r ev (world_run (opening configs) (a.done ++ ev ∷ [])) t)) same
+    (done.spread configs a.done t every h.told got.2)) in
+    let said : IsAnswered c.in_ok-entry-in-Some-Own.entry after =
+    subst (λ (x : Event). IsAnswered c.in_ok-entry-in-Some-Own.entry
+    (world_run (opening configs) (a.done ++ x ∷ []))) is
+    (done.answered configs a.done h.told) in
+    timed_one rules configs a (put_of w) got.0 last After got.1 in_time rules_new
+    (subst (λ (x : WorldState). IsSimulated configs (a.done ++ happening_of w ∷ []) x After)
+    (sym c.put_next.ensures.world) told)
+    (subst (λ (u : Timetable). Keeps last.queue last.draws u)
+    (follows w after (spread rules (happening_of w) after t) (is_refusal said.answer) said.refused)
+    (c.in_ok-put_next-in-Some-Own.ensures.next after (spread rules (happening_of w) after t)
+    said.answer told.stands said.tells kept))

@@ -2,7 +2,7 @@ use Rattle.std.proofs.Common.{◌≡◌, ◌∙◌, ap, sym, subst, Some, None, 
 use Rattle.std.specs.Prelude.{slice_get, OnOk}
 use Rattle.its_model.specs.Station.{StationModel}
 use Rattle.its_world.proofs.Worlds.{get_station}
-use Rattle.its_world.specs.Events.{event_of}
+use Rattle.its_air.specs.Queues.{happening_of}
 use Rattle.its_air.specs.Keeps.{Keeps}
 use Rattle.its_air.specs.Timetable.{Timetable, is_refusal, tick_again, put_tick}
 use Rattle.its_air.proofs.Keeping.{beacon_same, no_model, either, found_some, found_none, tells_refusal, not_refused_is}
@@ -18,7 +18,7 @@ returns-in_default-station-clause-tick c = λ w t answer stands tells h.
     let gone : slice_get w.stations n ≡ None =
     no_model n run.world.stations w.stations stands.stations none in
     subst (λ (s : Option StationModel). Keeps run.queue run.draws
-    (cond (is_refusal answer) t (tick_again (event_of c.args.tick.now) s t))) (sym gone)
+    (cond (is_refusal answer) t (tick_again (happening_of c.args.tick.now) s t))) (sym gone)
     (either (is_refusal answer) run.queue run.draws t h)
 
 pub returns-clause-tick : goal.returns-clause-tick
@@ -38,10 +38,10 @@ returns-clause-tick c = λ w t answer stands tells h.
       | in_default v ↦ not_refused_is c.args.entry.now v.in_default.not-Refused
     ]) in
     let same : put_tick n c.args.tick.now.moment c.beacon_from.result t
-    ≡ cond (is_refusal answer) t (tick_again (event_of c.args.tick.now) (slice_get w.stations n) t) =
+    ≡ cond (is_refusal answer) t (tick_again (happening_of c.args.tick.now) (slice_get w.stations n) t) =
     ap (λ b. put_tick n c.args.tick.now.moment b t) (sym due)
-    ∙ ap (λ (o : Option StationModel). tick_again (event_of c.args.tick.now) o t) (sym s.1)
-    ∙ ap (λ (b : Bool). cond b t (tick_again (event_of c.args.tick.now) (slice_get w.stations n) t))
+    ∙ ap (λ (o : Option StationModel). tick_again (happening_of c.args.tick.now) o t) (sym s.1)
+    ∙ ap (λ (b : Bool). cond b t (tick_again (happening_of c.args.tick.now) (slice_get w.stations n) t))
     (sym not_refused) in
     subst (λ (v : Timetable). OnOk c.put_tick.result (Keeps c.put_tick.new.queue
     c.put_tick.new.draws v)) same (c.put_tick.ensures.tick t h)

@@ -10,7 +10,7 @@ use Rattle.its_air.proofs.Keeping.{hear_same, no_model, found_some, found_none}
 use Rattle.its_air.proofs.run.Run.spread.Goals as goal
 
 pub returns-in_default-clause-spread : goal.returns-in_default-clause-spread
-returns-in_default-clause-spread c = λ w t stands h.
+returns-in_default-clause-spread g c = λ w t every stands h.
     let run = c.args.self.now in
     let n = c.args.event.now.station in
     let none : slice_get run.world.stations n ≡ None =
@@ -22,7 +22,7 @@ returns-in_default-clause-spread c = λ w t stands h.
     (hear_it run.air.range w.stations n s) t)) (sym gone) h
 
 pub returns-clause-spread : goal.returns-clause-spread
-returns-clause-spread c = λ w t stands h.
+returns-clause-spread g c = λ w t every stands h.
     let run = c.args.self.now in
     let n = c.args.event.now.station in
     let st = c.in-Some.giver.now in

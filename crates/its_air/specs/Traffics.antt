@@ -1,0 +1,28 @@
+-- Traffic, in the model.
+use Rattle.std.specs.Prelude.{List, Option, Some, None, map, replicate}
+use Rattle.its_model.specs.Calls.{ShbRequest}
+use Rattle.its_scenario.specs.declared.traffic.Traffic.{Traffic as Told}
+use Rattle.its_air.specs.Timetable.{Traffic}
+use Rattle.its_air.specs.declared.waiting.Own.{Own}
+use Rattle.its_air.specs.declared.waiting.Own.TheVariants as owns
+
+-- what is sent: so many octets 0
+abbrev pub request_of : Told → ShbRequest
+request_of x =
+    record {
+      class = x.class;
+      message = record { port = x.port; info = x.info; payload = replicate x.octets 0 };
+    }
+
+abbrev pub traffic_of : Told → Traffic
+traffic_of x = record { period = x.period; request = request_of x }
+
+-- all that each station sends
+abbrev pub all_traffic : List Told → List Traffic
+all_traffic every = map traffic_of every
+
+-- what an event of the air's own is a send of, if it is one
+abbrev pub traffic_in : Own → Option Traffic
+traffic_in (owns.Tick jitter) = None
+traffic_in (owns.Deliver frame) = None
+traffic_in (owns.Send x) = Some (traffic_of x)

@@ -1,0 +1,55 @@
+//! Which stations of a run are present, as its notes tell.
+
+use its_geometry::contains;
+use its_gnvalue::NoMemory;
+use its_loctable::SortedTable;
+use its_simulation::Note;
+use its_station::{OwnedGbcRequest, Station};
+use std::alloc::Global;
+use std::collections::HashSet;
+
+/// The stations that are absent. A station is present until it leaves, but one that a file of moves
+/// makes until it comes.
+#[derive(Drop)]
+pub struct Presence {
+    absent: HashSet<usize>,
+}
+
+impl Presence {
+    /// All stations are present.
+    pub fn new(alloc: Global) -> Presence {
+        Presence {
+            absent: HashSet::new(alloc),
+        }
+    }
+
+    /// Takes a note of the run.
+    pub fn take(&mut self, note: &Note<'_>) -> Result<(), NoMemory> {
+        match *note {
+            Note::Made { station, .. } | Note::Left { station } => {
+                self.absent.insert(station)?;
+            }
+            Note::Came { station } => {
+                self.absent.remove(&station);
+            }
+            Note::Heard { .. } | Note::Lost { .. } | Note::Absent { .. } => {}
+        }
+        Ok(())
+    }
+
+    /// Whether a packet of this sender is for the station of this number: another one that is
+    /// present and stands in the area, with the port open.
+    pub fn is_for(
+        &self,
+        request: &OwnedGbcRequest,
+        sender: usize,
+        number: usize,
+        station: &Station<SortedTable>,
+    ) -> bool {
+        let within = contains(&request.area, station.vector().place());
+        number != sender
+            && within
+            && station.is_open(request.port)
+            && !self.absent.contains(&number)
+    }
+}

@@ -1,0 +1,261 @@
+//! The walk over the records of a file.
+
+ghost use Rattle.std.specs.Prelude.{◌≡◌, ◌≤◌, IfOk, None};
+ghost use Rattle.its_records.specs.Walks.{walk_status};
+
+use crate::frame::{frame_of, traits_of};
+use crate::refusal::{FileFault, RecordFault};
+use its_choosing::Choice;
+use its_linkframe::{Counted, FrameView, Source};
+use its_pcap::{AnySource, Format, Head, LONGEST_RECORD, RecordSource, SourceFault, Step};
+use its_reporting::{Fault, Status, is_standard};
+use std::alloc::{AllocError, Global};
+use std::io::{Read, Write};
+
+/// Which records of a file a command is over.
+#[derive(Clone, Copy, Debug, PartialEq, Eq)]
+pub struct Selection {
+    /// The format of the file; its first four octets tell it where none is given.
+    pub format: Option<Format>,
+    /// Which records are chosen. The others are as if they weren't there, but that they count in
+    /// the places of those that are.
+    pub choice: Choice,
+    /// How many are chosen at most: then nothing more is read.
+    pub count: Option<u64>,
+}
+
+impl Selection {
+    /// All records of a file.
+    pub fn all() -> Selection
+        ensures { (result.format ≡ None) × (result.count ≡ None) }
+    {
+        Selection {
+            format: None,
+            choice: Choice::all(),
+            count: None,
+        }
+    }
+
+    /// Whether a record is chosen, of which these are all octets: its frame is read apart from them,
+    /// in this room, where it has to be known.
+    pub fn has_record(
+        &self,
+        head: &Head,
+        octets: &[u8],
+        linked: bool,
+        room: &mut Vec<u8>,
+    ) -> Result<bool, AllocError> {
+        if self.choice == Choice::all() {
+            return Ok(true);
+        }
+        room.clear();
+        room.extend_from_slice(&octets[..octets.len().min(LONGEST_RECORD)])?;
+        let frame = frame_of(head, room, linked);
+        Ok(self.has(head.moment, &frame))
+    }
+
+    /// Whether a record of this moment is chosen.
+    fn has(&self, moment: u64, frame: &Result<FrameView<'_>, RecordFault>) -> bool {
+        let traits = match frame {
+            Ok(frame) => Some(traits_of(frame)),
+            Err(_) => None,
+        };
+        self.choice.is_chosen(moment, traits)
+    }
+}
+
+/// Where a record stands in its file.
+#[derive(Clone, Copy, Debug, PartialEq, Eq)]
+pub struct Place {
+    /// How many records stand before it.
+    pub number: u64,
+    /// Its moment, in milliseconds.
+    pub moment: u64,
+    /// The moment of the file's first record.
+    pub first: u64,
+}
+
+impl Place {
+    /// The place behind so many records, of which the first has this moment, if there is one.
+    fn of(number: u64, head: &Head, first: Option<u64>) -> Place {
+        Place {
+            number,
+            moment: head.moment,
+            first: first.unwrap_or(head.moment),
+        }
+    }
+}
+
+/// What became of a record.
+#[derive(Clone, Copy, Debug, PartialEq, Eq)]
+enum Visited {
+    /// It isn't chosen.
+    Passed,
+    /// It has a frame.
+    Frame,
+    /// It is refused.
+    Refused,
+}
+
+/// What a command does with the records of a capture.
+pub trait RecordVisitor {
+    /// Does what there is to do with a record that is chosen, which has this frame, or was refused.
+    /// `NoOutput` where a write failed, `OutOfMemory` where an allocation did.
+    fn visit<'f, W: Write>(
+        &mut self,
+        place: Place,
+        frame: Result<FrameView<'_>, RecordFault>,
+        out: &mut W,
+    ) -> Result<(), Fault<'f>>;
+}
+
+/// What a walk met.
+#[derive(Clone, Copy, Debug, PartialEq, Eq)]
+pub struct Walked {
+    /// How many records were chosen.
+    pub records: u64,
+    /// How many of these are refused.
+    pub refused: u64,
+    /// Why the file wasn't read on, where its octets are at fault.
+    pub fault: Option<FileFault>,
+    /// How many records were read before that.
+    pub read: u64,
+}
+
+impl Walked {
+    /// Nothing yet.
+    fn begin() -> Walked
+        ensures { (result.records ≡ 0) × (result.refused ≡ 0) × (result.read ≡ 0) }
+    {
+        Walked {
+            records: 0,
+            refused: 0,
+            fault: None,
+            read: 0,
+        }
+    }
+
+    /// The exit status of a command that did nothing but this walk.
+    pub fn status(self) -> Status
+        ensures { result ≡ walk_status self }
+    {
+        if self.fault.is_some() || self.refused > 0 {
+            Status::Refused
+        } else {
+            Status::Done
+        }
+    }
+}
+
+/// Opens the file of this name that the reader gives, in this format, or in that which its first
+/// four octets tell. `CannotRead` where a read failed.
+pub fn open_records<'a, R: Read + Drop>(
+    alloc: Global,
+    file: &'a str,
+    format: Option<Format>,
+    reader: R,
+) -> Result<AnySource<Counted<R>>, Fault<'a>> {
+    match AnySource::open(alloc, Counted::new(reader), format, LONGEST_RECORD) {
+        Ok(source) => Ok(source),
+        Err(_) => Err(Fault::CannotRead(file)),
+    }
+}
+
+/// Visits each record of the source that is chosen, in order. All are read into one buffer, which
+/// has room for all that is kept of one. The file has this name; where it is standard input, what
+/// was printed is written out before each read.
+///
+/// `CannotRead` where a read failed, `OutOfMemory` where an allocation did, and what a visit answers.
+pub fn each_record<'a, S: Source + Drop, V: RecordVisitor, W: Write>(
+    alloc: Global,
+    file: &'a str,
+    selection: &Selection,
+    source: &mut AnySource<S>,
+    visitor: &mut V,
+    out: &mut W,
+) -> Result<Walked, Fault<'a>>
+    ensures { IfOk result (λ walked. walked.refused ≤ walked.records) }
+{
+    let mut octets = Vec::with_capacity(alloc, LONGEST_RECORD)?;
+    let linked = source.format() != Format::Capture;
+    let waits = is_standard(file);
+    let ended = walk(selection, waits, source, linked, &mut octets, visitor, out);
+    let (walked, fault) = ended?;
+    match fault {
+        Some(fault) => Ok(Walked {
+            records: walked.records,
+            refused: walked.refused,
+            fault: Some(FileFault::of(fault, file, walked.read, selection.format)?),
+            read: walked.read,
+        }),
+        None => Ok(walked),
+    }
+}
+
+/// Visits each record that is chosen, until as many are as are wanted, or the source ends or has a
+/// fault, which is returned. Where reads may wait, what was printed is written out before each.
+fn walk<'a, S: RecordSource, V: RecordVisitor, W: Write>(
+    selection: &Selection,
+    waits: bool,
+    source: &mut S,
+    linked: bool,
+    octets: &mut Vec<u8>,
+    visitor: &mut V,
+    out: &mut W,
+) -> Result<(Walked, Option<SourceFault>), Fault<'a>>
+    ensures { IfOk result (λ ended. ended.0.refused ≤ ended.0.records) }
+{
+    let mut walked = Walked::begin();
+    let mut first = None;
+    // The range is there so that the walk ends on any source. No file reaches its end: a step has
+    // 11 octets at least, so that many are over 2^67 octets.
+    for step in 0..u64::MAX {
+        if selection.count == Some(walked.records) {
+            return Ok((walked, None));
+        }
+        if waits {
+            out.flush()?;
+        }
+        match source.next_into(octets) {
+            Ok(Step::Record(head)) => {
+                let place = Place::of(walked.read, &head, first);
+                first = Some(place.first);
+                walked.read += 1;
+                match visit(selection, place, &head, octets, linked, visitor, out)? {
+                    Visited::Passed => {}
+                    Visited::Frame => walked.records += 1,
+                    Visited::Refused => {
+                        walked.records += 1;
+                        walked.refused += 1;
+                    }
+                }
+            }
+            Ok(Step::Passed) => {}
+            Ok(Step::End) => return Ok((walked, None)),
+            Err(fault) => return Ok((walked, Some(fault))),
+        }
+    }
+    Ok((walked, None))
+}
+
+/// Visits a record, if it is chosen.
+fn visit<'a, V: RecordVisitor, W: Write>(
+    selection: &Selection,
+    place: Place,
+    head: &Head,
+    octets: &mut Vec<u8>,
+    linked: bool,
+    visitor: &mut V,
+    out: &mut W,
+) -> Result<Visited, Fault<'a>> {
+    let frame = frame_of(head, octets, linked);
+    if !selection.has(head.moment, &frame) {
+        return Ok(Visited::Passed);
+    }
+    let visited = match &frame {
+        Ok(_) => Visited::Frame,
+        Err(_) => Visited::Refused,
+    };
+    visitor.visit(place, frame, out)?;
+    Ok(visited)
+}

@@ -1,0 +1,34 @@
+use Rattle.std.proofs.Common.{◌≤◌, ◌+◌, ◌∙◌, ap, sym, subst}
+use Rattle.its_replay.specs.declared.replaying.Replayed.{Replayed}
+use Rattle.its_replay.proofs.Records.{chosen_grows, fault_stays, read_grows, replayed_then}
+use Rattle.its_replay.proofs.replaying.replay_records.Goals as goal
+
+pub returns-then-is_end : goal.returns-then-is_end
+returns-then-is_end g c = λ s rep took.
+    let before = c.loop-step.invariant.received s rep took in
+    replayed_then {S = g.row.S.Denot} g.S.RecordSource.GivesStep c.args.selection.now.choice
+    c.args.linked c.args.source.now s c.loop-step.source c.go_on.new.source c.loop-step.station
+    c.go_on.new.station c.loop-step.replayed c.in_ok-met.met c.after-replayed.result
+    (g.K.HeardSink.Took c.loop-step.sink) (g.K.HeardSink.Took c.go_on.new.sink) before
+    c.after-replayed.ensures c.loop-step.invariant.good
+    (c.in_ok-met.ensures before.end before.told before.stands before.took)
+
+pub loop-step-preserved : goal.loop-step-preserved
+loop-step-preserved g c = record {
+  read = subst (λ (r : Replayed). r.read ≤ c.loop-step.step + 1) (sym c.after-replayed.ensures)
+      (read_grows c.loop-step.replayed c.in_ok-met.met c.loop-step.step c.loop-step.invariant.read);
+  chosen = subst (λ (r : Replayed). r.chosen ≤ r.read) (sym c.after-replayed.ensures)
+      (chosen_grows c.loop-step.replayed c.in_ok-met.met c.loop-step.invariant.chosen);
+  good = ap (λ (r : Replayed). r.fault) c.after-replayed.ensures
+      ∙ fault_stays c.loop-step.replayed c.in_ok-met.met c.loop-step.invariant.good
+      (sym c.is_end.ensures ∙ c.if-is_end.false);
+  received = λ s rep took.
+      let before = c.loop-step.invariant.received s rep took in
+      replayed_then {S = g.row.S.Denot} g.S.RecordSource.GivesStep c.args.selection.now.choice
+      c.args.linked c.args.source.now s c.loop-step.source c.go_on.new.source
+      c.loop-step.station c.go_on.new.station c.loop-step.replayed c.in_ok-met.met
+      c.after-replayed.result (g.K.HeardSink.Took c.loop-step.sink)
+      (g.K.HeardSink.Took c.go_on.new.sink) before c.after-replayed.ensures
+      c.loop-step.invariant.good
+      (c.in_ok-met.ensures before.end before.told before.stands before.took);
+}

@@ -1,0 +1,55 @@
+-- What of a record was on the air.
+use Rattle.std.specs.Prelude.{◌≡◌, ℕ, Bool, true, false, List, Option, Some, None, Vec}
+use Rattle.its_linkframe.specs.Padding.{IsUnpadded}
+use Rattle.its_pcap.specs.LinkLayers.{IsFrameIn, IsLinkFault}
+use Rattle.its_pcap.specs.Records.{fault_of}
+use Rattle.its_pcap.specs.declared.link.LinkLayer.{LinkLayer}
+use Rattle.its_pcap.specs.declared.link.LinkLayer.TheVariants as layers
+use Rattle.its_pcap.specs.declared.record.Head.{Head}
+use Rattle.its_records.specs.declared.refusal.RecordFault.{RecordFault}
+use Rattle.its_records.specs.declared.refusal.RecordFault.TheVariants as faults
+use Rattle.its_replay.specs.declared.on_air.OnAir.{OnAir}
+use Rattle.its_replay.specs.declared.on_air.OnAir.TheVariants as airs
+
+-- the frame without what Ethernet, alone of the link layers, fills short ones up with
+abbrev pub IsUnfilled : LinkLayer → List ℕ → List ℕ → Type 0
+IsUnfilled layers.Ethernet frame octets = IsUnpadded frame octets
+IsUnfilled layers.Ieee80211 frame octets = octets ≡ frame
+IsUnfilled layers.Radiotap frame octets = octets ≡ frame
+
+-- the octets that a station hears of a record of this link layer
+abbrev pub IsFrameOf : LinkLayer → List ℕ → List ℕ → Type 0
+IsFrameOf layer w octets = (frame : List ℕ) × IsFrameIn layer w frame × IsUnfilled layer frame octets
+
+-- the same of a record with the header of its link layer, and of one that is a frame
+abbrev pub AreHeard : Bool → Option LinkLayer → List ℕ → List ℕ → Type 0
+AreHeard false layer w octets = octets ≡ w
+AreHeard true None w octets = ⊥
+AreHeard true (Some layer) w octets = IsFrameOf layer w octets
+
+-- why a record of this link layer has no frame: the first rule of the layer that doesn't hold
+abbrev pub IsLayerFault : Bool → Option LinkLayer → List ℕ → RecordFault → Type 0
+IsLayerFault true (Some layer) w (faults.Link fault) = IsLinkFault layer w fault
+IsLayerFault linked layer w fault = ⊥
+
+-- The station hears these octets of the record.
+pub record HasOctets (linked : Bool) (head : Head) (w octets : List ℕ) : Type 0 where
+  pub whole : fault_of head ≡ None
+  pub heard : AreHeard linked head.layer w octets
+
+-- It hears nothing: the record isn't of a link layer that is read, or was cut, or has no frame.
+abbrev pub HasNothing : Bool → Head → List ℕ → RecordFault → Type 0
+HasNothing linked head w (faults.Record fault) = fault_of head ≡ Some fault
+HasNothing linked head w fault = (fault_of head ≡ None) × IsLayerFault linked head.layer w fault
+
+-- what there is of a record to hear
+abbrev pub IsOnAir : Bool → Head → List ℕ → OnAir → Type 0
+IsOnAir linked head w (airs.Octets octets) = HasOctets linked head w octets.items
+IsOnAir linked head w (airs.Nothing fault) = HasNothing linked head w fault
+
+-- ---- words of private functions
+
+-- the same of a record of this link layer that wasn't cut
+abbrev pub IsOnLayer : LinkLayer → List ℕ → OnAir → Type 0
+IsOnLayer layer w (airs.Octets octets) = IsFrameOf layer w octets.items
+IsOnLayer layer w (airs.Nothing fault) = IsLayerFault true (Some layer) w fault

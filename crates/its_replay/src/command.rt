@@ -1,0 +1,102 @@
+//! The command `replay` over a reader and writers.
+
+ghost use Rattle.std.specs.Prelude.{IfOk};
+ghost use Rattle.its_reporting.specs.Statuses.{IsCommandStatus};
+ghost use Rattle.its_replay.specs.Units.{IsUnit};
+
+use crate::printing::Printer;
+use crate::relayed::RelayFile;
+use crate::replaying::replay_records;
+use crate::unit::Unit;
+use its_pcap::Format;
+use its_records::{FileFault, RefusedCapture, Selection, open_records};
+use its_reporting::{Fault, OutputFormat, Status, is_standard, status_of};
+use std::alloc::Global;
+use std::io::{Read, Write};
+
+/// What is replayed, and to which station.
+#[derive(Clone, Copy, Debug, PartialEq, Eq)]
+pub struct ReplayOptions<'a> {
+    /// The name of the capture.
+    pub file: &'a str,
+    /// Which of its records are received.
+    pub selection: Selection,
+    /// The station.
+    pub unit: Unit,
+    /// How lines are printed.
+    pub lines: OutputFormat,
+}
+
+/// Gives the chosen records of the file that the reader gives to the station, each at its moment,
+/// and prints a line of each. Frames that the station passes on are numbered, and written to the
+/// writer, where there is one: a file of this name and format.
+///
+/// `Refused` where the file was refused or a frame had no place in the one that is written;
+/// `Failed` where a read or a write failed or memory ran out.
+pub fn replay<'a, R: Read + Drop, F: Write + Drop, W: Write, E: Write>(
+    alloc: Global,
+    replay: &ReplayOptions<'a>,
+    reader: R,
+    frames: Option<(F, &'a str, Format)>,
+    out: &mut W,
+    err: &mut E,
+) -> Status
+    requires { IsUnit replay.now.unit }
+    ensures { IsCommandStatus result }
+{
+    let ended = match frames {
+        Some((writer, target, format)) => match RelayFile::start(writer, target, format) {
+            Ok(file) => replay_into(alloc, replay, reader, Some(file), out, err),
+            Err(fault) => Err(fault),
+        },
+        None => {
+            let none: Option<RelayFile<'a, F>> = None;
+            replay_into(alloc, replay, reader, none, out, err)
+        }
+    };
+    status_of(ended, replay.lines, err)
+}
+
+/// The same with the file of frames begun, which is ended then.
+fn replay_into<'a, R: Read + Drop, F: Write + Drop, W: Write, E: Write>(
+    alloc: Global,
+    replay: &ReplayOptions<'a>,
+    reader: R,
+    file: Option<RelayFile<'a, F>>,
+    out: &mut W,
+    err: &mut E,
+) -> Result<Status, Fault<'a>>
+    requires { IsUnit replay.now.unit }
+    ensures { IfOk result IsCommandStatus }
+{
+    let waits = is_standard(replay.file);
+    let mut printer = Printer::new(alloc, replay.lines, waits, file, out, err)?;
+    let ended = replay_lines(alloc, replay, reader, &mut printer);
+    match printer.file.take() {
+        Some(file) => file.end(ended),
+        None => ended,
+    }
+}
+
+/// Prints a line of each record, and last why the file was refused, where it was.
+fn replay_lines<'a, R: Read + Drop, F: Write + Drop, W: Write, E: Write>(
+    alloc: Global,
+    replay: &ReplayOptions<'a>,
+    reader: R,
+    printer: &mut Printer<'_, 'a, W, E, F>,
+) -> Result<Status, Fault<'a>>
+    requires { IsUnit replay.now.unit }
+    ensures { IfOk result IsCommandStatus }
+{
+    let (file, selection) = (replay.file, &replay.selection);
+    let mut source = open_records(alloc, file, selection.format, reader)?;
+    let linked = source.format() != Format::Capture;
+    let mut station = replay.unit.begin(alloc)?;
+    let replayed = replay_records(alloc, &mut station, selection, &mut source, linked, printer)?;
+    let Some(fault) = replayed.fault else {
+        return Ok(Status::Done);
+    };
+    let fault = FileFault::of(fault, file, replayed.read, selection.format)?;
+    printer.line(&RefusedCapture::new(replayed.read, fault, replay.lines.explain))?;
+    Ok(Status::Refused)
+}

@@ -1,0 +1,302 @@
+//! The stations that packets for an area are for, and how far these came there.
+
+use its_air::Presence;
+use its_geometry::{Area, contains};
+use its_gnvalue::NoMemory;
+use its_simulation::{EventRecord, Note};
+use its_station::{OwnedGbcRequest, Refused};
+use its_world::{Entry, EntryFault, What, World};
+use std::alloc::Global;
+
+/// How far a packet came at a station, from nowhere to its port.
+#[derive(Clone, Copy, Debug, PartialEq, Eq)]
+pub(crate) enum Reach {
+    /// No frame of it came into its hearing.
+    Unheard,
+    /// Each frame that it would have heard was lost.
+    Lost,
+    /// A frame of it came and was ignored.
+    Ignored,
+    /// A frame of it came and was refused.
+    Refused,
+    /// A frame of it came, and the location table had no room for its source.
+    Full,
+    /// It was accepted by the station, which stood outside the area.
+    Outside,
+    /// It was accepted inside the area, and its port was not open.
+    Closed,
+    /// It was delivered to its port.
+    Delivered,
+}
+
+impl Reach {
+    /// Whether this is told of a frame that was delivered to its port.
+    pub(crate) fn is_delivery(entry: &Entry) -> bool {
+        matches!(
+            entry,
+            Entry::Accepted {
+                handed: Some(_),
+                ..
+            }
+        )
+    }
+
+    /// How far it came, by what is told of a frame of it.
+    fn of(entry: &Entry, is_inside: bool) -> Reach {
+        match entry {
+            Entry::Accepted {
+                handed: Some(_),
+                ..
+            } => Reach::Delivered,
+            Entry::Accepted { .. } if is_inside => Reach::Closed,
+            Entry::Accepted { .. } => Reach::Outside,
+            Entry::Refused(EntryFault::Station(Refused::TableFull)) => Reach::Full,
+            Entry::Refused(_) => Reach::Refused,
+            Entry::Ignored(_) => Reach::Ignored,
+            _ => Reach::Unheard,
+        }
+    }
+
+    /// The word for it.
+    pub(crate) fn word(self) -> &'static str {
+        match self {
+            Reach::Unheard => "unheard",
+            Reach::Lost => "lost",
+            Reach::Ignored => "ignored",
+            Reach::Refused => "refused",
+            Reach::Full => "full",
+            Reach::Outside => "outside",
+            Reach::Closed => "closed",
+            Reach::Delivered => "delivered",
+        }
+    }
+
+    /// Its place among these, the furthest last.
+    fn rank(self) -> u8 {
+        self as u8
+    }
+}
+
+/// A station that a packet is for.
+#[derive(Clone, Copy, Debug)]
+struct Target {
+    station: usize,
+    reach: Reach,
+    /// The milliseconds from the send to the first delivery, where there was one.
+    after: u64,
+}
+
+/// The stations that a packet is for: those that stand in its area when it is sent, with its port
+/// open, in order.
+#[derive(Drop)]
+pub(crate) struct Audience {
+    moment: u64,
+    area: Area,
+    targets: Vec<Target>,
+}
+
+impl Audience {
+    /// That of a packet that an event sends.
+    pub(crate) fn new(
+        alloc: Global,
+        world: &World,
+        presence: &Presence,
+        done: &EventRecord<'_>,
+        request: &OwnedGbcRequest,
+    ) -> Result<Audience, NoMemory> {
+        Ok(Audience {
+            moment: done.moment,
+            area: request.area,
+            targets: targets_of(alloc, world, presence, done.station, request)?,
+        })
+    }
+
+    /// Takes what came of a frame of the packet that was delivered.
+    pub(crate) fn take(&mut self, world: &World, done: &EventRecord<'_>) {
+        let is_inside = stands_in(world, done.station, &self.area);
+        self.note(done.station, done.moment, Reach::of(done.entry, is_inside));
+    }
+
+    /// How many stations it is for.
+    pub(crate) fn size(&self) -> usize {
+        self.targets.len()
+    }
+
+    /// At how many of them it was delivered, in at most so many milliseconds where these are given.
+    pub(crate) fn reached(&self, within: Option<u64>) -> usize {
+        let within = within.unwrap_or(u64::MAX);
+        let targets = self.targets.iter();
+        targets
+            .filter(|target| target.reach == Reach::Delivered && target.after <= within)
+            .count()
+    }
+
+    /// The stations that it didn't reach.
+    pub(crate) fn missed(&self, alloc: Global) -> Result<Vec<(usize, &'static str)>, NoMemory> {
+        let mut missed = Vec::new(alloc);
+        for target in &self.targets {
+            if target.reach != Reach::Delivered {
+                missed.push((target.station, target.reach.word()))?;
+            }
+        }
+        Ok(missed)
+    }
+
+    /// The station of this number, where the packet is for it.
+    fn target(&mut self, station: usize) -> Option<&mut Target> {
+        let place = self
+            .targets
+            .as_slice()
+            .partition_point(|target| target.station < station);
+        match self.targets.as_mut_slice().get_mut(place) {
+            Some(target) if target.station == station => Some(target),
+            _ => None,
+        }
+    }
+
+    /// Notes that the packet came so far at a station.
+    fn note(&mut self, station: usize, moment: u64, reach: Reach) {
+        let after = moment.saturating_sub(self.moment);
+        let Some(target) = self.target(station) else {
+            return;
+        };
+        if reach.rank() > target.reach.rank() {
+            target.reach = reach;
+            target.after = after;
+        }
+    }
+}
+
+/// The audiences of the packets for an area of a run.
+#[derive(Drop)]
+pub(crate) struct Audiences {
+    alloc: Global,
+    /// Whether anyone asks for them: else nothing is kept.
+    are_wanted: bool,
+    sends: Vec<Audience>,
+    /// The packet of each frame, at its number, by its place among the sends.
+    carried: Vec<Option<usize>>,
+    presence: Presence,
+}
+
+impl Audiences {
+    /// Those of a run that has not begun.
+    pub(crate) fn new(alloc: Global, are_wanted: bool) -> Audiences {
+        Audiences {
+            alloc,
+            are_wanted,
+            sends: Vec::new(alloc),
+            carried: Vec::new(alloc),
+            presence: Presence::new(alloc),
+        }
+    }
+
+    /// The audience of a packet, by its place among those that were sent.
+    pub(crate) fn get(&self, send: usize) -> Option<&Audience> {
+        self.sends.as_slice().get(send)
+    }
+
+    /// Takes an event that was done.
+    pub(crate) fn take(&mut self, world: &World, done: &EventRecord<'_>) -> Result<(), NoMemory> {
+        if !self.are_wanted {
+            return Ok(());
+        }
+        match done.what {
+            What::SendGeobroadcast(request) | What::SendGeoanycast(request) => {
+                self.take_send(world, done, request)
+            }
+            What::Deliver(frame) => self.take_delivery(world, done, *frame),
+            _ => self.take_frame(done.entry, None),
+        }
+    }
+
+    /// Takes a note of a run: who comes and leaves, and that a frame was lost on the way to a station.
+    pub(crate) fn take_note(&mut self, moment: u64, note: &Note<'_>) -> Result<(), NoMemory> {
+        if let Note::Lost { station, frame } = *note {
+            if let Some(audience) = self.audience_of(frame) {
+                audience.note(station, moment, Reach::Lost);
+            }
+        }
+        self.presence.take(note)
+    }
+
+    /// Takes the send of a packet for an area, where it was sent.
+    fn take_send(
+        &mut self,
+        world: &World,
+        done: &EventRecord<'_>,
+        request: &OwnedGbcRequest,
+    ) -> Result<(), NoMemory> {
+        if !matches!(done.entry, Entry::Sent(_)) {
+            return Ok(());
+        }
+        let send = self.sends.len();
+        self.sends.push(Audience::new(self.alloc, world, &self.presence, done, request)?)?;
+        self.take_frame(done.entry, Some(send))
+    }
+
+    /// Takes the frame that was given, where one was, as one of this packet.
+    fn take_frame(&mut self, entry: &Entry, send: Option<usize>) -> Result<(), NoMemory> {
+        if entry.frame().is_some() {
+            self.carried.push(send)?;
+        }
+        Ok(())
+    }
+
+    /// Takes what came of a frame that was delivered.
+    fn take_delivery(
+        &mut self,
+        world: &World,
+        done: &EventRecord<'_>,
+        frame: usize,
+    ) -> Result<(), NoMemory> {
+        let send = self.packet_of(frame);
+        if let Some(audience) = self.audience_of(frame) {
+            audience.take(world, done);
+        }
+        self.take_frame(done.entry, send)
+    }
+
+    /// The packet of a frame, by its place among the sends, where it is for an area.
+    fn packet_of(&self, frame: usize) -> Option<usize> {
+        match self.carried.as_slice().get(frame) {
+            Some(send) => *send,
+            None => None,
+        }
+    }
+
+    /// The audience of the packet of a frame.
+    fn audience_of(&mut self, frame: usize) -> Option<&mut Audience> {
+        let send = self.packet_of(frame)?;
+        self.sends.as_mut_slice().get_mut(send)
+    }
+}
+
+/// Whether a station stands in an area.
+fn stands_in(world: &World, number: usize, area: &Area) -> bool {
+    match world.station(number) {
+        Some(station) => contains(area, station.vector().place()),
+        None => false,
+    }
+}
+
+/// The stations for which a packet of this sender is.
+fn targets_of(
+    alloc: Global,
+    world: &World,
+    presence: &Presence,
+    sender: usize,
+    request: &OwnedGbcRequest,
+) -> Result<Vec<Target>, NoMemory> {
+    let mut targets = Vec::new(alloc);
+    for (number, station) in world.stations().iter().enumerate() {
+        if presence.is_for(request, sender, number, station) {
+            targets.push(Target {
+                station: number,
+                reach: Reach::Unheard,
+                after: 0,
+            })?;
+        }
+    }
+    Ok(targets)
+}

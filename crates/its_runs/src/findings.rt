@@ -1,0 +1,180 @@
+//! What is found out about a run beside its lines.
+
+ghost use Rattle.std.specs.Prelude.{◌≡◌, IfOk};
+ghost use Rattle.its_reporting.specs.Statuses.{IsCommandStatus};
+
+use crate::audience::{Audience, Audiences};
+use crate::full_tables::FullTables;
+use crate::options::RunOptions;
+use crate::results::Results;
+use its_reporting::{Fault, Status};
+use its_scenario::{Expectation, Reached, Scenario};
+use its_simulation::{EventRecord, EventSink, Note, SimulationFault};
+use its_world::World;
+use std::alloc::Global;
+use std::io::Write;
+
+/// What is found out about the run of a scenario.
+#[derive(Drop)]
+pub(crate) struct Findings<'s, 'a, W: Write + Drop> {
+    scenario: &'s Scenario,
+    full: FullTables,
+    audiences: Audiences,
+    results: Results<'a, W>,
+}
+
+impl<'s, 'a, W: Write + Drop> Findings<'s, 'a, W> {
+    /// Those of a run that has not begun, with the files that they are written to.
+    pub(crate) fn new(
+        alloc: Global,
+        scenario: &'s Scenario,
+        options: RunOptions,
+        results: Results<'a, W>,
+    ) -> Findings<'s, 'a, W> {
+        let are_wanted = options.tells_missed() || !scenario.expectations.is_empty();
+        Findings {
+            scenario,
+            full: FullTables::new(),
+            audiences: Audiences::new(alloc, are_wanted),
+            results,
+        }
+    }
+
+    /// The audience of a packet, by its place among those that were sent, where it is known.
+    fn audience(&self, send: usize) -> Option<&Audience> {
+        self.audiences.get(send)
+    }
+
+    /// How many receptions of an air met a full location table, if any did.
+    fn table_full(&self) -> Option<usize> {
+        match &self.scenario.air {
+            Some(_) => self.full.receptions(),
+            None => None,
+        }
+    }
+
+    /// Takes an event that was done.
+    fn take(&mut self, world: &World, done: &EventRecord<'_>) -> Result<(), SimulationFault> {
+        self.full.take(self.scenario.stations.as_slice(), done);
+        self.audiences.take(world, done)?;
+        self.results.take(world, done)
+    }
+
+    /// Takes a note of the run.
+    fn take_note(
+        &mut self,
+        world: &World,
+        moment: u64,
+        note: &Note<'_>,
+    ) -> Result<(), SimulationFault> {
+        self.audiences.take_note(moment, note)?;
+        self.results.take_note(world, moment, note)
+    }
+
+    /// Ends the files of a run that ended so, and tells on standard error what was found out about
+    /// it. `CannotWrite` where a file failed, `Refused` where something that is expected isn't met,
+    /// of a run that is done.
+    pub(crate) fn end<E: Write>(
+        self,
+        ran: Result<Status, Fault<'a>>,
+        err: &mut E,
+    ) -> Result<Status, Fault<'a>>
+        requires { IfOk ran IsCommandStatus }
+        ensures { IfOk result IsCommandStatus }
+    {
+        let told = match ran {
+            Ok(status) => Ok(self.tell(status, err)),
+            Err(fault) => Err(fault),
+        };
+        self.results.end(told)
+    }
+
+    /// Tells on standard error what was found out about a run with this status: that location tables
+    /// were full, in an air, and each expectation that isn't met. `Refused` where one isn't, of a
+    /// run that is done.
+    fn tell<E: Write>(&self, status: Status, err: &mut E) -> Status
+        requires { IsCommandStatus status }
+        ensures { IsCommandStatus result }
+    {
+        if self.scenario.air.is_some() {
+            self.full.report(err);
+        }
+        let are_met = self.report_unmet(err);
+        if are_met || status != Status::Done {
+            status
+        } else {
+            Status::Refused
+        }
+    }
+
+    /// Tells of each expectation that isn't met, and gives whether there is none.
+    fn report_unmet<E: Write>(&self, err: &mut E) -> bool {
+        let mut are_met = true;
+        for (number, expectation) in self.scenario.expectations.iter().enumerate() {
+            are_met &= self.report_one(number, expectation, err);
+        }
+        are_met
+    }
+
+    /// Tells of an expectation that isn't met, and gives whether it is.
+    fn report_one<E: Write>(&self, number: usize, expectation: &Expectation, err: &mut E) -> bool {
+        let Some(audience) = self.audiences.get(expectation.send) else {
+            let _ = writeln!(err, "geostation: expect {number}: no such send");
+            return false;
+        };
+        let size = audience.size();
+        let reached = audience.reached(expectation.within);
+        let wanted = match expectation.reached {
+            Reached::AtLeast(stations) => stations as usize,
+            Reached::All => size,
+        };
+        if reached < wanted {
+            let _ = writeln!(
+                err,
+                "geostation: expect {number}: reached {reached} of {size}"
+            );
+        }
+        reached >= wanted
+    }
+}
+
+/// What a summary tells beside its counts.
+pub(crate) trait Found {
+    /// The audience of a packet, by its place among those that were sent, where it is known.
+    fn audience(&self, send: usize) -> Option<&Audience>;
+
+    /// How many receptions of an air met a full location table, if any did.
+    fn table_full(&self) -> Option<usize>;
+}
+
+impl<W: Write + Drop, F> Found for Finding<'_, '_, '_, W, F> {
+    fn audience(&self, send: usize) -> Option<&Audience> {
+        self.findings.audience(send)
+    }
+
+    fn table_full(&self) -> Option<usize> {
+        self.findings.table_full()
+    }
+}
+
+/// Takes the events of a run to find out about it, and hands them on.
+#[derive(Drop)]
+pub(crate) struct Finding<'s, 'a, 'b, W: Write + Drop, F> {
+    pub(crate) findings: &'b mut Findings<'s, 'a, W>,
+    pub(crate) sink: F,
+}
+
+impl<W: Write + Drop, F: EventSink> EventSink for Finding<'_, '_, '_, W, F> {
+    // What is found out isn't said by contracts.
+    ghost Took = { λ _ _ _. Unit {0} };
+
+    fn put(&mut self, world: &World, done: &EventRecord<'_>) -> Result<(), SimulationFault> {
+        self.findings.take(world, done)?;
+        self.sink.put(world, done)
+    }
+
+    fn note(&mut self, world: &World, moment: u64, note: &Note<'_>) -> Result<(), SimulationFault> {
+        self.findings.take_note(world, moment, note)?;
+        self.sink.note(world, moment, note)
+    }
+}

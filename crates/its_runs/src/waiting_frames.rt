@@ -1,0 +1,118 @@
+//! The frames of packets for an area of which deliveries wait.
+
+use its_gnvalue::NoMemory;
+use its_scenario::Scenario;
+use its_world::What;
+use std::alloc::Global;
+use std::collections::HashMap;
+
+/// What a frame carries.
+#[derive(Clone, Copy, Debug, PartialEq, Eq)]
+pub(crate) struct Carried {
+    /// The packet, by its place among all that were sent.
+    pub(crate) send: usize,
+    /// How many relays came before the frame.
+    pub(crate) depth: usize,
+}
+
+/// A frame of which deliveries wait, or one that was just given.
+#[derive(Clone, Copy, Debug)]
+struct WaitingFrame {
+    carried: Carried,
+    waiting: usize,
+}
+
+/// The frames of packets for an area of which deliveries wait, by their numbers. It keeps none that
+/// is done with.
+#[derive(Drop)]
+pub(crate) struct WaitingFrames {
+    frames: HashMap<usize, WaitingFrame>,
+    /// The scenario's own deliveries of frames that aren't given yet, or carry no such packet.
+    own: HashMap<usize, usize>,
+    /// The frames that the last event gave and delivered: these may be done with.
+    given: Option<usize>,
+    delivered: Option<usize>,
+}
+
+impl WaitingFrames {
+    /// Those of a run of a scenario that has not begun.
+    pub(crate) fn new(alloc: Global, scenario: &Scenario) -> Result<WaitingFrames, NoMemory> {
+        let mut own = HashMap::new(alloc);
+        for event in &scenario.events {
+            if let What::Deliver(frame) = &event.what {
+                let before = own.get(frame).copied().unwrap_or(0usize);
+                own.insert(*frame, before.saturating_add(1))?;
+            }
+        }
+        Ok(WaitingFrames {
+            frames: HashMap::new(alloc),
+            own,
+            given: None,
+            delivered: None,
+        })
+    }
+
+    /// What the frame of this number carries, where that is a packet for an area of whose frame a
+    /// delivery waits.
+    pub(crate) fn get(&self, frame: usize) -> Option<Carried> {
+        match self.frames.get(&frame) {
+            Some(frame) => Some(frame.carried),
+            None => None,
+        }
+    }
+
+    /// Takes a frame that was given with what it carries. Gives how many of the scenario's own
+    /// deliveries of it wait.
+    pub(crate) fn give(&mut self, frame: usize, carried: Carried) -> Result<usize, NoMemory> {
+        let waiting = self.own.remove(&frame).unwrap_or(0);
+        self.frames
+            .insert(frame, WaitingFrame { carried, waiting })?;
+        self.given = Some(frame);
+        Ok(waiting)
+    }
+
+    /// One more delivery of a frame waits.
+    pub(crate) fn wait(&mut self, frame: usize) {
+        if let Some(found) = self.frames.get_mut(&frame) {
+            found.waiting = found.waiting.saturating_add(1);
+        }
+    }
+
+    /// Takes the delivery of a frame. Gives what that carries.
+    pub(crate) fn deliver(&mut self, frame: usize) -> Option<Carried> {
+        let Some(found) = self.frames.get_mut(&frame) else {
+            self.pass_over(frame);
+            return None;
+        };
+        found.waiting = found.waiting.saturating_sub(1);
+        self.delivered = Some(frame);
+        Some(found.carried)
+    }
+
+    /// A delivery of the scenario's own comes too early, or of a frame that carries no such packet.
+    fn pass_over(&mut self, frame: usize) {
+        if let Some(waiting) = self.own.get_mut(&frame) {
+            *waiting = waiting.saturating_sub(1);
+        }
+    }
+
+    /// Forgets the frames of the last event of which no delivery waits.
+    pub(crate) fn settle(&mut self) {
+        for frame in [self.given.take(), self.delivered.take()] {
+            if let Some(frame) = frame {
+                self.forget(frame);
+            }
+        }
+    }
+
+    /// Forgets a frame, unless a delivery of it waits.
+    fn forget(&mut self, frame: usize) {
+        let is_done = match self.frames.get(&frame) {
+            Some(found) => found.waiting == 0,
+            None => false,
+        };
+        if is_done {
+            self.frames.remove(&frame);
+        }
+    }
+}

@@ -1,0 +1,52 @@
+//! What a scenario expects of its run.
+
+use crate::fault::KeyFault;
+use crate::fields::Fields;
+use crate::key::Key;
+use crate::keys::{number, whole};
+
+/// At how many stations a packet has to be delivered.
+#[derive(Clone, Copy, Debug, PartialEq, Eq)]
+pub enum Reached {
+    /// At so many of those that stand in its area when it is sent, with its port open.
+    AtLeast(u16),
+    /// At all of them.
+    All,
+}
+
+/// What is expected of one packet for an area.
+#[derive(Clone, Copy, Debug, PartialEq, Eq)]
+pub struct Expectation {
+    /// The packet, by its place among those that are sent, from 0: 0 to 4294967295.
+    pub send: usize,
+    /// At how many stations it has to be delivered.
+    pub reached: Reached,
+    /// In at most so many milliseconds from the send: 0 to 2^62. Else whenever it is.
+    pub within: Option<u64>,
+}
+
+/// Reads what is expected: `send`, `reached`, `within`, checked in this order. The last may be
+/// missing.
+pub(crate) fn read_expectation<F: Fields>(fields: &F) -> Result<Expectation, KeyFault> {
+    Ok(Expectation {
+        send: whole(fields, Key::Send)? as usize,
+        reached: read_reached(fields)?,
+        within: read_within(fields)?,
+    })
+}
+
+/// At how many stations a packet has to be delivered: a number, or `all`.
+fn read_reached<F: Fields>(fields: &F) -> Result<Reached, KeyFault> {
+    match fields.text(Key::Reached.word()) {
+        Some("all") => Ok(Reached::All),
+        _ => Ok(Reached::AtLeast(number(fields, Key::Reached)?)),
+    }
+}
+
+/// In how many milliseconds, where that is given.
+fn read_within<F: Fields>(fields: &F) -> Result<Option<u64>, KeyFault> {
+    if !fields.has(Key::Within.word()) {
+        return Ok(None);
+    }
+    Ok(Some(whole(fields, Key::Within)? as u64))
+}

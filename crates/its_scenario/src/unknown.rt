@@ -1,0 +1,164 @@
+//! Keys that are none of the words of their table.
+
+ghost use Rattle.its_scenario.specs.Documents.{IsPastToml};
+ghost use Rattle.std.specs.Prelude.{◌≡◌, IfErr};
+
+use crate::fault::ScenarioFault;
+use crate::key::{EVENT_KEYS, Key, SCENARIO_KEYS, STATION_KEYS};
+use std::alloc::{AllocError, Global};
+use std::fmt;
+use strsim::levenshtein;
+use toml::{Table, Value};
+
+/// How many changes of a letter there are at most from a key to the word that was meant.
+const MOST_CHANGES: usize = 2;
+
+/// The table that a key stands in: the scenario's own, or one of those in it, counted from 0.
+#[derive(Clone, Copy, Debug, PartialEq, Eq)]
+pub enum Owner {
+    /// The scenario.
+    Scenario,
+    /// A station.
+    Station(usize),
+    /// An event.
+    Event(usize),
+    /// The air.
+    Air,
+    /// Traffic of the air.
+    Every(usize),
+    /// Something that is expected.
+    Expectation(usize),
+}
+
+/// A key that is none of the words of its table. It prints as its place in the scenario: `air: hop`,
+/// `expect 0: sent`, or `unknown: station 3: lattitude` where only a strict reading refuses it.
+#[derive(Debug, Drop, PartialEq, Eq)]
+pub struct UnknownKey {
+    owner: Owner,
+    name: String,
+    nearest: Option<Key>,
+}
+
+impl UnknownKey {
+    /// The key of this name, of a table of these words.
+    fn of(
+        alloc: Global,
+        owner: Owner,
+        name: &str,
+        known: &[Key],
+    ) -> Result<UnknownKey, AllocError> {
+        Ok(UnknownKey {
+            owner,
+            name: String::from_str(alloc, name)?,
+            nearest: nearest(alloc, name, known)?,
+        })
+    }
+
+    /// The word of the table that may be meant: the first of those that are the fewest changes of a
+    /// letter away, at most two.
+    pub fn nearest(&self) -> Option<Key>
+        ensures { result ≡ self.now.nearest }
+    {
+        self.nearest
+    }
+}
+
+impl fmt::Display for UnknownKey {
+    fn fmt<W: fmt::Write>(&self, f: &mut fmt::Formatter<W>) -> fmt::Result {
+        let name = self.name.as_str();
+        match self.owner {
+            Owner::Scenario => write!(f, "unknown: {name}"),
+            Owner::Station(number) => write!(f, "unknown: station {number}: {name}"),
+            Owner::Event(number) => write!(f, "unknown: event {number}: {name}"),
+            Owner::Air => write!(f, "air: {name}"),
+            Owner::Every(number) => write!(f, "every {number}: {name}"),
+            Owner::Expectation(number) => write!(f, "expect {number}: {name}"),
+        }
+    }
+}
+
+/// The first of these words that are the fewest changes of a letter away, where that is at most two.
+pub(crate) fn nearest(alloc: Global, name: &str, known: &[Key]) -> Result<Option<Key>, AllocError> {
+    let mut found = None;
+    let mut fewest = MOST_CHANGES + 1;
+    for key in known {
+        let changes = levenshtein(alloc, name, key.word())?;
+        if changes < fewest {
+            found = Some(*key);
+            fewest = changes;
+        }
+    }
+    Ok(found)
+}
+
+/// Whether a name is one of these words.
+fn is_known(name: &str, known: &[Key]) -> bool {
+    known.iter().any(|key| key.word() == name)
+}
+
+/// The first key of a table, by its octets, that is none of these words.
+fn first_unknown<'a>(table: &'a Table, known: &[Key]) -> Option<&'a str> {
+    for name in table.keys() {
+        if !is_known(name.as_str(), known) {
+            return Some(name.as_str());
+        }
+    }
+    None
+}
+
+/// Refuses a table that has a key that is none of these words: the first, by its octets, is told.
+pub(crate) fn refuse_unknown(
+    alloc: Global,
+    table: &Table,
+    known: &[Key],
+    owner: Owner,
+) -> Result<(), ScenarioFault>
+    ensures { IfErr result IsPastToml }
+{
+    match first_unknown(table, known) {
+        Some(name) => Err(ScenarioFault::Unknown(UnknownKey::of(alloc, owner, name, known)?)),
+        None => Ok(()),
+    }
+}
+
+/// Refuses each key of the scenario, of its stations and of its events that is none of their words,
+/// in this order.
+pub(crate) fn refuse_all_unknown(
+    alloc: Global,
+    document: &Table,
+    stations: &[Value],
+    events: &[Value],
+) -> Result<(), ScenarioFault>
+    ensures { IfErr result IsPastToml }
+{
+    refuse_unknown(alloc, document, &SCENARIO_KEYS, Owner::Scenario)?;
+    for (number, station) in stations.iter().enumerate() {
+        refuse_unknown_in(alloc, station, &STATION_KEYS, Owner::Station(number))?;
+    }
+    refuse_unknown_events(alloc, events)
+}
+
+/// Refuses each key of these events that is none of their words.
+fn refuse_unknown_events(alloc: Global, events: &[Value]) -> Result<(), ScenarioFault>
+    ensures { IfErr result IsPastToml }
+{
+    for (number, event) in events.iter().enumerate() {
+        refuse_unknown_in(alloc, event, &EVENT_KEYS, Owner::Event(number))?;
+    }
+    Ok(())
+}
+
+/// The same of a value that is a table.
+fn refuse_unknown_in(
+    alloc: Global,
+    item: &Value,
+    known: &[Key],
+    owner: Owner,
+) -> Result<(), ScenarioFault>
+    ensures { IfErr result IsPastToml }
+{
+    match item {
+        Value::Table(table) => refuse_unknown(alloc, table, known, owner),
+        _ => Ok(()),
+    }
+}

@@ -1,0 +1,135 @@
+//! How many records there are of each kind of packet, and of each code of those that are refused.
+
+ghost use Rattle.std.specs.Prelude.{◌<◌};
+
+use crate::table::Table;
+use its_faults::{FaultKind, FrameFault};
+use its_headers::Kind;
+use its_pcap::LinkFault;
+use its_records::RecordFault;
+use serde::{Case, Described, Serialize, Serializer};
+use std::alloc::{AllocError, Global};
+
+/// How many rows there are.
+const ROWS: usize = 22;
+
+/// Their names, in the order in which they are printed.
+const NAMES: [&str; ROWS] = [
+    "beacon", "shb", "gbc", "gac", "P3", "P4", "L1", "L2", "L3", "L4", "L5 G1", "L5 G2", "L5 G3",
+    "L5 G4", "L5 G5", "L5 G6", "L5 G7", "L5 G8", "L5 G9", "L5 G10", "L5 G11", "L5 G12",
+];
+
+/// How many records there are in each row.
+#[derive(Clone, Copy, Debug, PartialEq, Eq)]
+pub(crate) struct Kinds {
+    counts: [u64; ROWS],
+}
+
+impl Kinds {
+    /// None yet.
+    pub(crate) fn new() -> Kinds {
+        Kinds { counts: [0; ROWS] }
+    }
+
+    /// Counts a frame whose packet is of this kind.
+    pub(crate) fn add_frame(&mut self, kind: Kind) {
+        self.add(row_of_kind(kind));
+    }
+
+    /// Counts a record that is refused.
+    pub(crate) fn add_refused(&mut self, fault: RecordFault) {
+        self.add(row_of_fault(fault));
+    }
+
+    /// Counts a record of a row. No file has 2^64 records.
+    fn add(&mut self, row: usize)
+        requires { row < 22 }
+    {
+        self.counts[row] = self.counts[row].saturating_add(1);
+    }
+
+    /// The table of the rows that occur.
+    pub(crate) fn table(&self, alloc: Global) -> Result<Table, AllocError> {
+        let mut table = Table::new(alloc, &["kind", "records"])?;
+        for (name, count) in NAMES.iter().zip(self.counts.iter()) {
+            if *count > 0 {
+                table.add(name)?;
+                table.add(count)?;
+            }
+        }
+        Ok(table)
+    }
+}
+
+impl Described for Kinds {}
+
+impl Serialize for Kinds {
+    fn serialize<S: Serializer>(&self, out: &mut S) -> Result<(), S::Error> {
+        out.begin_map(None)?;
+        for (name, count) in NAMES.iter().zip(self.counts.iter()) {
+            if *count > 0 {
+                out.key_cased(name, Case::AsIs)?;
+                out.u64(*count)?;
+            }
+        }
+        out.end_map()
+    }
+}
+
+/// The row of a kind of packet.
+fn row_of_kind(kind: Kind) -> usize
+    ensures { result < 22 }
+{
+    match kind {
+        Kind::Beacon => 0,
+        Kind::Shb => 1,
+        Kind::Gbc => 2,
+        Kind::Gac => 3,
+    }
+}
+
+/// The row of why a record is refused.
+fn row_of_fault(fault: RecordFault) -> usize
+    ensures { result < 22 }
+{
+    match fault {
+        RecordFault::Record(its_pcap::RecordFault::LinkType) => 4,
+        RecordFault::Record(its_pcap::RecordFault::CutFrame) => 5,
+        RecordFault::Link(LinkFault::Short) => 6,
+        RecordFault::Link(LinkFault::Kind) => 7,
+        RecordFault::Frame(fault) | RecordFault::Secured(fault) => row_of_frame(fault),
+    }
+}
+
+/// The row of why octets are no frame.
+fn row_of_frame(fault: FrameFault) -> usize
+    ensures { result < 22 }
+{
+    match fault {
+        FrameFault::Short => 6,
+        FrameFault::EtherType => 7,
+        FrameFault::TooLong => 8,
+        FrameFault::Trailing => 9,
+        FrameFault::Packet(fault) => row_of_packet(fault.kind),
+    }
+}
+
+/// The row of why octets are no packet.
+fn row_of_packet(kind: FaultKind) -> usize
+    ensures { result < 22 }
+{
+    match kind {
+        FaultKind::Truncated => 10,
+        FaultKind::Version => 11,
+        FaultKind::BasicNext => 12,
+        FaultKind::Reserved => 13,
+        FaultKind::HopZero => 14,
+        FaultKind::CommonNext => 15,
+        FaultKind::HeaderType => 16,
+        FaultKind::SubType => 17,
+        FaultKind::HopAboveMax => 18,
+        FaultKind::PayloadLength => 19,
+        FaultKind::Position => 20,
+        FaultKind::Area => 21,
+    }
+}

@@ -1,0 +1,16 @@
+//! The command `stats`: what the records of a capture are, and the traffic of its frames by source,
+//! by port and by second.
+#![tactic(auto)]
+
+mod counting;
+mod files;
+mod kinds;
+mod numbers;
+mod ports;
+mod printing;
+mod seconds;
+mod sources;
+mod table;
+
+pub use counting::{Counting, stats};
+pub use files::stats_file;

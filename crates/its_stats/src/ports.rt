@@ -1,0 +1,74 @@
+//! The traffic to each port.
+
+use crate::table::Table;
+use serde::Serialize;
+use std::alloc::{AllocError, Global};
+use std::collections::BTreeMap;
+
+/// What is counted of the frames to a port.
+#[derive(Clone, Copy, Debug, Drop)]
+struct Traffic {
+    frames: u64,
+    octets: u64,
+}
+
+/// What is told of a port: its keys in this order.
+#[derive(Clone, Copy, Debug, Drop, Serialize)]
+pub(crate) struct PortRow {
+    port: u16,
+    frames: u64,
+    octets: u64,
+}
+
+/// The destination ports of frames.
+#[derive(Drop)]
+pub(crate) struct Ports {
+    alloc: Global,
+    ports: BTreeMap<u16, Traffic>,
+}
+
+impl Ports {
+    /// None yet.
+    pub(crate) fn new(alloc: Global) -> Ports {
+        Ports {
+            alloc,
+            ports: BTreeMap::new(alloc),
+        }
+    }
+
+    /// Counts a frame of so many octets to a port.
+    pub(crate) fn add(&mut self, port: u16, octets: u64) -> Result<(), AllocError> {
+        let none = Traffic {
+            frames: 0,
+            octets: 0,
+        };
+        let traffic = self.ports.entry(port)?.or_insert(none);
+        traffic.frames = traffic.frames.saturating_add(1);
+        traffic.octets = traffic.octets.saturating_add(octets);
+        Ok(())
+    }
+
+    /// The rows, in order.
+    pub(crate) fn rows(&self) -> Result<Vec<PortRow>, AllocError> {
+        let mut rows = Vec::new(self.alloc);
+        for (port, traffic) in self.ports.iter() {
+            rows.push(PortRow {
+                port: *port,
+                frames: traffic.frames,
+                octets: traffic.octets,
+            })?;
+        }
+        Ok(rows)
+    }
+}
+
+/// The table of these rows.
+pub(crate) fn port_table(alloc: Global, rows: &[PortRow]) -> Result<Table, AllocError> {
+    let mut table = Table::new(alloc, &["port", "frames", "octets"])?;
+    for row in rows {
+        table.add(&row.port)?;
+        table.add(&row.frames)?;
+        table.add(&row.octets)?;
+    }
+    Ok(table)
+}

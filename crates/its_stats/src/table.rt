@@ -1,0 +1,94 @@
+//! Tables of words, whose columns are as wide as their widest word.
+
+use std::alloc::{AllocError, Global};
+use std::fmt::{Display, Write as _};
+use std::io;
+use std::io::Write;
+
+/// A table: a line of heads, and rows.
+#[derive(Drop)]
+pub(crate) struct Table {
+    /// The width of each column.
+    widths: Vec<usize>,
+    /// The words, row by row, one behind the other.
+    text: String,
+    /// Where each of them ends.
+    ends: Vec<usize>,
+    /// The column of the next word.
+    column: usize,
+}
+
+impl Table {
+    /// A table with these heads, and no row.
+    pub(crate) fn new(alloc: Global, heads: &[&str]) -> Result<Table, AllocError> {
+        let mut table = Table {
+            widths: Vec::new(alloc),
+            text: String::new(alloc),
+            ends: Vec::new(alloc),
+            column: 0,
+        };
+        table.widths.resize(heads.len(), 0)?;
+        for head in heads {
+            table.add(head)?;
+        }
+        Ok(table)
+    }
+
+    /// Adds the next word.
+    pub(crate) fn add<T: Display>(&mut self, word: &T) -> Result<(), AllocError> {
+        let start = self.text.len();
+        write!(self.text, "{word}").map_err(|_| AllocError)?;
+        self.end(start)
+    }
+
+    /// The same of octets, as hexadecimal digits in lower case.
+    pub(crate) fn add_digits(&mut self, octets: &[u8]) -> Result<(), AllocError> {
+        let start = self.text.len();
+        for octet in octets {
+            write!(self.text, "{octet:02x}").map_err(|_| AllocError)?;
+        }
+        self.end(start)
+    }
+
+    /// Ends a word that began there.
+    fn end(&mut self, start: usize) -> Result<(), AllocError> {
+        let end = self.text.len();
+        if let Some(width) = self.widths.get_mut(self.column) {
+            *width = (*width).max(end.saturating_sub(start));
+        }
+        self.column = match self.column.checked_add(1) {
+            Some(next) if next < self.widths.len() => next,
+            _ => 0,
+        };
+        self.ends.push(end)?;
+        Ok(())
+    }
+
+    /// Writes it: the first column to the left, the others to the right, parted by two spaces.
+    pub(crate) fn write<W: Write>(&self, out: &mut W) -> io::Result<()> {
+        let mut start = 0;
+        let mut column = 0;
+        for end in self.ends.iter() {
+            let word = self.text.get(start..*end).unwrap_or("");
+            start = *end;
+            column = self.write_word(word, column, out)?;
+        }
+        Ok(())
+    }
+
+    /// Writes a word of a column, and returns the next one.
+    fn write_word<W: Write>(&self, word: &str, column: usize, out: &mut W) -> io::Result<usize> {
+        let width = self.widths.get(column).copied().unwrap_or(0);
+        if column == 0 {
+            write!(out, "{word:width$}")?;
+        } else {
+            write!(out, "  {word:>width$}")?;
+        }
+        let next = column.saturating_add(1);
+        if next < self.widths.len() {
+            return Ok(next);
+        }
+        writeln!(out)?;
+        Ok(0)
+    }
+}
