@@ -361,6 +361,13 @@ class World:
         self.frames: list[Frame] = []
         self.events: list[dict] = scenario.get("event", [])
         self.air: dict | None = scenario.get("air")
+        # What the stations of an air send by themselves, and the stations that are present.
+        self.every: list[dict] = scenario.get("every", [])
+        self.present = {
+            number
+            for number, keys in enumerate(scenario.get("station", []))
+            if self.air is None or not keys.get("absent", False)
+        }
 
     def run(self) -> Iterator[tuple[dict, Entry]]:
         """The events of the run, each with its entry, done as they are asked for."""
@@ -385,40 +392,74 @@ class World:
         """A run in which each frame is delivered to those who hear it."""
         draws = Xoshiro256PlusPlus(air.get("seed", 0))
         until = air.get("until", max((e["at"] for e in self.events), default=0) + 10000)
-        # Events by their moments, those of one moment in the order in which they were put.
-        waiting: list[tuple[int, int, dict, bool]] = []
+        # Events by their moments, those of one moment in the order in which they were put. Beside an
+        # event stands "tick" for a tick of the air's own, and for a send the number of its traffic.
+        waiting: list[tuple[int, int, dict, str | int | None]] = []
         order = itertools.count()
 
-        def put(event: dict, own_tick: bool = False) -> None:
-            heapq.heappush(waiting, (event["at"], next(order), event, own_tick))
+        def put(event: dict, own: str | int | None = None) -> None:
+            heapq.heappush(waiting, (event["at"], next(order), event, own))
 
-        def put_tick(station: int, earliest: int) -> None:
+        def waits(station: int, own: str | int) -> bool:
+            return any(w[2]["station"] == station and w[3] == own for w in waiting)
+
+        def put_tick(station: int, earliest: int, due: int) -> None:
             jitter = draws.draw(MOST_JITTER + 1)
-            moment = max(earliest, self.stations[station].beacon_from + jitter)
-            put({"station": station, "at": moment, "do": "tick", "jitter": jitter}, own_tick=True)
+            moment = max(earliest, due + jitter)
+            put({"station": station, "at": moment, "do": "tick", "jitter": jitter}, "tick")
+
+        def put_send(station: int, moment: int, number: int) -> None:
+            keys = self.every[number]
+            message = {"port": keys["port"], "info": keys["info"], "tc": keys["tc"]}
+            payload = "00" * keys["octets"]
+            send = {"station": station, "at": moment, "do": "shb", "payload": payload, **message}
+            put(send, number)
+
+        def come(station: int, now: int) -> None:
+            """A station is present from now on: its first tick and sends, where none waits."""
+            self.present.add(station)
+            if air.get("beacons", False) and not waits(station, "tick"):
+                put_tick(station, now, now)
+            for number, keys in enumerate(self.every):
+                if not waits(station, number):
+                    put_send(station, now + draws.draw(keys["period"]), number)
 
         for event in self.events:
             put(event)
         if air.get("beacons", False):
-            for station in range(len(self.stations)):
-                put_tick(station, 0)
+            for station in sorted(self.present):
+                put_tick(station, 0, self.stations[station].beacon_from)
+        for number, keys in enumerate(self.every):
+            for station in sorted(self.present):
+                put_send(station, draws.draw(keys["period"]), number)
         while waiting and waiting[0][0] <= until:
-            now, _, event, own_tick = heapq.heappop(waiting)
+            now, _, event, own = heapq.heappop(waiting)
+            station, is_present = event["station"], event["station"] in self.present
+            if event["do"] == "leave":
+                self.present.discard(station)
+                continue
+            if own is not None and not is_present:
+                continue
             entry = self.do(event)
             yield event, entry
-            if entry.frame is not None:
+            refused = entry.word.startswith("refused")
+            if entry.frame is not None and is_present:
                 at, frame = now + air.get("delay", 1), len(self.frames) - 1
-                for station in self.hearers(event["station"], air["range"]):
+                for hearer in self.hearers(station, air["range"]):
                     if draws.draw(100) >= air.get("loss", 0):
-                        put({"station": station, "at": at, "do": "deliver", "frame": frame})
-            if own_tick and not entry.word.startswith("refused"):
-                put_tick(event["station"], now)
+                        put({"station": hearer, "at": at, "do": "deliver", "frame": frame})
+            if own == "tick" and not refused:
+                put_tick(station, now, self.stations[station].beacon_from)
+            if isinstance(own, int):
+                put_send(station, now + self.every[own]["period"], own)
+            if event["do"] == "move" and not refused and not is_present:
+                come(station, now)
 
     def hearers(self, giver: int, metres: int) -> list[int]:
-        """The other stations that are at most so far from the giver of a frame."""
+        """The other stations that are present and at most so far from the giver of a frame."""
         places = [station.vector.place for station in self.stations]
         near = [squared_distance(places[giver], p) <= (100 * metres) ** 2 for p in places]
-        return [number for number in range(len(places)) if near[number] and number != giver]
+        return [number for number in sorted(self.present) if near[number] and number != giver]
 
 
 def lines(world: World) -> Iterator[str]:
@@ -453,8 +494,8 @@ class Send:
 
 
 def count_inside(world: World, sender: int, port: int, area: Area) -> int:
-    """How many other stations are in an area, with a port open."""
-    others = [s for number, s in enumerate(world.stations) if number != sender]
+    """How many other stations are present and in an area, with a port open."""
+    others = [world.stations[number] for number in world.present if number != sender]
     return sum(port in s.ports and area.holds(s.vector.place) for s in others)
 
 

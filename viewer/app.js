@@ -411,6 +411,7 @@
   geostation.open.shown(open);
   geostation.open.dropped(open);
   listen();
+  geostation.open.inside(open);
   geostation.open.named(open, refuse);
   geostation.app = {state, open, go, map, timeline};
 })(globalThis.geostation ??= {});

@@ -1,5 +1,5 @@
-//! Ways to open a run: choosing a file, dropping one, the sample, and `?run=NAME` where the page is
-//! served.
+//! Ways to open a run: the one that stands in the page itself, choosing a file, dropping one, the
+//! sample, and `?run=NAME` where the page is served.
 
 (function (geostation) {
   'use strict';
@@ -22,6 +22,18 @@
       tell(`Reading: ${Math.round((100 * at) / blob.size)} %`);
       yield decoder.decode(octets, {stream: at + PIECE < blob.size});
     }
+  }
+
+  /**
+   * Opens the run that stands in the page itself, where `geostation view` has put one. It isn't kept
+   * there: its lines are read once.
+   * @param {(blob: Blob, name: string) => Promise<void>} open
+   */
+  async function inside(open) {
+    const element = byId('inside');
+    const text = element.textContent;
+    element.remove();
+    if (text.trim() !== '') await open(new Blob([text.trimStart()]), element.dataset.name);
   }
 
   /** @param {(blob: Blob, name: string) => void} open */
@@ -78,5 +90,5 @@
     }
   }
 
-  geostation.open = {pieces, shown, dropped, named};
+  geostation.open = {pieces, inside, shown, dropped, named};
 })(globalThis.geostation ??= {});

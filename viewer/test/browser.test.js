@@ -13,6 +13,7 @@ const {pathToFileURL} = require('node:url');
 const {Page, findBrowser} = require('./devtools.js');
 const {TOP} = require('./load.js');
 const samples = require('./samples.js');
+const {elementOf, whole} = require('./whole.js');
 
 const URL_OF_PAGE = pathToFileURL(path.join(TOP, 'index.html')).href;
 const FOUR = path.join(samples.DATA, 'four.jsonl');
@@ -71,6 +72,19 @@ function figures() {
 function noFault() {
   assert.deepEqual(page.faults, []);
 }
+
+test('a page with a run in it opens that, from wherever it lies', async () => {
+  await show(FOUR);
+  const totals = await text('#totals');
+  const file = path.join(room, 'run.html');
+  fs.writeFileSync(file, whole(elementOf('a &lt;run>', fs.readFileSync(FOUR, 'utf8'))));
+  await page.go(pathToFileURL(file).href);
+  await page.until(`document.getElementById('name').textContent === 'a <run>'`);
+  assert.equal(await text('#totals'), totals);
+  assert.equal(await count('.station'), 4);
+  assert.equal(await page.value(`document.getElementById('inside') === null`), true);
+  noFault();
+});
 
 test('four stations: counts, figures, the tree of hops', async () => {
   await show(FOUR);

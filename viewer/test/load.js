@@ -9,7 +9,8 @@ const vm = require('node:vm');
 
 const TOP = path.join(__dirname, '..');
 const NAMES = ['dom', 'geo', 'columns', 'events', 'frame', 'line', 'run', 'way', 'why', 'reason',
-  'clock', 'filter', 'load', 'shape', 'drawn', 'canvas', 'map', 'scene', 'split'];
+  'clock', 'filter', 'load', 'shape', 'drawn', 'canvas', 'map', 'scene', 'split',
+  'open'];
 
 /** @returns {any} the namespace `geostation`, with the parts that are tested by node */
 function load() {

@@ -1,9 +1,11 @@
 //! The arguments of the program.
 
-use crate::forms::FORMS;
+use crate::forms::add_commands;
 use crate::subcommand::{Subcommand, subcommand_of};
+use crate::tip::tip_of;
 use clap::error::ErrorKind;
 use clap::{Command, Error};
+use its_terminal::Console;
 use std::alloc::{AllocError, Global};
 
 /// The version of the program, as the head of the change log has it.
@@ -11,26 +13,32 @@ const VERSION: &str = "0.1.0";
 
 /// The program with its commands, in the order of its help.
 fn whole<'a>(alloc: Global) -> Result<Command<'a>, AllocError> {
-    let mut program = Command::new(alloc, "geostation")
+    let program = Command::new(alloc, "geostation")
         .about("Shows, checks and makes captures of GeoNetworking frames, and runs scenarios")
         .version(VERSION)
         .subcommand_required(true);
-    for form in &FORMS {
-        program = program.subcommand(form.command(alloc)?)?;
-    }
-    Ok(program)
+    add_commands(alloc, program)
 }
 
-/// Reads the arguments, the program's own name first. An error is help or the version, where these
-/// were asked for, or why the arguments were refused.
-pub fn read<'a>(alloc: Global, arguments: &'a [String]) -> Result<Subcommand<'a>, Error> {
+/// Reads the arguments, the program's own name first, of a program whose streams are these. An error
+/// is help or the version, where these were asked for, or why the arguments were refused.
+pub fn read<'a>(
+    alloc: Global,
+    arguments: &'a [String],
+    console: Console,
+) -> Result<Subcommand<'a>, Error> {
     let mut program = whole(alloc)?;
     let matches = program.try_get_matches_from_mut(arguments)?;
-    match subcommand_of(&matches) {
+    match subcommand_of(&matches, console) {
         Ok(Some(subcommand)) => Ok(subcommand),
         Ok(None) => Err(program.error(ErrorKind::MissingSubcommand, "no command was given")?),
         Err(bad) => {
-            let sentence = format!(in alloc; "{bad}")?;
+            let sentence = match tip_of(alloc, &bad)? {
+                Some(word) => {
+                    format!(in alloc; "{bad}\n\n  tip: a similar value exists: '{word}'")?
+                }
+                None => format!(in alloc; "{bad}")?,
+            };
             Err(program.error(ErrorKind::InvalidValue, sentence.as_str())?)
         }
     }

@@ -1,4 +1,4 @@
-//! The commands of the program and their arguments, as help shows them: one table.
+//! The commands of the program and their arguments, as help shows them.
 
 use clap::{Arg, ArgAction, Command};
 use std::alloc::{AllocError, Global};
@@ -10,10 +10,16 @@ enum Word {
     Required(&'static str, &'static str),
     /// The same, and it may begin with a minus sign, as a number below 0 does.
     Signed(&'static str, &'static str),
+    /// It has to be given, in its place, where the option of this name isn't, and not beside it.
+    Unless(&'static str, &'static str, &'static str),
     /// An option that is given or not.
     Flag(&'static str, &'static str),
+    /// The same, with a letter.
+    LetterFlag(char, &'static str, &'static str),
     /// An option with a value, which help calls by its own name.
     Value(&'static str, &'static str, &'static str),
+    /// The same, with a letter.
+    LetterValue(char, &'static str, &'static str, &'static str),
     /// The same, and it may be given more than once.
     Values(&'static str, &'static str, &'static str),
     /// An option with one of these values.
@@ -23,7 +29,7 @@ enum Word {
 /// A command: its name, what it does, its arguments, those by which it chooses records, and what its
 /// help ends with.
 #[derive(Clone, Copy)]
-pub(crate) struct Form {
+struct Form {
     name: &'static str,
     about: &'static str,
     words: &'static [Word],
@@ -34,6 +40,21 @@ pub(crate) struct Form {
 const JSON: Word = Word::Flag("json", "Prints each line as a JSON object");
 
 const EXPLAIN: Word = Word::Flag("explain", "Says in words what each code means");
+
+const NO_EXPLAIN: Word = Word::Flag("no-explain", "Doesn't, on a terminal either");
+
+const QUIET: Word = Word::LetterFlag(
+    'q',
+    "quiet",
+    "Tells nothing but what is wrong: no progress, no notices",
+);
+
+const COLOR: Word = Word::Choice(
+    "color",
+    "WHEN",
+    &["auto", "always", "never"],
+    "When kinds and refusals are coloured: auto is on a terminal",
+);
 
 const STRICT: Word = Word::Flag(
     "strict",
@@ -134,18 +155,63 @@ const CAPTURE: Word = Word::Required("FILE", "The capture, or - for standard inp
 
 const SCENARIO: Word = Word::Required("SCENARIO", "The scenario, or - for standard input");
 
+const OUTPUT: Word = Word::LetterValue('o', "output", "FILE", "The file that is made, as OUT");
+
 /// By which records are chosen.
 const CHOOSING: &[Word] = &[KIND, SOURCE, FROM_MAC, PORT, SINCE, UNTIL, REFUSED, COUNT];
 
 /// The same where `--port` says something else.
 const CHOOSING_TO_ANY_PORT: &[Word] = &[KIND, SOURCE, FROM_MAC, SINCE, UNTIL, REFUSED, COUNT];
 
-/// The commands, in the order of the program's help.
-pub(crate) static FORMS: [Form; 9] = [
+/// Adds all commands to a program, in the order of the help.
+pub(crate) fn add_commands<'a>(
+    alloc: Global,
+    program: Command<'a>,
+) -> Result<Command<'a>, AllocError> {
+    let program = add_forms(alloc, program, readers())?;
+    let program = add_forms(alloc, program, makers())?;
+    let program = add_forms(alloc, program, runners())?;
+    add_forms(alloc, program, stations())
+}
+
+fn add_forms<'a>(
+    alloc: Global,
+    program: Command<'a>,
+    forms: &[Form],
+) -> Result<Command<'a>, AllocError> {
+    let mut program = program;
+    for form in forms {
+        program = program.subcommand(form.command(alloc)?)?;
+    }
+    Ok(program)
+}
+
+// One table of all is more than the check of one function takes.
+
+fn readers() -> &'static [Form] {
+    &READERS
+}
+
+fn makers() -> &'static [Form] {
+    &MAKERS
+}
+
+fn runners() -> &'static [Form] {
+    &RUNNERS
+}
+
+fn stations() -> &'static [Form] {
+    &STATIONS
+}
+
+/// The commands that tell what a capture has.
+static READERS: [Form; 3] = [
     Form {
         name: "show",
         about: "Prints a line for each record of a capture",
-        words: &[CAPTURE, FORMAT, JSON, EXPLAIN, TIME, FIELDS],
+        words: &[
+            CAPTURE, FORMAT, JSON, EXPLAIN, NO_EXPLAIN, COLOR, TIME, FIELDS,
+        ],
         choosing: CHOOSING,
         example: "\
 Example:
@@ -154,7 +220,7 @@ Example:
     Form {
         name: "check",
         about: "Prints a line for each refused record of a capture, and a count",
-        words: &[CAPTURE, FORMAT, JSON, EXPLAIN],
+        words: &[CAPTURE, FORMAT, JSON, EXPLAIN, NO_EXPLAIN],
         choosing: CHOOSING,
         example: "\
 Example:
@@ -168,6 +234,7 @@ Example:
             FORMAT,
             JSON,
             EXPLAIN,
+            NO_EXPLAIN,
             Word::Value(
                 "top",
                 "N",
@@ -179,19 +246,27 @@ Example:
 Example:
   geostation stats first.cap",
     },
+];
+
+/// The commands that make a capture.
+static MAKERS: [Form; 2] = [
     Form {
         name: "convert",
         about: "Writes the records of a capture in the format of another file's name",
         words: &[
             Word::Required("IN", "The capture, or - for standard input"),
-            Word::Required(
+            Word::Unless(
                 "OUT",
+                "output",
                 "The file that is made: .pcap, .pcapng or .cap, or - for standard output",
             ),
+            OUTPUT,
             FORMAT,
             TO,
             FRAMES_ONLY,
             EXPLAIN,
+            NO_EXPLAIN,
+            QUIET,
         ],
         choosing: CHOOSING,
         example: "\
@@ -203,14 +278,25 @@ Example:
         about: "Makes a capture of lines of a moment and hexadecimal digits",
         words: &[
             Word::Required("FILE", "The lines, or - for standard input"),
-            Word::Required("OUT", "The capture that is made, or - for standard output"),
+            Word::Unless(
+                "OUT",
+                "output",
+                "The capture that is made, or - for standard output",
+            ),
+            OUTPUT,
             EXPLAIN,
+            NO_EXPLAIN,
+            QUIET,
         ],
         choosing: &[],
         example: "\
 Example, of a line with a frame of one octet at moment 5:
   echo '5 00' | geostation import - short.cap",
     },
+];
+
+/// The commands that run a scenario.
+static RUNNERS: [Form; 3] = [
     Form {
         name: "sim",
         about: "Runs a scenario and prints a line for each event",
@@ -248,7 +334,10 @@ Example, of a line with a frame of one octet at moment 5:
             ),
             JSON,
             EXPLAIN,
+            NO_EXPLAIN,
+            COLOR,
             STRICT,
+            QUIET,
         ],
         choosing: &[],
         example: "\
@@ -256,14 +345,46 @@ Example:
   geostation sim warning.toml",
     },
     Form {
+        name: "view",
+        about: "Writes the page that shows a run, with the run in it, as one file",
+        words: &[
+            Word::Required(
+                "RUN",
+                "The lines of sim --json, or a scenario, or - for standard input",
+            ),
+            Word::LetterValue(
+                'o',
+                "output",
+                "FILE",
+                "The page that is made, in place of standard output",
+            ),
+            Word::Value(
+                "viewer",
+                "DIR",
+                "The folder of the page, in place of the one beside the program",
+            ),
+            EXPLAIN,
+            NO_EXPLAIN,
+            QUIET,
+        ],
+        choosing: &[],
+        example: "\
+Example:
+  geostation view warning.toml -o warning.html",
+    },
+    Form {
         name: "mesh",
         about: "Runs a scenario over UDP sockets on the loopback",
-        words: &[SCENARIO, FRAMES, TO, JSON, EXPLAIN, STRICT],
+        words: &[SCENARIO, FRAMES, TO, JSON, EXPLAIN, NO_EXPLAIN, STRICT],
         choosing: &[],
         example: "\
 Example:
   geostation mesh warning.toml",
     },
+];
+
+/// The commands that are one station.
+static STATIONS: [Form; 2] = [
     Form {
         name: "replay",
         about: "Prints what a station would have done with the frames of a capture",
@@ -284,6 +405,7 @@ Example:
             FORMAT,
             JSON,
             EXPLAIN,
+            NO_EXPLAIN,
         ],
         choosing: CHOOSING_TO_ANY_PORT,
         example: "\
@@ -303,43 +425,62 @@ Example:
 
 impl Word {
     /// The argument.
-    fn argument<'a>(self, alloc: Global) -> Arg<'a> {
-        match self {
+    fn argument<'a>(self, alloc: Global) -> Result<Arg<'a>, AllocError> {
+        Ok(match self {
             Word::Required(name, help) => Arg::new(alloc, name).required(true).help(help),
             Word::Signed(name, help) => Arg::new(alloc, name)
                 .required(true)
                 .allow_negative_numbers(true)
                 .help(help),
-            Word::Flag(name, help) => Arg::new(alloc, name)
-                .long(name)
-                .action(ArgAction::SetTrue)
-                .help(help),
-            Word::Value(name, value, help) => Arg::new(alloc, name)
-                .long(name)
-                .value_name(value)
-                .help(help),
-            Word::Values(name, value, help) => Arg::new(alloc, name)
-                .long(name)
-                .value_name(value)
-                .action(ArgAction::Append)
-                .help(help),
-            Word::Choice(name, value, values, help) => Arg::new(alloc, name)
-                .long(name)
-                .value_name(value)
-                .value_parser(values)
-                .help(help),
-        }
+            Word::Unless(name, other, help) => Arg::new(alloc, name)
+                .help(help)
+                .required_unless_present(other)?
+                .conflicts_with(other)?,
+            Word::Flag(name, help) => flag(alloc, name, help),
+            Word::LetterFlag(letter, name, help) => flag(alloc, name, help).short(letter),
+            Word::Value(name, value, help) => option(alloc, name, value, help),
+            Word::LetterValue(letter, name, value, help) => {
+                option(alloc, name, value, help).short(letter)
+            }
+            Word::Values(name, value, help) => {
+                option(alloc, name, value, help).action(ArgAction::Append)
+            }
+            Word::Choice(name, value, values, help) => {
+                option(alloc, name, value, help).value_parser(values)
+            }
+        })
     }
+}
+
+/// An option that is given or not.
+fn flag<'a>(alloc: Global, name: &'static str, help: &'static str) -> Arg<'a> {
+    Arg::new(alloc, name)
+        .long(name)
+        .action(ArgAction::SetTrue)
+        .help(help)
+}
+
+/// An option with a value.
+fn option<'a>(
+    alloc: Global,
+    name: &'static str,
+    value: &'static str,
+    help: &'static str,
+) -> Arg<'a> {
+    Arg::new(alloc, name)
+        .long(name)
+        .value_name(value)
+        .help(help)
 }
 
 impl Form {
     /// The command.
-    pub(crate) fn command<'a>(&self, alloc: Global) -> Result<Command<'a>, AllocError> {
+    fn command<'a>(&self, alloc: Global) -> Result<Command<'a>, AllocError> {
         let mut command = Command::new(alloc, self.name)
             .about(self.about)
             .after_help(self.example);
         for word in self.words.iter().chain(self.choosing) {
-            command = command.arg(word.argument(alloc))?;
+            command = command.arg(word.argument(alloc)?)?;
         }
         Ok(command)
     }

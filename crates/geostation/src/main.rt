@@ -8,24 +8,29 @@ mod forms;
 mod program;
 mod station;
 mod subcommand;
-#[cfg(test)]
-mod tests;
+mod tip;
 
+use its_terminal::Console;
 use std::env;
 use std::io::IsTerminal;
 use std::process::ExitCode;
 
 fn main(rt: HostRuntime) -> ExitCode {
     let arguments = env::args(&rt);
-    let mut err = rt.stderr();
-    let is_watched = err.is_terminal();
-    let status = program::run(
-        &rt,
-        arguments,
-        rt.stdin(),
-        rt.stdout(),
-        &mut err,
-        is_watched,
-    );
+    let (out, mut err) = (rt.stdout(), rt.stderr());
+    let console = Console {
+        out: out.is_terminal(),
+        err: err.is_terminal(),
+        colors: has_colors(&rt),
+    };
+    let status = program::run(&rt, arguments, rt.stdin(), out, &mut err, console);
     ExitCode::from(status.code())
+}
+
+/// Whether nothing in the environment speaks against colours: `NO_COLOR` is empty or isn't there,
+/// and `TERM` isn't `dumb`.
+fn has_colors(rt: &HostRuntime) -> bool {
+    let refused = env::var(rt, "NO_COLOR").is_ok_and(|word| !word.is_empty());
+    let dumb = env::var(rt, "TERM").is_ok_and(|word| word.as_str() == "dumb");
+    !refused && !dumb
 }

@@ -8,39 +8,43 @@ use crate::arguments;
 use crate::station::StationWords;
 use crate::subcommand::Subcommand;
 use its_commands::{check_file, convert_file, import_file, show_file};
+use its_frame_text::Explanation;
 use its_mesh::mesh_file;
+use its_page::view_file;
 use its_pipe::{Ended, run_station};
 use its_replay::{PortList, ReplayOptions, Unit, replay_file};
-use its_reporting::{Explanation, Fault, Status};
-use its_runs::{RunOptions, simulate_file};
+use its_reporting::{Fault, Status};
+use its_runs::simulate_file;
 use its_scenario::{KeyFault, SettingFault, WrongOf, read_station};
 use its_stats::stats_file;
+use its_terminal::{Console, Meter, Reading, Screen};
 use its_world::Config;
 use std::alloc::{AllocError, Global};
 use std::env::Args;
 use std::io;
-use std::io::{BufWriter, ErrorKind, Read, Write};
+use std::io::{BufWriter, Eprint, ErrorKind, Read, Write};
 use std::net::Net;
-use std::rt::Files;
+use std::rt::{Clock, Files};
+
+/// The column heads of `mesh`.
+const MESH_HEADS: &str = "time station result";
 
 /// Runs the command that the arguments name, the program's own name being the first of them, and
 /// writes out all that it prints. `input` is standard input, which is read where a file is `-`.
-/// `is_watched` says whether someone looks at what `err` takes. Gives the exit status.
+/// `console` says who looks at what `out` and `err` take. Gives the exit status.
 ///
 /// Arguments that could not be taken are refused where one is not UTF-8; else memory ran out.
-pub fn run<R: Files + Net + AllocGlobal, I: Read + Drop, W: Write + Drop, E: Write>(
-    rt: &R,
-    arguments: io::Result<Args>,
-    input: I,
-    out: W,
-    err: &mut E,
-    is_watched: bool,
-) -> Status
+pub fn run<
+    R: Files + Net + Clock + Eprint + AllocGlobal,
+    I: Read + Drop,
+    W: Write + Drop,
+    E: Write,
+>(rt: &R, arguments: io::Result<Args>, input: I, out: W, err: &mut E, console: Console) -> Status
 where
     R::File: Read + Write + Drop,
 {
     match collected(rt, arguments, err) {
-        Ok(arguments) => { run_buffered(rt, arguments.as_slice(), input, out, err, is_watched) }
+        Ok(arguments) => { run_buffered(rt, arguments.as_slice(), input, out, err, console) }
         Err(status) => status,
     }
 }
@@ -64,47 +68,49 @@ fn collected<R: AllocGlobal, E: Write>(
 }
 
 /// Runs the command that the arguments name, with a buffer before standard output.
-fn run_buffered<R: Files + Net + AllocGlobal, I: Read + Drop, W: Write + Drop, E: Write>(
-    rt: &R,
-    arguments: &[String],
-    input: I,
-    out: W,
-    err: &mut E,
-    is_watched: bool,
-) -> Status
+fn run_buffered<
+    R: Files + Net + Clock + Eprint + AllocGlobal,
+    I: Read + Drop,
+    W: Write + Drop,
+    E: Write,
+>(rt: &R, arguments: &[String], input: I, out: W, err: &mut E, console: Console) -> Status
 where
     R::File: Read + Write + Drop,
 {
     let Ok(mut out) = BufWriter::new(rt.alloc(), out) else {
         return Fault::OutOfMemory(AllocError).report(err);
     };
-    let status = dispatch(rt, arguments, input, &mut out, err, is_watched);
+    let status = dispatch(rt, arguments, input, &mut out, err, console);
     match out.flush() {
         Ok(()) => status,
         Err(_) => Status::Failed,
     }
 }
 
-fn dispatch<R: Files + Net + AllocGlobal, I: Read + Drop, W: Write, E: Write>(
+fn dispatch<R: Files + Net + Clock + Eprint + AllocGlobal, I: Read + Drop, W: Write, E: Write>(
     rt: &R,
     arguments: &[String],
     input: I,
     out: &mut W,
     err: &mut E,
-    is_watched: bool,
+    console: Console,
 ) -> Status
 where
     R::File: Read + Write + Drop,
 {
-    match arguments::read(rt.alloc(), arguments) {
+    match arguments::read(rt.alloc(), arguments, console) {
         Ok(
             Subcommand::Show {
                 file,
                 selection,
                 showing,
                 names,
+                painter,
             },
-        ) => show_file(rt, file, input, &selection, showing, names, out, err),
+        ) => {
+            let mut out = Screen::plain(rt.alloc(), out).painted(painter);
+            show_file(rt, file, input, &selection, showing, names, &mut out, err)
+        }
         Ok(
             Subcommand::Check {
                 file,
@@ -126,46 +132,69 @@ where
                 out: target,
                 frames_only,
                 lines,
+                progress,
             },
-        ) => convert_file(
-            rt,
-            file,
-            input,
-            &selection,
-            target,
-            frames_only,
-            lines,
-            out,
-            err,
-        ),
+        ) => {
+            let reading = Reading::of(rt, file, progress);
+            let mut err = Meter::new(rt.alloc(), rt, err, progress);
+            convert_file(
+                &reading,
+                file,
+                input,
+                &selection,
+                target,
+                frames_only,
+                lines,
+                out,
+                &mut err,
+            )
+        }
         Ok(
             Subcommand::Import {
                 file,
                 out: target,
                 lines,
+                progress,
             },
-        ) => import_file(rt, file, input, target, lines, out, err),
+        ) => {
+            let reading = Reading::of(rt, file, progress);
+            let mut err = Meter::new(rt.alloc(), rt, err, progress);
+            import_file(&reading, file, input, target, lines, out, &mut err)
+        }
         Ok(
             Subcommand::Sim {
                 file,
                 frames,
                 results,
                 options,
+                painter,
             },
         ) => {
-            let options = RunOptions {
-                progress: is_watched,
-                ..options
-            };
-            simulate_file(rt, file, input, frames, results, options, out, err)
+            let mut out = Screen::plain(rt.alloc(), out).painted(painter);
+            let mut err = Meter::new(rt.alloc(), rt, err, options.progress);
+            let status = simulate_file(
+                rt, file, input, frames, results, options, &mut out, &mut err,
+            );
+            let _ = err.flush();
+            status
+        }
+        Ok(Subcommand::View(viewing)) => {
+            let mut err = Meter::new(rt.alloc(), rt, err, viewing.options.progress);
+            let status = view_file(rt, viewing, input, out, &mut err);
+            let _ = err.flush();
+            status
         }
         Ok(
             Subcommand::Mesh {
                 file,
                 frames,
                 options,
+                heads,
             },
-        ) => mesh_file(rt, file, input, frames, options, out, err),
+        ) => {
+            let mut out = Screen::plain(rt.alloc(), out).headed(heads.then_some(MESH_HEADS));
+            mesh_file(rt, file, input, frames, options, &mut out, err)
+        }
         Ok(
             Subcommand::Replay {
                 file,

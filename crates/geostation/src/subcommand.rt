@@ -7,12 +7,14 @@ use crate::station::StationWords;
 use clap::ArgMatches;
 use its_commands::{Selection, Showing};
 use its_mesh::MeshOptions;
+use its_page::Viewing;
 use its_pcap::Format;
 use its_replay::PortList;
-use its_reporting::{OutputFormat, Target};
+use its_reporting::{OutputFormat, Target, is_standard};
 use its_runs::{ResultFiles, RunOptions};
 use its_scenario::{AirSettings, SettingFault};
 use its_stats::Counting;
+use its_terminal::{Coloring, Console, Painter};
 
 /// What the program is to do.
 #[derive(Clone, Copy, Debug, PartialEq, Eq)]
@@ -23,6 +25,7 @@ pub enum Subcommand<'a> {
         selection: Selection,
         showing: Showing,
         names: Option<&'a str>,
+        painter: Option<Painter>,
     },
     /// To check the capture in the file.
     Check {
@@ -43,12 +46,14 @@ pub enum Subcommand<'a> {
         out: Target<'a>,
         frames_only: bool,
         lines: OutputFormat,
+        progress: bool,
     },
     /// To make the capture `out` of the lines in the file.
     Import {
         file: &'a str,
         out: &'a str,
         lines: OutputFormat,
+        progress: bool,
     },
     /// To run the scenario in the file, and to write its frames to `frames` and its numbers to
     /// `results`.
@@ -57,12 +62,16 @@ pub enum Subcommand<'a> {
         frames: Option<Target<'a>>,
         results: ResultFiles<'a>,
         options: RunOptions,
+        painter: Option<Painter>,
     },
+    /// To write the page with a run in it.
+    View(Viewing<'a>),
     /// To run the scenario in the file over sockets, and to write its frames to `frames`.
     Mesh {
         file: &'a str,
         frames: Option<Target<'a>>,
         options: MeshOptions,
+        heads: bool,
     },
     /// To give the records of the capture in the file to the station that the words describe, whose
     /// ports are these, and to write the frames that it passes on to `frames`.
@@ -83,49 +92,66 @@ pub enum Subcommand<'a> {
     },
 }
 
-/// The subcommand that was matched. One is required, as are its arguments, so there is an answer.
+/// The subcommand that was matched, of a program whose streams are these. One is required, as are
+/// its arguments, so there is an answer.
 pub(crate) fn subcommand_of<'a>(
     matches: &ArgMatches<'a>,
+    console: Console,
 ) -> Result<Option<Subcommand<'a>>, BadArgument<'a>> {
     let Some((name, inner)) = matches.subcommand() else {
         return Ok(None);
     };
     match name {
-        "show" | "check" | "stats" | "convert" => over_capture(name, inner),
+        "show" | "check" | "stats" | "convert" => over_capture(name, inner, console),
         "station" => Ok(StationWords::of(inner).map(Subcommand::Station)),
-        "replay" => replaying(inner),
-        _ => Ok(other(name, inner)),
+        "replay" => replaying(inner, console),
+        _ => Ok(other(name, inner, console)),
     }
 }
 
-/// How lines are printed. An option that a command doesn't have was not given.
-fn lines_of(matches: &ArgMatches<'_>) -> OutputFormat {
+/// How the lines of the command of this name are printed. Codes are explained where that is asked
+/// for and, unless it is refused, where someone looks: at both streams, or at standard error alone
+/// where a command writes a file and no lines. An option that a command doesn't have was not given.
+fn lines_of(name: &str, matches: &ArgMatches<'_>, console: Console) -> OutputFormat {
+    let json = matches.get_flag("json");
+    let is_watched = match name {
+        "convert" | "import" | "view" => console.err,
+        _ => console.explains_lines(),
+    };
+    let explain = matches.get_flag("explain") || (is_watched && !json);
     OutputFormat {
-        json: matches.get_flag("json"),
-        explain: matches.get_flag("explain"),
+        json,
+        explain: explain && !matches.get_flag("no-explain"),
     }
+}
+
+/// How the lines in words of a command are coloured, where they are.
+fn painter_of(matches: &ArgMatches<'_>, console: Console, painter: Painter) -> Option<Painter> {
+    let coloring = match matches.get_str("color") {
+        Some("always") => Coloring::Always,
+        Some("never") => Coloring::Never,
+        _ => Coloring::Auto,
+    };
+    let are_words = !matches.get_flag("json") && !matches.get_flag("summary");
+    (are_words && console.is_colored(coloring)).then_some(painter)
 }
 
 /// A subcommand over the records of a capture.
 fn over_capture<'a>(
     name: &str,
     matches: &ArgMatches<'a>,
+    console: Console,
 ) -> Result<Option<Subcommand<'a>>, BadArgument<'a>> {
     let Some(file) = file_of(matches) else {
         return Ok(None);
     };
     let selection = selection_of(matches, format_of(matches, "format"))?;
-    let lines = lines_of(matches);
+    let lines = lines_of(name, matches, console);
     match name {
-        "show" => Ok(Some(Subcommand::Show {
-            file,
-            selection,
-            showing: Showing {
-                lines,
-                time: time_of(matches),
-            },
-            names: fields_of(matches)?,
-        })),
+        "show" => {
+            let names = fields_of(matches)?;
+            Ok(Some(showing(file, selection, lines, names, matches, console)))
+        }
         "stats" => Ok(Some(Subcommand::Stats {
             file,
             selection,
@@ -139,8 +165,35 @@ fn over_capture<'a>(
             selection,
             lines,
         })),
-        _ => Ok(converting(file, selection, lines, matches)),
+        _ => Ok(converting(file, selection, lines, matches, console)),
     }
+}
+
+/// `show`. Rows of values are never coloured.
+fn showing<'a>(
+    file: &'a str,
+    selection: Selection,
+    lines: OutputFormat,
+    names: Option<&'a str>,
+    matches: &ArgMatches<'a>,
+    console: Console,
+) -> Subcommand<'a> {
+    let painter = painter_of(matches, console, Painter::Records);
+    Subcommand::Show {
+        file,
+        selection,
+        showing: Showing {
+            lines,
+            time: time_of(matches),
+        },
+        names,
+        painter: painter.filter(|_| names.is_none()),
+    }
+}
+
+/// The name of the file that is made: an option, or in its place.
+fn output_of<'a>(matches: &ArgMatches<'a>) -> Option<&'a str> {
+    matches.get_str("output").or_else(|| matches.get_str("OUT"))
 }
 
 /// `convert`.
@@ -149,21 +202,48 @@ fn converting<'a>(
     selection: Selection,
     lines: OutputFormat,
     matches: &ArgMatches<'a>,
+    console: Console,
 ) -> Option<Subcommand<'a>> {
+    let name = output_of(matches)?;
     Some(Subcommand::Convert {
         file,
         selection,
         out: Target {
-            name: matches.get_str("OUT")?,
+            name,
             to: format_of(matches, "to"),
         },
         frames_only: matches.get_flag("frames-only"),
         lines,
+        progress: shows_progress(matches, console, name),
     })
 }
 
+/// `import`.
+fn importing<'a>(
+    file: &'a str,
+    lines: OutputFormat,
+    matches: &ArgMatches<'a>,
+    console: Console,
+) -> Option<Subcommand<'a>> {
+    let out = output_of(matches)?;
+    Some(Subcommand::Import {
+        file,
+        out,
+        lines,
+        progress: shows_progress(matches, console, out),
+    })
+}
+
+/// Whether it is told how far a command is that writes the file of this name.
+fn shows_progress(matches: &ArgMatches<'_>, console: Console, target: &str) -> bool {
+    !matches.get_flag("quiet") && console.shows_progress(is_standard(target))
+}
+
 /// `replay`: its `--port` is the station's.
-fn replaying<'a>(matches: &ArgMatches<'a>) -> Result<Option<Subcommand<'a>>, BadArgument<'a>> {
+fn replaying<'a>(
+    matches: &ArgMatches<'a>,
+    console: Console,
+) -> Result<Option<Subcommand<'a>>, BadArgument<'a>> {
     let (Some(file), Some(words)) = (file_of(matches), StationWords::of(matches)) else {
         return Ok(None);
     };
@@ -173,7 +253,7 @@ fn replaying<'a>(matches: &ArgMatches<'a>) -> Result<Option<Subcommand<'a>>, Bad
         words,
         ports: ports_of(matches)?,
         frames: frames_of(matches),
-        lines: lines_of(matches),
+        lines: lines_of("replay", matches, console),
     }))
 }
 
@@ -184,17 +264,14 @@ fn frames_of<'a>(matches: &ArgMatches<'a>) -> Option<Target<'a>> {
 }
 
 /// Any other subcommand over a file.
-fn other<'a>(name: &str, inner: &ArgMatches<'a>) -> Option<Subcommand<'a>> {
-    let lines = lines_of(inner);
+fn other<'a>(name: &str, inner: &ArgMatches<'a>, console: Console) -> Option<Subcommand<'a>> {
+    let lines = lines_of(name, inner, console);
     let frames = frames_of(inner);
     let file = file_of(inner)?;
     match name {
-        "import" => Some(Subcommand::Import {
-            file,
-            out: inner.get_str("OUT")?,
-            lines,
-        }),
-        "sim" => Some(simulation_of(inner, file, frames, lines)),
+        "import" => importing(file, lines, inner, console),
+        "sim" => Some(simulation_of(inner, file, frames, lines, console)),
+        "view" => Some(Subcommand::View(viewing_of(inner, file, lines, console))),
         "mesh" => Some(Subcommand::Mesh {
             file,
             frames,
@@ -202,8 +279,30 @@ fn other<'a>(name: &str, inner: &ArgMatches<'a>) -> Option<Subcommand<'a>> {
                 lines,
                 strict: inner.get_flag("strict"),
             },
+            heads: console.out && !lines.json,
         }),
         _ => None,
+    }
+}
+
+/// `view`.
+fn viewing_of<'a>(
+    matches: &ArgMatches<'a>,
+    file: &'a str,
+    lines: OutputFormat,
+    console: Console,
+) -> Viewing<'a> {
+    let target = matches.get_str("output").unwrap_or("-");
+    Viewing {
+        file,
+        target,
+        viewer: matches.get_str("viewer"),
+        options: RunOptions {
+            lines,
+            progress: shows_progress(matches, console, target),
+            quiet: matches.get_flag("quiet"),
+            ..RunOptions::default()
+        },
     }
 }
 
@@ -213,7 +312,10 @@ fn simulation_of<'a>(
     file: &'a str,
     frames: Option<Target<'a>>,
     lines: OutputFormat,
+    console: Console,
 ) -> Subcommand<'a> {
+    let summary = matches.get_flag("summary");
+    let quiet = matches.get_flag("quiet");
     match settings_of(matches) {
         Ok(settings) => Subcommand::Sim {
             file,
@@ -225,13 +327,15 @@ fn simulation_of<'a>(
             },
             options: RunOptions {
                 lines,
-                summary: matches.get_flag("summary"),
+                summary,
                 notes: matches.get_flag("notes"),
-                // Whoever looks is known where the command is run.
-                progress: false,
+                heads: console.out,
+                progress: !quiet && console.shows_progress(!summary),
+                quiet,
                 strict: matches.get_flag("strict"),
                 settings,
             },
+            painter: painter_of(matches, console, Painter::Events),
         },
         Err(fault) => Subcommand::BadSetting {
             fault,
@@ -260,7 +364,7 @@ fn format_of(matches: &ArgMatches<'_>, option: &str) -> Option<Format> {
 
 /// The file that a command is over: each has one, by one of these names.
 fn file_of<'a>(matches: &ArgMatches<'a>) -> Option<&'a str> {
-    ["FILE", "IN", "SCENARIO"]
+    ["FILE", "IN", "SCENARIO", "RUN"]
         .iter()
         .find_map(|name| matches.get_str(name))
 }

@@ -3,14 +3,14 @@ use Rattle.std.proofs.Common.{List, [], ◌∷◌, ◌++◌, refl, ap, ◌∙◌
 use Rattle.its_model.specs.World.{Event}
 use Rattle.its_air.specs.AirRun.{AreAmong}
 
--- one more of the others
-pub among_more : (xs ys : List Event) (e : Event) → AreAmong xs ys → AreAmong xs (ys ++ e ∷ [])
-among_more [] ys e h = tt
-among_more (x ∷ xs) ys e h = (
+-- among more
+pub among_longer : (xs ys more : List Event) → AreAmong xs ys → AreAmong xs (ys ++ more)
+among_longer [] ys more h = tt
+among_longer (x ∷ xs) ys more h = (
   h.0,
-  h.1 ++ e ∷ [],
-  ap (λ (l : List Event). l ++ e ∷ []) h.2 ∙ append_assoc h.0 (x ∷ h.1) (e ∷ []),
-  among_more xs h.1 e h.3,
+  h.1 ++ more,
+  ap (λ (l : List Event). l ++ more) h.2 ∙ append_assoc h.0 (x ∷ h.1) more,
+  among_longer xs h.1 more h.3,
 )
 
 -- one more of both

@@ -3,6 +3,7 @@ use Rattle.std.proofs.Common.{◌≡◌, ℕ, zero, suc, ◌+◌, ◌≤◌, ◌
 use Rattle.std.proofs.Common.{◌∙◌, arith, Bool, true, false, cond, subst, Option, Some, ◌⊎◌}
 use Rattle.std.proofs.Common.{inl, inr, not, ◌&&◌, eqb}
 use Rattle.std.specs.Prelude.{slice_get}
+use Rattle.std.specs.List.{filter}
 use Rattle.its_gnvalue.specs.Values.{Position}
 use Rattle.its_model.specs.Calls.{Answer}
 use Rattle.its_model.specs.Calls.Answer.{Accepted, Closed, Ignored, Moved, Opened, Quiet, Refused}
@@ -16,16 +17,16 @@ use Rattle.its_model.proofs.Linked.{chains_reach}
 use Rattle.its_model.proofs.Lists.{get_at, get_within}
 use Rattle.its_model.proofs.NumberTests.{eq_test, eqb_other, or_false}
 use Rattle.its_model.proofs.SoundRuns.{run_sound}
-use Rattle.its_air.specs.Carried.{world_at, StationsInRangeHear, AreNextInside}
+use Rattle.its_air.specs.Carried.{world_at, StationsInRangeHear, AreNextInside, AreThere}
 use Rattle.its_air.specs.Carried.{ReachesInAir}
 use Rattle.its_air.specs.Heard.{air_at, IsDone, IsHeard, world_after}
 use Rattle.its_air.specs.Reach.{is_within}
-use Rattle.its_air.specs.Timetable.{Rules, Put, AirModel, IsOver, delivery, given, heard_from}
-use Rattle.its_air.specs.Timetable.{hear_it}
-use Rattle.its_air.specs.Timetable.{heard_by}
+use Rattle.its_air.specs.Timetable.{Rules, Put, AirModel, Filed, IsOver, delivery, given}
+use Rattle.its_air.specs.Timetable.{heard_from, hear_it, in_reach_of, heard_by, is_present}
 use Rattle.its_air.proofs.Heard.{what_is_heard_is_delivered}
 use Rattle.its_air.proofs.InLine.{frames_come_in_order}
-use Rattle.its_air.proofs.Logs.{made, step_case, world_next, line_next, logs_never_fall}
+use Rattle.its_air.proofs.Lasting.{IsDropped, step_case}
+use Rattle.its_air.proofs.Logs.{made, world_next, line_next, logs_never_fall}
 
 -- ---- where a station stands that never moved
 
@@ -117,9 +118,40 @@ heard_at range giver n m (suc i) place (x ∷ stations) s at' is other near =
     by true r = (suc r.0, r.1)
     by false r = (r.0, r.1)
 
+-- one that passes is among those that are filtered
+kept_at : (p : ℕ → Bool) (xs : List ℕ) (i j : ℕ) → slice_get xs i ≡ Some j → p j ≡ true
+    → (k : ℕ) × (slice_get (filter p xs) k ≡ Some j)
+kept_at p [] i j is passes = let no : ⊥ = cc in absurd no
+kept_at p (x ∷ xs) zero j is passes =
+    let same : x ≡ j = cc in
+    let test : p x ≡ true = ap p same ∙ passes in (
+      0,
+      subst (λ (b : Bool). slice_get (cond b (x ∷ filter p xs) (filter p xs)) 0 ≡ Some j) (sym test)
+          (ap (λ (l : ℕ). Some l) same),
+    )
+kept_at p (x ∷ xs) (suc i) j is passes = by (p x) (kept_at p xs i j is passes)
+  where
+    by : (b : Bool) → (k : ℕ) × (slice_get (filter p xs) k ≡ Some j)
+        → (k : ℕ) × (slice_get (cond b (x ∷ filter p xs) (filter p xs)) k ≡ Some j)
+    by true r = (suc r.0, r.1)
+    by false r = (r.0, r.1)
+
+-- who is in reach hears, where both are present
+heard_of : (range : ℕ) (present : List Bool) (w : WorldModel) (giver i j : ℕ)
+    → is_present present giver ≡ true → is_present present j ≡ true
+    → slice_get (in_reach_of range w giver) i ≡ Some j
+    → (k : ℕ) × (slice_get (heard_by range present w giver) k ≡ Some j)
+heard_of range present w giver i j giver_there there at' =
+    let k = kept_at (is_present present) (in_reach_of range w giver) i j at' there in (
+      k.0,
+      subst (λ (b : Bool). slice_get
+          (cond b (filter (is_present present) (in_reach_of range w giver)) []) k.0 ≡ Some j)
+          (sym giver_there) k.1,
+    )
+
 -- ---- logs
 
-logs_grow : (r : Rules) (configs : List Config) (file : List Event) (n d end : ℕ) → end ≡ d + n
+logs_grow : (r : Rules) (configs : List Config) (file : List Filed) (n d end : ℕ) → end ≡ d + n
     → (lines : List LogLine)
     × ((world_at r configs file end).log ≡ lines ++ (world_at r configs file n).log)
 logs_grow r configs file n zero end is =
@@ -134,7 +166,7 @@ logs_grow r configs file n (suc d) end is =
         ap (λ (m : ℕ). (world_at r configs file m).log) same
 
     by : (air_at r configs file (suc (d + n)) ≡ air_at r configs file (d + n))
-        ⊎ ((p : Put) × IsDone r configs file (d + n) p)
+        ⊎ (IsDropped r configs file (d + n) ⊎ ((p : Put) × IsDone r configs file (d + n) p))
         → (lines : List LogLine)
         × ((world_at r configs file (d + n)).log ≡ lines ++ (world_at r configs file n).log)
         → (lines : List LogLine)
@@ -143,7 +175,11 @@ logs_grow r configs file n (suc d) end is =
       g.0,
       last ∙ ap (λ (a : AirModel). (world_run (opening configs) a.done).log) same ∙ g.1,
     )
-    by (inr done) g =
+    by (inr (inl dropped)) g = (
+      g.0,
+      last ∙ ap (λ (es : List Event). (world_run (opening configs) es).log) dropped.done ∙ g.1,
+    )
+    by (inr (inr done)) g =
         let one = line_next r configs file (d + n) done.0 in (
           one.0 ∷ g.0,
           last
@@ -152,7 +188,7 @@ logs_grow r configs file n (suc d) end is =
               ∙ one.1 ∙ ap (λ (xs : List LogLine). one.0 ∷ xs) g.1,
         )
 
-up_to : (r : Rules) (configs : List Config) (file : List Event) (n end : ℕ) → n ≤ end
+up_to : (r : Rules) (configs : List Config) (file : List Filed) (n end : ℕ) → n ≤ end
     → (lines : List LogLine)
     × ((world_at r configs file end).log ≡ lines ++ (world_at r configs file n).log)
 up_to r configs file n end le =
@@ -168,7 +204,7 @@ up_to r configs file n end le =
 -- ---- what is delivered
 
 -- by a later step it is delivered
-delivered : (r : Rules) (configs : List Config) (file : List Event) (end n m k j : ℕ) (p : Put)
+delivered : (r : Rules) (configs : List Config) (file : List Filed) (end n m k j : ℕ) (p : Put)
     (moment : ℕ) (line : LogLine) (before : List LogLine) → n < m → m < end
     → IsDone r configs file n p → (world_after r configs file n p).log ≡ line ∷ before
     → IsDone r configs file m (delivery k moment j)
@@ -190,10 +226,10 @@ delivered r configs file end n m k j p moment line before lt below done after d 
       event = one.2;
     }
 
-pub stations_in_range_hear : (r : Rules) (configs : List Config) (file : List Event)
+pub stations_in_range_hear : (r : Rules) (configs : List Config) (file : List Filed)
     → StationsInRangeHear r configs file
-stations_in_range_hear r configs file end i j lossless over h later before line k split station
-    gives due =
+stations_in_range_hear r configs file end i j lossless over i_there j_there h later before line k
+    split station gives due =
     let s = made r configs file end later before line split in
     let es = (air_at r configs file s.n).done ++ s.p.event ∷ [] in
     let w = world_after r configs file s.n s.p in
@@ -209,17 +245,22 @@ stations_in_range_hear r configs file end i j lossless over h later before line 
     let differ : eqb j i ≡ false = eqb_other i j (λ e. h.other (sym e)) in
     let heard = heard_at r.range i 0 j j giver.0.vector.place w.stations receiver.0 receiver.1
     (omega arith) differ near in
-    let there : slice_get (heard_by r.range w i) heard.0 ≡ Some j =
+    let in_reach : slice_get (in_reach_of r.range w i) heard.0 ≡ Some j =
     ap (λ (o : Option StationModel). slice_get (hear_it r.range w.stations i o) heard.0) giver.1
     ∙ heard.1 in
+    let present = (air_at r configs file s.n).present in
+    let there = heard_of r.range present w i heard.0 j (i_there s.n) (j_there s.n) in_reach in
     let from : i ≡ s.p.event.station = sym station ∙ ap (λ (e : Event). e.station) s.event in
     let moment : s.p.event.moment ≡ line.event.moment =
     ap (λ (e : Event). e.moment) (sym s.event) in
     let is_heard : IsHeard r configs file s.n s.p k j = record {
       done = s.done;
       gives = ap given s.after ∙ gives;
-      place = heard.0;
-      in_range = subst (λ (n : ℕ). slice_get (heard_by r.range w n) heard.0 ≡ Some j) from there;
+      place = there.0;
+      giver_present = subst (λ (n : ℕ). is_present present n ≡ true) from (i_there s.n);
+      present = j_there s.n;
+      in_range = subst (λ (n : ℕ). slice_get (heard_by r.range present w n) there.0 ≡ Some j) from
+          there.1;
       is_kept = omega (arith, lossless);
     } in
     let d = what_is_heard_is_delivered r configs file end s.n k j s.p over is_heard
@@ -231,13 +272,14 @@ stations_in_range_hear r configs file end i j lossless over h later before line 
 
 -- ---- chains
 
-heard_from_inside : (chain : List ℕ) (r : Rules) (configs : List Config) (file : List Event)
+heard_from_inside : (chain : List ℕ) (r : Rules) (configs : List Config) (file : List Filed)
     (end i : ℕ) (g : Geobroadcast (world_at r configs file end)) → r.loss ≡ 0
     → IsOver r (air_at r configs file end)
+    → AreThere r configs file (i ∷ chain)
     → AreNextInside r configs (world_at r configs file end) g i chain
     → AreHeardFromInside configs (world_at r configs file end) g r.delay r.until i chain
-heard_from_inside [] r configs file end i g lossless over h = tt
-heard_from_inside (j ∷ chain) r configs file end i g lossless over h =
+heard_from_inside [] r configs file end i g lossless over there h = tt
+heard_from_inside (j ∷ chain) r configs file end i g lossless over there h =
     let one = h.0 in (
       record {
         giver = record {
@@ -250,15 +292,16 @@ heard_from_inside (j ∷ chain) r configs file end i g lossless over h =
         configured = one.in_range.is_receiver;
         room = one.room;
         other = one.not_sender;
-        heard = stations_in_range_hear r configs file end i j lossless over one.in_range;
+        heard = stations_in_range_hear r configs file end i j lossless over there.0 there.1.0
+            one.in_range;
       },
-      heard_from_inside chain r configs file end j g lossless over h.1,
+      heard_from_inside chain r configs file end j g lossless over there.1 h.1,
     )
 
-pub reaches_in_air : (r : Rules) (configs : List Config) (file : List Event)
+pub reaches_in_air : (r : Rules) (configs : List Config) (file : List Filed)
     → ReachesInAir r configs file
-reaches_in_air r configs file end g chain none lossless over small apart never_restarted few next
-    enough in_time =
+reaches_in_air r configs file end g chain none lossless over small apart never_restarted few there
+    next enough in_time =
     chains_reach configs (air_at r configs file end).done g r.delay r.until chain
     (record {
       apart = apart;
@@ -269,5 +312,5 @@ reaches_in_air r configs file end g chain none lossless over small apart never_r
           frames_come_in_order r configs file none end later between older first second k m split
           one.delivery two.delivery;
     })
-    (heard_from_inside chain r configs file end g.line.event.station g lossless over next) enough
-    in_time small
+    (heard_from_inside chain r configs file end g.line.event.station g lossless over there next)
+    enough in_time small

@@ -1,5 +1,5 @@
 -- What follows an event of the air's own, by what it was.
-use Rattle.std.proofs.Common.{◌≡◌, ◌∙◌, ℕ, ◌+◌, Bool, true, false, Option, Some, None, cond, not, ◌&&◌}
+use Rattle.std.proofs.Common.{◌≡◌, ◌∙◌, ℕ, ◌+◌, Bool, true, false, Option, cond, not, ◌&&◌}
 use Rattle.std.proofs.Common.{refl, sym, ap}
 use Rattle.its_model.specs.Station.{StationModel}
 use Rattle.its_scenario.specs.declared.traffic.Traffic.{Traffic as Flow}
@@ -32,8 +32,8 @@ pub follows_delivery : (w : Waiting) (k : ℕ) (refused : Bool) (s : Option Stat
     (t : Timetable) → w.own ≡ owns.Deliver k → t ≡ follow_own w refused s t
 follows_delivery w k refused s t is = ap (λ (o : Own). follow_as o w refused s t) (sym is)
 
-pub follows_send : (w : Waiting) (x : Flow) (refused : Bool) (s : Option StationModel)
-    (t : Timetable) → w.own ≡ owns.Send x
-    → put_alone (sending (traffic_of x) w.station (w.moment + x.period)) t
+pub follows_send : (w : Waiting) (n : ℕ) (x : Flow) (refused : Bool) (s : Option StationModel)
+    (t : Timetable) → w.own ≡ owns.Send n x
+    → put_alone (sending (traffic_of n x) w.station (w.moment + x.period)) t
     ≡ follow_own w refused s t
-follows_send w x refused s t is = ap (λ (o : Own). follow_as o w refused s t) (sym is)
+follows_send w n x refused s t is = ap (λ (o : Own). follow_as o w refused s t) (sym is)

@@ -2,85 +2,98 @@
 use Rattle.std.proofs.Common.{◌≡◌, ℕ, zero, suc, ◌+◌, ◌≤◌, ◌<◌, List, [], ◌∷◌, refl, sym, ap}
 use Rattle.std.proofs.Common.{◌∙◌, arith, Bool, true, false, cond, subst, Option, Some, None, ◌⊎◌}
 use Rattle.std.proofs.Common.{inl, inr, map, length, true≢false}
-use Rattle.std.specs.Prelude.{nat_le, nat_lt, ◌%◌, ◌-◌, slice_get, not, ◌&&◌}
-use Rattle.std.proofs.lemmas.Bool.{leb-true, ltb-false, cases_lt}
+use Rattle.std.specs.Prelude.{nat_lt, ◌%◌, ◌-◌, slice_get, not, ◌&&◌}
+use Rattle.std.specs.List.{filter}
+use Rattle.std.proofs.lemmas.Bool.{ltb-false, cases_lt}
 use Rattle.rand_core.specs.Stream.{Stream}
 use Rattle.its_model.specs.Station.{StationModel}
 use Rattle.its_model.specs.World.{Config, Event, WorldModel}
 use Rattle.its_model.specs.World.What.{Calls, Deliver}
 use Rattle.its_model.specs.Calls.OwnCall.{Tick, SendShb}
-use Rattle.its_air.specs.Heard.{air_at, IsDone, IsHeard, draw_of, world_after}
+use Rattle.its_air.specs.Heard.{air_at, IsDone, IsTaken, IsTakenByStation, IsHeard}
+use Rattle.its_air.specs.Heard.{draw_of, world_after}
 use Rattle.its_air.specs.Heard.{WhatIsHeardIsDelivered, DeliveriesAreHeard, StepsDoEvents}
-use Rattle.its_air.specs.Timetable.{IsOver}
+use Rattle.its_air.specs.Timetable.{IsOver, is_present, is_passed_over, is_delivery}
 use Rattle.its_air.specs.Timetable.{Rules, Put, Timetable, AirModel, put, put_all, draw, of_file}
 use Rattle.its_air.specs.Timetable.{draw_alone, draw_and_put, delivery, send, send_all, given}
-use Rattle.its_air.specs.Timetable.{spread, spread_frame, heard_by, tick_again, follow_tick}
-use Rattle.its_air.specs.Timetable.{tick, is_tick, was_refused, do_first, put_first_ticks}
-use Rattle.its_air.proofs.Lasting.{IsIn, step_does, once_done, waits_on, none_left, heard_waits}
-use Rattle.its_air.proofs.Lasting.{send_draws}
+use Rattle.its_air.specs.Timetable.{spread, spread_frame, heard_by, in_reach_of, tick_again}
+use Rattle.its_air.specs.Timetable.{follow_tick, follow_all, put_send, put_tick, by_file, comes}
+use Rattle.its_air.specs.Timetable.{tick, is_tick, was_refused, put_first_ticks, Pending, Filed}
 use Rattle.its_air.specs.Timetable.{air_opening, NoneWaits, with_file, with_ticks, put_traffic}
 use Rattle.its_air.specs.Timetable.{Traffic, sending, send_again, put_first_sends}
+use Rattle.its_air.specs.Timetable.Pending.{Does}
+use Rattle.its_air.specs.Timetable.Filed.{Happens, Leaves}
+use Rattle.its_air.proofs.Comings.{put_of_is, put_of_any, after_of, IsComeTick, IsComeSend}
+use Rattle.its_air.proofs.Lasting.{IsIn, IsDropped, step_does, step_case, waits_on, none_left}
+use Rattle.its_air.proofs.Lasting.{heard_waits, send_draws, rest_of}
 use Rattle.its_air.proofs.OneRun.{later}
-use Rattle.its_air.proofs.Putting.{at}
 
-pub steps_do_events : (r : Rules) (configs : List Config) (file : List Event)
+pub steps_do_events : (r : Rules) (configs : List Config) (file : List Filed)
     → StepsDoEvents r configs file
 steps_do_events r configs file n p d =
     ap (λ (a : AirModel). a.done) (step_does r configs file n p d)
 
 -- ---- what is heard is delivered
 
--- In a run that is over, what waits after a step is done by a later one, where it is due.
-pub put_is_done : (r : Rules) (configs : List Config) (file : List Event) (end n : ℕ) (p q : Put)
+-- In a run that is over, what waits after a step is taken by a later one, where it is due.
+pub put_is_taken : (r : Rules) (configs : List Config) (file : List Filed) (end n : ℕ) (p q : Put)
     → IsDone r configs file n p → IsOver r (air_at r configs file end)
-    → IsIn q (air_at r configs file (suc n)).timetable.waiting → at q ≤ r.until
-    → (m : ℕ) × (n < m) × (m < end) × IsDone r configs file m q
-put_is_done r configs file end n p q done over waits due = by (cases_lt n end)
+    → IsIn q (air_at r configs file (suc n)).timetable.waiting → q.event.moment ≤ r.until
+    → (m : ℕ) × (n < m) × (m < end) × IsTaken r configs file m q
+put_is_taken r configs file end n p q done over waits due = by (cases_lt n end)
   where
-    ended : ((m : ℕ) × (suc n ≤ m) × (m < end) × IsDone r configs file m q)
+    ended : ((m : ℕ) × (suc n ≤ m) × (m < end) × IsTaken r configs file m q)
         ⊎ IsIn q (air_at r configs file end).timetable.waiting
-        → (m : ℕ) × (n < m) × (m < end) × IsDone r configs file m q
+        → (m : ℕ) × (n < m) × (m < end) × IsTaken r configs file m q
     ended (inl x) = (x.0, omega (arith, x.1), x.2, x.3)
     ended (inr x) =
         let late = none_left r configs file end q over x in absurd (omega (arith, late, due))
 
-    by : (n < end) ⊎ (end ≤ n) → (m : ℕ) × (n < m) × (m < end) × IsDone r configs file m q
+    by : (n < end) ⊎ (end ≤ n) → (m : ℕ) × (n < m) × (m < end) × IsTaken r configs file m q
     by (inl lt) =
         ended (waits_on r configs file (suc n) (end - suc n) end q (omega (arith, lt)) waits)
     by (inr le) =
         let same : air_at r configs file n ≡ air_at r configs file end =
         later r configs (air_opening r configs file) n end le over in
-        let none : NoneWaits r.until (p ∷ done.rest) =
+        let none : NoneWaits r.until (Does p ∷ done.rest) =
         subst (NoneWaits r.until) done.first
         (subst (λ (a : AirModel). NoneWaits r.until a.timetable.waiting) (sym same) over) in
         let in_time = done.in_time in absurd (omega (arith, none, in_time))
 
-pub what_is_heard_is_delivered : (r : Rules) (configs : List Config) (file : List Event)
+-- what isn't passed over is done
+pub is_done : (r : Rules) (configs : List Config) (file : List Filed) (m : ℕ) (q : Put)
+    → IsTaken r configs file m q → is_passed_over (air_at r configs file m).present q ≡ false
+    → IsDone r configs file m q
+is_done r configs file m q taken run =
+    record { rest = taken.rest; first = taken.first; in_time = taken.in_time; is_run = run }
+
+-- a call of the air's own is done where its station is present
+pub done_if_present : (r : Rules) (configs : List Config) (file : List Filed) (m : ℕ) (q : Put)
+    → IsTaken r configs file m q → IsTakenByStation r configs file m q
+done_if_present r configs file m q taken = (
+  taken,
+  λ present. is_done r configs file m q taken
+      (ap (λ (b : Bool). q.own && (not (is_delivery q.event.what) && not b)) present
+      ∙ never q.own (not (is_delivery q.event.what))),
+)
+  where
+    never : (b c : Bool) → (b && (c && false)) ≡ false
+    never true true = refl
+    never true false = refl
+    never false c = refl
+
+pub what_is_heard_is_delivered : (r : Rules) (configs : List Config) (file : List Filed)
     → WhatIsHeardIsDelivered r configs file
 what_is_heard_is_delivered r configs file end n k j p over h due =
-    let q = delivery k (at p + r.delay) j in
-    put_is_done r configs file end n p q h.done over
+    let q = delivery k (p.event.moment + r.delay) j in
+    let t = put_is_taken r configs file end n p q h.done over
     (subst (λ (a : AirModel). IsIn q a.timetable.waiting)
     (sym (step_does r configs file n p h.done))
     (heard_waits r configs (air_at r configs file n) p h.done.rest k h.place j h.gives h.in_range
-    h.is_kept)) due
+    h.is_kept)) due in
+    (t.0, t.1, t.2, is_done r configs file t.0 q t.3 refl)
 
 -- ---- what is delivered was heard
-
-pub put_of_is : (q v : Put) (ws : List Put) → IsIn q (put v ws) → (q ≡ v) ⊎ IsIn q ws
-put_of_is q v [] (inl is) = inl is
-put_of_is q v [] (inr g) = absurd g
-put_of_is q v (w ∷ ws) h = by (λ g. put_of_is q v ws g) (nat_le (at w) (at v)) h
-  where
-    by : (IsIn q (put v ws) → (q ≡ v) ⊎ IsIn q ws) → (b : Bool)
-        → IsIn q (cond b (w ∷ put v ws) (v ∷ w ∷ ws)) → (q ≡ v) ⊎ ((q ≡ w) ⊎ IsIn q ws)
-    by on true (inl is) = inr (inl is)
-    by on true (inr more) = behind (on more)
-      where
-        behind : (q ≡ v) ⊎ IsIn q ws → (q ≡ v) ⊎ ((q ≡ w) ⊎ IsIn q ws)
-        behind (inl is) = inl is
-        behind (inr x) = inr (inr x)
-    by on false g = g
 
 -- it waited before, or was put for one of these stations, whose draw loses nothing
 abbrev pub IsSent : Put → ℕ → ℕ → ℕ → List ℕ → Timetable → Type 0
@@ -150,18 +163,22 @@ follow_of q p k after t h what =
             absurd (no_tick q k p.event.station p.event.moment s.beacon_from (draw t % 751) is what)
         told (inr x) = x
 
-ticks_of : (q : Put) (k n : ℕ) (t : Timetable) → IsIn q (put_first_ticks n t).waiting
-    → q.event.what ≡ Deliver k → IsIn q t.waiting
-ticks_of q k zero t h what = h
-ticks_of q k (suc n) t h what =
-    ticks_of q k n t (by (put_of_is q (tick n 0 0 (draw u % 751)) u.waiting h)) what
+ticks_of : (q : Put) (k : ℕ) (present : List Bool) (n : ℕ) (t : Timetable)
+    → IsIn q (put_first_ticks present n t).waiting → q.event.what ≡ Deliver k → IsIn q t.waiting
+ticks_of q k present zero t h what = h
+ticks_of q k present (suc n) t h what =
+    ticks_of q k present n t (by (is_present present n) h) what
   where
     u : Timetable
-    u = put_first_ticks n t
+    u = put_first_ticks present n t
 
-    by : (q ≡ tick n 0 0 (draw u % 751)) ⊎ IsIn q u.waiting → IsIn q u.waiting
-    by (inl is) = absurd (no_tick q k n 0 0 (draw u % 751) is what)
-    by (inr x) = x
+    told : (q ≡ tick n 0 0 (draw u % 751)) ⊎ IsIn q u.waiting → IsIn q u.waiting
+    told (inl is) = absurd (no_tick q k n 0 0 (draw u % 751) is what)
+    told (inr x) = x
+
+    by : (b : Bool) → IsIn q (cond b (put_tick n 0 0 u) u).waiting → IsIn q u.waiting
+    by true g = told (put_of_is q (tick n 0 0 (draw u % 751)) u.waiting g)
+    by false g = g
 
 -- a send is no delivery
 no_send : (q : Put) (k n m : ℕ) (x : Traffic) → q ≡ sending x n m → q.event.what ≡ Deliver k → ⊥
@@ -179,70 +196,122 @@ again_of q e k (Some x) t h what =
     by (inl is) = absurd (no_send q k e.station (e.moment + x.period) x is what)
     by (inr g) = g
 
-first_sends_of : (q : Put) (k : ℕ) (x : Traffic) (n : ℕ) (t : Timetable)
-    → IsIn q (put_first_sends x n t).waiting → q.event.what ≡ Deliver k → IsIn q t.waiting
-first_sends_of q k x zero t h what = h
-first_sends_of q k x (suc n) t h what =
-    first_sends_of q k x n t (by (put_of_is q (sending x n (draw u % x.period)) u.waiting h)) what
+first_sends_of : (q : Put) (k : ℕ) (present : List Bool) (x : Traffic) (n : ℕ) (t : Timetable)
+    → IsIn q (put_first_sends present x n t).waiting → q.event.what ≡ Deliver k → IsIn q t.waiting
+first_sends_of q k present x zero t h what = h
+first_sends_of q k present x (suc n) t h what =
+    first_sends_of q k present x n t (by (is_present present n) h) what
   where
     u : Timetable
-    u = put_first_sends x n t
+    u = put_first_sends present x n t
 
-    by : (q ≡ sending x n (draw u % x.period)) ⊎ IsIn q u.waiting → IsIn q u.waiting
-    by (inl is) = absurd (no_send q k n (draw u % x.period) x is what)
-    by (inr g) = g
+    told : (q ≡ sending x n (0 + draw u % x.period)) ⊎ IsIn q u.waiting → IsIn q u.waiting
+    told (inl is) = absurd (no_send q k n (0 + draw u % x.period) x is what)
+    told (inr g) = g
 
-sends_of : (q : Put) (k : ℕ) (every : List Traffic) (n : ℕ) (t : Timetable)
-    → IsIn q (put_traffic every n t).waiting → q.event.what ≡ Deliver k → IsIn q t.waiting
-sends_of q k [] n t h what = h
-sends_of q k (x ∷ every) n t h what =
-    first_sends_of q k x n t (sends_of q k every n (put_first_sends x n t) h what) what
+    by : (b : Bool) → IsIn q (cond b (put_send x n 0 u) u).waiting → IsIn q u.waiting
+    by true g = told (put_of_is q (sending x n (0 + draw u % x.period)) u.waiting g)
+    by false g = g
 
-pub file_of : (q : Put) (es : List Event) (ws : List Put) → IsIn q (put_all (map of_file es) ws)
-    → q.own ≡ true → IsIn q ws
+sends_of : (q : Put) (k : ℕ) (present : List Bool) (every : List Traffic) (n : ℕ) (t : Timetable)
+    → IsIn q (put_traffic present every n t).waiting → q.event.what ≡ Deliver k → IsIn q t.waiting
+sends_of q k present [] n t h what = h
+sends_of q k present (x ∷ every) n t h what =
+    first_sends_of q k present x n t
+    (sends_of q k present every n (put_first_sends present x n t) h what) what
+
+-- what the file has is none of the air's own
+not_of_file : (q : Put) (e : Filed) → q.own ≡ true → Does q ≡ of_file e → ⊥
+not_of_file q (Happens e) own is =
+    let same : q ≡ by_file e = cc in
+    let both : true ≡ false = sym own ∙ ap (λ (p : Put). p.own) same in
+    true≢false both
+not_of_file q (Leaves station moment) own is = cc
+
+pub file_of : (q : Put) (es : List Filed) (ws : List Pending)
+    → IsIn q (put_all (map of_file es) ws) → q.own ≡ true → IsIn q ws
 file_of q [] ws h own = h
 file_of q (e ∷ es) ws h own =
-    by (put_of_is q (of_file e) ws (file_of q es (put (of_file e) ws) h own))
+    by (put_of_any q (of_file e) ws (file_of q es (put (of_file e) ws) h own))
   where
-    by : (q ≡ of_file e) ⊎ IsIn q ws → IsIn q ws
-    by (inl is) =
-        let both : true ≡ false = sym own ∙ ap (λ (p : Put). p.own) is in
-        absurd (true≢false both)
+    by : (Does q ≡ of_file e) ⊎ IsIn q ws → IsIn q ws
+    by (inl is) = absurd (not_of_file q e own is)
     by (inr x) = x
 
+-- a station that comes puts no delivery
+no_coming : (q : Put) (k n m : ℕ) (beacons : Bool) (every : List Traffic)
+    → IsComeTick beacons n m q ⊎ IsComeSend every n m q → q.event.what ≡ Deliver k → ⊥
+no_coming q k n m beacons every (inl x) what = no_tick q k n m m x.0 x.2 what
+no_coming q k n m beacons every (inr x) what =
+    no_send q k n (m + x.3 % x.1.period) x.1 x.4 what
+
+-- ---- who hears is present
+
+-- each of those that are filtered passes
+passes : (p : ℕ → Bool) (xs : List ℕ) (i j : ℕ) → slice_get (filter p xs) i ≡ Some j
+    → p j ≡ true
+passes p [] i j is = let no : ⊥ = cc in absurd no
+passes p (x ∷ xs) i j is = by (λ n g. passes p xs n j g) (p x) refl i is
+  where
+    by : ((n : ℕ) → slice_get (filter p xs) n ≡ Some j → p j ≡ true) → (b : Bool) → p x ≡ b
+        → (n : ℕ) → slice_get (cond b (x ∷ filter p xs) (filter p xs)) n ≡ Some j → p j ≡ true
+    by on true test zero g = let same : x ≡ j = cc in ap p (sym same) ∙ test
+    by on true test (suc n) g = on n g
+    by on false test n g = on n g
+
+-- giver and hearer
+pub are_present : (range : ℕ) (present : List Bool) (w : WorldModel) (giver i j : ℕ)
+    → slice_get (heard_by range present w giver) i ≡ Some j
+    → (is_present present giver ≡ true) × (is_present present j ≡ true)
+are_present range present w giver i j is = by (is_present present giver) refl is
+  where
+    by : (b : Bool) → is_present present giver ≡ b
+        → slice_get (cond b (filter (is_present present) (in_reach_of range w giver)) []) i ≡ Some j
+        → (is_present present giver ≡ true) × (is_present present j ≡ true)
+    by true test g = (test, passes (is_present present) (in_reach_of range w giver) i j g)
+    by false test g = let no : ⊥ = cc in absurd no
+
 -- an earlier step gave the frame
-abbrev IsCaused : Rules → List Config → List Event → ℕ → ℕ → Put → Type 0
+abbrev IsCaused : Rules → List Config → List Filed → ℕ → ℕ → Put → Type 0
 IsCaused r configs file m k q =
     (n : ℕ) × (p : Put) × (n < m) × IsHeard r configs file n p k q.event.station
-    × (at q ≡ at p + r.delay)
+    × (q.event.moment ≡ p.event.moment + r.delay)
 
-caused_on : (r : Rules) (configs : List Config) (file : List Event) (m k : ℕ) (q : Put)
+caused_on : (r : Rules) (configs : List Config) (file : List Filed) (m k : ℕ) (q : Put)
     → IsCaused r configs file m k q → IsCaused r configs file (suc m) k q
 caused_on r configs file m k q c = (c.0, c.1, omega (arith, c.2), c.3, c.4)
 
 -- what a step put
-spread_of : (r : Rules) (configs : List Config) (file : List Event) (m k : ℕ) (p q : Put)
-    (rest : List Put) → IsDone r configs file m p → q.event.what ≡ Deliver k
-    → IsIn q (spread r p.event (world_after r configs file m p)
-    (record { waiting = rest; draws = (air_at r configs file m).timetable.draws })).waiting
+spread_of : (r : Rules) (configs : List Config) (file : List Filed) (m k : ℕ) (p q : Put)
+    (rest : List Pending) → IsDone r configs file m p → q.event.what ≡ Deliver k
+    → IsIn q (spread r (air_at r configs file m).present p.event (world_after r configs file m p)
+    (rest_of (air_at r configs file m) rest)).waiting
     → IsIn q rest ⊎ IsCaused r configs file (suc m) k q
 spread_of r configs file m k p q rest done what h = by (given after.log) refl h
   where
     after : WorldModel
     after = world_after r configs file m p
 
+    present : List Bool
+    present = (air_at r configs file m).present
+
     t : Timetable
-    t = record { waiting = rest; draws = (air_at r configs file m).timetable.draws }
+    t = rest_of (air_at r configs file m) rest
+
+    due : ℕ
+    due = p.event.moment + r.delay
 
     told : (f : ℕ) → given after.log ≡ Some f
-        → IsIn q rest
-        ⊎ IsSent q r.loss f (at p + r.delay) (heard_by r.range after p.event.station) t
+        → IsIn q rest ⊎ IsSent q r.loss f due (heard_by r.range present after p.event.station) t
         → IsIn q rest ⊎ IsCaused r configs file (suc m) k q
     told f is (inl g) = inl g
     told f is (inr g) =
         let named : Deliver f ≡ Deliver k = sym (ap (λ (x : Put). x.event.what) g.4) ∙ what in
         let same : f ≡ k = cc in
         let there : g.1 ≡ q.event.station = sym (ap (λ (x : Put). x.event.station) g.4) in
+        let heard : slice_get (heard_by r.range present after p.event.station) g.0
+        ≡ Some q.event.station = g.2 ∙ ap (λ (x : ℕ). Some x) there in
+        let both = are_present r.range present after p.event.station g.0 q.event.station heard in
         inr (
           m,
           p,
@@ -251,65 +320,91 @@ spread_of r configs file m k p q rest done what h = by (given after.log) refl h
             done = done;
             gives = is ∙ ap (λ (x : ℕ). Some x) same;
             place = g.0;
-            in_range = g.2 ∙ ap (λ (x : ℕ). Some x) there;
+            giver_present = both.0;
+            present = both.1;
+            in_range = heard;
             is_kept = g.3;
           },
-          ap at g.4,
+          ap (λ (x : Put). x.event.moment) g.4,
         )
 
-    by : (o : Option ℕ) → given after.log ≡ o → IsIn q (spread_frame r p.event after o t).waiting
+    by : (o : Option ℕ) → given after.log ≡ o
+        → IsIn q (spread_frame r present p.event after o t).waiting
         → IsIn q rest ⊎ IsCaused r configs file (suc m) k q
     by None is g = inl g
     by (Some f) is g =
-        told f is (sent_of q r.loss f (at p + r.delay) (heard_by r.range after p.event.station) t g)
+        told f is (sent_of q r.loss f due (heard_by r.range present after p.event.station) t g)
 
--- each delivery of the air's own that waits was caused
-waits_caused : (r : Rules) (configs : List Config) (file : List Event) (m k : ℕ) (q : Put)
-    → IsIn q (air_at r configs file m).timetable.waiting → q.own ≡ true
-    → q.event.what ≡ Deliver k → IsCaused r configs file m k q
-waits_caused r configs file zero k q h own what =
-    absurd (file_of q file []
-    (ticks_of q k (cond r.beacons (length configs) 0) (with_file r file)
-    (sends_of q k r.every (length configs) (with_ticks r configs file) h what) what) own)
-waits_caused r configs file (suc m) k q h own what =
-    by (λ g. waits_caused r configs file m k q g own what) a.timetable.waiting refl h
+-- what follows a step waited, or was caused by it
+done_of : (r : Rules) (configs : List Config) (file : List Filed) (m k : ℕ) (p q : Put)
+    → IsDone r configs file m p → IsIn q (air_at r configs file (suc m)).timetable.waiting
+    → q.event.what ≡ Deliver k
+    → IsIn q (air_at r configs file m).timetable.waiting ⊎ IsCaused r configs file (suc m) k q
+done_of r configs file m k p q d h what =
+    by (after_of r a.present p q after t
+    (subst (λ (x : AirModel). IsIn q x.timetable.waiting) (step_does r configs file m p d) h))
   where
     a : AirModel
     a = air_at r configs file m
 
-    by : (IsIn q a.timetable.waiting → IsCaused r configs file m k q) → (ws : List Put)
-        → a.timetable.waiting ≡ ws → IsIn q (do_first r configs a ws).timetable.waiting
-        → IsCaused r configs file (suc m) k q
-    by on [] is g = caused_on r configs file m k q (on g)
-    by on (p ∷ rest) is g = if_in_time (nat_le (at p) r.until) refl g
-      where
-        old : IsIn q rest → IsCaused r configs file (suc m) k q
-        old x =
-            caused_on r configs file m k q
-            (on (subst (IsIn q) (sym is) (inr x)))
+    after : WorldModel
+    after = world_after r configs file m p
 
-        either : IsIn q rest ⊎ IsCaused r configs file (suc m) k q
+    t : Timetable
+    t = rest_of a d.rest
+
+    s : Timetable
+    s = spread r a.present p.event after t
+
+    told : IsIn q d.rest ⊎ IsCaused r configs file (suc m) k q
+        → IsIn q a.timetable.waiting ⊎ IsCaused r configs file (suc m) k q
+    told (inl x) = inl (subst (IsIn q) (sym d.first) (inr x))
+    told (inr x) = inr x
+
+    by : IsIn q (follow_all r a.present p after t).waiting
+        ⊎ ((comes a.present p.event after ≡ true)
+        × (IsComeTick r.beacons p.event.station p.event.moment q
+        ⊎ IsComeSend r.every p.event.station p.event.moment q))
+        → IsIn q a.timetable.waiting ⊎ IsCaused r configs file (suc m) k q
+    by (inl g) =
+        told (spread_of r configs file m k p q d.rest d what
+        (follow_of q p k after s (again_of q p.event k p.traffic (follow_tick p after s) g what)
+        what))
+    by (inr g) =
+        absurd (no_coming q k p.event.station p.event.moment r.beacons r.every g.1 what)
+
+-- each delivery of the air's own that waits was caused
+waits_caused : (r : Rules) (configs : List Config) (file : List Filed) (m k : ℕ) (q : Put)
+    → IsIn q (air_at r configs file m).timetable.waiting → q.own ≡ true
+    → q.event.what ≡ Deliver k → IsCaused r configs file m k q
+waits_caused r configs file zero k q h own what =
+    absurd (file_of q file []
+    (ticks_of q k r.present (cond r.beacons (length configs) 0) (with_file r file)
+    (sends_of q k r.present r.every (length configs) (with_ticks r configs file) h what) what) own)
+waits_caused r configs file (suc m) k q h own what =
+    by (λ g. waits_caused r configs file m k q g own what) (step_case r configs file m)
+  where
+    a : AirModel
+    a = air_at r configs file m
+
+    by : (IsIn q a.timetable.waiting → IsCaused r configs file m k q)
+        → (air_at r configs file (suc m) ≡ a)
+        ⊎ (IsDropped r configs file m ⊎ ((p : Put) × IsDone r configs file m p))
+        → IsCaused r configs file (suc m) k q
+    by on (inl same) =
+        caused_on r configs file m k q
+        (on (subst (λ (x : AirModel). IsIn q x.timetable.waiting) same h))
+    by on (inr (inl d)) =
+        caused_on r configs file m k q
+        (on (subst (IsIn q) (sym d.first) (inr (subst (IsIn q) d.left h))))
+    by on (inr (inr d)) = either (done_of r configs file m k d.0 q d.1 h what)
+      where
+        either : IsIn q a.timetable.waiting ⊎ IsCaused r configs file (suc m) k q
             → IsCaused r configs file (suc m) k q
-        either (inl x) = old x
+        either (inl x) = caused_on r configs file m k q (on x)
         either (inr x) = x
 
-        done_so : Timetable
-        done_so =
-            spread r p.event (world_after r configs file m p)
-            (record { waiting = rest; draws = a.timetable.draws })
-
-        if_in_time : (b : Bool) → nat_le (at p) r.until ≡ b
-            → IsIn q (cond b (once_done r configs a p rest) a).timetable.waiting
-            → IsCaused r configs file (suc m) k q
-        if_in_time false test x = caused_on r configs file m k q (on x)
-        if_in_time true test x =
-            either (spread_of r configs file m k p q rest
-            (record { rest = rest; first = is; in_time = leb-true (at p) r.until test }) what
-            (follow_of q p k (world_after r configs file m p) done_so
-            (again_of q p.event k p.traffic (follow_tick p (world_after r configs file m p) done_so)
-            x what) what))
-
-pub deliveries_are_heard : (r : Rules) (configs : List Config) (file : List Event)
+pub deliveries_are_heard : (r : Rules) (configs : List Config) (file : List Filed)
     → DeliveriesAreHeard r configs file
 deliveries_are_heard r configs file m k q d own what =
     waits_caused r configs file m k q (subst (IsIn q) (sym d.first) (inl refl)) own what

@@ -1,7 +1,7 @@
 -- A queue and a generator keep a timetable, once more was put or drawn.
 use Rattle.std.proofs.Common.{◌≡◌, ℕ, ◌+◌, ◌%◌, ◌<◌, List, [], ◌∷◌, ◌++◌, refl, sym, ap, ◌∙◌}
 use Rattle.std.proofs.Common.{subst, drop, cond, Bool, true, false, max, Option, Some, None}
-use Rattle.std.proofs.Common.{not, ◌&&◌, zero, suc}
+use Rattle.std.proofs.Common.{not, ◌&&◌, zero, suc, length, arith}
 use Rattle.std.specs.Prelude.{nat_lt, ◌==◌, slice_get, Vec}
 use Rattle.std.specs.declared.alloc.Global.{Global}
 use Rattle.std.specs.Prelude.{OnOk}
@@ -15,7 +15,8 @@ use Rattle.std.proofs.lemmas.List.{reverse-append}
 use Rattle.rand_core.specs.Stream.{Stream, next_u64}
 use Rattle.its_gnvalue.specs.Values.{Position}
 use Rattle.its_model.specs.Station.{StationModel}
-use Rattle.its_model.specs.World.{Event, LogLine, frame_of, entries as entries_of}
+use Rattle.its_model.specs.World.{LogLine, frame_of, entries as entries_of}
+use Rattle.its_model.specs.Reach.{is_moved}
 use Rattle.its_model.specs.Calls as model
 use Rattle.its_model.specs.Calls.{Answer, Refusal}
 use Rattle.its_station.specs.Steps.{refusal_of}
@@ -28,38 +29,43 @@ use Rattle.std.specs.Prelude.{IsSomeAnd, reverse, map}
 use Rattle.its_station.specs.State.{StationState, RepresentsStation}
 use Rattle.its_world.specs.State.{RepresentStations}
 use Rattle.its_world.proofs.Worlds.{get_station}
-use Rattle.its_world.specs.declared.event.Event.{Event as Told}
+use Rattle.its_scenario.specs.declared.event.FileEvent.{FileEvent as Told}
 use Rattle.its_air.specs.declared.waiting.Own.TheVariants as owns
 use Rattle.its_air.specs.declared.waiting.Waiting.{Waiting}
 use Rattle.its_air.specs.declared.waiting.Queue.{Queue}
 use Rattle.its_air.specs.Draws.{draws_at}
-use Rattle.its_air.specs.Files.{SameFile, happenings_due}
-use Rattle.its_air.specs.Keeps.{Keeps}
-use Rattle.its_air.specs.Queues.{happenings_in}
+use Rattle.its_air.specs.Files.{SameFile, filed_due}
+use Rattle.its_scenario.specs.declared.air.Air.{Air}
+use Rattle.its_air.specs.AirTimed.{rules_of}
+use Rattle.its_air.specs.Keeps.{Keeps, GoesBy}
+use Rattle.its_air.specs.Timetable.{Rules}
+use Rattle.its_air.specs.declared.run.Run.{Run}
+use Rattle.its_air.specs.Queues.{filed_in}
 use Rattle.its_air.specs.Reach.{numbers_from, hears, hearers, is_within}
 use Rattle.its_air.specs.Timetable.{Timetable, Put, draw, draw_and_put, draw_alone, delivery, send}
 use Rattle.its_air.specs.Timetable.{send_all, tick, heard_from, hear_it, given, was_refused, is_refusal}
-use Rattle.its_air.specs.Timetable.{put_alone, put_traffic, put_first_sends}
+use Rattle.its_air.specs.Timetable.{put_alone, put_traffic, put_first_sends, Pending, Filed}
+use Rattle.its_air.specs.Timetable.{Traffic, come_sending, come_sending_all, was_moved}
 use Rattle.its_scenario.specs.declared.traffic.Traffic.{Traffic as Flow}
-use Rattle.its_air.specs.Traffics.{traffic_of, all_traffic}
+use Rattle.its_air.specs.Traffics.{all_traffic, traffic_of, traffic_from}
 use Rattle.its_air.specs.Waits.{Waits, put_of}
 use Rattle.its_air.proofs.Waits.{waits_put}
 
 -- the same, told otherwise
-pub waits_at : (due due' : List Event) (heap : List Waiting) (n n' until until' : ℕ)
-    (ws : List Put) → due' ≡ due → n' ≡ n → until' ≡ until → Waits due heap n until ws
+pub waits_at : (due due' : List Filed) (heap : List Waiting) (n n' until until' : ℕ)
+    (ws : List Pending) → due' ≡ due → n' ≡ n → until' ≡ until → Waits due heap n until ws
     → Waits due' heap n' until' ws
 waits_at due due' heap n n' until until' ws d e u h =
-    subst (λ (x : List Event). Waits x heap n' until' ws) (sym d)
+    subst (λ (x : List Filed). Waits x heap n' until' ws) (sym d)
     (subst (λ x. Waits due heap x until' ws) (sym e)
     (subst (λ x. Waits due heap n x ws) (sym u) h))
 
 -- the events of the file that are left
 left_same : (old new : Queue) → SameFile old new
-    → drop new.taken (happenings_due new) ≡ drop old.taken (happenings_due old)
+    → drop new.taken (filed_due new) ≡ drop old.taken (filed_due old)
 left_same old new same =
-    ap (λ k. drop k (happenings_due new)) same.taken
-    ∙ ap (λ (d : Vec (Bor Told) Global). drop old.taken (happenings_in d.items)) same.due
+    ap (λ k. drop k (filed_due new)) same.taken
+    ∙ ap (λ (d : Vec (Bor Told) Global). drop old.taken (filed_in d.items)) same.due
 
 -- one more was put, by one draw
 pub keeps_put : (old new : Queue) (before after : List ℕ) (t : Timetable) (x : Waiting) (p : Put)
@@ -69,11 +75,11 @@ pub keeps_put : (old new : Queue) (before after : List ℕ) (t : Timetable) (x :
     → Keeps old before t → Keeps new after (draw_and_put p t)
 keeps_put old new before after t x p same moves count place is drawn h =
     record {
-      waits = subst (λ (q : Put). Waits (drop new.taken (happenings_due new))
+      waits = subst (λ (q : Put). Waits (drop new.taken (filed_due new))
           (heap_items new.own) new.put new.until (draw_and_put q t).waiting) is
-          (waits_at (drop old.taken (happenings_due old)) _ (heap_items new.own) (old.put + 1) _
+          (waits_at (drop old.taken (filed_due old)) _ (heap_items new.own) (old.put + 1) _
           old.until _ _ (left_same old new same) count same.until
-          (waits_put (drop old.taken (happenings_due old)) (heap_items old.own)
+          (waits_put (drop old.taken (filed_due old)) (heap_items old.own)
           (heap_items new.own) old.put old.until t.waiting x moves place h.waits));
       draws = ap (λ (s : Stream). (next_u64 s).1) h.draws ∙ sym drawn;
     }
@@ -85,11 +91,11 @@ pub keeps_put_alone : (old new : Queue) (words : List ℕ) (t : Timetable) (x : 
     → Keeps old words t → Keeps new words (put_alone p t)
 keeps_put_alone old new words t x p same moves count place is h =
     record {
-      waits = subst (λ (q : Put). Waits (drop new.taken (happenings_due new))
+      waits = subst (λ (q : Put). Waits (drop new.taken (filed_due new))
           (heap_items new.own) new.put new.until (put_alone q t).waiting) is
-          (waits_at (drop old.taken (happenings_due old)) _ (heap_items new.own) (old.put + 1) _
+          (waits_at (drop old.taken (filed_due old)) _ (heap_items new.own) (old.put + 1) _
           old.until _ _ (left_same old new same) count same.until
-          (waits_put (drop old.taken (happenings_due old)) (heap_items old.own)
+          (waits_put (drop old.taken (filed_due old)) (heap_items old.own)
           (heap_items new.own) old.put old.until t.waiting x moves place h.waits));
       draws = h.draws;
     }
@@ -118,12 +124,29 @@ tick_is station moment beacon_from m place jitter drawn at is =
     ap (λ n. put_of (record { moment = n; place = place; station = station; own = owns.Tick jitter })) at
     ∙ ap (tick station moment beacon_from) is
 
--- the first sends of one traffic more
-pub traffic_more : (xs : List Flow) (x : Flow) (n : ℕ) (t : Timetable)
-    → put_traffic (all_traffic (xs ++ x ∷ [])) n t
-    ≡ put_first_sends (traffic_of x) n (put_traffic (all_traffic xs) n t)
-traffic_more [] x n t = refl
-traffic_more (y ∷ xs) x n t = traffic_more xs x n (put_first_sends (traffic_of y) n t)
+-- one traffic more
+pub traffic_more : (xs : List Flow) (x : Flow) (k n : ℕ) → n ≡ k + length xs
+    → traffic_from k (xs ++ x ∷ []) ≡ traffic_from k xs ++ traffic_of n x ∷ []
+traffic_more [] x k n is =
+    let same : n ≡ k = omega (arith, is) in
+    ap (λ m. traffic_of m x ∷ []) (sym same)
+traffic_more (y ∷ xs) x k n is =
+    ap (λ (l : List Traffic). traffic_of k y ∷ l) (traffic_more xs x (suc k) n (omega (arith, is)))
+
+-- its first sends
+pub first_sends_more : (present : List Bool) (ys : List Traffic) (y : Traffic) (n : ℕ)
+    (t : Timetable)
+    → put_traffic present (ys ++ y ∷ []) n t
+    ≡ put_first_sends present y n (put_traffic present ys n t)
+first_sends_more present [] y n t = refl
+first_sends_more present (x ∷ ys) y n t =
+    first_sends_more present ys y n (put_first_sends present x n t)
+
+-- that of a station that comes
+pub coming_more : (ys : List Traffic) (y : Traffic) (n m : ℕ) (t : Timetable)
+    → come_sending_all (ys ++ y ∷ []) n m t ≡ come_sending y n m (come_sending_all ys n m t)
+coming_more [] y n m t = refl
+coming_more (x ∷ ys) y n m t = coming_more ys y n m (come_sending x n m t)
 
 -- a delivery that is lost, and one that isn't
 pub keeps_lost : (queue : Queue) (before after : List ℕ) (t : Timetable)
@@ -226,6 +249,10 @@ pub on_ok_both : {X E : Type 0} (r : Result X E) (P Q R : Type 0) → (P → Q �
 on_ok_both (Ok x) P Q R f h g = f h g
 on_ok_both (Err e) P Q R f h g = tt
 
+pub on_ok_from : {X E : Type 0} (r : Result X E) (P : Type 0) → P → OnOk r P
+on_ok_from (Ok x) P p = p
+on_ok_from (Err e) P p = tt
+
 -- ---- refusals
 
 -- an entry is a refusal
@@ -263,6 +290,34 @@ tells_refusal (entries.Ignored why) answer h = ap (is_refusal {F = ℕ}) h
 tells_refusal (entries.Accepted handed sent) answer h = ap (is_refusal {F = ℕ}) h
 tells_refusal (entries.Refused fault) answer h = refusal_of_fault fault answer h
 
+-- an entry is that of a move
+abbrev pub is_move_entry : Entry → Bool
+is_move_entry entries.Moved = true
+is_move_entry entry = false
+
+moved_of_fault : (fault : EntryFault) (answer : Answer ℕ) → TellsFault {F = ℕ} fault answer
+    → is_moved answer ≡ false
+moved_of_fault (faults.Station refused) answer h = by (refusal_of refused) h
+  where
+    by : (o : Option Refusal) → IsSomeAnd o (λ refusal. answer ≡ model.Answer.Refused refusal)
+        → is_moved answer ≡ false
+    by None g = absurd g
+    by (Some refusal) g = ap is_moved g
+moved_of_fault faults.NoSuchFrame answer h = ap is_moved h
+moved_of_fault faults.NoSuchStation answer h = ap is_moved h
+
+pub tells_moved : (entry : Entry) (answer : Answer ℕ) → TellsEntry entry answer
+    → is_moved answer ≡ is_move_entry entry
+tells_moved entries.Moved answer h = ap is_moved h
+tells_moved entries.Opened answer h = ap is_moved h
+tells_moved entries.Closed answer h = ap is_moved h
+tells_moved entries.Restarted answer h = ap is_moved h
+tells_moved entries.Quiet answer h = ap is_moved h
+tells_moved (entries.Sent k) answer h = ap is_moved h
+tells_moved (entries.Ignored why) answer h = ap is_moved h
+tells_moved (entries.Accepted handed sent) answer h = ap is_moved h
+tells_moved (entries.Refused fault) answer h = moved_of_fault fault answer h
+
 pub not_refused_is : (entry : Entry) → ((fault : EntryFault) → entry ≡ entries.Refused fault → ⊥)
     → is_refused entry ≡ false
 not_refused_is entries.Moved h = refl
@@ -294,13 +349,14 @@ last_same us vs a b h =
 pub answered_last : (log : List LogLine) (before : List (Answer ℕ)) (answer : Answer ℕ)
     → entries_of log ≡ before ++ answer ∷ []
     → (given log ≡ frame_of answer) × (was_refused log ≡ is_refusal answer)
+    × (was_moved log ≡ is_moved answer)
 answered_last [] [] answer h = let no : ⊥ = cc in absurd no
 answered_last [] (a ∷ before) answer h = let no : ⊥ = cc in absurd no
 answered_last (line ∷ log) before answer h =
     let same : line.entry ≡ answer =
     last_same (reverse (map (λ (x : LogLine). x.entry) log)) before line.entry answer
     (sym (reverse-append (line.entry ∷ []) (map (λ (x : LogLine). x.entry) log)) ∙ h) in
-    (ap (frame_of {F = ℕ}) same, ap (is_refusal {F = ℕ}) same)
+    (ap (frame_of {F = ℕ}) same, ap (is_refusal {F = ℕ}) same, ap is_moved same)
 
 -- ---- what is found
 
@@ -311,3 +367,23 @@ found_some f r a o e was = sym e ∙ ap (option_map f) was
 pub found_none : {A B : Type 0} (f : A → B) (r : Option A) (o : Option B)
     → option_map f r ≡ o → r ≡ None → o ≡ None
 found_none f r o e was = sym e ∙ ap (option_map f) was
+
+-- ---- rules
+
+-- a run with the same air, traffic and end goes by the same rules
+pub goes_on : (rules : Rules) (old new : Run) → GoesBy rules old → new.air ≡ old.air
+    → new.every ≡ old.every → new.queue.until ≡ old.queue.until → GoesBy rules new
+goes_on rules old new goes_by air every until =
+    ap (λ (a : Air). rules_of a (all_traffic new.every.now) new.queue.until rules.present) air
+    ∙ ap (λ (x : Bor (List Flow)). rules_of old.air (all_traffic x.now) new.queue.until rules.present)
+    every
+    ∙ ap (λ n. rules_of old.air (all_traffic old.every.now) n rules.present) until ∙ goes_by
+
+-- the same file over two calls
+pub same_file : (a b c : Queue) → SameFile a b → SameFile b c → SameFile a c
+same_file a b c first second =
+    record {
+      due = second.due ∙ first.due;
+      taken = second.taken ∙ first.taken;
+      until = second.until ∙ first.until;
+    }

@@ -1,4 +1,4 @@
--- What waits in an air stays until it is done.
+-- What waits in an air stays until it is taken.
 use Rattle.std.proofs.Common.{◌≡◌, ℕ, zero, suc, ◌+◌, ◌≤◌, ◌<◌, List, [], ◌∷◌, ◌++◌, refl, sym, ap}
 use Rattle.std.proofs.Common.{◌∙◌, arith, Bool, true, false, cond, subst, Option, Some, None, ◌⊎◌}
 use Rattle.std.proofs.Common.{inl, inr}
@@ -7,33 +7,38 @@ use Rattle.std.proofs.lemmas.Bool.{leb-true, le-leb, le-ltb}
 use Rattle.rand_core.specs.Stream.{Stream, next_u64}
 use Rattle.its_model.specs.Station.{StationModel}
 use Rattle.its_model.specs.World.{Config, Event, WorldModel, opening, world_run}
-use Rattle.its_air.specs.Heard.{air_at, IsDone, draw_of}
+use Rattle.its_air.specs.Heard.{air_at, IsDone, IsTaken, draw_of}
 use Rattle.its_air.specs.Timetable.{Rules, Put, Timetable, AirModel, NoneWaits, IsOver, put, draw}
 use Rattle.its_air.specs.Timetable.{draw_alone, draw_and_put, delivery, send, send_all, given}
 use Rattle.its_air.specs.Timetable.{spread, spread_frame, heard_by, tick_again, follow_tick}
-use Rattle.its_air.specs.Timetable.{tick, is_tick, was_refused, do_first, do_one}
-use Rattle.its_air.specs.Timetable.{Traffic, sending, send_again}
+use Rattle.its_air.specs.Timetable.{tick, is_tick, was_refused, do_first, do_one, take_one}
+use Rattle.its_air.specs.Timetable.{Traffic, sending, send_again, is_passed_over, follow_all}
+use Rattle.its_air.specs.Timetable.{after_one, comes, come, come_ticking, come_sending}
+use Rattle.its_air.specs.Timetable.{come_sending_all, none_waits, is_tick_of, is_send_of, put_tick}
+use Rattle.its_air.specs.Timetable.{put_send}
+use Rattle.its_air.specs.Timetable.Pending.{Does, Departs}
 use Rattle.its_air.proofs.Moments.{Rises, in_order}
-use Rattle.its_air.proofs.Putting.{at}
+use Rattle.its_air.specs.Timetable.{at, Pending, Filed}
 
 -- it waits
-abbrev pub IsIn : Put → List Put → Type 0
+abbrev pub IsIn : Put → List Pending → Type 0
 IsIn p [] = ⊥
-IsIn p (q ∷ ws) = (p ≡ q) ⊎ IsIn p ws
+IsIn p (q ∷ ws) = (Does p ≡ q) ⊎ IsIn p ws
 
-pub put_self : (p : Put) (ws : List Put) → IsIn p (put p ws)
+pub put_self : (p : Put) (ws : List Pending) → IsIn p (put (Does p) ws)
 put_self p [] = inl refl
-put_self p (q ∷ ws) = by (put_self p ws) (nat_le (at q) (at p))
+put_self p (q ∷ ws) = by (put_self p ws) (nat_le (at q) (at (Does p)))
   where
-    by : IsIn p (put p ws) → (b : Bool) → IsIn p (cond b (q ∷ put p ws) (p ∷ q ∷ ws))
+    by : IsIn p (put (Does p) ws) → (b : Bool)
+        → IsIn p (cond b (q ∷ put (Does p) ws) (Does p ∷ q ∷ ws))
     by on true = inr on
     by on false = inl refl
 
-put_more : (p q : Put) (ws : List Put) → IsIn p ws → IsIn p (put q ws)
+pub put_more : (p : Put) (q : Pending) (ws : List Pending) → IsIn p ws → IsIn p (put q ws)
 put_more p q [] h = absurd h
 put_more p q (v ∷ ws) h = by (λ g. put_more p q ws g) (nat_le (at v) (at q)) h
   where
-    by : (IsIn p ws → IsIn p (put q ws)) → (b : Bool) → (p ≡ v) ⊎ IsIn p ws
+    by : (IsIn p ws → IsIn p (put q ws)) → (b : Bool) → (Does p ≡ v) ⊎ IsIn p ws
         → IsIn p (cond b (v ∷ put q ws) (q ∷ v ∷ ws))
     by on true (inl is) = inl is
     by on true (inr more) = inr (on more)
@@ -47,7 +52,7 @@ send_more p loss k m j t h = by (nat_lt (draw t % 100) loss)
   where
     by : (b : Bool) → IsIn p (cond b (draw_alone t) (draw_and_put (delivery k m j) t)).waiting
     by true = h
-    by false = put_more p (delivery k m j) t.waiting h
+    by false = put_more p (Does (delivery k m j)) t.waiting h
 
 send_all_more : (p : Put) (loss k m : ℕ) (js : List ℕ) (t : Timetable) → IsIn p t.waiting
     → IsIn p (send_all loss k m js t).waiting
@@ -55,11 +60,12 @@ send_all_more p loss k m [] t h = h
 send_all_more p loss k m (j ∷ js) t h =
     send_all_more p loss k m js (send loss k m j t) (send_more p loss k m j t h)
 
-spread_more : (p : Put) (r : Rules) (e : Event) (after : WorldModel) (o : Option ℕ)
-    (t : Timetable) → IsIn p t.waiting → IsIn p (spread_frame r e after o t).waiting
-spread_more p r e after None t h = h
-spread_more p r e after (Some k) t h =
-    send_all_more p r.loss k (e.moment + r.delay) (heard_by r.range after e.station) t h
+spread_more : (p : Put) (r : Rules) (present : List Bool) (e : Event) (after : WorldModel)
+    (o : Option ℕ) (t : Timetable) → IsIn p t.waiting
+    → IsIn p (spread_frame r present e after o t).waiting
+spread_more p r present e after None t h = h
+spread_more p r present e after (Some k) t h =
+    send_all_more p r.loss k (e.moment + r.delay) (heard_by r.range present after e.station) t h
 
 follow_more : (p q : Put) (after : WorldModel) (t : Timetable) → IsIn p t.waiting
     → IsIn p (follow_tick q after t).waiting
@@ -72,13 +78,53 @@ follow_more p q after t h =
     by false s = h
     by true None = h
     by true (Some s) =
-        put_more p (tick q.event.station q.event.moment s.beacon_from (draw t % 751)) t.waiting h
+        put_more p (Does (tick q.event.station q.event.moment s.beacon_from (draw t % 751)))
+        t.waiting h
 
 pub again_more : (p : Put) (e : Event) (o : Option Traffic) (t : Timetable) → IsIn p t.waiting
     → IsIn p (send_again e o t).waiting
 again_more p e None t h = h
 again_more p e (Some x) t h =
-    put_more p (sending x e.station (e.moment + x.period)) t.waiting h
+    put_more p (Does (sending x e.station (e.moment + x.period))) t.waiting h
+
+come_ticking_more : (p : Put) (beacons : Bool) (n m : ℕ) (t : Timetable) → IsIn p t.waiting
+    → IsIn p (come_ticking beacons n m t).waiting
+come_ticking_more p beacons n m t h = by (beacons && none_waits (is_tick_of n) t)
+  where
+    by : (b : Bool) → IsIn p (cond b (put_tick n m m t) t).waiting
+    by true = put_more p (Does (tick n m m (draw t % 751))) t.waiting h
+    by false = h
+
+come_sending_more : (p : Put) (x : Traffic) (n m : ℕ) (t : Timetable) → IsIn p t.waiting
+    → IsIn p (come_sending x n m t).waiting
+come_sending_more p x n m t h = by (none_waits (is_send_of x.number n) t)
+  where
+    by : (b : Bool) → IsIn p (cond b (put_send x n m t) t).waiting
+    by true = put_more p (Does (sending x n (m + draw t % x.period))) t.waiting h
+    by false = h
+
+come_sending_all_more : (p : Put) (every : List Traffic) (n m : ℕ) (t : Timetable)
+    → IsIn p t.waiting → IsIn p (come_sending_all every n m t).waiting
+come_sending_all_more p [] n m t h = h
+come_sending_all_more p (x ∷ every) n m t h =
+    come_sending_all_more p every n m (come_sending x n m t) (come_sending_more p x n m t h)
+
+-- what waits once an event was followed waits once its station came
+pub come_more : (p : Put) (r : Rules) (present : List Bool) (q : Put) (after : WorldModel)
+    (t : Timetable) → IsIn p (follow_all r present q after t).waiting
+    → IsIn p (after_one r present q after t).waiting
+come_more p r present q after t h = by (comes present q.event after)
+  where
+    u : Timetable
+    u = follow_all r present q after t
+
+    by : (b : Bool)
+        → IsIn p (cond b (come r q.event.station q.event.moment u) u).waiting
+    by true =
+        come_sending_all_more p r.every q.event.station q.event.moment
+        (come_ticking r.beacons q.event.station q.event.moment u)
+        (come_ticking_more p r.beacons q.event.station q.event.moment u h)
+    by false = h
 
 -- ---- what a draw doesn't lose is put
 
@@ -110,120 +156,220 @@ sent loss k m (suc i) j (x ∷ js) t at' kept =
 
 -- ---- steps
 
--- what waits once this is done first
-abbrev pub once_done : Rules → List Config → AirModel → Put → List Put → AirModel
-once_done r configs a p rest =
-    do_one r configs a.done p (record { waiting = rest; draws = a.timetable.draws })
+-- the timetable once its first is taken
+abbrev pub rest_of : AirModel → List Pending → Timetable
+rest_of a rest = record { waiting = rest; draws = a.timetable.draws }
 
-rest_stays : (r : Rules) (configs : List Config) (a : AirModel) (p q : Put) (rest : List Put)
-    → IsIn p rest → IsIn p (once_done r configs a q rest).timetable.waiting
+-- what waits once this is done first
+abbrev pub once_done : Rules → List Config → AirModel → Put → List Pending → AirModel
+once_done r configs a p rest = do_one r configs a p (rest_of a rest)
+
+rest_stays : (r : Rules) (configs : List Config) (a : AirModel) (p q : Put)
+    (rest : List Pending) → IsIn p rest → IsIn p (once_done r configs a q rest).timetable.waiting
 rest_stays r configs a p q rest h =
     let after = world_run (opening configs) (a.done ++ q.event ∷ []) in
-    let t : Timetable = record { waiting = rest; draws = a.timetable.draws } in
-    let u = spread r q.event after t in
-    again_more p q.event q.traffic (follow_tick q after u)
-    (follow_more p q after u (spread_more p r q.event after (given after.log) t h))
+    let t = rest_of a rest in
+    let u = spread r a.present q.event after t in
+    come_more p r a.present q after t
+    (again_more p q.event q.traffic (follow_tick q after u)
+    (follow_more p q after u (spread_more p r a.present q.event after (given after.log) t h)))
 
--- a step does the first that waits
-pub step_does : (r : Rules) (configs : List Config) (file : List Event) (n : ℕ) (p : Put)
+-- whatever is taken
+taken_stays : (r : Rules) (configs : List Config) (a : AirModel) (p : Put) (q : Pending)
+    (rest : List Pending) → IsIn p rest
+    → IsIn p (take_one r configs a q (rest_of a rest)).timetable.waiting
+taken_stays r configs a p (Departs station moment) rest h = h
+taken_stays r configs a p (Does q) rest h = by (is_passed_over a.present q)
+  where
+    by : (b : Bool) → IsIn p (cond b
+        (record { done = a.done; timetable = rest_of a rest; present = a.present })
+        (once_done r configs a q rest)).timetable.waiting
+    by true = h
+    by false = rest_stays r configs a p q rest h
+
+-- a step takes the first that waits
+step_takes : (r : Rules) (configs : List Config) (file : List Filed) (n : ℕ) (p : Pending)
+    (rest : List Pending) → (air_at r configs file n).timetable.waiting ≡ p ∷ rest
+    → at p ≤ r.until
+    → air_at r configs file (suc n)
+    ≡ take_one r configs (air_at r configs file n) p (rest_of (air_at r configs file n) rest)
+step_takes r configs file n p rest first early =
+    let a = air_at r configs file n in
+    ap (do_first r configs a) first
+    ∙ ap (λ (b : Bool). cond b (take_one r configs a p (rest_of a rest)) a)
+    (le-leb (at p) r.until early)
+
+-- it does it
+pub step_does : (r : Rules) (configs : List Config) (file : List Filed) (n : ℕ) (p : Put)
     (d : IsDone r configs file n p)
     → air_at r configs file (suc n) ≡ once_done r configs (air_at r configs file n) p d.rest
 step_does r configs file n p d =
     let a = air_at r configs file n in
-    ap (do_first r configs a) d.first
-    ∙ ap (λ (b : Bool). cond b (once_done r configs a p d.rest) a)
-    (in_time (at p) r.until d.in_time)
-  where
-    in_time : (x y : ℕ) → x ≤ y → nat_le x y ≡ true
-    in_time x y le = le-leb x y le
+    step_takes r configs file n (Does p) d.rest d.first d.in_time
+    ∙ ap (λ (b : Bool). cond b
+    (record { done = a.done; timetable = rest_of a d.rest; present = a.present })
+    (once_done r configs a p d.rest)) d.is_run
 
--- what waits is done by a step, or waits after it
-one_step : (r : Rules) (configs : List Config) (file : List Event) (n : ℕ) (p : Put)
+-- the step of this number takes something of which nothing comes
+pub record IsDropped (r : Rules) (configs : List Config) (file : List Filed) (n : ℕ) : Type 0 where
+  pub dropped : Pending
+  pub rest : List Pending
+  pub first : (air_at r configs file n).timetable.waiting ≡ dropped ∷ rest
+  pub done : (air_at r configs file (suc n)).done ≡ (air_at r configs file n).done
+  pub left : (air_at r configs file (suc n)).timetable.waiting ≡ rest
+
+-- a step does what waits first, or drops it, or does nothing
+pub step_case : (r : Rules) (configs : List Config) (file : List Filed) (n : ℕ)
+    → (air_at r configs file (suc n) ≡ air_at r configs file n)
+    ⊎ (IsDropped r configs file n ⊎ ((p : Put) × IsDone r configs file n p))
+step_case r configs file n = by a.timetable.waiting refl
+  where
+    a : AirModel
+    a = air_at r configs file n
+
+    one : (p : Pending) (rest : List Pending) → a.timetable.waiting ≡ p ∷ rest
+        → at p ≤ r.until
+        → IsDropped r configs file n ⊎ ((q : Put) × IsDone r configs file n q)
+    one (Departs station moment) rest is early =
+        let taken = step_takes r configs file n (Departs station moment) rest is early in
+        inl (record {
+          dropped = Departs station moment;
+          rest = rest;
+          first = is;
+          done = ap (λ (x : AirModel). x.done) taken;
+          left = ap (λ (x : AirModel). x.timetable.waiting) taken;
+        })
+    one (Does p) rest is early = whether (is_passed_over a.present p) refl
+      where
+        gone : AirModel
+        gone = record { done = a.done; timetable = rest_of a rest; present = a.present }
+
+        whether : (b : Bool) → is_passed_over a.present p ≡ b
+            → IsDropped r configs file n ⊎ ((q : Put) × IsDone r configs file n q)
+        whether false test =
+            inr (p, record { rest = rest; first = is; in_time = early; is_run = test })
+        whether true test =
+            let taken = step_takes r configs file n (Does p) rest is early
+            ∙ ap (λ (b : Bool). cond b gone (once_done r configs a p rest)) test in
+            inl (record {
+              dropped = Does p;
+              rest = rest;
+              first = is;
+              done = ap (λ (x : AirModel). x.done) taken;
+              left = ap (λ (x : AirModel). x.timetable.waiting) taken;
+            })
+
+    by : (ws : List Pending) → a.timetable.waiting ≡ ws
+        → (air_at r configs file (suc n) ≡ a)
+        ⊎ (IsDropped r configs file n ⊎ ((p : Put) × IsDone r configs file n p))
+    by [] is = inl (ap (do_first r configs a) is)
+    by (p ∷ rest) is = if_in_time (nat_le (at p) r.until) refl
+      where
+        if_in_time : (b : Bool) → nat_le (at p) r.until ≡ b
+            → (air_at r configs file (suc n) ≡ a)
+            ⊎ (IsDropped r configs file n ⊎ ((q : Put) × IsDone r configs file n q))
+        if_in_time true test = inr (one p rest is (leb-true (at p) r.until test))
+        if_in_time false test =
+            inl (ap (do_first r configs a) is
+            ∙ ap (λ (b : Bool). cond b (take_one r configs a p (rest_of a rest)) a) test)
+
+-- what waits is taken by a step, or waits after it
+one_step : (r : Rules) (configs : List Config) (file : List Filed) (n : ℕ) (p : Put)
     → IsIn p (air_at r configs file n).timetable.waiting
-    → IsDone r configs file n p ⊎ IsIn p (air_at r configs file (suc n)).timetable.waiting
+    → IsTaken r configs file n p ⊎ IsIn p (air_at r configs file (suc n)).timetable.waiting
 one_step r configs file n p h = by a.timetable.waiting refl h
   where
     a : AirModel
     a = air_at r configs file n
 
-    by : (ws : List Put) → a.timetable.waiting ≡ ws → IsIn p ws
-        → IsDone r configs file n p ⊎ IsIn p (do_first r configs a ws).timetable.waiting
+    by : (ws : List Pending) → a.timetable.waiting ≡ ws → IsIn p ws
+        → IsTaken r configs file n p ⊎ IsIn p (do_first r configs a ws).timetable.waiting
     by [] is g = absurd g
     by (q ∷ rest) is g = if_in_time (nat_le (at q) r.until) refl g
       where
-        if_in_time : (b : Bool) → nat_le (at q) r.until ≡ b → (p ≡ q) ⊎ IsIn p rest
-            → IsDone r configs file n p
-            ⊎ IsIn p (cond b (once_done r configs a q rest) a).timetable.waiting
+        if_in_time : (b : Bool) → nat_le (at q) r.until ≡ b → (Does p ≡ q) ⊎ IsIn p rest
+            → IsTaken r configs file n p
+            ⊎ IsIn p (cond b (take_one r configs a q (rest_of a rest)) a).timetable.waiting
         if_in_time false test x = inr h
-        if_in_time true test (inr more) = inr (rest_stays r configs a p q rest more)
+        if_in_time true test (inr more) = inr (taken_stays r configs a p q rest more)
         if_in_time true test (inl same) =
-            inl (subst (IsDone r configs file n) (sym same)
-            (record { rest = rest; first = is; in_time = leb-true (at q) r.until test }))
+            inl (record {
+              rest = rest;
+              first = is ∙ ap (λ (x : Pending). x ∷ rest) (sym same);
+              in_time =
+                  subst (λ (x : Pending). at x ≤ r.until) (sym same) (leb-true (at q) r.until test);
+            })
 
--- so it is done by one of so many steps, or waits after them
-pub waits_on : (r : Rules) (configs : List Config) (file : List Event) (n d end : ℕ) (p : Put)
+-- so it is taken by one of so many steps, or waits after them
+pub waits_on : (r : Rules) (configs : List Config) (file : List Filed) (n d end : ℕ) (p : Put)
     → end ≡ d + n → IsIn p (air_at r configs file n).timetable.waiting
-    → ((m : ℕ) × (n ≤ m) × (m < end) × IsDone r configs file m p)
+    → ((m : ℕ) × (n ≤ m) × (m < end) × IsTaken r configs file m p)
     ⊎ IsIn p (air_at r configs file end).timetable.waiting
 waits_on r configs file n zero end p is h =
     let same : n ≡ end = omega (arith, is) in
     inr (subst (λ m. IsIn p (air_at r configs file m).timetable.waiting) same h)
 waits_on r configs file n (suc d) end p is h = by (waits_on r configs file n d (d + n) p refl h)
   where
-    last : IsDone r configs file (d + n) p
+    last : IsTaken r configs file (d + n) p
         ⊎ IsIn p (air_at r configs file (suc (d + n))).timetable.waiting
-        → ((m : ℕ) × (n ≤ m) × (m < end) × IsDone r configs file m p)
+        → ((m : ℕ) × (n ≤ m) × (m < end) × IsTaken r configs file m p)
         ⊎ IsIn p (air_at r configs file end).timetable.waiting
     last (inl done) = inl (d + n, omega arith, omega (arith, is), done)
     last (inr more) =
         let same : suc (d + n) ≡ end = omega (arith, is) in
         inr (subst (λ m. IsIn p (air_at r configs file m).timetable.waiting) same more)
 
-    by : ((m : ℕ) × (n ≤ m) × (m < d + n) × IsDone r configs file m p)
+    by : ((m : ℕ) × (n ≤ m) × (m < d + n) × IsTaken r configs file m p)
         ⊎ IsIn p (air_at r configs file (d + n)).timetable.waiting
-        → ((m : ℕ) × (n ≤ m) × (m < end) × IsDone r configs file m p)
+        → ((m : ℕ) × (n ≤ m) × (m < end) × IsTaken r configs file m p)
         ⊎ IsIn p (air_at r configs file end).timetable.waiting
     by (inl x) = inl (x.0, x.1, omega (arith, x.2, is), x.3)
     by (inr x) = last (one_step r configs file (d + n) p x)
 
 -- ---- the end
 
-in_above : (m : ℕ) (p : Put) (ws : List Put) → Rises m ws → IsIn p ws → m ≤ at p
+in_above : (m : ℕ) (p : Put) (ws : List Pending) → Rises m ws → IsIn p ws
+    → m ≤ p.event.moment
 in_above m p [] h g = absurd g
 in_above m p (q ∷ ws) h (inl is) =
-    subst (λ (x : Put). m ≤ at x) (sym is) h.0
+    subst (λ (x : Pending). m ≤ at x) (sym is) h.0
 in_above m p (q ∷ ws) h (inr more) =
     let le = in_above (at q) p ws h.1 more in omega (arith, le, h.0)
 
-none_in : (m until : ℕ) (p : Put) (ws : List Put) → Rises m ws → NoneWaits until ws → IsIn p ws
-    → until < at p
+none_in : (m until : ℕ) (p : Put) (ws : List Pending) → Rises m ws → NoneWaits until ws
+    → IsIn p ws → until < p.event.moment
 none_in m until p [] h none g = absurd g
-none_in m until p (q ∷ ws) h none (inl is) = subst (λ (x : Put). until < at x) (sym is) none
+none_in m until p (q ∷ ws) h none (inl is) =
+    subst (λ (x : Pending). until < at x) (sym is) none
 none_in m until p (q ∷ ws) h none (inr more) =
     let le = in_above (at q) p ws h.1 more in omega (arith, le, none)
 
 -- in a run that is over nothing waits that is due
-pub none_left : (r : Rules) (configs : List Config) (file : List Event) (n : ℕ) (p : Put)
+pub none_left : (r : Rules) (configs : List Config) (file : List Filed) (n : ℕ) (p : Put)
     → IsOver r (air_at r configs file n) → IsIn p (air_at r configs file n).timetable.waiting
-    → r.until < at p
+    → r.until < p.event.moment
 none_left r configs file n p over h =
     let a = in_order r configs file n in
     none_in a.moment r.until p (air_at r configs file n).timetable.waiting a.waits over h
 
 -- what is heard waits
-pub heard_waits : (r : Rules) (configs : List Config) (a : AirModel) (p : Put) (rest : List Put)
-    (k i j : ℕ)
+pub heard_waits : (r : Rules) (configs : List Config) (a : AirModel) (p : Put)
+    (rest : List Pending) (k i j : ℕ)
     → given (world_run (opening configs) (a.done ++ p.event ∷ [])).log ≡ Some k
-    → slice_get (heard_by r.range (world_run (opening configs) (a.done ++ p.event ∷ []))
-    p.event.station) i ≡ Some j
+    → slice_get (heard_by r.range a.present
+    (world_run (opening configs) (a.done ++ p.event ∷ [])) p.event.station) i ≡ Some j
     → r.loss ≤ draw_of i a.timetable.draws % 100
-    → IsIn (delivery k (at p + r.delay) j) (once_done r configs a p rest).timetable.waiting
+    → IsIn (delivery k (p.event.moment + r.delay) j)
+    (once_done r configs a p rest).timetable.waiting
 heard_waits r configs a p rest k i j gives at' kept =
     let after = world_run (opening configs) (a.done ++ p.event ∷ []) in
-    let t : Timetable = record { waiting = rest; draws = a.timetable.draws } in
-    let q = delivery k (at p + r.delay) j in
-    let u = spread r p.event after t in
-    again_more q p.event p.traffic (follow_tick p after u)
+    let t = rest_of a rest in
+    let q = delivery k (p.event.moment + r.delay) j in
+    let u = spread r a.present p.event after t in
+    come_more q r a.present p after t
+    (again_more q p.event p.traffic (follow_tick p after u)
     (follow_more q p after u
-    (subst (λ (o : Option ℕ). IsIn q (spread_frame r p.event after o t).waiting) (sym gives)
-    (sent r.loss k (at p + r.delay) i j (heard_by r.range after p.event.station) t at' kept)))
+    (subst (λ (o : Option ℕ). IsIn q (spread_frame r a.present p.event after o t).waiting)
+    (sym gives)
+    (sent r.loss k (p.event.moment + r.delay) i j
+    (heard_by r.range a.present after p.event.station) t at' kept))))

@@ -17,5 +17,8 @@ pub mod Ticks
 pub mod Logs
 pub mod InLine
 pub mod Carried
+pub mod Comings
+pub mod Counting
 pub mod Sends
 pub mod Following
+pub mod Ranges

@@ -1,9 +1,8 @@
 -- The lines of the log of an air's run are its steps.
 use Rattle.std.proofs.Common.{◌≡◌, ℕ, zero, suc, ◌+◌, ◌<◌, List, [], ◌∷◌, ◌++◌, refl, sym, ap}
-use Rattle.std.proofs.Common.{◌∙◌, arith, Bool, true, false, cond, Option, Some, None, ◌⊎◌}
+use Rattle.std.proofs.Common.{◌∙◌, arith, Option, Some, None, ◌⊎◌}
 use Rattle.std.proofs.Common.{inl, inr, length, append_assoc, length-append}
-use Rattle.std.specs.Prelude.{nat_le, slice_get, slice_index_or}
-use Rattle.std.proofs.lemmas.Bool.{leb-true}
+use Rattle.std.specs.Prelude.{slice_get, slice_index_or}
 use Rattle.its_model.specs.Packet.{Transmission}
 use Rattle.its_model.specs.Station.{StationModel}
 use Rattle.its_model.specs.World.{Config, Event, LogLine, What, WorldModel, opening, world_run}
@@ -11,10 +10,9 @@ use Rattle.its_model.specs.World.{world_step, at_station, asked, delivery as del
 use Rattle.its_model.specs.World.What.{Calls, Deliver}
 use Rattle.its_air.specs.Carried.{world_at, LogsNeverFall}
 use Rattle.its_air.specs.Heard.{air_at, IsDone, world_after}
-use Rattle.its_air.specs.Timetable.{Rules, Put, AirModel, do_first}
-use Rattle.its_air.proofs.Lasting.{step_does, once_done}
+use Rattle.its_air.specs.Timetable.{Rules, Put, AirModel, Filed}
+use Rattle.its_air.proofs.Lasting.{IsDropped, step_case, step_does}
 use Rattle.its_air.proofs.Moments.{moments_never_fall}
-use Rattle.its_air.proofs.Putting.{at}
 
 -- ---- one event
 
@@ -44,36 +42,15 @@ station_line (Some s) w e = asked_line e.what w e s
 
 -- ---- one step
 
--- a step does what waits first, or nothing
-pub step_case : (r : Rules) (configs : List Config) (file : List Event) (n : ℕ)
-    → (air_at r configs file (suc n) ≡ air_at r configs file n)
-    ⊎ ((p : Put) × IsDone r configs file n p)
-step_case r configs file n = by a.timetable.waiting refl
-  where
-    a : AirModel
-    a = air_at r configs file n
-
-    by : (ws : List Put) → a.timetable.waiting ≡ ws
-        → (do_first r configs a ws ≡ a) ⊎ ((p : Put) × IsDone r configs file n p)
-    by [] is = inl refl
-    by (p ∷ rest) is = if_in_time (nat_le (at p) r.until) refl
-      where
-        if_in_time : (b : Bool) → nat_le (at p) r.until ≡ b
-            → (cond b (once_done r configs a p rest) a ≡ a)
-            ⊎ ((q : Put) × IsDone r configs file n q)
-        if_in_time true test =
-            inr (p, record { rest = rest; first = is; in_time = leb-true (at p) r.until test })
-        if_in_time false test = inl refl
-
 -- the world after a step is that after its event
-pub world_next : (r : Rules) (configs : List Config) (file : List Event) (n : ℕ) (p : Put)
+pub world_next : (r : Rules) (configs : List Config) (file : List Filed) (n : ℕ) (p : Put)
     → IsDone r configs file n p
     → world_at r configs file (suc n) ≡ world_after r configs file n p
 world_next r configs file n p d =
     ap (λ (a : AirModel). world_run (opening configs) a.done) (step_does r configs file n p d)
 
 -- its line
-pub line_next : (r : Rules) (configs : List Config) (file : List Event) (n : ℕ) (p : Put)
+pub line_next : (r : Rules) (configs : List Config) (file : List Filed) (n : ℕ) (p : Put)
     → (line : LogLine)
     × ((world_after r configs file n p).log ≡ line ∷ (world_at r configs file n).log)
     × (line.event ≡ p.event)
@@ -90,7 +67,7 @@ line_next r configs file n p =
 -- ---- the step of a line
 
 -- an earlier step than this made the line, after these
-pub record IsMade (r : Rules) (configs : List Config) (file : List Event) (end : ℕ)
+pub record IsMade (r : Rules) (configs : List Config) (file : List Filed) (end : ℕ)
     (line : LogLine) (before : List LogLine) : Type 0 where
   pub n : ℕ
   pub p : Put
@@ -109,7 +86,7 @@ rest_same : {X : Type 0} (x y : X) (xs ys : List X) → x ∷ xs ≡ y ∷ ys �
 rest_same x y xs ys e = cc
 
 -- each line of the log was made so
-pub made : (r : Rules) (configs : List Config) (file : List Event) (end : ℕ)
+pub made : (r : Rules) (configs : List Config) (file : List Filed) (end : ℕ)
     (later before : List LogLine) (line : LogLine)
     → (world_at r configs file end).log ≡ later ++ line ∷ before
     → IsMade r configs file end line before
@@ -162,14 +139,13 @@ made r configs file (suc end) later before line split =
               ∙ append_assoc (air_at r configs file m.n).done (m.p.event ∷ m.more) (p.event ∷ []);
         }
 
-    by : (air_at r configs file (suc end) ≡ air_at r configs file end)
-        ⊎ ((p : Put) × IsDone r configs file end p)
+    same_done : (air_at r configs file (suc end)).done ≡ (air_at r configs file end).done
         → ((l : List LogLine) → (world_at r configs file end).log ≡ l ++ line ∷ before
         → IsMade r configs file end line before)
         → IsMade r configs file (suc end) line before
-    by (inl same) on =
+    same_done same on =
         let m = on later
-        (ap (λ (a : AirModel). (world_run (opening configs) a.done).log) (sym same) ∙ split) in
+        (ap (λ (es : List Event). (world_run (opening configs) es).log) (sym same) ∙ split) in
         let less = m.less in
         record {
           n = m.n;
@@ -180,9 +156,17 @@ made r configs file (suc end) later before line split =
           log = m.log;
           after = m.after;
           more = m.more;
-          events = ap (λ (a : AirModel). a.done) same ∙ m.events;
+          events = same ∙ m.events;
         }
-    by (inr d) on =
+
+    by : (air_at r configs file (suc end) ≡ air_at r configs file end)
+        ⊎ (IsDropped r configs file end ⊎ ((p : Put) × IsDone r configs file end p))
+        → ((l : List LogLine) → (world_at r configs file end).log ≡ l ++ line ∷ before
+        → IsMade r configs file end line before)
+        → IsMade r configs file (suc end) line before
+    by (inl same) on = same_done (ap (λ (a : AirModel). a.done) same) on
+    by (inr (inl d)) on = same_done d.done on
+    by (inr (inr d)) on =
         let one = line_next r configs file end d.0 in
         here d.0 d.1 one on later
         (sym one.1 ∙ ap (λ (x : WorldModel). x.log) (sym (world_next r configs file end d.0 d.1))
@@ -195,7 +179,7 @@ got : (xs : List Event) (x : Event) (ys : List Event) (d : Event)
 got [] x ys d = refl
 got (y ∷ xs) x ys d = got xs x ys d
 
-pub logs_never_fall : (r : Rules) (configs : List Config) (file : List Event)
+pub logs_never_fall : (r : Rules) (configs : List Config) (file : List Filed)
     → LogsNeverFall r configs file
 logs_never_fall r configs file n later between older first second split =
     let s = made r configs file n later (between ++ first ∷ older) second split in

@@ -2,18 +2,18 @@
 use Rattle.std.proofs.Common.{◌≡◌, ℕ, zero, suc, ◌<◌, ◌≤◌, List, [], ◌∷◌, refl, sym, ap, ◌∙◌, arith}
 use Rattle.std.proofs.Common.{Bool, cond, ◌⊎◌, inl, inr}
 use Rattle.std.proofs.lemmas.Bool.{lt-leb, cases_lt}
-use Rattle.its_model.specs.World.{Config, Event}
-use Rattle.its_air.specs.Timetable.{Rules, Put, AirModel, NoneWaits, IsOver, air_step, air_run}
-use Rattle.its_air.specs.Timetable.{do_first, do_one, air_opening}
+use Rattle.its_model.specs.World.{Config}
+use Rattle.its_air.specs.Timetable.{Rules, Pending, Filed, AirModel, NoneWaits, IsOver, air_step}
+use Rattle.its_air.specs.Timetable.{air_run, at, do_first, take_one, air_opening}
 
 -- a run that is over stays as it is
-stays : (rules : Rules) (configs : List Config) (a : AirModel) (ws : List Put)
+stays : (rules : Rules) (configs : List Config) (a : AirModel) (ws : List Pending)
     → NoneWaits rules.until ws → do_first rules configs a ws ≡ a
 stays rules configs a [] h = refl
 stays rules configs a (p ∷ rest) h =
     ap (λ (b : Bool). cond b
-    (do_one rules configs a.done p (record { waiting = rest; draws = a.timetable.draws })) a)
-    (lt-leb p.event.moment rules.until h)
+    (take_one rules configs a p (record { waiting = rest; draws = a.timetable.draws })) a)
+    (lt-leb (at p) rules.until h)
 
 pub later : (rules : Rules) (configs : List Config) (a : AirModel) (m n : ℕ) → n ≤ m
     → IsOver rules (air_run rules configs n a)
@@ -34,7 +34,7 @@ later rules configs a (suc m) n le over =
         ∙ stays rules configs end end.timetable.waiting over
 
 -- two runs of the same rules, configs and file that are over are one
-pub one_run : (rules : Rules) (configs : List Config) (file : List Event) (m n : ℕ)
+pub one_run : (rules : Rules) (configs : List Config) (file : List Filed) (m n : ℕ)
     → IsOver rules (air_run rules configs m (air_opening rules configs file))
     → IsOver rules (air_run rules configs n (air_opening rules configs file))
     → air_run rules configs m (air_opening rules configs file)

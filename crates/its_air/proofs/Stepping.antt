@@ -1,6 +1,6 @@
 -- One step of an air, as a queue takes it.
 use Rattle.std.proofs.Common.{◌≡◌, ℕ, zero, suc, ◌+◌, ◌<◌, ◌≤◌, List, [], ◌∷◌, ◌++◌, refl, sym, ap, ◌∙◌}
-use Rattle.std.proofs.Common.{subst, drop, cond, Bool, true, false, Some, not, ◌&&◌, arith, length, map}
+use Rattle.std.proofs.Common.{subst, drop, cond, Bool, true, false, Some, arith, length, map}
 use Rattle.std.specs.Prelude.{slice_get, Vec, All}
 use Rattle.std.specs.declared.alloc.Global.{Global}
 use Rattle.std.specs.BinaryHeap.{heap_items, IsUpperBound}
@@ -8,73 +8,77 @@ use Rattle.std.specs.List.Sorted.{IsPermutation}
 use denote.Ref.{Bor}
 use Rattle.std.proofs.lemmas.Bool.{le-leb}
 use Rattle.its_model.specs.World.{Config, Event, WorldModel, opening, world_run}
-use Rattle.its_world.specs.Events.{event_of}
 use Rattle.its_world.specs.declared.entry.Entry.{Entry}
-use Rattle.its_world.specs.declared.event.Event.{Event as Told}
+use Rattle.its_scenario.specs.Airs.{moment_of as told_moment}
+use Rattle.its_scenario.specs.declared.event.FileEvent.{FileEvent as Told}
 use Rattle.its_simulation.specs.Simulated.{IsSimulated}
 use Rattle.its_air.specs.declared.waiting.Waiting.{Waiting}
 use Rattle.its_air.specs.declared.waiting.Queue.{Queue}
 use Rattle.its_air.specs.declared.run.Run.{Run}
 use Rattle.its_air.specs.AirRun.{AreDue}
-use Rattle.its_air.specs.AirTimed.{rules_of}
 use Rattle.its_air.specs.Draws.{draws_at, draws_of}
-use Rattle.its_air.specs.Files.{happenings_due}
-use Rattle.its_air.specs.Keeps.{Keeps, IsTimed, follow_own}
-use Rattle.its_air.specs.Queues.{happenings_in, waiting_cmp, happening_of}
-use Rattle.its_air.specs.Timetable.{Rules, Timetable, Put, AirModel, NoneWaits, of_file, put_all}
-use Rattle.its_air.specs.Timetable.{air_step, do_first, do_one, after_one, follow_tick}
-use Rattle.its_air.specs.Timetable.{send_again, was_refused}
+use Rattle.its_air.specs.Files.{filed_due}
+use Rattle.its_air.specs.Keeps.{Keeps, IsTimed, GoesBy, follow_own}
+use Rattle.its_air.specs.Queues.{filed_in, filed_of, waiting_cmp, happening_of}
+use Rattle.its_air.specs.Timetable.{Rules, Timetable, AirModel, NoneWaits, of_file, put_all}
+use Rattle.its_air.specs.Timetable.{air_step, do_first, do_one, take_one, follow_tick, after_one}
+use Rattle.its_air.specs.Timetable.{send_again, was_refused, by_file, present_after, is_passed_over}
+use Rattle.its_air.specs.Timetable.Filed.{Happens}
+use Rattle.its_air.specs.Timetable.Pending.{Does, Departs}
 use Rattle.its_air.specs.Traffics.{traffic_in}
-use Rattle.its_air.specs.Waits.{Waits, put_of}
+use Rattle.its_air.specs.Waits.{Waits, put_of, pending_of}
+use Rattle.its_air.proofs.Files.{same_moment}
 use Rattle.its_air.proofs.Keeping.{waits_at}
 use Rattle.its_air.proofs.Opening.{waits_opening}
-use Rattle.its_air.proofs.Putting.{at}
+use Rattle.its_air.specs.Timetable.{at, Pending, Filed}
 use Rattle.its_air.proofs.Waits.{waits_file, waits_own, waits_none, FileIsLater}
 
 -- the next event of the file
 drop_next : (due : List (Bor Told)) (n : ℕ) (e : Bor Told) → slice_get due n ≡ Some e
-    → drop n (happenings_in due) ≡ event_of e.now ∷ drop (suc n) (happenings_in due)
+    → drop n (filed_in due) ≡ filed_of e.now ∷ drop (suc n) (filed_in due)
 drop_next [] n e is = let no : ⊥ = cc in absurd no
 drop_next (x ∷ due) zero e is =
     let same : x ≡ e = cc in
-    ap (λ (y : Bor Told). event_of y.now ∷ happenings_in due) same
+    ap (λ (y : Bor Told). filed_of y.now ∷ filed_in due) same
 drop_next (x ∷ due) (suc n) e is = drop_next due n e is
 
-drop_past : (due : List (Bor Told)) (n : ℕ) → length due ≤ n → drop n (happenings_in due) ≡ []
+drop_past : (due : List (Bor Told)) (n : ℕ) → length due ≤ n → drop n (filed_in due) ≡ []
 drop_past [] zero le = refl
 drop_past [] (suc n) le = refl
 drop_past (x ∷ due) zero le = absurd (omega arith)
 drop_past (x ∷ due) (suc n) le = drop_past due n (omega arith)
 
 file_is_later : (due : List (Bor Told)) (n m : ℕ)
-    → ((e : Bor Told) → slice_get due n ≡ Some e → m < e.now.moment)
-    → FileIsLater m (drop n (happenings_in due))
+    → ((e : Bor Told) → slice_get due n ≡ Some e → m < told_moment e.now)
+    → FileIsLater m (drop n (filed_in due))
 file_is_later [] zero m h = tt
 file_is_later [] (suc n) m h = tt
-file_is_later (x ∷ due) zero m h = h x refl
+file_is_later (x ∷ due) zero m h =
+    subst (λ k. m < k) (sym (same_moment x.now)) (h x refl)
 file_is_later (x ∷ due) (suc n) m h = file_is_later due n m h
 
 pub takes_file : (old new : Queue) (words : List ℕ) (t : Timetable) (e : Bor Told)
     → slice_get old.due.items old.taken ≡ Some e → new.due ≡ old.due
     → new.taken ≡ old.taken + 1 → new.until ≡ old.until → new.put ≡ old.put
     → heap_items new.own ≡ heap_items old.own
-    → All (λ w. e.now.moment ≤ w.moment) (heap_items new.own) → Keeps old words t
-    → (rest : List Put) × (t.waiting ≡ of_file (event_of e.now) ∷ rest)
+    → All (λ w. told_moment e.now ≤ w.moment) (heap_items new.own) → Keeps old words t
+    → (rest : List Pending) × (t.waiting ≡ of_file (filed_of e.now) ∷ rest)
     × Keeps new words (record { waiting = rest; draws = t.draws })
 takes_file old new words t e is due taken until put heap first h =
-    let left = drop (suc old.taken) (happenings_in old.due.items) in
-    let got = waits_file (event_of e.now) left (heap_items old.own) old.put old.until t.waiting
-    (subst (All (λ (w : Waiting). e.now.moment ≤ w.moment)) heap first)
-    (subst (λ (l : List Event). Waits l (heap_items old.own) old.put old.until t.waiting)
+    let left = drop (suc old.taken) (filed_in old.due.items) in
+    let got = waits_file (filed_of e.now) left (heap_items old.own) old.put old.until t.waiting
+    (subst (λ k. All (λ (w : Waiting). k ≤ w.moment) (heap_items old.own))
+    (sym (same_moment e.now)) (subst (All (λ (w : Waiting). told_moment e.now ≤ w.moment)) heap first))
+    (subst (λ (l : List Filed). Waits l (heap_items old.own) old.put old.until t.waiting)
     (drop_next old.due.items old.taken e is) h.waits) in
     let next : new.taken ≡ suc old.taken = omega (arith, taken) in
-    let same : drop new.taken (happenings_due new) ≡ left =
-    ap (λ k. drop k (happenings_due new)) next
-    ∙ ap (λ (d : Vec (Bor Told) Global). drop (suc old.taken) (happenings_in d.items)) due in (
+    let same : drop new.taken (filed_due new) ≡ left =
+    ap (λ k. drop k (filed_due new)) next
+    ∙ ap (λ (d : Vec (Bor Told) Global). drop (suc old.taken) (filed_in d.items)) due in (
       got.0,
       got.1,
       record {
-        waits = subst (λ (hs : List Waiting). Waits (drop new.taken (happenings_due new)) hs new.put
+        waits = subst (λ (hs : List Waiting). Waits (drop new.taken (filed_due new)) hs new.put
             new.until got.0) (sym heap)
             (waits_at left _ (heap_items old.own) old.put _ old.until _ got.0 same put until got.2);
         draws = h.draws;
@@ -85,17 +89,17 @@ pub takes_own : (old new : Queue) (words : List ℕ) (t : Timetable) (w : Waitin
     → new.due ≡ old.due → new.taken ≡ old.taken → new.until ≡ old.until → new.put ≡ old.put
     → IsPermutation (heap_items old.own) (w ∷ heap_items new.own)
     → IsUpperBound waiting_cmp w (heap_items new.own) → w.moment ≤ old.until
-    → ((e : Bor Told) → slice_get old.due.items old.taken ≡ Some e → w.moment < e.now.moment)
+    → ((e : Bor Told) → slice_get old.due.items old.taken ≡ Some e → w.moment < told_moment e.now)
     → Keeps old words t
-    → (rest : List Put) × (t.waiting ≡ put_of w ∷ rest)
+    → (rest : List Pending) × (t.waiting ≡ pending_of w ∷ rest)
     × Keeps new words (record { waiting = rest; draws = t.draws })
 takes_own old new words t w due taken until put moves first le later h =
-    let left = drop old.taken (happenings_in old.due.items) in
+    let left = drop old.taken (filed_in old.due.items) in
     let got = waits_own w left (heap_items old.own) (heap_items new.own) old.put old.until t.waiting
     moves first le (file_is_later old.due.items old.taken w.moment later) h.waits in
-    let same : drop new.taken (happenings_due new) ≡ left =
-    ap (λ k. drop k (happenings_due new)) taken
-    ∙ ap (λ (d : Vec (Bor Told) Global). drop old.taken (happenings_in d.items)) due in (
+    let same : drop new.taken (filed_due new) ≡ left =
+    ap (λ k. drop k (filed_due new)) taken
+    ∙ ap (λ (d : Vec (Bor Told) Global). drop old.taken (filed_in d.items)) due in (
       got.0,
       got.1,
       record {
@@ -110,15 +114,15 @@ pub takes_none : (old new : Queue) (words : List ℕ) (t : Timetable)
     → All (λ w. old.until < w.moment) (heap_items old.own) → Keeps old words t
     → NoneWaits old.until t.waiting × Keeps new words t
 takes_none old new words t all due taken until put heap late h =
-    let left = drop old.taken (happenings_in old.due.items) in
-    let same : drop new.taken (happenings_due new) ≡ left =
-    ap (λ k. drop k (happenings_due new)) taken
-    ∙ ap (λ (d : Vec (Bor Told) Global). drop old.taken (happenings_in d.items)) due in (
+    let left = drop old.taken (filed_in old.due.items) in
+    let same : drop new.taken (filed_due new) ≡ left =
+    ap (λ k. drop k (filed_due new)) taken
+    ∙ ap (λ (d : Vec (Bor Told) Global). drop old.taken (filed_in d.items)) due in (
       waits_none (heap_items old.own) old.put old.until t.waiting late
-          (subst (λ (l : List Event). Waits l (heap_items old.own) old.put old.until t.waiting)
+          (subst (λ (l : List Filed). Waits l (heap_items old.own) old.put old.until t.waiting)
           (drop_past old.due.items old.taken all) h.waits),
       record {
-        waits = subst (λ (hs : List Waiting). Waits (drop new.taken (happenings_due new)) hs new.put
+        waits = subst (λ (hs : List Waiting). Waits (drop new.taken (filed_due new)) hs new.put
             new.until t.waiting) (sym heap)
             (waits_at left _ (heap_items old.own) old.put _ old.until _ t.waiting same put until
             h.waits);
@@ -126,31 +130,44 @@ takes_none old new words t all due taken until put heap late h =
       },
     )
 
--- the air of the model does the first that waits
-step_first : (rules : Rules) (configs : List Config) (a : AirModel) (p : Put) (rest : List Put)
-    → a.timetable.waiting ≡ p ∷ rest → at p ≤ rules.until
+-- the air of the model with its first taken
+abbrev pub without_first : AirModel → List Pending → AirModel
+without_first a rest =
+    record {
+      done = a.done;
+      timetable = record { waiting = rest; draws = a.timetable.draws };
+      present = a.present;
+    }
+
+same_take : (rules : Rules) (configs : List Config) (a : AirModel) (p : Pending)
+    (rest : List Pending)
+    → take_one rules configs (without_first a rest) p (without_first a rest).timetable
+    ≡ take_one rules configs a p (record { waiting = rest; draws = a.timetable.draws })
+same_take rules configs a (Does p) rest = refl
+same_take rules configs a (Departs station moment) rest = refl
+
+-- the air of the model takes the first that waits
+step_first : (rules : Rules) (configs : List Config) (a : AirModel) (p : Pending)
+    (rest : List Pending) → a.timetable.waiting ≡ p ∷ rest → at p ≤ rules.until
     → air_step rules configs a
-    ≡ do_one rules configs a.done p (record { waiting = rest; draws = a.timetable.draws })
+    ≡ take_one rules configs (without_first a rest) p (without_first a rest).timetable
 step_first rules configs a p rest is le =
     ap (do_first rules configs a) is
     ∙ ap (λ (b : Bool). cond b
-    (do_one rules configs a.done p (record { waiting = rest; draws = a.timetable.draws })) a)
+    (take_one rules configs a p (record { waiting = rest; draws = a.timetable.draws })) a)
     (le-leb (at p) rules.until le)
+    ∙ sym (same_take rules configs a p rest)
 
--- a run that did the first that waits is one step further
-pub timed_one : (rules : Rules) (configs : List Config) (a : AirModel) (p : Put)
-    (rest : List Put) (new : Run) (After : List Event → List Entry → Type 0)
+-- a run that took the first that waits is one step further
+pub timed_one : (rules : Rules) (configs : List Config) (a : AirModel) (p : Pending)
+    (rest : List Pending) (new : Run) (After : List Event → List Entry → Type 0)
     → a.timetable.waiting ≡ p ∷ rest → at p ≤ rules.until
-    → rules_of new.air rules.every new.queue.until ≡ rules
-    → IsSimulated configs (a.done ++ p.event ∷ []) new.world After
-    → Keeps new.queue new.draws (after_one rules p
-    (world_run (opening configs) (a.done ++ p.event ∷ []))
-    (record { waiting = rest; draws = a.timetable.draws }))
+    → IsTimed rules configs
+    (take_one rules configs (without_first a rest) p (without_first a rest).timetable) new After
     → IsTimed rules configs (air_step rules configs a) new After
-timed_one rules configs a p rest new After is le same told keeps =
+timed_one rules configs a p rest new After is le timed =
     subst (λ (x : AirModel). IsTimed rules configs x new After)
-    (sym (step_first rules configs a p rest is le))
-    (record { rules_are = same; told = told; keeps = keeps })
+    (sym (step_first rules configs a p rest is le)) timed
 
 -- what follows an event of the air's own
 pub follows : (w : Waiting) (after : WorldModel) (t : Timetable) (b : Bool)
@@ -161,17 +178,59 @@ follows w after t b refused =
     sym (ap (λ (x : Bool). follow_own w x (slice_get after.stations w.station) t) refused)
 
 -- nothing was taken yet
-pub keeps_opening : (queue : Queue) (words : List ℕ) (file : List Event) (until seed : ℕ)
-    → AreDue file until (happenings_due queue) → queue.taken ≡ 0 → heap_items queue.own ≡ []
+pub keeps_opening : (queue : Queue) (words : List ℕ) (file : List Filed) (until seed : ℕ)
+    → AreDue file until (filed_due queue) → queue.taken ≡ 0 → heap_items queue.own ≡ []
     → queue.put ≡ 0 → queue.until ≡ until → draws_at words ≡ draws_of seed
     → Keeps queue words (record { waiting = put_all (map of_file file) []; draws = draws_of seed })
 keeps_opening queue words file until seed due taken heap put last drawn =
-    let all : drop queue.taken (happenings_due queue) ≡ happenings_due queue =
-    ap (λ k. drop k (happenings_due queue)) taken in
+    let all : drop queue.taken (filed_due queue) ≡ filed_due queue =
+    ap (λ k. drop k (filed_due queue)) taken in
     record {
-      waits = subst (λ (hs : List Waiting). Waits (drop queue.taken (happenings_due queue)) hs
+      waits = subst (λ (hs : List Waiting). Waits (drop queue.taken (filed_due queue)) hs
           queue.put queue.until (put_all (map of_file file) [])) (sym heap)
-          (waits_at (happenings_due queue) _ [] 0 _ until _ (put_all (map of_file file) []) all put
-          last (waits_opening file (happenings_due queue) until due));
+          (waits_at (filed_due queue) _ [] 0 _ until _ (put_all (map of_file file) []) all put
+          last (waits_opening file (filed_due queue) until due));
       draws = sym drawn;
     }
+
+-- ---- what was taken is done
+
+-- an event of the file was done, and its station came if it does
+pub filed_event : (rules : Rules) (configs : List Config) (a : AirModel) (e : Event) (new : Run)
+    (After : List Event → List Entry → Type 0) → GoesBy rules new
+    → IsSimulated configs (a.done ++ e ∷ []) new.world After
+    → Keeps new.queue new.draws
+    (after_one rules a.present (by_file e) (world_run (opening configs) (a.done ++ e ∷ []))
+    a.timetable)
+    → new.present.items ≡ present_after a.present e (world_run (opening configs) (a.done ++ e ∷ []))
+    → IsTimed rules configs (take_one rules configs a (of_file (Happens e)) a.timetable) new After
+filed_event rules configs a e new After goes told keeps present =
+    record { goes_by = goes; told = told; keeps = keeps; present = present }
+
+-- one of the air's own was done
+pub own_done : (rules : Rules) (configs : List Config) (a : AirModel) (w : Waiting) (new : Run)
+    (After : List Event → List Entry → Type 0) → is_passed_over a.present (put_of w) ≡ false
+    → GoesBy rules new → IsSimulated configs (a.done ++ happening_of w ∷ []) new.world After
+    → Keeps new.queue new.draws
+    (after_one rules a.present (put_of w)
+    (world_run (opening configs) (a.done ++ happening_of w ∷ [])) a.timetable)
+    → new.present.items
+    ≡ present_after a.present (happening_of w)
+    (world_run (opening configs) (a.done ++ happening_of w ∷ []))
+    → IsTimed rules configs (take_one rules configs a (pending_of w) a.timetable) new After
+own_done rules configs a w new After run goes told keeps present =
+    subst (λ (b : Bool). IsTimed rules configs (cond b
+    (record { done = a.done; timetable = a.timetable; present = a.present })
+    (do_one rules configs a (put_of w) a.timetable)) new After) (sym run)
+    (record { goes_by = goes; told = told; keeps = keeps; present = present })
+
+-- one of the air's own was passed over
+pub own_passed_over : (rules : Rules) (configs : List Config) (a : AirModel) (w : Waiting)
+    (run : Run) (Took : List Event → List Entry → Type 0)
+    → is_passed_over a.present (put_of w) ≡ true → IsTimed rules configs a run Took
+    → IsTimed rules configs (take_one rules configs a (pending_of w) a.timetable) run Took
+own_passed_over rules configs a w run Took over h =
+    subst (λ (b : Bool). IsTimed rules configs (cond b
+    (record { done = a.done; timetable = a.timetable; present = a.present })
+    (do_one rules configs a (put_of w) a.timetable)) run Took) (sym over)
+    (record { goes_by = h.goes_by; told = h.told; keeps = h.keeps; present = h.present })

@@ -1,21 +1,23 @@
--- The ticks of an air: each is the first of its station, or follows one that wasn't refused.
+-- The ticks of an air: each is the first of its station, or follows one that wasn't refused, or is
+-- that of a station that came.
 use Rattle.std.proofs.Common.{◌≡◌, ℕ, zero, suc, ◌+◌, ◌≤◌, List, [], ◌∷◌, refl, sym, ap}
 use Rattle.std.proofs.Common.{◌∙◌, arith, Bool, true, false, cond, subst, Option, Some, None, ◌⊎◌}
 use Rattle.std.proofs.Common.{inl, inr, map, length, true≢false}
-use Rattle.std.specs.Prelude.{nat_le, ◌%◌, slice_get, not, ◌&&◌}
-use Rattle.std.proofs.lemmas.Bool.{leb-true}
+use Rattle.std.specs.Prelude.{◌%◌, slice_get, not, ◌&&◌}
 use Rattle.its_model.specs.Station.{StationModel}
 use Rattle.its_model.specs.World.{Config, Event, WorldModel}
-use Rattle.its_air.specs.Heard.{air_at, IsDone, IsFirstTick, IsNextTick, world_after}
-use Rattle.its_air.specs.Heard.{next_tick, TicksGoOn, TicksAreDue}
-use Rattle.its_air.specs.Timetable.{Rules, Put, Timetable, AirModel, put_all, draw, of_file}
+use Rattle.its_air.specs.Heard.{air_at, IsDone, IsFirstTick, world_after}
+use Rattle.its_air.specs.Heard.{HasTickReason, next_tick, TicksGoOn, TicksAreDue}
+use Rattle.its_air.specs.Timetable.{Rules, Put, Timetable, AirModel, put_all, draw, of_file, comes}
 use Rattle.its_air.specs.Timetable.{delivery, given, heard_by, spread, spread_frame, tick_again}
-use Rattle.its_air.specs.Timetable.{follow_tick, tick, is_tick, was_refused, do_first}
-use Rattle.its_air.specs.Timetable.{put_first_ticks, with_file, with_ticks, put_traffic}
-use Rattle.its_air.specs.Timetable.{Traffic, sending, send_again, put_first_sends}
-use Rattle.its_air.proofs.Heard.{put_is_done, put_of_is, sent_of, file_of, IsSent}
-use Rattle.its_air.proofs.Lasting.{IsIn, step_does, once_done, put_self, again_more}
-use Rattle.its_air.proofs.Putting.{at}
+use Rattle.its_air.specs.Timetable.{follow_tick, follow_all, tick, is_tick, was_refused, put_tick}
+use Rattle.its_air.specs.Timetable.{put_first_ticks, with_file, with_ticks, put_traffic, put_send}
+use Rattle.its_air.specs.Timetable.{Traffic, sending, send_again, put_first_sends, is_present}
+use Rattle.its_air.specs.Timetable.{Filed}
+use Rattle.its_air.proofs.Comings.{put_of_is, after_of, IsComeTick, IsComeSend}
+use Rattle.its_air.proofs.Heard.{put_is_taken, done_if_present, sent_of, file_of, IsSent}
+use Rattle.its_air.proofs.Lasting.{IsIn, IsDropped, step_does, step_case, put_self, again_more}
+use Rattle.its_air.proofs.Lasting.{come_more, rest_of}
 
 -- ---- a tick is followed
 
@@ -34,20 +36,26 @@ followed p after s t own ticks answered at' =
     (subst (λ (o : Option StationModel). IsIn q (tick_again p.event o t).waiting) (sym at')
     (put_self q t.waiting))
 
-pub ticks_go_on : (r : Rules) (configs : List Config) (file : List Event)
+pub ticks_go_on : (r : Rules) (configs : List Config) (file : List Filed)
     → TicksGoOn r configs file
 ticks_go_on r configs file end n p s h over due =
     let q = next_tick r configs file n p s h.done.rest in
-    put_is_done r configs file end n p q h.done over
+    let t = put_is_taken r configs file end n p q h.done over
     (subst (λ (a : AirModel). IsIn q a.timetable.waiting)
     (sym (step_does r configs file n p h.done))
-    (again_more q p.event p.traffic (follow_tick p (world_after r configs file n p) u)
-    (followed p (world_after r configs file n p) s u h.own h.ticks h.answered h.station))) due
+    (come_more q r present p after (rest_of (air_at r configs file n) h.done.rest)
+    (again_more q p.event p.traffic (follow_tick p after u)
+    (followed p after s u h.own h.ticks h.answered h.station)))) due in
+    (t.0, t.1, t.2, done_if_present r configs file t.0 q t.3)
   where
+    after : WorldModel
+    after = world_after r configs file n p
+
+    present : List Bool
+    present = (air_at r configs file n).present
+
     u : Timetable
-    u =
-        spread r p.event (world_after r configs file n p)
-        (record { waiting = h.done.rest; draws = (air_at r configs file n).timetable.draws })
+    u = spread r present p.event after (rest_of (air_at r configs file n) h.done.rest)
 
 -- ---- a tick has a reason
 
@@ -71,159 +79,214 @@ again_kept q e (Some x) t h ticks =
     by (inl is) = absurd (no_send q e.station (e.moment + x.period) x is ticks)
     by (inr g) = g
 
-first_sends_kept : (q : Put) (x : Traffic) (n : ℕ) (t : Timetable)
-    → IsIn q (put_first_sends x n t).waiting → is_tick q.event.what ≡ true → IsIn q t.waiting
-first_sends_kept q x zero t h ticks = h
-first_sends_kept q x (suc n) t h ticks =
-    first_sends_kept q x n t (by (put_of_is q (sending x n (draw u % x.period)) u.waiting h)) ticks
+first_sends_kept : (q : Put) (present : List Bool) (x : Traffic) (n : ℕ) (t : Timetable)
+    → IsIn q (put_first_sends present x n t).waiting → is_tick q.event.what ≡ true
+    → IsIn q t.waiting
+first_sends_kept q present x zero t h ticks = h
+first_sends_kept q present x (suc n) t h ticks =
+    first_sends_kept q present x n t (by (is_present present n) h) ticks
   where
     u : Timetable
-    u = put_first_sends x n t
+    u = put_first_sends present x n t
 
-    by : (q ≡ sending x n (draw u % x.period)) ⊎ IsIn q u.waiting → IsIn q u.waiting
-    by (inl is) = absurd (no_send q n (draw u % x.period) x is ticks)
-    by (inr g) = g
+    told : (q ≡ sending x n (0 + draw u % x.period)) ⊎ IsIn q u.waiting → IsIn q u.waiting
+    told (inl is) = absurd (no_send q n (0 + draw u % x.period) x is ticks)
+    told (inr g) = g
 
-traffic_kept : (q : Put) (every : List Traffic) (n : ℕ) (t : Timetable)
-    → IsIn q (put_traffic every n t).waiting → is_tick q.event.what ≡ true → IsIn q t.waiting
-traffic_kept q [] n t h ticks = h
-traffic_kept q (x ∷ every) n t h ticks =
-    first_sends_kept q x n t (traffic_kept q every n (put_first_sends x n t) h ticks) ticks
+    by : (b : Bool) → IsIn q (cond b (put_send x n 0 u) u).waiting → IsIn q u.waiting
+    by true g = told (put_of_is q (sending x n (0 + draw u % x.period)) u.waiting g)
+    by false g = g
 
-spread_kept : (q : Put) (r : Rules) (e : Event) (after : WorldModel) (o : Option ℕ)
-    (t : Timetable) → IsIn q (spread_frame r e after o t).waiting → is_tick q.event.what ≡ true
+traffic_kept : (q : Put) (present : List Bool) (every : List Traffic) (n : ℕ) (t : Timetable)
+    → IsIn q (put_traffic present every n t).waiting → is_tick q.event.what ≡ true
     → IsIn q t.waiting
-spread_kept q r e after None t h ticks = h
-spread_kept q r e after (Some k) t h ticks =
-    by (sent_of q r.loss k (e.moment + r.delay) (heard_by r.range after e.station) t h)
+traffic_kept q present [] n t h ticks = h
+traffic_kept q present (x ∷ every) n t h ticks =
+    first_sends_kept q present x n t
+    (traffic_kept q present every n (put_first_sends present x n t) h ticks) ticks
+
+spread_kept : (q : Put) (r : Rules) (present : List Bool) (e : Event) (after : WorldModel)
+    (o : Option ℕ) (t : Timetable) → IsIn q (spread_frame r present e after o t).waiting
+    → is_tick q.event.what ≡ true → IsIn q t.waiting
+spread_kept q r present e after None t h ticks = h
+spread_kept q r present e after (Some k) t h ticks =
+    by (sent_of q r.loss k (e.moment + r.delay) (heard_by r.range present after e.station) t h)
   where
     by : IsIn q t.waiting
-        ⊎ IsSent q r.loss k (e.moment + r.delay) (heard_by r.range after e.station) t
+        ⊎ IsSent q r.loss k (e.moment + r.delay) (heard_by r.range present after e.station) t
         → IsIn q t.waiting
     by (inl g) = g
     by (inr g) = absurd (no_delivery q k (e.moment + r.delay) g.1 g.4 ticks)
 
 first_of : (r : Rules) (configs : List Config) (q : Put) (n : ℕ) (t : Timetable)
-    → n ≤ cond r.beacons (length configs) 0 → IsIn q (put_first_ticks n t).waiting
+    → n ≤ cond r.beacons (length configs) 0 → IsIn q (put_first_ticks r.present n t).waiting
     → IsFirstTick r configs q ⊎ IsIn q t.waiting
 first_of r configs q zero t le h = inr h
 first_of r configs q (suc n) t le h =
-    by (λ g. first_of r configs q n t (omega (arith, le)) g)
-    (put_of_is q (tick n 0 0 (draw u % 751)) u.waiting h)
+    by (λ g. first_of r configs q n t (omega (arith, le)) g) (is_present r.present n) refl h
   where
     u : Timetable
-    u = put_first_ticks n t
+    u = put_first_ticks r.present n t
 
-    by : (IsIn q u.waiting → IsFirstTick r configs q ⊎ IsIn q t.waiting)
-        → (q ≡ tick n 0 0 (draw u % 751)) ⊎ IsIn q u.waiting
+    told : (IsIn q u.waiting → IsFirstTick r configs q ⊎ IsIn q t.waiting)
+        → is_present r.present n ≡ true → (q ≡ tick n 0 0 (draw u % 751)) ⊎ IsIn q u.waiting
         → IsFirstTick r configs q ⊎ IsIn q t.waiting
-    by on (inl is) =
-        inl (record { station = n; jitter = draw u % 751; among = omega (arith, le); is = is })
-    by on (inr g) = on g
+    told on there (inl is) =
+        inl (record {
+          station = n;
+          jitter = draw u % 751;
+          among = omega (arith, le);
+          present = there;
+          is = is;
+        })
+    told on there (inr g) = on g
 
--- what follows a step is what waited, or the next tick
-next_of : (r : Rules) (configs : List Config) (file : List Event) (m : ℕ) (p q : Put)
-    (rest : List Put) (done : IsDone r configs file m p) → done.rest ≡ rest
-    → IsIn q (once_done r configs (air_at r configs file m) p rest).timetable.waiting
+    by : (IsIn q u.waiting → IsFirstTick r configs q ⊎ IsIn q t.waiting) → (b : Bool)
+        → is_present r.present n ≡ b → IsIn q (cond b (put_tick n 0 0 u) u).waiting
+        → IsFirstTick r configs q ⊎ IsIn q t.waiting
+    by on true there g = told on there (put_of_is q (tick n 0 0 (draw u % 751)) u.waiting g)
+    by on false there g = on g
+
+-- what follows a step is what waited, or the next tick, or that of a station that comes
+next_of : (r : Rules) (configs : List Config) (file : List Filed) (m : ℕ) (p q : Put)
+    → IsDone r configs file m p → IsIn q (air_at r configs file (suc m)).timetable.waiting
     → is_tick q.event.what ≡ true
-    → IsIn q rest ⊎ IsNextTick r configs file (suc m) q
-next_of r configs file m p q rest done same h ticks =
-    by p.own refl (is_tick p.event.what) refl (was_refused after.log) refl
-    (slice_get after.stations p.event.station) refl
-    (again_kept q p.event p.traffic (follow_tick p after u) h ticks)
+    → IsIn q (air_at r configs file m).timetable.waiting ⊎ HasTickReason r configs file (suc m) q
+next_of r configs file m p q d h ticks =
+    whole (after_of r a.present p q after t
+    (subst (λ (x : AirModel). IsIn q x.timetable.waiting) (step_does r configs file m p d) h))
   where
+    a : AirModel
+    a = air_at r configs file m
+
     after : WorldModel
     after = world_after r configs file m p
 
     t : Timetable
-    t = record { waiting = rest; draws = (air_at r configs file m).timetable.draws }
+    t = rest_of a d.rest
 
     u : Timetable
-    u = spread r p.event after t
+    u = spread r a.present p.event after t
 
-    kept : IsIn q u.waiting → IsIn q rest ⊎ IsNextTick r configs file (suc m) q
-    kept g = inl (spread_kept q r p.event after (given after.log) t g ticks)
+    Goal : Type 0
+    Goal = IsIn q a.timetable.waiting ⊎ HasTickReason r configs file (suc m) q
+
+    kept : IsIn q u.waiting → Goal
+    kept g =
+        inl (subst (IsIn q) (sym d.first)
+        (inr (spread_kept q r a.present p.event after (given after.log) t g ticks)))
 
     by : (o : Bool) → p.own ≡ o → (i : Bool) → is_tick p.event.what ≡ i
         → (f : Bool) → was_refused after.log ≡ f → (s : Option StationModel)
         → slice_get after.stations p.event.station ≡ s
-        → IsIn q (cond (o && (i && not f)) (tick_again p.event s u) u).waiting
-        → IsIn q rest ⊎ IsNextTick r configs file (suc m) q
-    by false a i b f c s d g = kept g
-    by true a false b f c s d g = kept g
-    by true a true b true c s d g = kept g
-    by true a true b false c None d g = kept g
-    by true a true b false c (Some s) d g =
+        → IsIn q (cond (o && (i && not f)) (tick_again p.event s u) u).waiting → Goal
+    by false a' i b f c s d' g = kept g
+    by true a' false b f c s d' g = kept g
+    by true a' true b true c s d' g = kept g
+    by true a' true b false c None d' g = kept g
+    by true a' true b false c (Some s) d' g =
         told (put_of_is q (tick p.event.station p.event.moment s.beacon_from (draw u % 751))
         u.waiting g)
       where
         told : (q ≡ tick p.event.station p.event.moment s.beacon_from (draw u % 751))
-            ⊎ IsIn q u.waiting → IsIn q rest ⊎ IsNextTick r configs file (suc m) q
+            ⊎ IsIn q u.waiting → Goal
         told (inr x) = kept x
-        told (inl is) = inr (record {
+        told (inl is) = inr (inr (inl (record {
           n = m;
           p = p;
           s = s;
           earlier = omega arith;
-          ticked = record { done = done; own = a; ticks = b; answered = c; station = d };
-          is = is ∙ ap (λ (l : List Put). next_tick r configs file m p s l) (sym same);
-        })
+          ticked = record { done = d; own = a'; ticks = b; answered = c; station = d' };
+          is = is;
+        })))
 
-ticked_on : (r : Rules) (configs : List Config) (file : List Event) (m : ℕ) (q : Put)
-    → IsFirstTick r configs q ⊎ IsNextTick r configs file m q
-    → IsFirstTick r configs q ⊎ IsNextTick r configs file (suc m) q
+    comes_so : comes a.present p.event after ≡ true
+        → IsComeTick r.beacons p.event.station p.event.moment q
+        ⊎ IsComeSend r.every p.event.station p.event.moment q → Goal
+    comes_so is (inl x) =
+        inr (inr (inr (record {
+          n = m;
+          p = p;
+          jitter = x.0;
+          earlier = omega arith;
+          coming = record { done = d; comes = is };
+          beacons = x.1;
+          is = x.2;
+        })))
+    comes_so is (inr x) =
+        absurd (no_send q p.event.station (p.event.moment + x.3 % x.1.period) x.1 x.4 ticks)
+
+    whole : IsIn q (follow_all r a.present p after t).waiting
+        ⊎ ((comes a.present p.event after ≡ true)
+        × (IsComeTick r.beacons p.event.station p.event.moment q
+        ⊎ IsComeSend r.every p.event.station p.event.moment q)) → Goal
+    whole (inl g) =
+        by p.own refl (is_tick p.event.what) refl (was_refused after.log) refl
+        (slice_get after.stations p.event.station) refl
+        (again_kept q p.event p.traffic (follow_tick p after u) g ticks)
+    whole (inr g) = comes_so g.0 g.1
+
+ticked_on : (r : Rules) (configs : List Config) (file : List Filed) (m : ℕ) (q : Put)
+    → HasTickReason r configs file m q → HasTickReason r configs file (suc m) q
 ticked_on r configs file m q (inl x) = inl x
-ticked_on r configs file m q (inr x) =
+ticked_on r configs file m q (inr (inl x)) =
     let before = x.earlier in
-    inr (record {
+    inr (inl (record {
       n = x.n;
       p = x.p;
       s = x.s;
       earlier = omega (arith, before);
       ticked = x.ticked;
       is = x.is;
-    })
+    }))
+ticked_on r configs file m q (inr (inr x)) =
+    let before = x.earlier in
+    inr (inr (record {
+      n = x.n;
+      p = x.p;
+      jitter = x.jitter;
+      earlier = omega (arith, before);
+      coming = x.coming;
+      beacons = x.beacons;
+      is = x.is;
+    }))
 
 -- each tick of the air's own that waits has its reason
-waits_ticked : (r : Rules) (configs : List Config) (file : List Event) (m : ℕ) (q : Put)
+waits_ticked : (r : Rules) (configs : List Config) (file : List Filed) (m : ℕ) (q : Put)
     → IsIn q (air_at r configs file m).timetable.waiting → q.own ≡ true
-    → is_tick q.event.what ≡ true → IsFirstTick r configs q ⊎ IsNextTick r configs file m q
+    → is_tick q.event.what ≡ true → HasTickReason r configs file m q
 waits_ticked r configs file zero q h own ticks =
     by (first_of r configs q (cond r.beacons (length configs) 0) (with_file r file) (omega arith)
-    (traffic_kept q r.every (length configs) (with_ticks r configs file) h ticks))
+    (traffic_kept q r.present r.every (length configs) (with_ticks r configs file) h ticks))
   where
     by : IsFirstTick r configs q ⊎ IsIn q (put_all (map of_file file) [])
-        → IsFirstTick r configs q ⊎ IsNextTick r configs file 0 q
+        → HasTickReason r configs file 0 q
     by (inl x) = inl x
     by (inr x) = absurd (file_of q file [] x own)
 waits_ticked r configs file (suc m) q h own ticks =
-    by (λ g. waits_ticked r configs file m q g own ticks) a.timetable.waiting refl h
+    by (λ g. waits_ticked r configs file m q g own ticks) (step_case r configs file m)
   where
     a : AirModel
     a = air_at r configs file m
 
-    by : (IsIn q a.timetable.waiting → IsFirstTick r configs q ⊎ IsNextTick r configs file m q)
-        → (ws : List Put) → a.timetable.waiting ≡ ws
-        → IsIn q (do_first r configs a ws).timetable.waiting
-        → IsFirstTick r configs q ⊎ IsNextTick r configs file (suc m) q
-    by on [] is g = ticked_on r configs file m q (on g)
-    by on (p ∷ rest) is g = if_in_time (nat_le (at p) r.until) refl g
+    by : (IsIn q a.timetable.waiting → HasTickReason r configs file m q)
+        → (air_at r configs file (suc m) ≡ a)
+        ⊎ (IsDropped r configs file m ⊎ ((p : Put) × IsDone r configs file m p))
+        → HasTickReason r configs file (suc m) q
+    by on (inl same) =
+        ticked_on r configs file m q
+        (on (subst (λ (x : AirModel). IsIn q x.timetable.waiting) same h))
+    by on (inr (inl d)) =
+        ticked_on r configs file m q
+        (on (subst (IsIn q) (sym d.first) (inr (subst (IsIn q) d.left h))))
+    by on (inr (inr d)) = either (next_of r configs file m d.0 q d.1 h ticks)
       where
-        either : IsIn q rest ⊎ IsNextTick r configs file (suc m) q
-            → IsFirstTick r configs q ⊎ IsNextTick r configs file (suc m) q
-        either (inl x) = ticked_on r configs file m q (on (subst (IsIn q) (sym is) (inr x)))
-        either (inr x) = inr x
+        either : IsIn q a.timetable.waiting ⊎ HasTickReason r configs file (suc m) q
+            → HasTickReason r configs file (suc m) q
+        either (inl x) = ticked_on r configs file m q (on x)
+        either (inr x) = x
 
-        if_in_time : (b : Bool) → nat_le (at p) r.until ≡ b
-            → IsIn q (cond b (once_done r configs a p rest) a).timetable.waiting
-            → IsFirstTick r configs q ⊎ IsNextTick r configs file (suc m) q
-        if_in_time false test x = ticked_on r configs file m q (on x)
-        if_in_time true test x =
-            either (next_of r configs file m p q rest
-            (record { rest = rest; first = is; in_time = leb-true (at p) r.until test }) refl x
-            ticks)
-
-pub ticks_are_due : (r : Rules) (configs : List Config) (file : List Event)
+pub ticks_are_due : (r : Rules) (configs : List Config) (file : List Filed)
     → TicksAreDue r configs file
 ticks_are_due r configs file m q d own ticks =
     waits_ticked r configs file m q (subst (IsIn q) (sym d.first) (inl refl)) own ticks

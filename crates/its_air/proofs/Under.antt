@@ -1,6 +1,6 @@
 -- What keeps a run under way.
 use Rattle.std.proofs.Common.{◌≡◌, ℕ, zero, suc, ◌+◌, ◌≤◌, List, [], ◌∷◌, ◌++◌, Some, sym, ap}
-use Rattle.std.proofs.Common.{subst, ◌∙◌, take, take_all, length, arith}
+use Rattle.std.proofs.Common.{subst, ◌∙◌, take, take_all, length, arith, refl}
 use Rattle.std.specs.Prelude.{slice_get, Vec}
 use Rattle.std.specs.declared.alloc.Global.{Global}
 use Rattle.std.proofs.lemmas.List.{length-map}
@@ -8,26 +8,45 @@ use denote.Ref.{Bor}
 use Rattle.its_model.specs.EverySchedule.{HoldsOfSchedules}
 use Rattle.its_model.specs.World.{Config, Event, opening}
 use Rattle.its_world.specs.declared.entry.Entry.{Entry}
-use Rattle.its_world.specs.declared.event.Event.{Event as Told}
-use Rattle.its_world.specs.Events.{event_of}
+use Rattle.its_scenario.specs.declared.event.FileEvent.{FileEvent as Told}
 use Rattle.its_world.specs.State.{WorldState, RepresentsWorld}
 use Rattle.its_simulation.specs.Simulated.{IsSimulated}
-use Rattle.its_air.specs.AirRun.{AreAmong, AreDue, IsAirRun}
-use Rattle.its_air.specs.Files.{SameFile, happenings_due}
-use Rattle.its_air.specs.Queues.{happenings_in}
+use Rattle.its_air.specs.AirRun.{AreAmong, AreDue, IsAirRun, events_in}
+use Rattle.its_air.specs.Files.{filed_due}
+use Rattle.its_air.specs.Queues.{filed_in, filed_of}
+use Rattle.its_air.specs.Timetable.{Filed}
+use Rattle.its_air.specs.Timetable.Filed.{Happens, Leaves}
 use Rattle.its_air.specs.Runs.{IsUnderWay, SaysAsBefore}
 use Rattle.its_air.specs.declared.run.Run.{Run}
-use Rattle.its_air.proofs.Among.{among_both, among_more}
+use Rattle.its_air.proofs.Among.{among_both, among_longer}
+use Rattle.std.proofs.lemmas.List.{append-nil}
 
 -- one more event of the file was taken
 front_more : (due : List (Bor Told)) (n : ℕ) (e : Bor Told) → slice_get due n ≡ Some e
-    → take (suc n) (happenings_in due) ≡ take n (happenings_in due) ++ event_of e.now ∷ []
+    → take (suc n) (filed_in due) ≡ take n (filed_in due) ++ filed_of e.now ∷ []
 front_more [] n e is = cc
 front_more (x ∷ due) zero e is =
     let same : x ≡ e = cc in
-    ap (λ (y : Bor Told). event_of y.now ∷ []) same
+    ap (λ (y : Bor Told). filed_of y.now ∷ []) same
 front_more (x ∷ due) (suc n) e is =
-    ap (λ (l : List Event). event_of x.now ∷ l) (front_more due n e is)
+    ap (λ (l : List Filed). filed_of x.now ∷ l) (front_more due n e is)
+
+-- the events of one line more
+events_more : (xs : List Filed) (e : Filed)
+    → events_in (xs ++ e ∷ []) ≡ events_in xs ++ events_in (e ∷ [])
+events_more [] e = refl
+events_more (Happens x ∷ xs) e = ap (λ (l : List Event). x ∷ l) (events_more xs e)
+events_more (Leaves station moment ∷ xs) e = events_more xs e
+
+among_line : (xs : List Filed) (events : List Event) (e : Filed) → AreAmong (events_in xs) events
+    → AreAmong (events_in (xs ++ e ∷ [])) (events ++ events_in (e ∷ []))
+among_line xs events (Happens e) h =
+    subst (λ (l : List Event). AreAmong l (events ++ e ∷ [])) (sym (events_more xs (Happens e)))
+    (among_both (events_in xs) events e h)
+among_line xs events (Leaves station moment) h =
+    subst (λ (l : List Event). AreAmong l (events ++ []))
+    (sym (events_more xs (Leaves station moment) ∙ append-nil (events_in xs)))
+    (subst (AreAmong (events_in xs)) (sym (append-nil events)) h)
 
 -- a run that does nothing yet
 pub begins : (configs : List Config) (run : Run) (Took : List Event → List Entry → Type 0)
@@ -37,86 +56,71 @@ begins configs run Took stands laws took start =
     record {
       told = record { stands = stands; laws = laws; log = []; told = tt; took = took };
       among =
-          subst (λ n. AreAmong (take n (happenings_due run.queue)) []) (sym start) tt;
+          subst (λ n. AreAmong (events_in (take n (filed_due run.queue))) []) (sym start) tt;
     }
 
--- an event of the file was done
+-- a line of the file was done
 pub under_file : (configs : List Config) (events : List Event) (run new : Run)
     (Before After : List Event → List Entry → Type 0) (e : Bor Told)
     → (IsSimulated configs events run.world Before
-    → IsSimulated configs (events ++ event_of e.now ∷ []) new.world After)
+    → IsSimulated configs (events ++ events_in (filed_of e.now ∷ [])) new.world After)
     → slice_get run.queue.due.items run.queue.taken ≡ Some e
     → new.queue.due ≡ run.queue.due → new.queue.taken ≡ run.queue.taken + 1
     → IsUnderWay configs events run Before
-    → IsUnderWay configs (events ++ event_of e.now ∷ []) new After
+    → IsUnderWay configs (events ++ events_in (filed_of e.now ∷ [])) new After
 under_file configs events run new Before After e done at due taken under =
     let n = run.queue.taken in
     let all = run.queue.due.items in
     let next : new.queue.taken ≡ suc n = omega (arith, taken) in
-    let more : take new.queue.taken (happenings_due new.queue)
-    ≡ take n (happenings_in all) ++ event_of e.now ∷ [] =
-    ap (λ k. take k (happenings_due new.queue)) next
-    ∙ ap (λ (d : Vec (Bor Told) Global). take (suc n) (happenings_in d.items)) due
+    let more : take new.queue.taken (filed_due new.queue)
+    ≡ take n (filed_in all) ++ filed_of e.now ∷ [] =
+    ap (λ k. take k (filed_due new.queue)) next
+    ∙ ap (λ (d : Vec (Bor Told) Global). take (suc n) (filed_in d.items)) due
     ∙ front_more all n e at in
     record {
       told = done under.told;
       among =
-          subst (λ (l : List Event). AreAmong l (events ++ event_of e.now ∷ [])) (sym more)
-          (among_both (take n (happenings_in all)) events (event_of e.now) under.among);
+          subst (λ (l : List Filed). AreAmong (events_in l)
+          (events ++ events_in (filed_of e.now ∷ []))) (sym more)
+          (among_line (take n (filed_in all)) events (filed_of e.now) under.among);
     }
 
--- an event of the air's own was done
-pub under_own : (configs : List Config) (events : List Event) (run new : Run)
-    (Before After : List Event → List Entry → Type 0) (e : Event)
-    → (IsSimulated configs events run.world Before
-    → IsSimulated configs (events ++ e ∷ []) new.world After)
+-- one of the air's own was taken, and these were done
+pub under_own : (configs : List Config) (events more : List Event) (run new : Run)
+    (Before After : List Event → List Entry → Type 0)
+    → IsSimulated configs (events ++ more) new.world After
     → new.queue.due ≡ run.queue.due → new.queue.taken ≡ run.queue.taken
-    → IsUnderWay configs events run Before → IsUnderWay configs (events ++ e ∷ []) new After
-under_own configs events run new Before After e done due taken under =
-    let same : take new.queue.taken (happenings_due new.queue)
-    ≡ take run.queue.taken (happenings_due run.queue) =
-    ap (λ k. take k (happenings_due new.queue)) taken
-    ∙ ap (λ (d : Vec (Bor Told) Global). take run.queue.taken (happenings_in d.items)) due in
+    → IsUnderWay configs events run Before → IsUnderWay configs (events ++ more) new After
+under_own configs events more run new Before After done due taken under =
+    let same : take new.queue.taken (filed_due new.queue)
+    ≡ take run.queue.taken (filed_due run.queue) =
+    ap (λ k. take k (filed_due new.queue)) taken
+    ∙ ap (λ (d : Vec (Bor Told) Global). take run.queue.taken (filed_in d.items)) due in
     record {
-      told = done under.told;
+      told = done;
       among =
-          subst (λ (l : List Event). AreAmong l (events ++ e ∷ [])) (sym same)
-          (among_more (take run.queue.taken (happenings_due run.queue)) events e under.among);
-    }
-
--- nothing was done
-pub under_same : (configs : List Config) (events : List Event) (run new : Run)
-    (Took : List Event → List Entry → Type 0) → new.world ≡ run.world
-    → SameFile run.queue new.queue → IsUnderWay configs events run Took
-    → IsUnderWay configs events new Took
-under_same configs events run new Took world file under =
-    let same : take new.queue.taken (happenings_due new.queue)
-    ≡ take run.queue.taken (happenings_due run.queue) =
-    ap (λ k. take k (happenings_due new.queue)) file.taken
-    ∙ ap (λ (d : Vec (Bor Told) Global). take run.queue.taken (happenings_in d.items)) file.due in
-    record {
-      told =
-          subst (λ (w : WorldState). IsSimulated configs events w Took) (sym world) under.told;
-      among = subst (λ (l : List Event). AreAmong l events) (sym same) under.among;
+          subst (λ (l : List Filed). AreAmong (events_in l) (events ++ more)) (sym same)
+          (among_longer (events_in (take run.queue.taken (filed_due run.queue))) events more
+          under.among);
     }
 
 -- all of the file was taken
-pub ended : (configs : List Config) (file events : List Event) (until : ℕ) (run : Run)
+pub ended : (configs : List Config) (file : List Filed) (events : List Event) (until : ℕ) (run : Run)
     (Took : List Event → List Entry → Type 0)
-    → AreDue file until (happenings_due run.queue)
+    → AreDue file until (filed_due run.queue)
     → length run.queue.due.items ≤ run.queue.taken
     → IsUnderWay configs events run Took → IsAirRun configs file until run.world Took
 ended configs file events until run Took due all under =
     record {
       events = events;
       run = under.told;
-      due = happenings_due run.queue;
+      due = filed_due run.queue;
       is_due = due;
       among =
-          subst (λ (l : List Event). AreAmong l events)
-          (take_all run.queue.taken (happenings_due run.queue)
+          subst (λ (l : List Filed). AreAmong (events_in l) events)
+          (take_all run.queue.taken (filed_due run.queue)
           (subst (λ n. n ≤ run.queue.taken)
-          (sym (length-map run.queue.due.items (λ (e : Bor Told). event_of e.now))) all))
+          (sym (length-map run.queue.due.items (λ (e : Bor Told). filed_of e.now))) all))
           under.among;
     }
 

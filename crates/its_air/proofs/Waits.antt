@@ -11,15 +11,16 @@ use Rattle.std.proofs.lemmas.List.Elements.{recursion_from_All}
 use Rattle.std.proofs.lemmas.List.Sums.{sum_by-cons, sum_by_push, sum_by-append}
 use Rattle.std.proofs.lemmas.List.Sorted.{sum_by-IsPermutation}
 use Rattle.std.proofs.Props.{props}
-use Rattle.its_model.specs.World.{Event}
 use Rattle.its_scenario.specs.declared.traffic.Traffic.{Traffic as Flow}
 use Rattle.its_air.specs.declared.waiting.Own.{Own}
 use Rattle.its_air.specs.declared.waiting.Own.TheVariants as owns
 use Rattle.its_air.specs.declared.waiting.Waiting.{Waiting}
 use Rattle.its_air.specs.Queues.{waiting_cmp}
-use Rattle.its_air.specs.Timetable.{Put, of_file, put, put_all, NoneWaits}
-use Rattle.its_air.specs.Waits.{Waits, PlacesRise, put_of}
-use Rattle.its_air.proofs.Putting.{at, put_all_push, put_all_first, put_all_behind, put_all_above}
+use Rattle.its_air.specs.Timetable.{of_file, put, put_all, NoneWaits}
+use Rattle.its_air.specs.AirRun.{moment_in}
+use Rattle.its_air.specs.Waits.{Waits, PlacesRise, pending_of}
+use Rattle.its_air.specs.Timetable.{at, Pending, Filed}
+use Rattle.its_air.proofs.Putting.{put_all_push, put_all_first, put_all_behind, put_all_above}
 
 -- ---- what is the same
 
@@ -80,24 +81,27 @@ are_same_self x =
 abbrev same_own : Own → Own → Bool
 same_own (owns.Tick a) (owns.Tick b) = a == b
 same_own (owns.Deliver a) (owns.Deliver b) = a == b
-same_own (owns.Send x) (owns.Send y) = are_same x y
+same_own (owns.Send n x) (owns.Send m y) = (n == m) && are_same x y
 same_own a b = false
 
 same_own_is : (a b : Own) → same_own a b ≡ true → a ≡ b
 same_own_is (owns.Tick a) (owns.Tick b) h = ap owns.Tick (eqb-true a b h)
 same_own_is (owns.Tick a) (owns.Deliver b) h = cc
-same_own_is (owns.Tick a) (owns.Send b) h = cc
+same_own_is (owns.Tick a) (owns.Send n b) h = cc
 same_own_is (owns.Deliver a) (owns.Tick b) h = cc
 same_own_is (owns.Deliver a) (owns.Deliver b) h = ap owns.Deliver (eqb-true a b h)
-same_own_is (owns.Deliver a) (owns.Send b) h = cc
-same_own_is (owns.Send a) (owns.Tick b) h = cc
-same_own_is (owns.Send a) (owns.Deliver b) h = cc
-same_own_is (owns.Send a) (owns.Send b) h = ap owns.Send (are_same_is a b h)
+same_own_is (owns.Deliver a) (owns.Send n b) h = cc
+same_own_is (owns.Send n a) (owns.Tick b) h = cc
+same_own_is (owns.Send n a) (owns.Deliver b) h = cc
+same_own_is (owns.Send n a) (owns.Send m b) h =
+    let both = and_parts (n == m) _ h in
+    ap (λ k. owns.Send k a) (eqb-true n m both.0) ∙ ap (owns.Send m) (are_same_is a b both.1)
 
 same_own_self : (a : Own) → same_own a a ≡ true
 same_own_self (owns.Tick a) = eq-eqb a a refl
 same_own_self (owns.Deliver a) = eq-eqb a a refl
-same_own_self (owns.Send a) = are_same_self a
+same_own_self (owns.Send n a) =
+    and_from _ _ (eq-eqb n n refl) (are_same_self a)
 
 abbrev is_same : Waiting → Waiting → Bool
 is_same w v =
@@ -191,8 +195,8 @@ all_without : (P : Waiting → Type 0) (us : List Waiting) (w : Waiting) (vs : L
 all_without P [] w vs h = h.1
 all_without P (a ∷ us) w vs h = (h.0, all_without P us w vs h.1)
 
-all_put : (P : Put → Type 0) (xs : List Waiting) → AllByRecursion (λ w. P (put_of w)) xs
-    → AllByRecursion P (map put_of xs)
+all_put : (P : Pending → Type 0) (xs : List Waiting) → AllByRecursion (λ w. P (pending_of w)) xs
+    → AllByRecursion P (map pending_of xs)
 all_put P [] h = tt
 all_put P (x ∷ xs) h = (h.0, all_put P xs h.1)
 
@@ -264,9 +268,9 @@ bounded w (x ∷ xs) h = (ap not h.0, bounded w xs h.1)
 -- ---- what waits
 
 -- one of the air's own was put
-pub waits_put : (due : List Event) (heap new : List Waiting) (count until : ℕ)
-    (waiting : List Put) (x : Waiting) → IsPermutation (x ∷ heap) new → x.place ≡ count
-    → Waits due heap count until waiting → Waits due new (count + 1) until (put (put_of x) waiting)
+pub waits_put : (due : List Filed) (heap new : List Waiting) (count until : ℕ)
+    (waiting : List Pending) (x : Waiting) → IsPermutation (x ∷ heap) new → x.place ≡ count
+    → Waits due heap count until waiting → Waits due new (count + 1) until (put (pending_of x) waiting)
 waits_put due heap new count until waiting x moves place h =
     record {
       own = h.own ++ x ∷ [];
@@ -283,27 +287,27 @@ waits_put due heap new count until waiting x moves place h =
       below = all_push (λ w. w.place < count + 1) h.own x
           (weaker (λ w. w.place < count) (λ w. w.place < count + 1)
           (λ w lt. omega (arith, lt)) h.own h.below) (omega (arith, place));
-      is = ap (put (put_of x)) h.is
-          ∙ sym (put_all_push (map put_of h.own) (put_of x) (map of_file (due ++ h.late)))
-          ∙ ap (λ (l : List Put). put_all l (map of_file (due ++ h.late)))
-          (sym (map-append put_of h.own (x ∷ [])));
+      is = ap (put (pending_of x)) h.is
+          ∙ sym (put_all_push (map pending_of h.own) (pending_of x) (map of_file (due ++ h.late)))
+          ∙ ap (λ (l : List Pending). put_all l (map of_file (due ++ h.late)))
+          (sym (map-append pending_of h.own (x ∷ [])));
     }
 
 -- the first event of the file is taken
-pub waits_file : (e : Event) (due : List Event) (heap : List Waiting) (count until : ℕ)
-    (waiting : List Put) → All (λ w. e.moment ≤ w.moment) heap
+pub waits_file : (e : Filed) (due : List Filed) (heap : List Waiting) (count until : ℕ)
+    (waiting : List Pending) → All (λ w. (moment_in e) ≤ w.moment) heap
     → Waits (e ∷ due) heap count until waiting
-    → (rest : List Put) × (waiting ≡ of_file e ∷ rest) × Waits due heap count until rest
+    → (rest : List Pending) × (waiting ≡ of_file e ∷ rest) × Waits due heap count until rest
 waits_file e due heap count until waiting first h =
     let ws = map of_file (due ++ h.late) in
-    let ps = map put_of h.own in
-    let p : Waiting → Bool = λ w. nat_le e.moment w.moment in
+    let ps = map pending_of h.own in
+    let p : Waiting → Bool = λ w. nat_le (moment_in e) w.moment in
     let all : AllTrue p h.own = all_same p h.own heap h.same
-    (weaker (λ w. e.moment ≤ w.moment) (λ w. p w ≡ true) (λ w le. le-leb e.moment w.moment le) heap
-    (recursion_from_All (λ w. e.moment ≤ w.moment) heap first)) in
-    let behind : AllByRecursion (λ q. e.moment ≤ at q) ps =
-    all_put (λ q. e.moment ≤ at q) h.own
-    (weaker (λ w. p w ≡ true) (λ w. e.moment ≤ w.moment) (λ w is. leb-true e.moment w.moment is)
+    (weaker (λ w. (moment_in e) ≤ w.moment) (λ w. p w ≡ true) (λ w le. le-leb (moment_in e) w.moment le) heap
+    (recursion_from_All (λ w. (moment_in e) ≤ w.moment) heap first)) in
+    let behind : AllByRecursion (λ q. (moment_in e) ≤ at q) ps =
+    all_put (λ q. (moment_in e) ≤ at q) h.own
+    (weaker (λ w. p w ≡ true) (λ w. (moment_in e) ≤ w.moment) (λ w is. leb-true (moment_in e) w.moment is)
     h.own all) in (
       put_all ps ws,
       h.is ∙ put_all_behind ps (of_file e) ws behind,
@@ -319,22 +323,22 @@ waits_file e due heap count until waiting first h =
     )
 
 -- the first of the file's events that wait is later
-abbrev pub FileIsLater : ℕ → List Event → Type 0
+abbrev pub FileIsLater : ℕ → List Filed → Type 0
 FileIsLater m [] = Unit {0}
-FileIsLater m (e ∷ due) = m < e.moment
+FileIsLater m (e ∷ due) = m < (moment_in e)
 
-file_later : (m until : ℕ) (due late : List Event) → FileIsLater m due → m ≤ until
-    → AllByRecursion (λ e. until < e.moment) late → NoneWaits m (map of_file (due ++ late))
+file_later : (m until : ℕ) (due late : List Filed) → FileIsLater m due → m ≤ until
+    → AllByRecursion (λ e. until < (moment_in e)) late → NoneWaits m (map of_file (due ++ late))
 file_later m until (e ∷ due) late h le past = h
 file_later m until [] [] h le past = tt
 file_later m until [] (e ∷ late) h le past =
-    let gt : until < e.moment = past.0 in omega (arith, le, gt)
+    let gt : until < (moment_in e) = past.0 in omega (arith, le, gt)
 
 -- the first of the air's own is taken
-pub waits_own : (w : Waiting) (due : List Event) (heap new : List Waiting) (count until : ℕ)
-    (waiting : List Put) → IsPermutation heap (w ∷ new) → IsUpperBound waiting_cmp w new
+pub waits_own : (w : Waiting) (due : List Filed) (heap new : List Waiting) (count until : ℕ)
+    (waiting : List Pending) → IsPermutation heap (w ∷ new) → IsUpperBound waiting_cmp w new
     → w.moment ≤ until → FileIsLater w.moment due → Waits due heap count until waiting
-    → (rest : List Put) × (waiting ≡ put_of w ∷ rest) × Waits due new count until rest
+    → (rest : List Pending) × (waiting ≡ pending_of w ∷ rest) × Waits due new count until rest
 waits_own w due heap new count until waiting moves first le later h =
     let sums : Same h.own (w ∷ new) = λ f. h.same f ∙ sym (sum_by-IsPermutation f heap (w ∷ new) moves) in
     let one : one_same w w ≡ 1 =
@@ -349,21 +353,21 @@ waits_own w due heap new count until waiting moves first le later h =
     subst (AllTrue (comes_first w)) at'.2
     (all_same (comes_first w) h.own (w ∷ new) sums (first_self w, bounded w new first)) in
     let rise : PlacesRise (us ++ w ∷ vs) = subst PlacesRise at'.2 h.rise in
-    let above : AllByRecursion (λ q. w.moment < at q) (map put_of us) =
+    let above : AllByRecursion (λ q. w.moment < at q) (map pending_of us) =
     all_put (λ q. w.moment < at q) us
     (both (λ y. comes_first w y ≡ true) (λ y. y.place < w.place) (λ y. w.moment < y.moment)
     (λ y. first_of_later w y) us
     (all_front (λ y. comes_first w y ≡ true) us (w ∷ vs) all) (rise_before us w vs rise)) in
-    let behind : AllByRecursion (λ q. w.moment ≤ at q) (map put_of vs) =
+    let behind : AllByRecursion (λ q. w.moment ≤ at q) (map pending_of vs) =
     all_put (λ q. w.moment ≤ at q) vs
     (weaker (λ y. comes_first w y ≡ true) (λ y. w.moment ≤ y.moment) (λ y. first_no_later w y) vs
     (tail (λ y. comes_first w y ≡ true) w vs (all_back (λ y. comes_first w y ≡ true) us (w ∷ vs) all))) in (
-      put_all (map put_of (us ++ vs)) ws,
-      h.is ∙ ap (λ (l : List Waiting). put_all (map put_of l) ws) at'.2
-          ∙ ap (λ (l : List Put). put_all l ws) (map-append put_of us (w ∷ vs))
-          ∙ put_all_first (map put_of us) (put_of w) (map put_of vs) ws above behind
+      put_all (map pending_of (us ++ vs)) ws,
+      h.is ∙ ap (λ (l : List Waiting). put_all (map pending_of l) ws) at'.2
+          ∙ ap (λ (l : List Pending). put_all l ws) (map-append pending_of us (w ∷ vs))
+          ∙ put_all_first (map pending_of us) (pending_of w) (map pending_of vs) ws above behind
           (file_later w.moment until due h.late later le h.past)
-          ∙ ap (λ (l : List Put). put_of w ∷ put_all l ws) (sym (map-append put_of us vs)),
+          ∙ ap (λ (l : List Pending). pending_of w ∷ put_all l ws) (sym (map-append pending_of us vs)),
       record {
         own = us ++ vs;
         late = h.late;
@@ -388,7 +392,7 @@ waits_own w due heap new count until waiting moves first le later h =
     tail P x xs g = g.1
 
 -- nothing is taken
-pub waits_none : (heap : List Waiting) (count until : ℕ) (waiting : List Put)
+pub waits_none : (heap : List Waiting) (count until : ℕ) (waiting : List Pending)
     → All (λ w. until < w.moment) heap → Waits [] heap count until waiting
     → NoneWaits until waiting
 waits_none heap count until waiting past h =
@@ -397,7 +401,7 @@ waits_none heap count until waiting past h =
     (weaker (λ w. until < w.moment) (λ w. p w ≡ true) (λ w lt. lt-ltb until w.moment lt) heap
     (recursion_from_All (λ w. until < w.moment) heap past)) in
     subst (NoneWaits until) (sym h.is)
-    (put_all_above until (map put_of h.own) (map of_file h.late)
+    (put_all_above until (map pending_of h.own) (map of_file h.late)
     (file_later until until [] h.late tt (omega arith) h.past)
     (all_put (λ q. until < at q) h.own
     (weaker (λ w. p w ≡ true) (λ w. until < w.moment) (λ w is. ltb-true until w.moment is) h.own all)))

@@ -6,17 +6,29 @@ use Rattle.its_model.specs.World.{Config, Event}
 use Rattle.its_world.specs.declared.entry.Entry.{Entry}
 use Rattle.its_world.specs.State.{WorldState}
 use Rattle.its_simulation.specs.Simulated.{IsSimulated}
+use Rattle.its_air.specs.Timetable.{Filed, at, of_file}
+use Rattle.its_air.specs.Timetable.Filed.{Happens, Leaves}
 
--- the events of one moment
-abbrev pub of_moment : ℕ → List Event → List Event
-of_moment moment events = filter (λ e. e.moment == moment) events
+-- when it waits
+abbrev pub moment_in : Filed → ℕ
+moment_in filed = at (of_file filed)
 
--- These are the file's events up to a moment in the order in which they wait: by their moments,
--- those of one moment as in the file.
-pub record AreDue (file : List Event) (until : ℕ) (due : List Event) : Type 0 where
-  pub until_then : All (λ e. e.moment ≤ until) due
-  pub by_moment : IsNonDecreasingBy (λ e. e.moment) due
+-- the events and leaves of one moment
+abbrev pub of_moment : ℕ → List Filed → List Filed
+of_moment moment file = filter (λ filed. moment_in filed == moment) file
+
+-- These are the file's events and leaves up to a moment in the order in which they wait: by their
+-- moments, those of one moment as in the file.
+pub record AreDue (file : List Filed) (until : ℕ) (due : List Filed) : Type 0 where
+  pub until_then : All (λ filed. moment_in filed ≤ until) due
+  pub by_moment : IsNonDecreasingBy moment_in due
   pub as_in_file : (moment : ℕ) → moment ≤ until → of_moment moment due ≡ of_moment moment file
+
+-- the events alone, without the leaves
+abbrev pub events_in : List Filed → List Event
+events_in [] = []
+events_in (Happens e ∷ file) = e ∷ events_in file
+events_in (Leaves station moment ∷ file) = events_in file
 
 -- these events are among the others, in their order
 abbrev pub AreAmong : List Event → List Event → Type 0
@@ -27,10 +39,10 @@ AreAmong (e ∷ events) others =
 
 -- There is a list of events, those of the file up to a moment among them in their order, that were
 -- done of these configs.
-pub record IsAirRun (configs : List Config) (file : List Event) (until : ℕ) (world : WorldState)
+pub record IsAirRun (configs : List Config) (file : List Filed) (until : ℕ) (world : WorldState)
     (Took : List Event → List Entry → Type 0) : Type 0 where
   pub events : List Event
   pub run : IsSimulated configs events world Took
-  pub due : List Event
+  pub due : List Filed
   pub is_due : AreDue file until due
-  pub among : AreAmong due events
+  pub among : AreAmong (events_in due) events

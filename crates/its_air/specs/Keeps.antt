@@ -9,11 +9,12 @@ use Rattle.its_world.specs.declared.entry.Entry.{Entry}
 use Rattle.its_simulation.specs.Simulated.{IsSimulated}
 use Rattle.its_air.specs.AirTimed.{rules_of}
 use Rattle.its_air.specs.Draws.{draws_at}
-use Rattle.its_air.specs.Files.{happenings_due}
-use Rattle.its_air.specs.Timetable.{Rules, Timetable, AirModel, air_step, IsOver}
+use Rattle.its_air.specs.Files.{filed_due}
+use Rattle.its_model.specs.Reach.{is_moved}
+use Rattle.its_air.specs.Timetable.{Rules, Timetable, AirModel, air_step, IsOver, was_moved}
 use Rattle.its_air.specs.Queues.{happening_of, own_of}
 use Rattle.its_air.specs.Timetable.{given, was_refused, is_refusal, is_tick, tick_again, send_again}
-use Rattle.its_air.specs.Traffics.{traffic_in}
+use Rattle.its_air.specs.Traffics.{all_traffic, traffic_in}
 use Rattle.its_air.specs.Waits.{Waits}
 use Rattle.its_air.specs.declared.run.Run.{Run}
 use Rattle.its_air.specs.declared.waiting.Queue.{Queue}
@@ -21,7 +22,7 @@ use Rattle.its_air.specs.declared.waiting.Waiting.{Waiting}
 
 -- what waits in the queue, and what a generator with these words will draw, are the timetable's
 pub record Keeps (queue : Queue) (words : List ℕ) (t : Timetable) : Type 0 where
-  pub waits : Waits (drop queue.taken (happenings_due queue)) (heap_items queue.own) queue.put
+  pub waits : Waits (drop queue.taken (filed_due queue)) (heap_items queue.own) queue.put
       queue.until t.waiting
   pub draws : t.draws ≡ draws_at words
 
@@ -37,11 +38,18 @@ pub record IsAnswered (entry : Entry) (after : WorldModel) : Type 0 where
   pub tells : TellsEntry entry answer
   pub gave : given after.log ≡ frame_of answer
   pub refused : was_refused after.log ≡ is_refusal answer
+  pub moved : was_moved after.log ≡ is_moved answer
+
+-- the air of a run goes by these rules
+abbrev pub GoesBy : Rules → Run → Type 0
+GoesBy rules run =
+    rules_of run.air (all_traffic run.every.now) run.queue.until rules.present ≡ rules
 
 -- a run that is under way stands as the air of the model does
 pub record IsTimed (rules : Rules) (configs : List Config) (a : AirModel) (run : Run)
     (Took : List Event → List Entry → Type 0) : Type 0 where
-  pub rules_are : rules_of run.air rules.every run.queue.until ≡ rules
+  pub goes_by : GoesBy rules run
+  pub present : run.present.items ≡ a.present
   pub told : IsSimulated configs a.done run.world Took
   pub keeps : Keeps run.queue run.draws a.timetable
 

@@ -1,5 +1,5 @@
 -- What waits in an air.
-use Rattle.std.specs.Prelude.{◌≡◌, ℕ, ◌+◌, List, map, Some, slice_get}
+use Rattle.std.specs.Prelude.{◌≡◌, ℕ, ◌+◌, List, map, Some, slice_get, Bool, ◌&&◌, ◌==◌}
 use Rattle.std.specs.Prelude.{◌≤◌, ◌<◌, All}
 use Rattle.std.specs.BinaryHeap.{IsUpperBound}
 use Rattle.std.specs.declared.cmp.Ordering.{Ordering}
@@ -8,39 +8,60 @@ use Rattle.its_model.specs.World.{Event, What}
 use Rattle.its_model.specs.World.What.{Calls, Deliver as Delivers}
 use Rattle.its_model.specs.Calls.OwnCall.{Tick as Ticks, SendShb}
 use denote.Ref.{Bor}
-use Rattle.its_world.specs.declared.event.Event.{Event as Told}
-use Rattle.its_world.specs.Events.{event_of}
+use Rattle.its_world.specs.Events.{event_of, IsInRange}
+use Rattle.its_scenario.specs.Airs.{moment_of as told_moment}
+use Rattle.its_scenario.specs.declared.event.FileEvent.{FileEvent as Told}
+use Rattle.its_scenario.specs.declared.event.FileEvent.TheVariants as told
+use Rattle.its_air.specs.Timetable.{Filed, is_tick, is_numbered}
+use Rattle.its_air.specs.Timetable.Filed.{Happens, Leaves}
 use Rattle.its_air.specs.declared.waiting.Own.{Own}
 use Rattle.its_air.specs.declared.waiting.Own.TheVariants as owns
 use Rattle.its_air.specs.declared.waiting.Waiting.{Waiting}
 use Rattle.its_air.specs.declared.waiting.Next.{Next}
 use Rattle.its_air.specs.declared.waiting.Next.TheVariants as nexts
-use Rattle.its_air.specs.Traffics.{request_of}
+use Rattle.its_air.specs.Traffics.{request_of, traffic_in}
 
 -- what an air does by itself, in the model
 abbrev pub own_of : Own → What
 own_of (owns.Tick jitter) = Calls (Ticks jitter)
 own_of (owns.Deliver frame) = Delivers frame
-own_of (owns.Send x) = Calls (SendShb (request_of x))
+own_of (owns.Send number x) = Calls (SendShb (request_of x))
 
 -- an event of the air's own
 abbrev pub happening_of : Waiting → Event
 happening_of w = record { station = w.station; moment = w.moment; what = own_of w.own }
 
--- what is taken is the next of these events of the file, of which so many were taken before and
--- after, or one of the air's own
+-- what is taken is the next of these of the file, of which so many were taken before and after, or
+-- one of the air's own
 abbrev pub IsTaken : List (Bor Told) → Next → ℕ → ℕ → Type 0
 IsTaken due (nexts.OfFile e) old new = (slice_get due old ≡ Some e) × (new ≡ old + 1)
 IsTaken due (nexts.Own w) old new = new ≡ old
 
 -- the moment of what is taken
 abbrev pub moment_of : Next → ℕ
-moment_of (nexts.OfFile e) = e.now.moment
+moment_of (nexts.OfFile e) = told_moment e.now
 moment_of (nexts.Own w) = w.moment
 
--- events of the file
-abbrev pub happenings_in : List (Bor Told) → List Event
-happenings_in due = map (λ e. event_of e.now) due
+-- an event or a leave of the file, in the model
+abbrev pub filed_of : Told → Filed
+filed_of (told.Happens e) = Happens (event_of e)
+filed_of (told.Leaves station moment) = Leaves station moment
+
+-- those that wait
+abbrev pub filed_in : List (Bor Told) → List Filed
+filed_in due = map (λ e. filed_of e.now) due
+
+-- an event of the file has its numbers in their ranges
+abbrev pub IsFiledInRange : Told → Type 0
+IsFiledInRange (told.Happens e) = IsInRange e.what
+IsFiledInRange (told.Leaves station moment) = Unit {0}
+
+-- one of the air's own is a tick at this station, or a send of the traffic of this number by it
+abbrev pub is_tick_at : ℕ → Waiting → Bool
+is_tick_at station w = is_tick (own_of w.own) && (w.station == station)
+
+abbrev pub is_send_at : ℕ → ℕ → Waiting → Bool
+is_send_at number station w = is_numbered number (traffic_in w.own) && (w.station == station)
 
 -- the order of the air's own events: the one that comes first is the greatest
 abbrev pub waiting_cmp : Waiting → Waiting → Ordering
@@ -50,10 +71,10 @@ waiting_cmp =
 -- what is taken comes before all of the air's own events that are left: of one moment an event of
 -- the file goes before each of those
 abbrev pub ComesFirst : Next → List Waiting → Type 0
-ComesFirst (nexts.OfFile e) own = All (λ w. e.now.moment ≤ w.moment) own
+ComesFirst (nexts.OfFile e) own = All (λ w. told_moment e.now ≤ w.moment) own
 ComesFirst (nexts.Own w) own = IsUpperBound waiting_cmp w own
 
--- one of the air's own events is taken only before the moment of the next event of the file
+-- one of the air's own events is taken only before the moment of the next of the file
 abbrev pub IsFileFirst : ℕ → Next → Type 0
 IsFileFirst moment (nexts.OfFile e) = Unit {0}
 IsFileFirst moment (nexts.Own w) = w.moment < moment

@@ -3,15 +3,15 @@ use Rattle.std.specs.Prelude.{List, take}
 use Rattle.its_model.specs.World.{Config, Event}
 use Rattle.its_world.specs.declared.entry.Entry.{Entry}
 use Rattle.its_simulation.specs.Simulated.{IsSimulated}
-use Rattle.its_air.specs.AirRun.{AreAmong}
-use Rattle.its_air.specs.Files.{happenings_due}
+use Rattle.its_air.specs.AirRun.{AreAmong, events_in}
+use Rattle.its_air.specs.Files.{filed_due}
 use Rattle.its_air.specs.declared.run.Run.{Run}
 
 -- these events were done so far, and those of the file that were taken are among them
 pub record IsUnderWay (configs : List Config) (events : List Event) (run : Run)
     (Took : List Event → List Entry → Type 0) : Type 0 where
   pub told : IsSimulated configs events run.world Took
-  pub among : AreAmong (take run.queue.taken (happenings_due run.queue)) events
+  pub among : AreAmong (events_in (take run.queue.taken (filed_due run.queue))) events
 
 -- what a sink said of events and entries, it says of them still
 abbrev pub SaysAsBefore : (Before After : List Event → List Entry → Type 0) → Type 0

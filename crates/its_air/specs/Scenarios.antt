@@ -9,16 +9,18 @@ use Rattle.its_scenario.specs.declared.scenario.Scenario.{Scenario}
 use Rattle.its_scenario.specs.Airs.{end_of}
 use Rattle.its_simulation.specs.Simulated.{IsSimulated}
 use Rattle.its_air.specs.AirTimed.{IsTimedRun, rules_of}
+use Rattle.its_air.specs.Queues.{filed_of}
 use Rattle.its_air.specs.Traffics.{all_traffic}
 
--- in no air, just the scenario's events were done; in an air, just those that its timetable gives
+-- in no air, just the scenario's events were done; in an air, just those that the timetable of its
+-- file gives
 abbrev pub IsRunIn : Option Air → Scenario → WorldState → (List Event → List Entry → Type 0)
     → Type 0
 IsRunIn None s world Took =
     IsSimulated (map config_of s.stations.items) (map event_of s.events.items) world Took
 IsRunIn (Some air) s world Took =
-    IsTimedRun (rules_of air (all_traffic s.every.items) (end_of air.until s.events.items))
-    (map config_of s.stations.items) (map event_of s.events.items) world Took
+    IsTimedRun (rules_of air (all_traffic s.every.items) (end_of air.until s.file.items)
+    s.present.items) (map config_of s.stations.items) (map filed_of s.file.items) world Took
 
 -- the world stands at the end of the scenario's run, and this was taken of it
 abbrev pub IsRunOf : Scenario → WorldState → (List Event → List Entry → Type 0) → Type 0

@@ -1,7 +1,8 @@
 -- What is done in an air, and when. What waits is a list, in the order in which it is done.
 use Rattle.std.specs.Prelude.{ℕ, zero, suc, ◌+◌, ◌%◌, ◌==◌, List, [], ◌∷◌, ◌++◌, map, length, max}
 use Rattle.std.specs.Prelude.{Option, Some, None, slice_get, nat_le, nat_lt, Bool, true, false, not}
-use Rattle.std.specs.Prelude.{◌&&◌, cond, ◌<◌}
+use Rattle.std.specs.Prelude.{◌&&◌, cond, ◌<◌, count_by, slice_set}
+use Rattle.std.specs.List.{filter}
 use Rattle.rand_core.specs.Stream.{Stream, next_u64}
 use Rattle.its_gnvalue.specs.Values.{Position}
 use Rattle.its_model.specs.Calls.{Answer, ShbRequest}
@@ -11,12 +12,14 @@ use Rattle.its_model.specs.Calls.Answer.{Accepted, Refused}
 use Rattle.its_model.specs.Station.{StationModel}
 use Rattle.its_model.specs.World.{Config, Event, What, WorldModel, LogLine}
 use Rattle.its_model.specs.World.{opening, world_run, frame_of}
+use Rattle.its_model.specs.Reach.{is_moved}
 use Rattle.its_model.specs.World.What.{Calls, Deliver}
 use Rattle.its_air.specs.Draws.{draws_of}
 use Rattle.its_air.specs.Reach.{is_within}
 
 -- what each station sends again and again
 pub record Traffic : Type 0 where
+  pub number : ℕ  -- its place among all traffic
   pub period : ℕ  -- from one send to the next, in milliseconds
   pub request : ShbRequest  -- what is sent
 
@@ -29,6 +32,20 @@ pub record Rules : Type 0 where
   pub seed : ℕ  -- what the draws begin with
   pub until : ℕ  -- the last moment that is run
   pub every : List Traffic  -- what each station sends by itself
+  pub present : List Bool  -- which stations are present at the start
+
+-- the station of this number is present: there is one, and it isn't absent
+abbrev pub holds : Option Bool → Bool
+holds None = false
+holds (Some b) = b
+
+abbrev pub is_present : List Bool → ℕ → Bool
+is_present present station = holds (slice_get present station)
+
+-- what a file has: an event of the world, or a station that leaves at a moment
+pub data Filed : Type 0 where
+  Happens : (event : Event) → Filed
+  Leaves : (station moment : ℕ) → Filed
 
 -- an event that is put, whether by the air itself, and the traffic that it is a send of, if it is
 pub record Put : Type 0 where
@@ -36,12 +53,27 @@ pub record Put : Type 0 where
   pub own : Bool
   pub traffic : Option Traffic
 
+-- what waits: an event is to be done, or a station departs at a moment
+pub data Pending : Type 0 where
+  Does : (does : Put) → Pending
+  Departs : (station moment : ℕ) → Pending
+
+-- the moment of what waits
+abbrev pub at : Pending → ℕ
+at (Does p) = p.event.moment
+at (Departs station moment) = moment
+
 -- an event of the file, and one of the air's own that is no send
-abbrev pub of_file : Event → Put
-of_file e = record { event = e; own = false; traffic = None }
+abbrev pub by_file : Event → Put
+by_file e = record { event = e; own = false; traffic = None }
 
 abbrev pub of_air : Event → Put
 of_air e = record { event = e; own = true; traffic = None }
+
+-- what the file has waits
+abbrev pub of_file : Filed → Pending
+of_file (Happens e) = Does (by_file e)
+of_file (Leaves station moment) = Departs station moment
 
 -- a send of traffic, by a station, at a moment
 abbrev pub sending : Traffic → ℕ → ℕ → Put
@@ -57,19 +89,18 @@ sending x station moment =
     }
 
 -- what waits, the first in front, once this is put too: behind all that wait for no later moment
-abbrev pub put : Put → List Put → List Put
+abbrev pub put : Pending → List Pending → List Pending
 put p [] = p ∷ []
-put p (q ∷ waiting) =
-    cond (nat_le q.event.moment p.event.moment) (q ∷ put p waiting) (p ∷ q ∷ waiting)
+put p (q ∷ waiting) = cond (nat_le (at q) (at p)) (q ∷ put p waiting) (p ∷ q ∷ waiting)
 
 -- what waits once these are put too, in order
-abbrev pub put_all : List Put → List Put → List Put
+abbrev pub put_all : List Pending → List Pending → List Pending
 put_all [] waiting = waiting
 put_all (p ∷ more) waiting = put_all more (put p waiting)
 
 -- what waits, and what is yet to be drawn
 pub record Timetable : Type 0 where
-  pub waiting : List Put
+  pub waiting : List Pending
   pub draws : Stream
 
 -- the next number that is drawn
@@ -78,7 +109,7 @@ draw t = (next_u64 t.draws).0
 
 -- with this put, and the next number drawn
 abbrev pub draw_and_put : Put → Timetable → Timetable
-draw_and_put p t = record { waiting = put p t.waiting; draws = (next_u64 t.draws).1 }
+draw_and_put p t = record { waiting = put (Does p) t.waiting; draws = (next_u64 t.draws).1 }
 
 -- with the next number drawn
 abbrev pub draw_alone : Timetable → Timetable
@@ -116,24 +147,30 @@ abbrev pub put_tick : ℕ → ℕ → ℕ → Timetable → Timetable
 put_tick station moment beacon_from t =
     draw_and_put (tick station moment beacon_from (draw t % 751)) t
 
--- the first tick of each of so many stations is put, in order: at its jitter
-abbrev pub put_first_ticks : ℕ → Timetable → Timetable
-put_first_ticks zero t = t
-put_first_ticks (suc n) t = put_tick n 0 0 (put_first_ticks n t)
+-- the first tick of each of so many stations that is present is put, in order: at its jitter
+abbrev pub put_first_ticks : List Bool → ℕ → Timetable → Timetable
+put_first_ticks present zero t = t
+put_first_ticks present (suc n) t =
+    cond (is_present present n) (put_tick n 0 0 (put_first_ticks present n t))
+    (put_first_ticks present n t)
 
--- the first send of traffic by a station is put: at a draw modulo the period
-abbrev pub put_first_send : Traffic → ℕ → Timetable → Timetable
-put_first_send x station t = draw_and_put (sending x station (draw t % x.period)) t
+-- a send of traffic by a station is put: later than a moment by a draw modulo the period
+abbrev pub put_send : Traffic → ℕ → ℕ → Timetable → Timetable
+put_send x station moment t =
+    draw_and_put (sending x station (moment + draw t % x.period)) t
 
--- that of each of so many stations, in order
-abbrev pub put_first_sends : Traffic → ℕ → Timetable → Timetable
-put_first_sends x zero t = t
-put_first_sends x (suc n) t = put_first_send x n (put_first_sends x n t)
+-- the first of each of so many stations that is present, in order: at a draw modulo the period
+abbrev pub put_first_sends : List Bool → Traffic → ℕ → Timetable → Timetable
+put_first_sends present x zero t = t
+put_first_sends present x (suc n) t =
+    cond (is_present present n) (put_send x n 0 (put_first_sends present x n t))
+    (put_first_sends present x n t)
 
 -- those of each traffic, in order
-abbrev pub put_traffic : List Traffic → ℕ → Timetable → Timetable
-put_traffic [] count t = t
-put_traffic (x ∷ more) count t = put_traffic more count (put_first_sends x count t)
+abbrev pub put_traffic : List Bool → List Traffic → ℕ → Timetable → Timetable
+put_traffic present [] count t = t
+put_traffic present (x ∷ more) count t =
+    put_traffic present more count (put_first_sends present x count t)
 
 -- those of these stations, the first of this number, that hear what another gives at a place
 abbrev pub heard_from : ℕ → ℕ → Position → ℕ → List StationModel → List ℕ
@@ -143,13 +180,18 @@ heard_from range giver place n (s ∷ stations) =
     (n ∷ heard_from range giver place (n + 1) stations)
     (heard_from range giver place (n + 1) stations)
 
--- the stations that hear what this one gives from where it is, in order: all others in range
+-- the stations in reach of what this one gives from where it is, in order: all others in range
 abbrev pub hear_it : ℕ → List StationModel → ℕ → Option StationModel → List ℕ
 hear_it range stations giver None = []
 hear_it range stations giver (Some s) = heard_from range giver s.vector.place 0 stations
 
-abbrev pub heard_by : ℕ → WorldModel → ℕ → List ℕ
-heard_by range w giver = hear_it range w.stations giver (slice_get w.stations giver)
+abbrev pub in_reach_of : ℕ → WorldModel → ℕ → List ℕ
+in_reach_of range w giver = hear_it range w.stations giver (slice_get w.stations giver)
+
+-- those that hear it: where the giver is absent none, else those in reach that are present
+abbrev pub heard_by : ℕ → List Bool → WorldModel → ℕ → List ℕ
+heard_by range present w giver =
+    cond (is_present present giver) (filter (is_present present) (in_reach_of range w giver)) []
 
 -- the frame that the last event gave, by its number, if it gave one
 abbrev pub given : List LogLine → Option ℕ
@@ -173,14 +215,20 @@ abbrev pub was_refused : List LogLine → Bool
 was_refused [] = false
 was_refused (line ∷ log) = is_refusal line.entry
 
--- After an event, a frame that it gave comes to each station that hears it, after the delay.
-abbrev pub spread_frame : Rules → Event → WorldModel → Option ℕ → Timetable → Timetable
-spread_frame r e after None t = t
-spread_frame r e after (Some k) t =
-    send_all r.loss k (e.moment + r.delay) (heard_by r.range after e.station) t
+-- with the last event a station moved
+abbrev pub was_moved : List LogLine → Bool
+was_moved [] = false
+was_moved (line ∷ log) = is_moved line.entry
 
-abbrev pub spread : Rules → Event → WorldModel → Timetable → Timetable
-spread r e after t = spread_frame r e after (given after.log) t
+-- After an event, a frame that it gave comes to each station that hears it, after the delay.
+abbrev pub spread_frame : Rules → List Bool → Event → WorldModel → Option ℕ → Timetable
+    → Timetable
+spread_frame r present e after None t = t
+spread_frame r present e after (Some k) t =
+    send_all r.loss k (e.moment + r.delay) (heard_by r.range present after e.station) t
+
+abbrev pub spread : Rules → List Bool → Event → WorldModel → Timetable → Timetable
+spread r present e after t = spread_frame r present e after (given after.log) t
 
 -- an event is a tick
 abbrev pub is_tick : What → Bool
@@ -200,37 +248,115 @@ follow_tick p after t =
 
 -- with this put, and nothing drawn
 abbrev pub put_alone : Put → Timetable → Timetable
-put_alone p t = record { waiting = put p t.waiting; draws = t.draws }
+put_alone p t = record { waiting = put (Does p) t.waiting; draws = t.draws }
 
 -- After a send of traffic, refused or not, the station's next one is put, a period later.
 abbrev pub send_again : Event → Option Traffic → Timetable → Timetable
 send_again e None t = t
 send_again e (Some x) t = put_alone (sending x e.station (e.moment + x.period)) t
 
--- what was done in an air, and what waits
+-- what waits is a tick of the air's own at this station, or a send of this traffic by it
+abbrev pub is_tick_of : ℕ → Pending → Bool
+is_tick_of station (Does p) =
+    p.own && (is_tick p.event.what && (p.event.station == station))
+is_tick_of station (Departs other moment) = false
+
+abbrev pub is_numbered : ℕ → Option Traffic → Bool
+is_numbered number None = false
+is_numbered number (Some x) = x.number == number
+
+abbrev pub is_send_of : ℕ → ℕ → Pending → Bool
+is_send_of number station (Does p) =
+    is_numbered number p.traffic && (p.event.station == station)
+is_send_of number station (Departs other moment) = false
+
+-- nothing of this kind waits
+abbrev pub none_waits : (Pending → Bool) → Timetable → Bool
+none_waits kind t = count_by kind t.waiting == 0
+
+-- A station comes at a moment: with beacons, where no tick of the air's own waits for it, one is
+-- put, later by its jitter.
+abbrev pub come_ticking : Bool → ℕ → ℕ → Timetable → Timetable
+come_ticking beacons station moment t =
+    cond (beacons && none_waits (is_tick_of station) t) (put_tick station moment moment t) t
+
+-- Where no send of this traffic by it waits, one is put, later by a draw modulo the period.
+abbrev pub come_sending : Traffic → ℕ → ℕ → Timetable → Timetable
+come_sending x station moment t =
+    cond (none_waits (is_send_of x.number station) t) (put_send x station moment t) t
+
+-- so for each traffic, in order
+abbrev pub come_sending_all : List Traffic → ℕ → ℕ → Timetable → Timetable
+come_sending_all [] station moment t = t
+come_sending_all (x ∷ more) station moment t =
+    come_sending_all more station moment (come_sending x station moment t)
+
+-- first its tick, then its sends
+abbrev pub come : Rules → ℕ → ℕ → Timetable → Timetable
+come r station moment t =
+    come_sending_all r.every station moment (come_ticking r.beacons station moment t)
+
+-- With an event its station comes: it is absent, and the event is a move that isn't refused.
+abbrev pub comes : List Bool → Event → WorldModel → Bool
+comes present e after = was_moved after.log && not (is_present present e.station)
+
+-- an event is a delivery
+abbrev pub is_delivery : What → Bool
+is_delivery (Calls call) = false
+is_delivery (Deliver frame) = true
+
+-- a call that the air itself makes for a station that is absent: it isn't made
+abbrev pub is_passed_over : List Bool → Put → Bool
+is_passed_over present p =
+    p.own && (not (is_delivery p.event.what) && not (is_present present p.event.station))
+
+-- what was done in an air, what waits, and which stations are present
 pub record AirModel : Type 0 where
   pub done : List Event
   pub timetable : Timetable
+  pub present : List Bool
 
--- an event is done: then its frame comes to those that hear it, then the next tick or the next send
--- is put, by the world as it stands after the event
-abbrev pub after_one : Rules → Put → WorldModel → Timetable → Timetable
-after_one r p after t =
-    send_again p.event p.traffic (follow_tick p after (spread r p.event after t))
+-- An event is done: then its frame comes to those that hear it, then the next tick or the next send
+-- is put, by the world as it stands after the event; and with a station that comes its first ones.
+abbrev pub follow_all : Rules → List Bool → Put → WorldModel → Timetable → Timetable
+follow_all r present p after t =
+    send_again p.event p.traffic (follow_tick p after (spread r present p.event after t))
 
-abbrev pub do_one : Rules → List Config → List Event → Put → Timetable → AirModel
-do_one r configs done p t =
+abbrev pub after_one : Rules → List Bool → Put → WorldModel → Timetable → Timetable
+after_one r present p after t =
+    cond (comes present p.event after)
+    (come r p.event.station p.event.moment (follow_all r present p after t))
+    (follow_all r present p after t)
+
+-- the stations that are present once it was done
+abbrev pub present_after : List Bool → Event → WorldModel → List Bool
+present_after present e after =
+    cond (comes present e after) (slice_set present e.station true) present
+
+abbrev pub do_one : Rules → List Config → AirModel → Put → Timetable → AirModel
+do_one r configs a p t =
     record {
-      done = done ++ p.event ∷ [];
-      timetable = after_one r p (world_run (opening configs) (done ++ p.event ∷ [])) t;
+      done = a.done ++ p.event ∷ [];
+      timetable = after_one r a.present p (world_run (opening configs) (a.done ++ p.event ∷ [])) t;
+      present = present_after a.present p.event
+          (world_run (opening configs) (a.done ++ p.event ∷ []));
     }
 
--- the first that waits is done, if one does and its moment isn't past the last
-abbrev pub do_first : Rules → List Config → AirModel → List Put → AirModel
+-- What is taken is done, but for a call that the air makes for an absent station: of that nothing
+-- comes. A departure makes its station absent, and nothing else.
+abbrev pub take_one : Rules → List Config → AirModel → Pending → Timetable → AirModel
+take_one r configs a (Does p) t =
+    cond (is_passed_over a.present p)
+    (record { done = a.done; timetable = t; present = a.present }) (do_one r configs a p t)
+take_one r configs a (Departs station moment) t =
+    record { done = a.done; timetable = t; present = slice_set a.present station false }
+
+-- the first that waits is taken, if one does and its moment isn't past the last
+abbrev pub do_first : Rules → List Config → AirModel → List Pending → AirModel
 do_first r configs a [] = a
 do_first r configs a (p ∷ rest) =
-    cond (nat_le p.event.moment r.until)
-    (do_one r configs a.done p (record { waiting = rest; draws = a.timetable.draws })) a
+    cond (nat_le (at p) r.until)
+    (take_one r configs a p (record { waiting = rest; draws = a.timetable.draws })) a
 
 abbrev pub air_step : Rules → List Config → AirModel → AirModel
 air_step r configs a = do_first r configs a a.timetable.waiting
@@ -240,28 +366,29 @@ abbrev pub air_run : Rules → List Config → ℕ → AirModel → AirModel
 air_run r configs zero a = a
 air_run r configs (suc n) a = air_step r configs (air_run r configs n a)
 
--- the events of the file wait
-abbrev pub with_file : Rules → List Event → Timetable
+-- the events and leaves of the file wait
+abbrev pub with_file : Rules → List Filed → Timetable
 with_file r file = record { waiting = put_all (map of_file file) []; draws = draws_of r.seed }
 
 -- and with beacons the first ticks
-abbrev pub with_ticks : Rules → List Config → List Event → Timetable
+abbrev pub with_ticks : Rules → List Config → List Filed → Timetable
 with_ticks r configs file =
-    put_first_ticks (cond r.beacons (length configs) 0) (with_file r file)
+    put_first_ticks r.present (cond r.beacons (length configs) 0) (with_file r file)
 
--- Nothing is done yet: the events of the file wait, with beacons the first ticks, and the first
--- sends of the traffic.
-abbrev pub air_opening : Rules → List Config → List Event → AirModel
+-- Nothing is done yet: the events and leaves of the file wait, with beacons the first ticks, and
+-- the first sends of the traffic.
+abbrev pub air_opening : Rules → List Config → List Filed → AirModel
 air_opening r configs file =
     record {
       done = [];
-      timetable = put_traffic r.every (length configs) (with_ticks r configs file);
+      timetable = put_traffic r.present r.every (length configs) (with_ticks r configs file);
+      present = r.present;
     }
 
 -- nothing waits up to the last moment
-abbrev pub NoneWaits : ℕ → List Put → Type 0
+abbrev pub NoneWaits : ℕ → List Pending → Type 0
 NoneWaits until [] = Unit {0}
-NoneWaits until (p ∷ waiting) = until < p.event.moment
+NoneWaits until (p ∷ waiting) = until < at p
 
 abbrev pub IsOver : Rules → AirModel → Type 0
 IsOver r a = NoneWaits r.until a.timetable.waiting

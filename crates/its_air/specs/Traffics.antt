@@ -1,5 +1,5 @@
 -- Traffic, in the model.
-use Rattle.std.specs.Prelude.{List, Option, Some, None, map, replicate}
+use Rattle.std.specs.Prelude.{ℕ, suc, List, [], ◌∷◌, Option, Some, None, replicate}
 use Rattle.its_model.specs.Calls.{ShbRequest}
 use Rattle.its_scenario.specs.declared.traffic.Traffic.{Traffic as Told}
 use Rattle.its_air.specs.Timetable.{Traffic}
@@ -14,15 +14,20 @@ request_of x =
       message = record { port = x.port; info = x.info; payload = replicate x.octets 0 };
     }
 
-abbrev pub traffic_of : Told → Traffic
-traffic_of x = record { period = x.period; request = request_of x }
+abbrev pub traffic_of : ℕ → Told → Traffic
+traffic_of number x = record { number = number; period = x.period; request = request_of x }
+
+-- these, the first of this number
+abbrev pub traffic_from : ℕ → List Told → List Traffic
+traffic_from number [] = []
+traffic_from number (x ∷ every) = traffic_of number x ∷ traffic_from (suc number) every
 
 -- all that each station sends
 abbrev pub all_traffic : List Told → List Traffic
-all_traffic every = map traffic_of every
+all_traffic every = traffic_from 0 every
 
 -- what an event of the air's own is a send of, if it is one
 abbrev pub traffic_in : Own → Option Traffic
 traffic_in (owns.Tick jitter) = None
 traffic_in (owns.Deliver frame) = None
-traffic_in (owns.Send x) = Some (traffic_of x)
+traffic_in (owns.Send number x) = Some (traffic_of number x)

@@ -8,19 +8,23 @@ use its_station::{OwnedGbcRequest, Station};
 use std::alloc::Global;
 use std::collections::HashSet;
 
-/// The stations that are absent. A station is present until it leaves, but one that a file of moves
-/// makes until it comes.
+/// The stations that are absent. A station that is present at the start is so until it leaves; one
+/// that is absent then, or that a file of moves makes, is so until it comes.
 #[derive(Drop)]
 pub struct Presence {
     absent: HashSet<usize>,
 }
 
 impl Presence {
-    /// All stations are present.
-    pub fn new(alloc: Global) -> Presence {
-        Presence {
-            absent: HashSet::new(alloc),
+    /// Which stations are present at the start, by their numbers.
+    pub fn at_start(alloc: Global, present: &[bool]) -> Result<Presence, NoMemory> {
+        let mut absent = HashSet::new(alloc);
+        for (station, is_present) in present.iter().enumerate() {
+            if !*is_present {
+                absent.insert(station)?;
+            }
         }
+        Ok(Presence { absent })
     }
 
     /// Takes a note of the run.

@@ -1,10 +1,12 @@
 //! The run of an air.
 
 ghost use Rattle.std.specs.Prelude.{◌≡◌, ◌≤◌, ◌<◌, ◌^◌, ◌++◌, ◌∷◌, [], List, All, map, length};
-ghost use Rattle.std.specs.Prelude.{ℕ, ◌+◌, cond};
+ghost use Rattle.std.specs.Prelude.{ℕ, ◌+◌, cond, slice_set};
 ghost use Rattle.std.specs.Prelude.{false, Some, IfOk, OnOk, IsTrue, slice_get};
+ghost use Rattle.std.specs.List.{filter};
 ghost use Rattle.std.specs.Option.{option_map};
 ghost use Rattle.its_model.specs.Calls.{Answer};
+ghost use Rattle.its_model.specs.Reach.{is_moved};
 ghost use Rattle.its_model.specs.World.{Config as Beginning, Event as Happening, opening};
 ghost use Rattle.its_model.specs.World.{WorldModel, world_run};
 ghost use Rattle.its_station.specs.State.{StationState};
@@ -13,21 +15,24 @@ ghost use Rattle.its_world.specs.Entries.{TellsEntry};
 ghost use Rattle.its_world.specs.Steps.{AreSameBut};
 ghost use Rattle.its_world.specs.Events.{IsConfig, IsInRange, config_of, event_of};
 ghost use Rattle.its_world.specs.Mids.{AreApart};
-ghost use Rattle.its_scenario.specs.Airs.{end_of};
+ghost use Rattle.its_scenario.specs.Airs.{end_of, moment_of};
 ghost use Rattle.its_simulation.specs.Simulated.{IsSimulated};
-ghost use Rattle.its_air.specs.AirRun.{AreDue, IsAirRun};
+ghost use Rattle.its_air.specs.AirRun.{AreDue, IsAirRun, events_in};
 ghost use Rattle.its_air.specs.AirTimed.{IsTimedRun, rules_of};
-ghost use Rattle.its_air.specs.Files.{SameFile, happenings_due};
-ghost use Rattle.its_air.specs.Keeps.{Keeps, IsAnswered, IsTimed, GoesOn, follow_own};
-ghost use Rattle.its_air.specs.Timetable.{Timetable, Traffic as Flow, send, send_all, is_refusal};
-ghost use Rattle.its_air.specs.Timetable.{put_first_ticks, put_first_sends, put_first_send};
-ghost use Rattle.its_air.specs.Timetable.{put_traffic};
-ghost use Rattle.its_air.specs.Timetable.{spread_frame, tick_again, put_tick as with_tick};
+ghost use Rattle.its_air.specs.Files.{SameFile, filed_due};
+ghost use Rattle.its_air.specs.Keeps.{Keeps, IsAnswered, IsTimed, GoesBy, GoesOn, follow_own};
+ghost use Rattle.its_air.specs.Timetable.{Timetable, send, send_all, is_refusal, is_present};
+ghost use Rattle.its_air.specs.Timetable.{put_first_ticks, put_first_sends, put_send};
+ghost use Rattle.its_air.specs.Timetable.{put_traffic, put_tick, heard_by};
+ghost use Rattle.its_air.specs.Timetable.{spread_frame, tick_again, take_one, of_file};
+ghost use Rattle.its_air.specs.Timetable.{come, come_ticking, come_sending, come_sending_all, comes};
+ghost use Rattle.its_air.specs.Timetable.{present_after, is_passed_over};
 ghost use Rattle.its_air.specs.Timetable.{Rules, AirModel, spread, air_opening};
 ghost use Rattle.its_air.specs.Runs.{IsUnderWay, SaysAsBefore};
 ghost use Rattle.its_air.specs.Standings.{AreStandingsOf};
-ghost use Rattle.its_air.specs.Queues.{happening_of};
+ghost use Rattle.its_air.specs.Queues.{happening_of, filed_of, IsFiledInRange};
 ghost use Rattle.its_air.specs.Traffics.{all_traffic, traffic_of};
+ghost use Rattle.its_air.specs.Waits.{pending_of, put_of};
 
 use crate::draws::Draws;
 use crate::fault::AirFault;
@@ -35,22 +40,29 @@ use crate::standing::Standings;
 use crate::waiting::{Next, Own, Queue, Waiting};
 use its_gnvalue::Place;
 use its_model::laws::every_schedule;
-use its_scenario::{Air, Traffic};
+use its_scenario::{Air, FileEvent, Traffic};
 use its_simulation::{EventSink, Note, do_event};
 use its_world::{Config, Entry, Event, World};
 use std::alloc::Global;
 
-/// Runs the events of a file in an air, in which each frame that a station gives is heard by those
-/// in reach, and hands each event to a sink as it is done. Gives the world that the last one left.
+/// Runs the events and leaves of a file in an air, in which each frame that a station gives is
+/// heard by those in reach, and hands each event to a sink as it is done. Gives the world that the
+/// last one left.
 ///
 /// Events wait in the order of their moments, those of one moment in the order in which they were
-/// put: first those of the file, then, with beacons, a tick of each station at a jitter, then, of
-/// each traffic in order, a send of each station at a draw below its period. A frame that a station
-/// gives is heard by each other station in reach, in order, unless a draw loses it, and is delivered
-/// to it after the delay. After a tick of the air's own that wasn't refused, the station's next one
-/// is put at the event's moment or, where that is later, when its beacon is due by the next jitter;
-/// after a send of traffic, refused or not, its next one a period later. The run ends where nothing
-/// waits up to the last moment.
+/// put: first those of the file, then, with beacons, a tick of each present station at a jitter,
+/// then, of each traffic in order, a send of each present station at a draw below its period. A
+/// frame that a present station gives is heard by each other present station in reach, in order,
+/// unless a draw loses it, and is delivered to it after the delay. After a tick of the air's own
+/// that wasn't refused, the station's next one is put at the event's moment or, where that is
+/// later, when its beacon is due by the next jitter; after a send of traffic, refused or not, its
+/// next one a period later. The run ends where nothing waits up to the last moment.
+///
+/// A station leaves where the file says so: it is absent then. A tick or a send of the air's own
+/// that is taken of an absent station isn't run, and nothing follows it. A move that isn't refused
+/// makes an absent station present: with beacons, where no tick of the air's own waits for it, its
+/// first one is put, later by a jitter; then of each traffic, in order, its first send where none
+/// waits, later by a draw below the period.
 ///
 /// There is a list of events of which the world stands at the end, by the written rules: of that
 /// very end hold the laws over every schedule; the sink took just these events and their entries;
@@ -58,12 +70,14 @@ use std::alloc::Global;
 /// where deliveries come, a geobroadcast reaches (`what_is_delivered_reaches` of `its_model`).
 ///
 /// The numbers of each config have to be in their ranges, of no two the MIDs the same, of at most
-/// 65535, and the speed of each `MoveTo` has to be in its range. Where an allocation or the sink
-/// failed, the sink has the events before.
+/// 65535, and the speed of each `MoveTo` has to be in its range. `present` has, by numbers, which
+/// stations are present at the start. Where an allocation or the sink failed, the sink has the
+/// events before.
 pub fn run_air<S: EventSink>(
     alloc: Global,
     configs: &[Config],
-    events: &[Event],
+    present: &[bool],
+    file: &[FileEvent],
     air: &Air,
     every: &[Traffic],
     sink: &mut S,
@@ -71,20 +85,21 @@ pub fn run_air<S: EventSink>(
     requires configs { All IsConfig configs.now }
     requires count { length configs.now ≤ 65535 }
     requires apart { AreApart configs.now }
-    requires events { All (λ event. IsInRange event.what) events.now }
-    requires moments { All (λ event. event.moment < 2 ^ 63) events.now }
+    requires events { All IsFiledInRange file.now }
+    requires moments { All (λ filed. moment_of filed < 2 ^ 63) file.now }
     ensures file { S.Took sink.old [] [] → IfOk result (λ world.
-        IsAirRun (map config_of configs.now) (map event_of events.now)
-        (end_of air.now.until events.now) world (S.Took sink.new)) }
+        IsAirRun (map config_of configs.now) (map filed_of file.now)
+        (end_of air.now.until file.now) world (S.Took sink.new)) }
     ensures timed { S.Took sink.old [] [] → IfOk result (λ world.
-        IsTimedRun (rules_of air.now (all_traffic every.now) (end_of air.now.until events.now))
-        (map config_of configs.now) (map event_of events.now) world (S.Took sink.new)) }
+        IsTimedRun (rules_of air.now (all_traffic every.now) (end_of air.now.until file.now)
+        present.now) (map config_of configs.now) (map filed_of file.now) world
+        (S.Took sink.new)) }
 {
     // A law, for the proof alone.
     every_schedule();
-    let mut run = Run::begin(alloc, configs, events, air, every)?;
-    for number in 0..usize::MAX {
-        if !run.go_on(number, sink)? {
+    let mut run = Run::begin(alloc, configs, present, file, air, every)?;
+    for _ in 0..usize::MAX {
+        if !run.go_on(sink)? {
             return Ok(run.world);
         }
     }
@@ -96,13 +111,19 @@ pub fn run_air<S: EventSink>(
 struct Run<'a> {
     alloc: Global,
     air: Air,
+    /// What each station sends by itself.
+    every: &'a [Traffic],
     world: World,
     queue: Queue<'a>,
     draws: Draws,
+    /// Which stations are present, by their numbers.
+    present: Vec<bool>,
     /// Where the stations of the world stand.
     standings: Standings,
     /// Who hears the last frame that was given.
     hearers: Vec<usize>,
+    /// How many events were done.
+    done: usize,
 }
 
 impl<'a> Run<'a> {
@@ -110,52 +131,57 @@ impl<'a> Run<'a> {
     fn begin(
         alloc: Global,
         configs: &[Config],
-        events: &'a [Event],
+        present: &[bool],
+        file: &'a [FileEvent],
         air: &Air,
-        every: &[Traffic],
+        every: &'a [Traffic],
     ) -> Result<Run<'a>, AirFault>
         requires configs { All IsConfig configs.now }
         requires count { length configs.now ≤ 65535 }
         requires apart { AreApart configs.now }
-        requires events { All (λ event. IsInRange event.what) events.now }
-        requires moments { All (λ event. event.moment < 2 ^ 63) events.now }
+        requires events { All IsFiledInRange file.now }
+        requires moments { All (λ filed. moment_of filed < 2 ^ 63) file.now }
         ensures world { IfOk result (λ run.
             RepresentsWorld run.world (opening (map config_of configs.now))) }
         ensures due { IfOk result (λ run.
-            AreDue (map event_of events.now) (end_of air.now.until events.now)
-            (happenings_due run.queue)) }
+            AreDue (map filed_of file.now) (end_of air.now.until file.now)
+            (filed_due run.queue)) }
         ensures start { IfOk result (λ run. run.queue.taken ≡ 0) }
-        ensures rules { IfOk result (λ run. rules_of run.air (all_traffic every.now) run.queue.until
-            ≡ rules_of air.now (all_traffic every.now) (end_of air.now.until events.now)) }
+        ensures present { IfOk result (λ run. run.present.items ≡ present.now) }
+        ensures rules { IfOk result (GoesBy (rules_of air.now (all_traffic every.now)
+            (end_of air.now.until file.now) present.now)) }
         ensures timed { IfOk result (λ run. Keeps run.queue run.draws (air_opening
-            (rules_of air.now (all_traffic every.now) (end_of air.now.until events.now))
-            (map config_of configs.now) (map event_of events.now)).timetable) }
+            (rules_of air.now (all_traffic every.now) (end_of air.now.until file.now) present.now)
+            (map config_of configs.now) (map filed_of file.now)).timetable) }
         ensures standings { IfOk result (λ run.
             AreStandingsOf run.world.stations run.standings.order.items) }
         ensures ranges { IfOk result (λ run.
-            All (λ event. IsInRange event.now.what) run.queue.due.items) }
+            All (λ filed. IsFiledInRange filed.now) run.queue.due.items) }
     {
         let mut draws = Draws::of_seed(air.seed);
-        let mut queue = Queue::of_file(alloc, events, air.end(events))?;
+        let mut queue = Queue::of_file(alloc, file, air.end(file))?;
         let ticking = if air.beacons { configs.len() } else { 0 };
-        put_first_ticks(&mut queue, &mut draws, ticking)?;
-        put_traffic(&mut queue, &mut draws, every, configs.len())?;
+        schedule_first_ticks(&mut queue, &mut draws, present, ticking)?;
+        schedule_traffic(&mut queue, &mut draws, present, every, configs.len())?;
         let world = World::of_apart(alloc, configs)?;
         let standings = Standings::of(alloc, world.stations())?;
         Ok(Run {
             alloc,
             air: *air,
+            every,
             world,
             queue,
             draws,
+            present: Vec::from_slice(alloc, present)?,
             standings,
             hearers: Vec::new(alloc),
+            done: 0,
         })
     }
 
-    /// Does the first event that waits, if one does.
-    fn go_on<S: EventSink>(&mut self, number: usize, sink: &mut S) -> Result<bool, AirFault>
-        requires ranges { All (λ event. IsInRange event.now.what) self.old.queue.due.items }
+    /// Takes the first that waits, if one does.
+    fn go_on<S: EventSink>(&mut self, sink: &mut S) -> Result<bool, AirFault>
+        requires ranges { All (λ filed. IsFiledInRange filed.now) self.old.queue.due.items }
         requires standings { AreStandingsOf self.old.world.stations self.old.standings.order.items }
         ensures standings { OnOk result
             (AreStandingsOf self.new.world.stations self.new.standings.order.items) }
@@ -171,27 +197,104 @@ impl<'a> Run<'a> {
     {
         match self.queue.take() {
             None => Ok(false),
-            Some(Next::OfFile(event)) => {
-                self.do_event(number, event, sink)?;
+            Some(Next::OfFile(filed)) => {
+                self.do_filed(filed, sink)?;
                 Ok(true)
             }
             Some(Next::Own(waiting)) => {
-                let event = waiting.event(self.alloc)?;
-                let entry = self.do_event(number, &event, sink)?;
-                self.put_next(&waiting, &entry)?;
+                self.do_own(&waiting, sink)?;
                 Ok(true)
             }
         }
     }
 
-    /// Does an event, hands it to the sink, and puts the deliveries of the frame that it gave. Where
-    /// its station has moved, it stands there from now on.
-    fn do_event<S: EventSink>(
+    /// Does what the file has: an event, with which its station may come, or a leave.
+    fn do_filed<S: EventSink>(&mut self, filed: &FileEvent, sink: &mut S) -> Result<(), AirFault>
+        requires range { IsFiledInRange filed.now }
+        requires moment { moment_of filed.now ≤ 2 ^ 63 + 10000 }
+        requires standings { AreStandingsOf self.old.world.stations self.old.standings.order.items }
+        ensures file { SameFile self.old.queue self.new.queue }
+        ensures standings { OnOk result
+            (AreStandingsOf self.new.world.stations self.new.standings.order.items) }
+        ensures run { (configs : List Beginning) (events : List Happening) →
+            IsSimulated configs events self.old.world (S.Took sink.old) → OnOk result (
+            IsSimulated configs (events ++ events_in (filed_of filed.now ∷ [])) self.new.world
+            (S.Took sink.new)) }
+        ensures timed { (rules : Rules) (configs : List Beginning) (a : AirModel) →
+            IsTimed rules configs a self.old (S.Took sink.old) → OnOk result
+            (IsTimed rules configs (take_one rules configs a (of_file (filed_of filed.now))
+            a.timetable) self.new (S.Took sink.new)) }
+    {
+        match filed {
+            FileEvent::Happens(event) => {
+                let entry = self.do_event(event, sink)?;
+                self.come(event, &entry, sink)
+            }
+            FileEvent::Leaves { station, moment } => self.leave(*station, *moment, sink),
+        }
+    }
+
+    /// A station is absent from now on.
+    fn leave<S: EventSink>(
         &mut self,
-        number: usize,
-        event: &Event,
+        station: usize,
+        moment: u64,
         sink: &mut S,
-    ) -> Result<Entry, AirFault>
+    ) -> Result<(), AirFault>
+        ensures air { self.new.air ≡ self.old.air }
+        ensures every { self.new.every ≡ self.old.every }
+        ensures world { self.new.world ≡ self.old.world }
+        ensures queue { self.new.queue ≡ self.old.queue }
+        ensures draws { self.new.draws ≡ self.old.draws }
+        ensures standings { self.new.standings ≡ self.old.standings }
+        ensures told { OnOk result (SaysAsBefore (S.Took sink.old) (S.Took sink.new)) }
+        ensures present { self.new.present.items ≡ slice_set self.old.present.items station false }
+    {
+        let was = is_present(self.present.as_slice(), station);
+        set_present(&mut self.present, station, false);
+        if !was {
+            return Ok(());
+        }
+        sink.note(&self.world, moment, &Note::Left { station })?;
+        Ok(())
+    }
+
+    /// Does one of the air's own, and puts what follows it. A tick or a send of an absent station
+    /// is passed over.
+    fn do_own<S: EventSink>(&mut self, waiting: &Waiting, sink: &mut S) -> Result<(), AirFault>
+        requires moment { waiting.now.moment ≤ 2 ^ 63 + 10000 }
+        requires standings { AreStandingsOf self.old.world.stations self.old.standings.order.items }
+        ensures file { SameFile self.old.queue self.new.queue }
+        ensures standings { OnOk result
+            (AreStandingsOf self.new.world.stations self.new.standings.order.items) }
+        ensures run { (configs : List Beginning) (events : List Happening) →
+            IsSimulated configs events self.old.world (S.Took sink.old) → OnOk result (
+            (more : List Happening) × IsSimulated configs (events ++ more) self.new.world
+            (S.Took sink.new)) }
+        ensures timed { (rules : Rules) (configs : List Beginning) (a : AirModel) →
+            IsTimed rules configs a self.old (S.Took sink.old) → OnOk result
+            (IsTimed rules configs (take_one rules configs a (pending_of waiting.now) a.timetable)
+            self.new (S.Took sink.new)) }
+    {
+        if self.is_passed_over(waiting) {
+            return Ok(());
+        }
+        let event = waiting.event(self.alloc)?;
+        let entry = self.do_event(&event, sink)?;
+        self.schedule_next(waiting, &entry)?;
+        self.come(&event, &entry, sink)
+    }
+
+    /// Whether one of the air's own isn't run: a tick or a send of an absent station.
+    fn is_passed_over(&self, waiting: &Waiting) -> bool
+        ensures { result ≡ is_passed_over self.now.present.items (put_of waiting.now) }
+    {
+        !waiting.own.is_delivery() && !is_present(self.present.as_slice(), waiting.station)
+    }
+
+    /// Does an event, hands it to the sink, and puts the deliveries of the frame that it gave.
+    /// Where its station has moved, it stands there from now on.
+    fn do_event<S: EventSink>(&mut self, event: &Event, sink: &mut S) -> Result<Entry, AirFault>
         requires range { IsInRange event.now.what }
         requires moment { event.now.moment ≤ 2 ^ 63 + 10000 }
         requires standings { AreStandingsOf self.old.world.stations self.old.standings.order.items }
@@ -203,20 +306,26 @@ impl<'a> Run<'a> {
             IsSimulated configs (events ++ event_of event.now ∷ []) self.new.world
             (S.Took sink.new)) }
         ensures air { self.new.air ≡ self.old.air }
+        ensures every { self.new.every ≡ self.old.every }
+        ensures present { self.new.present ≡ self.old.present }
         ensures answered { (configs : List Beginning) (events : List Happening) →
             IsSimulated configs events self.old.world (S.Took sink.old) → IfOk result (λ entry.
             IsAnswered entry
             (world_run (opening configs) (events ++ event_of event.now ∷ []))) }
-        ensures spread { (configs : List Beginning) (events : List Happening) (t : Timetable)
-            (every : List Flow) →
+        ensures spread { (rules : Rules) (configs : List Beginning) (events : List Happening)
+            (t : Timetable) → GoesBy rules self.old →
             IsSimulated configs events self.old.world (S.Took sink.old) →
             Keeps self.old.queue self.old.draws t → OnOk result
             (Keeps self.new.queue self.new.draws
-            (spread (rules_of self.old.air every self.old.queue.until) (event_of event.now)
+            (spread rules self.old.present.items (event_of event.now)
             (world_run (opening configs) (events ++ event_of event.now ∷ [])) t)) }
     {
+        let Some(next) = self.done.checked_add(1) else {
+            return Err(AirFault::TooManyEvents);
+        };
         let stood = place_of(&self.world, event.station);
-        let entry = do_event(&mut self.world, number, event, sink)?;
+        let entry = do_event(&mut self.world, self.done, event, sink)?;
+        self.done = next;
         self.follow(event.station, stood)?;
         if let Some(frame) = entry.frame() {
             self.spread(event, frame, sink)?;
@@ -227,6 +336,8 @@ impl<'a> Run<'a> {
     /// A station may have moved from where it stood: it stands where the world has it.
     fn follow(&mut self, number: usize, stood: Option<Place>) -> Result<(), AirFault>
         ensures air { self.new.air ≡ self.old.air }
+        ensures every { self.new.every ≡ self.old.every }
+        ensures present { self.new.present ≡ self.old.present }
         ensures world { self.new.world ≡ self.old.world }
         ensures queue { self.new.queue ≡ self.old.queue }
         ensures draws { self.new.draws ≡ self.old.draws }
@@ -245,8 +356,8 @@ impl<'a> Run<'a> {
         Ok(())
     }
 
-    /// Puts a delivery of a frame to each station that hears it and doesn't lose it, and notes which
-    /// of them do and which lose it.
+    /// Puts a delivery of a frame to each station that hears it and doesn't lose it, and notes
+    /// which of them do and which lose it. That of an absent station is heard by none.
     fn spread<S: EventSink>(
         &mut self,
         event: &Event,
@@ -256,26 +367,18 @@ impl<'a> Run<'a> {
         requires moment { event.now.moment ≤ 2 ^ 63 + 10000 }
         requires standings { AreStandingsOf self.old.world.stations self.old.standings.order.items }
         ensures air { self.new.air ≡ self.old.air }
+        ensures every { self.new.every ≡ self.old.every }
+        ensures present { self.new.present ≡ self.old.present }
         ensures world { self.new.world ≡ self.old.world }
         ensures standings { self.new.standings ≡ self.old.standings }
         ensures file { SameFile self.old.queue self.new.queue }
         ensures told { OnOk result (SaysAsBefore (S.Took sink.old) (S.Took sink.new)) }
-        ensures spread { (w : WorldModel) (t : Timetable) (every : List Flow) →
+        ensures spread { (rules : Rules) (w : WorldModel) (t : Timetable) → GoesBy rules self.old →
             RepresentsWorld self.old.world w → Keeps self.old.queue self.old.draws t → OnOk result
             (Keeps self.new.queue self.new.draws
-            (spread_frame (rules_of self.old.air every self.old.queue.until) (event_of event.now) w
-            (Some frame) t)) }
+            (spread_frame rules self.old.present.items (event_of event.now) w (Some frame) t)) }
     {
-        let Some(giver) = self.world.station(event.station) else {
-            return Ok(());
-        };
-        self.standings.find_hearers(
-            self.air.range,
-            self.world.stations(),
-            event.station,
-            giver.vector().place(),
-            &mut self.hearers,
-        )?;
+        self.find_hearers(event.station)?;
         let given = GivenFrame {
             frame,
             moment: event.moment,
@@ -283,7 +386,7 @@ impl<'a> Run<'a> {
         };
         let hearers = self.hearers.as_slice();
         let (queue, draws) = (&mut self.queue, &mut self.draws);
-        put_deliveries(
+        schedule_deliveries(
             queue,
             draws,
             self.air.loss,
@@ -294,11 +397,104 @@ impl<'a> Run<'a> {
         )
     }
 
-    /// Puts what follows an event of the air's own: the next tick of a station after one that wasn't
-    /// refused, its next send after one of traffic.
-    fn put_next(&mut self, done: &Waiting, entry: &Entry) -> Result<(), AirFault>
+    /// Finds who hears what a station gives: none where it is absent.
+    fn find_hearers(&mut self, giver: usize) -> Result<(), AirFault>
+        requires standings { AreStandingsOf self.old.world.stations self.old.standings.order.items }
+        ensures air { self.new.air ≡ self.old.air }
+        ensures every { self.new.every ≡ self.old.every }
+        ensures present { self.new.present ≡ self.old.present }
+        ensures world { self.new.world ≡ self.old.world }
+        ensures standings { self.new.standings ≡ self.old.standings }
+        ensures queue { self.new.queue ≡ self.old.queue }
+        ensures draws { self.new.draws ≡ self.old.draws }
+        ensures heard { (w : WorldModel) → RepresentsWorld self.old.world w → OnOk result
+            (self.new.hearers.items ≡ heard_by self.old.air.range self.old.present.items w giver) }
+    {
+        self.hearers.clear();
+        if !is_present(self.present.as_slice(), giver) {
+            return Ok(());
+        }
+        let Some(station) = self.world.station(giver) else {
+            return Ok(());
+        };
+        self.standings.find_hearers(
+            self.air.range,
+            self.world.stations(),
+            giver,
+            station.vector().place(),
+            &mut self.hearers,
+        )?;
+        keep_present(&mut self.hearers, self.present.as_slice());
+        Ok(())
+    }
+
+    /// Makes a station present that was absent and that an event moved, and puts its first tick and
+    /// its first sends, where none of them waits.
+    fn come<S: EventSink>(
+        &mut self,
+        event: &Event,
+        entry: &Entry,
+        sink: &mut S,
+    ) -> Result<(), AirFault>
+        requires moment { event.now.moment ≤ 2 ^ 63 + 10000 }
+        ensures air { self.new.air ≡ self.old.air }
+        ensures every { self.new.every ≡ self.old.every }
+        ensures world { self.new.world ≡ self.old.world }
+        ensures standings { self.new.standings ≡ self.old.standings }
+        ensures file { SameFile self.old.queue self.new.queue }
+        ensures told { OnOk result (SaysAsBefore (S.Took sink.old) (S.Took sink.new)) }
+        ensures present { (after : WorldModel) → IsAnswered entry.now after → OnOk result
+            (self.new.present.items
+            ≡ present_after self.old.present.items (event_of event.now) after) }
+        ensures come { (rules : Rules) (after : WorldModel) (t : Timetable) →
+            GoesBy rules self.old → IsAnswered entry.now after →
+            Keeps self.old.queue self.old.draws t → OnOk result
+            (Keeps self.new.queue self.new.draws
+            (cond (comes self.old.present.items (event_of event.now) after)
+            (come rules event.now.station event.now.moment t) t)) }
+    {
+        if !self.is_coming(event, entry) {
+            return Ok(());
+        }
+        let station = event.station;
+        set_present(&mut self.present, station, true);
+        sink.note(&self.world, event.moment, &Note::Came { station })?;
+        self.schedule_coming(station, event.moment)
+    }
+
+    /// Whether the station of an event comes with it: it is absent, and the event moved it.
+    fn is_coming(&self, event: &Event, entry: &Entry) -> bool
+        ensures { (after : WorldModel) → IsAnswered entry.now after →
+            result ≡ comes self.now.present.items (event_of event.now) after }
+    {
+        is_move(entry) && !is_present(self.present.as_slice(), event.station)
+    }
+
+    /// Puts the first tick and the first sends of a station that comes, where none of them waits.
+    fn schedule_coming(&mut self, station: usize, moment: u64) -> Result<(), AirFault>
+        requires moment { moment ≤ 2 ^ 63 + 10000 }
+        ensures air { self.new.air ≡ self.old.air }
+        ensures every { self.new.every ≡ self.old.every }
+        ensures present { self.new.present ≡ self.old.present }
+        ensures world { self.new.world ≡ self.old.world }
+        ensures standings { self.new.standings ≡ self.old.standings }
+        ensures file { SameFile self.old.queue self.new.queue }
+        ensures come { (rules : Rules) (t : Timetable) → GoesBy rules self.old →
+            Keeps self.old.queue self.old.draws t → OnOk result
+            (Keeps self.new.queue self.new.draws (come rules station moment t)) }
+    {
+        let (queue, draws) = (&mut self.queue, &mut self.draws);
+        schedule_coming_tick(queue, draws, self.air.beacons, station, moment)?;
+        schedule_coming_sends(queue, draws, self.every, station, moment)
+    }
+
+    /// Puts what follows an event of the air's own: the next tick of a station after one that
+    /// wasn't refused, its next send after one of traffic.
+    fn schedule_next(&mut self, done: &Waiting, entry: &Entry) -> Result<(), AirFault>
         requires moment { done.now.moment ≤ 2 ^ 63 + 10000 }
         ensures air { self.new.air ≡ self.old.air }
+        ensures every { self.new.every ≡ self.old.every }
+        ensures present { self.new.present ≡ self.old.present }
         ensures world { self.new.world ≡ self.old.world }
         ensures standings { self.new.standings ≡ self.old.standings }
         ensures file { SameFile self.old.queue self.new.queue }
@@ -309,18 +505,21 @@ impl<'a> Run<'a> {
             (slice_get w.stations done.now.station) t)) }
     {
         match &done.own {
-            Own::Tick(_) => self.put_next_tick(done, entry),
+            Own::Tick(_) => self.schedule_next_tick(done, entry),
             Own::Deliver(_) => Ok(()),
-            Own::Send(traffic) => {
+            Own::Send(number, traffic) => {
                 let moment = done.moment + u64::from(traffic.period);
-                self.queue.put(moment, done.station, Own::Send(*traffic))
+                self.queue
+                    .put(moment, done.station, Own::Send(*number, *traffic))
             }
         }
     }
 
     /// Puts the next tick of a station after one that wasn't refused.
-    fn put_next_tick(&mut self, tick: &Waiting, entry: &Entry) -> Result<(), AirFault>
+    fn schedule_next_tick(&mut self, tick: &Waiting, entry: &Entry) -> Result<(), AirFault>
         ensures air { self.new.air ≡ self.old.air }
+        ensures every { self.new.every ≡ self.old.every }
+        ensures present { self.new.present ≡ self.old.present }
         ensures world { self.new.world ≡ self.old.world }
         ensures standings { self.new.standings ≡ self.old.standings }
         ensures file { SameFile self.old.queue self.new.queue }
@@ -336,7 +535,7 @@ impl<'a> Run<'a> {
         let Some(station) = self.world.station(tick.station) else {
             return Ok(());
         };
-        put_tick(
+        schedule_tick(
             &mut self.queue,
             &mut self.draws,
             tick.station,
@@ -366,65 +565,215 @@ fn stood_at(stood: Option<Place>, place: Place) -> bool
     }
 }
 
-/// Puts the first tick of each of so many stations: at its jitter.
-fn put_first_ticks(queue: &mut Queue<'_>, draws: &mut Draws, count: usize) -> Result<(), AirFault>
+/// Whether the station of this number is present.
+fn is_present(present: &[bool], station: usize) -> bool
+    ensures { result ≡ is_present present.now station }
+{
+    match present.get(station) {
+        Some(is_present) => *is_present,
+        None => false,
+    }
+}
+
+/// Notes that a station is present, or that it is absent. It changes nothing where there is none.
+fn set_present(present: &mut Vec<bool>, station: usize, is_present: bool)
+    ensures { present.new.items ≡ slice_set present.old.items station is_present }
+{
+    if station < present.len() {
+        present[station] = is_present;
+    }
+}
+
+/// Leaves those of these stations that are present, in order.
+fn keep_present(stations: &mut Vec<usize>, present: &[bool])
+    ensures { stations.new.items ≡ filter (is_present present.now) stations.old.items }
+{
+    stations.retain(|station| is_present(present, *station));
+}
+
+/// Whether an entry is that of a move that wasn't refused.
+fn is_move(entry: &Entry) -> bool
+    ensures { (answer : Answer ℕ) → TellsEntry entry.now answer → result ≡ is_moved answer }
+{
+    matches!(entry, Entry::Moved)
+}
+
+/// Puts the first tick of each of so many stations that is present: at its jitter.
+fn schedule_first_ticks(
+    queue: &mut Queue<'_>,
+    draws: &mut Draws,
+    present: &[bool],
+    count: usize,
+) -> Result<(), AirFault>
     ensures file { SameFile queue.old queue.new }
     ensures ticks { (t : Timetable) → Keeps queue.old draws.old t → OnOk result
-        (Keeps queue.new draws.new (put_first_ticks count t)) }
+        (Keeps queue.new draws.new (put_first_ticks present.now count t)) }
 {
     for station in 0..count {
-        put_tick(queue, draws, station, 0, 0)?;
+        schedule_first_tick(queue, draws, present, station)?;
     }
     Ok(())
 }
 
-/// Puts the first sends of each traffic, in order: of each of so many stations.
-fn put_traffic(
+/// Puts the first tick of a station, if it is present.
+fn schedule_first_tick(
     queue: &mut Queue<'_>,
     draws: &mut Draws,
+    present: &[bool],
+    station: usize,
+) -> Result<(), AirFault>
+    ensures file { SameFile queue.old queue.new }
+    ensures tick { (t : Timetable) → Keeps queue.old draws.old t → OnOk result
+        (Keeps queue.new draws.new (cond (is_present present.now station) (put_tick station 0 0 t)
+        t)) }
+{
+    if is_present(present, station) {
+        schedule_tick(queue, draws, station, 0, 0)
+    } else {
+        Ok(())
+    }
+}
+
+/// Puts the first sends of each traffic, in order: of each of so many stations that is present.
+fn schedule_traffic(
+    queue: &mut Queue<'_>,
+    draws: &mut Draws,
+    present: &[bool],
     every: &[Traffic],
     count: usize,
 ) -> Result<(), AirFault>
     ensures file { SameFile queue.old queue.new }
     ensures sends { (t : Timetable) → Keeps queue.old draws.old t → OnOk result
-        (Keeps queue.new draws.new (put_traffic (all_traffic every.now) count t)) }
+        (Keeps queue.new draws.new (put_traffic present.now (all_traffic every.now) count t)) }
 {
-    for traffic in every {
-        put_first_sends(queue, draws, traffic, count)?;
+    for (number, traffic) in every.iter().enumerate() {
+        schedule_first_sends(queue, draws, present, number, traffic, count)?;
     }
     Ok(())
 }
 
-/// Puts the first send of a traffic of each of so many stations, in order.
-fn put_first_sends(
+/// Puts the first send of the traffic of a number of each of so many stations that is present, in
+/// order.
+fn schedule_first_sends(
     queue: &mut Queue<'_>,
     draws: &mut Draws,
+    present: &[bool],
+    number: usize,
     traffic: &Traffic,
     count: usize,
 ) -> Result<(), AirFault>
     ensures file { SameFile queue.old queue.new }
     ensures sends { (t : Timetable) → Keeps queue.old draws.old t → OnOk result
-        (Keeps queue.new draws.new (put_first_sends (traffic_of traffic.now) count t)) }
+        (Keeps queue.new draws.new (put_first_sends present.now (traffic_of number traffic.now)
+        count t)) }
 {
     for station in 0..count {
-        put_first_send(queue, draws, traffic, station)?;
+        schedule_first_send(queue, draws, present, number, traffic, station)?;
     }
     Ok(())
 }
 
-/// Puts the first send of a traffic by a station: at a draw below its period.
-fn put_first_send(
+/// Puts the first send of the traffic of a number by a station, if it is present.
+fn schedule_first_send(
     queue: &mut Queue<'_>,
     draws: &mut Draws,
+    present: &[bool],
+    number: usize,
     traffic: &Traffic,
     station: usize,
 ) -> Result<(), AirFault>
     ensures file { SameFile queue.old queue.new }
     ensures send { (t : Timetable) → Keeps queue.old draws.old t → OnOk result
-        (Keeps queue.new draws.new (put_first_send (traffic_of traffic.now) station t)) }
+        (Keeps queue.new draws.new (cond (is_present present.now station)
+        (put_send (traffic_of number traffic.now) station 0 t) t)) }
 {
-    let moment = draws.within(traffic.period);
-    queue.put(moment, station, Own::Send(*traffic))
+    if is_present(present, station) {
+        schedule_send(queue, draws, number, traffic, station, 0)
+    } else {
+        Ok(())
+    }
+}
+
+/// Puts a send of the traffic of a number by a station: at a draw below its period after a moment.
+fn schedule_send(
+    queue: &mut Queue<'_>,
+    draws: &mut Draws,
+    number: usize,
+    traffic: &Traffic,
+    station: usize,
+    moment: u64,
+) -> Result<(), AirFault>
+    requires moment { moment ≤ 2 ^ 63 + 10000 }
+    ensures file { SameFile queue.old queue.new }
+    ensures send { (t : Timetable) → Keeps queue.old draws.old t → OnOk result
+        (Keeps queue.new draws.new (put_send (traffic_of number traffic.now) station moment t)) }
+{
+    let moment = moment + draws.within(traffic.period);
+    queue.put(moment, station, Own::Send(number, *traffic))
+}
+
+/// Puts the first tick of a station that comes, where there are beacons and none waits: later by
+/// its jitter.
+fn schedule_coming_tick(
+    queue: &mut Queue<'_>,
+    draws: &mut Draws,
+    beacons: bool,
+    station: usize,
+    moment: u64,
+) -> Result<(), AirFault>
+    requires moment { moment ≤ 2 ^ 63 + 10000 }
+    ensures file { SameFile queue.old queue.new }
+    ensures tick { (t : Timetable) → Keeps queue.old draws.old t → OnOk result
+        (Keeps queue.new draws.new (come_ticking beacons station moment t)) }
+{
+    if !beacons {
+        return Ok(());
+    }
+    if queue.has_no_tick(station) {
+        schedule_tick(queue, draws, station, moment, moment)
+    } else {
+        Ok(())
+    }
+}
+
+/// Puts the first sends of a station that comes: of each traffic, in order, where none waits.
+fn schedule_coming_sends(
+    queue: &mut Queue<'_>,
+    draws: &mut Draws,
+    every: &[Traffic],
+    station: usize,
+    moment: u64,
+) -> Result<(), AirFault>
+    requires moment { moment ≤ 2 ^ 63 + 10000 }
+    ensures file { SameFile queue.old queue.new }
+    ensures sends { (t : Timetable) → Keeps queue.old draws.old t → OnOk result
+        (Keeps queue.new draws.new (come_sending_all (all_traffic every.now) station moment t)) }
+{
+    for (number, traffic) in every.iter().enumerate() {
+        schedule_coming_send(queue, draws, number, traffic, station, moment)?;
+    }
+    Ok(())
+}
+
+/// Puts the first send of one traffic, where none waits: later by a draw below the period.
+fn schedule_coming_send(
+    queue: &mut Queue<'_>,
+    draws: &mut Draws,
+    number: usize,
+    traffic: &Traffic,
+    station: usize,
+    moment: u64,
+) -> Result<(), AirFault>
+    requires moment { moment ≤ 2 ^ 63 + 10000 }
+    ensures file { SameFile queue.old queue.new }
+    ensures send { (t : Timetable) → Keeps queue.old draws.old t → OnOk result
+        (Keeps queue.new draws.new (come_sending (traffic_of number traffic.now) station moment t)) }
+{
+    if queue.has_no_send(number, station) {
+        schedule_send(queue, draws, number, traffic, station, moment)
+    } else {
+        Ok(())
+    }
 }
 
 /// A frame that was just given.
@@ -440,7 +789,7 @@ struct GivenFrame {
 
 /// Puts a delivery of a frame to each of these stations that doesn't lose it, and hands a sink a
 /// note of what each draw did, in order.
-fn put_deliveries<S: EventSink>(
+fn schedule_deliveries<S: EventSink>(
     queue: &mut Queue<'_>,
     draws: &mut Draws,
     loss: u8,
@@ -455,14 +804,14 @@ fn put_deliveries<S: EventSink>(
         (Keeps queue.new draws.new (send_all loss given.frame given.heard_at hearers.now t)) }
 {
     for station in hearers {
-        let note = put_delivery(queue, draws, loss, given, *station)?;
+        let note = schedule_delivery(queue, draws, loss, given, *station)?;
         sink.note(world, given.moment, &note)?;
     }
     Ok(())
 }
 
 /// Puts a delivery of a frame to a station, unless a draw loses it. Gives the note of it.
-fn put_delivery(
+fn schedule_delivery(
     queue: &mut Queue<'_>,
     draws: &mut Draws,
     loss: u8,
@@ -483,17 +832,17 @@ fn put_delivery(
 
 /// Puts a tick of a station with the next jitter: at this moment, or, where that is later, when its
 /// beacon is due by that jitter.
-fn put_tick(
+fn schedule_tick(
     queue: &mut Queue<'_>,
     draws: &mut Draws,
     station: usize,
     moment: u64,
     beacon_from: u64,
 ) -> Result<(), AirFault>
-    requires { beacon_from ≤ 2 ^ 62 + 3000 }
+    requires { beacon_from ≤ 2 ^ 63 + 10000 }
     ensures file { SameFile queue.old queue.new }
     ensures tick { (t : Timetable) → Keeps queue.old draws.old t → OnOk result
-        (Keeps queue.new draws.new (with_tick station moment beacon_from t)) }
+        (Keeps queue.new draws.new (put_tick station moment beacon_from t)) }
 {
     let jitter = draws.jitter();
     let due = beacon_from.saturating_add(u64::from(jitter));

@@ -25,16 +25,14 @@ pub fn run_scenario<S: EventSink>(
 {
     match &scenario.air {
         None => Ok(simulate_into(alloc, scenario, sink)?),
-        Some(air) => {
-            let (stations, events) = (scenario.stations.as_slice(), scenario.events.as_slice());
-            run_air(
-                alloc,
-                stations,
-                events,
-                air,
-                scenario.every.as_slice(),
-                sink,
-            )
-        }
+        Some(air) => run_air(
+            alloc,
+            scenario.stations.as_slice(),
+            scenario.present.as_slice(),
+            scenario.file.as_slice(),
+            air,
+            scenario.every.as_slice(),
+            sink,
+        ),
     }
 }

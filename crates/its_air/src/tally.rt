@@ -32,15 +32,16 @@ pub struct Tally {
 }
 
 impl Tally {
-    /// A tally in which nothing is counted yet.
-    pub fn new(alloc: Global) -> Tally {
-        Tally {
+    /// A tally of a run that has not begun. `present` has, by numbers, which stations are present
+    /// at the start.
+    pub fn new(alloc: Global, present: &[bool]) -> Result<Tally, NoMemory> {
+        Ok(Tally {
             sends: Vec::new(alloc),
             carried: Vec::new(alloc),
             delivered: HashSet::new(alloc),
-            presence: Presence::new(alloc),
+            presence: Presence::at_start(alloc, present)?,
             totals: Totals::default(),
-        }
+        })
     }
 
     /// What came of each packet for an area, in the order in which they were sent.

@@ -1,8 +1,8 @@
-//! What waits in an air: the events of the file, and the ticks, deliveries and sends of the air's
-//! own.
+//! What waits in an air: the events and leaves of the file, and the ticks, deliveries and sends of
+//! the air's own.
 
 ghost use Rattle.std.specs.Prelude.{◌≡◌, ◌≤◌, ◌<◌, ◌+◌, ◌^◌, ◌∷◌, [], All, map, length, slice_get};
-ghost use Rattle.std.specs.Prelude.{Some, IfOk, IfSome, IfNone, OnOk, nat_eq};
+ghost use Rattle.std.specs.Prelude.{Some, IfOk, IfSome, IfNone, OnOk, nat_eq, ◌==◌, count_by};
 ghost use Rattle.std.specs.BinaryHeap.{IsHeap, IsUpperBound, HeapUnchanged, heap_items};
 ghost use Rattle.std.specs.Cmp.{partial_order_from_own_ties};
 ghost use Rattle.std.specs.Cmp.Rules.{comparing};
@@ -11,15 +11,19 @@ ghost use Rattle.std.specs.Ordering.{nat_cmp, on, flip_args, then_cmp, as_partia
 ghost use Rattle.std.proofs.Common.{rules};
 ghost use Rattle.std.proofs.Props.{props};
 ghost use denote.Ref.{Bor};
-ghost use Rattle.its_world.specs.declared.event.Event.{Event};
+ghost use Rattle.its_scenario.specs.Airs.{moment_of as told_moment};
+ghost use Rattle.its_scenario.specs.declared.event.FileEvent.{FileEvent};
 ghost use Rattle.its_world.specs.Events.{event_of, what_of, IsInRange};
 ghost use Rattle.its_air.specs.AirRun.{AreDue};
 ghost use Rattle.its_air.specs.Queues.{ComesFirst, IsFileFirst, IsTaken, waiting_cmp};
-ghost use Rattle.its_air.specs.Queues.{happening_of, happenings_in, moment_of, own_of};
+ghost use Rattle.its_air.specs.Queues.{happening_of, filed_in, filed_of, moment_of, own_of};
+ghost use Rattle.its_air.specs.Queues.{is_tick_at, is_send_at, IsFiledInRange};
+ghost use Rattle.its_air.specs.Timetable.{is_delivery, is_tick, is_numbered};
+ghost use Rattle.its_air.specs.Traffics.{traffic_in};
 ghost use Rattle.its_air.specs.Waits.{IsLeft};
 
 use crate::fault::AirFault;
-use its_scenario::Traffic;
+use its_scenario::{FileEvent, Traffic};
 use its_station::OwnedShbRequest;
 use its_world::{Event, What};
 use std::alloc::{AllocError, Global};
@@ -33,11 +37,35 @@ pub(crate) enum Own {
     Tick(u16),
     /// The delivery of the frame of this number.
     Deliver(usize),
-    /// A send of this traffic.
-    Send(Traffic),
+    /// A send of the traffic of this number.
+    Send(usize, Traffic),
 }
 
 impl Own {
+    /// Whether it is a delivery.
+    pub(crate) fn is_delivery(&self) -> bool
+        ensures { result ≡ is_delivery (own_of self.now) }
+    {
+        matches!(self, Own::Deliver(_))
+    }
+
+    /// Whether it is a tick.
+    fn is_tick(&self) -> bool
+        ensures { result ≡ is_tick (own_of self.now) }
+    {
+        matches!(self, Own::Tick(_))
+    }
+
+    /// Whether it is a send of the traffic of a number.
+    fn is_send_of(&self, number: usize) -> bool
+        ensures { result ≡ is_numbered number (traffic_in self.now) }
+    {
+        match self {
+            Own::Send(of, _) => *of == number,
+            _ => false,
+        }
+    }
+
     /// What happens in the world.
     fn what(&self, alloc: Global) -> Result<What, AllocError>
         ensures what { IfOk result (λ what. what_of what ≡ own_of self.now) }
@@ -46,7 +74,7 @@ impl Own {
         Ok(match self {
             Own::Tick(jitter) => What::Tick(*jitter),
             Own::Deliver(frame) => What::Deliver(*frame),
-            Own::Send(traffic) => What::SendShb(OwnedShbRequest {
+            Own::Send(_, traffic) => What::SendShb(OwnedShbRequest {
                 port: traffic.port,
                 info: traffic.info,
                 class: traffic.class,
@@ -56,8 +84,8 @@ impl Own {
     }
 }
 
-/// An event of the air's own. The one that comes first is the greatest: of two the one of the lesser
-/// moment, of one moment the one that was put first.
+/// An event of the air's own. The one that comes first is the greatest: of two the one of the
+/// lesser moment, of one moment the one that was put first.
 #[derive(Clone, Copy, Debug)]
 pub(crate) struct Waiting {
     /// The moment, in milliseconds.
@@ -131,52 +159,53 @@ impl Waiting {
 /// What is taken.
 #[derive(Debug)]
 pub(crate) enum Next<'a> {
-    OfFile(&'a Event),
+    OfFile(&'a FileEvent),
     Own(Waiting),
 }
 
-/// All that waits. The events of the file were put before all others, so of one moment they come
-/// first.
+/// All that waits. The events and leaves of the file were put before all others, so of one moment
+/// they come first.
 #[derive(Debug, Drop)]
 pub(crate) struct Queue<'a> {
-    /// The events of the file up to the last moment, in the order in which they are run.
-    due: Vec<&'a Event>,
+    /// The events and leaves of the file up to the last moment, in the order in which they are
+    /// taken.
+    due: Vec<&'a FileEvent>,
     /// How many of these were taken.
     taken: usize,
     own: BinaryHeap<Waiting>,
     /// How many of the air's own were put.
     put: u64,
     until: u64,
-    ghost within: { All (λ event. event.now.moment ≤ until) due.items },
+    ghost within: { All (λ filed. told_moment filed.now ≤ until) due.items },
     ghost last: { until ≤ 2 ^ 63 + 10000 },
     ghost ordered: { IsHeap (then_cmp (flip_args (on (λ w. w.moment) nat_cmp))
         (flip_args (on (λ w. w.place) nat_cmp))) (heap_items own) } by { Prim.hlevel props },
 }
 
 impl<'a> Queue<'a> {
-    /// The events of a file up to a moment.
+    /// The events and leaves of a file up to a moment.
     pub(crate) fn of_file(
         alloc: Global,
-        events: &'a [Event],
+        file: &'a [FileEvent],
         until: u64,
     ) -> Result<Queue<'a>, AllocError>
         requires last { until ≤ 2 ^ 63 + 10000 }
-        requires ranges { All (λ event. IsInRange event.what) events.now }
+        requires ranges { All IsFiledInRange file.now }
         ensures due { IfOk result (λ queue.
-            AreDue (map event_of events.now) until (happenings_in queue.due.items)) }
+            AreDue (map filed_of file.now) until (filed_in queue.due.items)) }
         ensures start { IfOk result (λ queue. queue.taken ≡ 0) }
         ensures empty { IfOk result (λ queue. (heap_items queue.own ≡ []) × (queue.put ≡ 0)
             × (queue.until ≡ until)) }
         ensures ranges { IfOk result (λ queue.
-            All (λ event. IsInRange event.now.what) queue.due.items) }
+            All (λ filed. IsFiledInRange filed.now) queue.due.items) }
     {
         let mut due = Vec::new(alloc);
-        for event in events {
-            if event.moment <= until {
-                due.push(event)?;
+        for filed in file {
+            if filed.moment() <= until {
+                due.push(filed)?;
             }
         }
-        due.sort_by_key(|event| event.moment)?;
+        due.sort_by_key(|filed| filed.moment())?;
         Ok(Queue {
             due,
             taken: 0,
@@ -228,18 +257,18 @@ impl<'a> Queue<'a> {
         ensures put { self.new.put ≡ self.old.put }
         ensures moment { IfSome result (λ next. moment_of next ≤ self.old.until) }
         ensures first { IfSome result (λ next. ComesFirst next (heap_items self.new.own)) }
-        ensures file_first { (e : Bor Event) →
+        ensures file_first { (e : Bor FileEvent) →
             slice_get self.old.due.items self.old.taken ≡ Some e →
-            IfSome result (IsFileFirst e.now.moment) }
+            IfSome result (IsFileFirst (told_moment e.now)) }
     {
         match self.due.as_slice().get(self.taken) {
-            Some(event) => {
-                let event = *event;
-                match self.take_before(event.moment) {
+            Some(filed) => {
+                let filed = *filed;
+                match self.take_before(filed.moment()) {
                     Some(own) => Some(Next::Own(own)),
                     None => {
                         self.taken += 1;
-                        Some(Next::OfFile(event))
+                        Some(Next::OfFile(filed))
                     }
                 }
             }
@@ -248,6 +277,20 @@ impl<'a> Queue<'a> {
                 None => None,
             },
         }
+    }
+
+    /// Whether no tick of the air's own waits at a station.
+    pub(crate) fn has_no_tick(&self, station: usize) -> bool
+        ensures { result ≡ (count_by (is_tick_at station) (heap_items self.now.own) == 0) }
+    {
+        count_ticks(self.own.as_slice(), station) == 0
+    }
+
+    /// Whether no send of the traffic of a number waits at a station.
+    pub(crate) fn has_no_send(&self, number: usize, station: usize) -> bool
+        ensures { result ≡ (count_by (is_send_at number station) (heap_items self.now.own) == 0) }
+    {
+        count_sends(self.own.as_slice(), number, station) == 0
     }
 
     /// Takes the first of the air's own, if its moment lies before this one.
@@ -270,4 +313,30 @@ impl<'a> Queue<'a> {
             _ => None,
         }
     }
+}
+
+/// How many of these are ticks at a station.
+fn count_ticks(own: &[Waiting], station: usize) -> usize
+    ensures count { result ≡ count_by (is_tick_at station) own.now }
+{
+    let mut ticks = 0;
+    for waiting in own {
+        if waiting.own.is_tick() && waiting.station == station {
+            ticks += 1;
+        }
+    }
+    ticks
+}
+
+/// How many of these are sends of the traffic of a number by a station.
+fn count_sends(own: &[Waiting], number: usize, station: usize) -> usize
+    ensures count { result ≡ count_by (is_send_at number station) own.now }
+{
+    let mut sends = 0;
+    for waiting in own {
+        if waiting.own.is_send_of(number) && waiting.station == station {
+            sends += 1;
+        }
+    }
+    sends
 }

@@ -3,9 +3,7 @@
 use crate::field::Field;
 use crate::moment::Moment;
 use crate::text::Text;
-use its_geometry::{Area, Shape};
-use its_headers::{Kind, PacketView};
-use its_json::{Digits, Octets};
+use its_frame_text::{FrameKeys, MessageKeys, TargetKeys};
 use its_linkframe::FrameView;
 use serde::Serialize;
 use std::alloc::AllocError;
@@ -15,88 +13,33 @@ use std::alloc::AllocError;
 #[derive(Clone, Copy, Serialize)]
 pub(crate) struct FrameLine<'a> {
     moment: Moment,
-    from: Digits<6>,
-    to: Digits<6>,
-    kind: &'static str,
-    address: Digits<8>,
-    tst: u32,
-    lat: i32,
-    lon: i32,
-    pai: bool,
-    speed: i16,
-    heading: u16,
-    lt: u8,
-    tc: u8,
-    mobile: bool,
-    hops: u8,
-    max_hops: u8,
     #[serde(flatten)]
-    target: Option<Target>,
-    #[serde(flatten)]
-    message: Option<Message<'a>>,
-}
-
-/// Where a packet for an area goes, and its number.
-#[derive(Clone, Copy, Serialize)]
-struct Target {
-    number: u16,
-    shape: &'static str,
-    alat: i32,
-    alon: i32,
-    a: u16,
-    b: u16,
-    angle: u16,
-}
-
-/// What is sent to a port.
-#[derive(Clone, Copy, Serialize)]
-struct Message<'a> {
-    port: u16,
-    info: u16,
-    payload: Octets<'a>,
+    keys: FrameKeys<'a>,
 }
 
 impl<'a> FrameLine<'a> {
     pub(crate) fn of(moment: Moment, frame: &FrameView<'a>) -> FrameLine<'a> {
-        let packet = &frame.packet;
-        let vector = packet.vector();
-        let place = vector.place();
         FrameLine {
             moment,
-            from: Digits(frame.from.octets()),
-            to: Digits(frame.to.octets()),
-            kind: kind_word(packet.kind()),
-            address: Digits(vector.address().as_u64().to_be_bytes()),
-            tst: vector.tst(),
-            lat: place.lat(),
-            lon: place.lon(),
-            pai: vector.pai(),
-            speed: vector.speed(),
-            heading: vector.heading(),
-            lt: packet.lifetime().octet(),
-            tc: packet.class().octet(),
-            mobile: packet.mobile(),
-            hops: packet.hops().left(),
-            max_hops: packet.hops().max(),
-            target: Target::of(packet),
-            message: Message::of(packet.payload()),
+            keys: FrameKeys::of(frame),
         }
     }
 
     /// Adds its words to a text, with a line feed after them.
     pub(crate) fn add_to(&self, text: &mut Text) -> Result<(), AllocError> {
+        let keys = &self.keys;
         self.moment.add_to(text)?;
-        text.digits(" ", &self.from.0)?;
-        text.digits(" ", &self.to.0)?;
+        text.digits(" ", &keys.from.0)?;
+        text.digits(" ", &keys.to.0)?;
         text.word(" ")?;
-        text.word(self.kind)?;
-        self.add_vector_to(text)?;
-        self.add_header_to(text)?;
-        if let Some(target) = &self.target {
-            target.add_to(text)?;
+        text.word(keys.kind)?;
+        add_vector(keys, text)?;
+        add_header(keys, text)?;
+        if let Some(target) = &keys.target {
+            add_target(target, text)?;
         }
-        if let Some(message) = &self.message {
-            message.add_to(text)?;
+        if let Some(message) = &keys.message {
+            add_message(message, text)?;
         }
         text.word("\n")
     }
@@ -109,154 +52,112 @@ impl<'a> FrameLine<'a> {
     /// Adds the value of a key to a text, as JSON has it without quotation marks; nothing where it
     /// has no such key.
     pub(crate) fn add_value_to(&self, field: Field, text: &mut Text) -> Result<(), AllocError> {
+        let keys = &self.keys;
         match field {
             Field::Moment => self.moment.add_to(text),
-            Field::From => text.digits("", &self.from.0),
-            Field::To => text.digits("", &self.to.0),
-            Field::Kind => text.word(self.kind),
-            Field::Address => text.digits("", &self.address.0),
-            Field::Tst => text.number("", self.tst),
-            Field::Lat => text.number("", self.lat),
-            Field::Lon => text.number("", self.lon),
-            Field::Pai => text.word(truth_word(self.pai)),
-            Field::Speed => text.number("", self.speed),
-            Field::Heading => text.number("", self.heading),
-            Field::Lt => text.number("", self.lt),
-            Field::Tc => text.number("", self.tc),
-            Field::Mobile => text.word(truth_word(self.mobile)),
-            Field::Hops => text.number("", self.hops),
-            Field::MaxHops => text.number("", self.max_hops),
+            Field::From => text.digits("", &keys.from.0),
+            Field::To => text.digits("", &keys.to.0),
+            Field::Kind => text.word(keys.kind),
+            Field::Address => text.digits("", &keys.address.0),
+            Field::Tst => text.number("", keys.tst),
+            Field::Lat => text.number("", keys.lat),
+            Field::Lon => text.number("", keys.lon),
+            Field::Pai => text.word(truth_word(keys.pai)),
+            Field::Speed => text.number("", keys.speed),
+            Field::Heading => text.number("", keys.heading),
+            Field::Lt => text.number("", keys.lt),
+            Field::Tc => text.number("", keys.tc),
+            Field::Mobile => text.word(truth_word(keys.mobile)),
+            Field::Hops => text.number("", keys.hops),
+            Field::MaxHops => text.number("", keys.max_hops),
             _ => self.add_part_to(field, text),
         }
     }
 
     /// The same of a key that only some kinds have.
     fn add_part_to(&self, field: Field, text: &mut Text) -> Result<(), AllocError> {
-        if let Some(target) = &self.target {
-            target.add_value_to(field, text)?;
+        if let Some(target) = &self.keys.target {
+            add_target_value(target, field, text)?;
         }
-        if let Some(message) = &self.message {
-            message.add_value_to(field, text)?;
+        if let Some(message) = &self.keys.message {
+            add_message_value(message, field, text)?;
         }
         Ok(())
     }
+}
 
-    fn add_vector_to(&self, text: &mut Text) -> Result<(), AllocError> {
-        text.digits(" ", &self.address.0)?;
-        text.number(" tst ", self.tst)?;
-        text.number(" lat ", self.lat)?;
-        text.number(" lon ", self.lon)?;
-        text.number(" pai ", self.pai as u8)?;
-        text.number(" speed ", self.speed)?;
-        text.number(" heading ", self.heading)
+/// Adds where the source was, how fast and in what direction it moved, and when.
+fn add_vector(keys: &FrameKeys<'_>, text: &mut Text) -> Result<(), AllocError> {
+    text.digits(" ", &keys.address.0)?;
+    text.number(" tst ", keys.tst)?;
+    text.number(" lat ", keys.lat)?;
+    text.number(" lon ", keys.lon)?;
+    text.number(" pai ", keys.pai as u8)?;
+    text.number(" speed ", keys.speed)?;
+    text.number(" heading ", keys.heading)
+}
+
+/// Adds what the headers before that say of every packet.
+fn add_header(keys: &FrameKeys<'_>, text: &mut Text) -> Result<(), AllocError> {
+    text.digits(" lt ", &[keys.lt])?;
+    text.digits(" tc ", &[keys.tc])?;
+    text.number(" mobile ", keys.mobile as u8)?;
+    text.number(" hops ", keys.hops)?;
+    text.number("/", keys.max_hops)
+}
+
+/// Adds where a packet for an area goes, and its number.
+fn add_target(target: &TargetKeys, text: &mut Text) -> Result<(), AllocError> {
+    text.number(" number ", target.number)?;
+    text.word(" ")?;
+    text.word(target.shape)?;
+    text.number(" ", target.alat)?;
+    text.number(" ", target.alon)?;
+    text.number(" ", target.a)?;
+    text.number(" ", target.b)?;
+    text.number(" ", target.angle)
+}
+
+/// Adds one value of these.
+fn add_target_value(target: &TargetKeys, field: Field, text: &mut Text) -> Result<(), AllocError> {
+    match field {
+        Field::Number => text.number("", target.number),
+        Field::Shape => text.word(target.shape),
+        Field::Alat => text.number("", target.alat),
+        Field::Alon => text.number("", target.alon),
+        Field::A => text.number("", target.a),
+        Field::B => text.number("", target.b),
+        Field::Angle => text.number("", target.angle),
+        _ => Ok(()),
     }
+}
 
-    fn add_header_to(&self, text: &mut Text) -> Result<(), AllocError> {
-        text.digits(" lt ", &[self.lt])?;
-        text.digits(" tc ", &[self.tc])?;
-        text.number(" mobile ", self.mobile as u8)?;
-        text.number(" hops ", self.hops)?;
-        text.number("/", self.max_hops)
+/// Adds what is sent to a port.
+fn add_message(message: &MessageKeys<'_>, text: &mut Text) -> Result<(), AllocError> {
+    text.number(" port ", message.port)?;
+    text.number(" info ", message.info)?;
+    if message.payload.0.is_empty() {
+        text.word(" -")
+    } else {
+        text.digits(" ", message.payload.0)
+    }
+}
+
+/// Adds one value of these.
+fn add_message_value(
+    message: &MessageKeys<'_>,
+    field: Field,
+    text: &mut Text,
+) -> Result<(), AllocError> {
+    match field {
+        Field::Port => text.number("", message.port),
+        Field::Info => text.number("", message.info),
+        Field::Payload => text.digits("", message.payload.0),
+        _ => Ok(()),
     }
 }
 
 /// A truth value in JSON.
 fn truth_word(is: bool) -> &'static str {
     if is { "true" } else { "false" }
-}
-
-/// The word of a kind of packet. The parts of its line follow from what the packet has.
-fn kind_word(kind: Kind) -> &'static str {
-    match kind {
-        Kind::Beacon => "beacon",
-        Kind::Shb => "shb",
-        Kind::Gbc => "gbc",
-        Kind::Gac => "gac",
-    }
-}
-
-fn shape_word(shape: Shape) -> &'static str {
-    match shape {
-        Shape::Circle => "circle",
-        Shape::Rectangle => "rectangle",
-        Shape::Ellipse => "ellipse",
-    }
-}
-
-impl Target {
-    /// Of a packet for an area alone.
-    fn of(packet: &PacketView<'_>) -> Option<Target> {
-        let (number, area) = (packet.number()?, packet.area()?);
-        Some(Target::in_area(number, area))
-    }
-
-    fn in_area(number: u16, area: Area) -> Target {
-        let centre = area.centre();
-        Target {
-            number,
-            shape: shape_word(area.shape()),
-            alat: centre.lat(),
-            alon: centre.lon(),
-            a: area.a(),
-            b: area.b(),
-            angle: area.angle(),
-        }
-    }
-
-    fn add_value_to(&self, field: Field, text: &mut Text) -> Result<(), AllocError> {
-        match field {
-            Field::Number => text.number("", self.number),
-            Field::Shape => text.word(self.shape),
-            Field::Alat => text.number("", self.alat),
-            Field::Alon => text.number("", self.alon),
-            Field::A => text.number("", self.a),
-            Field::B => text.number("", self.b),
-            Field::Angle => text.number("", self.angle),
-            _ => Ok(()),
-        }
-    }
-
-    fn add_to(&self, text: &mut Text) -> Result<(), AllocError> {
-        text.number(" number ", self.number)?;
-        text.word(" ")?;
-        text.word(self.shape)?;
-        text.number(" ", self.alat)?;
-        text.number(" ", self.alon)?;
-        text.number(" ", self.a)?;
-        text.number(" ", self.b)?;
-        text.number(" ", self.angle)
-    }
-}
-
-impl<'a> Message<'a> {
-    /// Port, info and what follows the BTP-B header, where there is a payload.
-    fn of(payload: &'a [u8]) -> Option<Message<'a>> {
-        let [port_high, port_low, info_high, info_low, rest @ ..] = payload else {
-            return None;
-        };
-        Some(Message {
-            port: u16::from_be_bytes([*port_high, *port_low]),
-            info: u16::from_be_bytes([*info_high, *info_low]),
-            payload: Octets(rest),
-        })
-    }
-
-    fn add_value_to(&self, field: Field, text: &mut Text) -> Result<(), AllocError> {
-        match field {
-            Field::Port => text.number("", self.port),
-            Field::Info => text.number("", self.info),
-            Field::Payload => text.digits("", self.payload.0),
-            _ => Ok(()),
-        }
-    }
-
-    fn add_to(&self, text: &mut Text) -> Result<(), AllocError> {
-        text.number(" port ", self.port)?;
-        text.number(" info ", self.info)?;
-        if self.payload.0.is_empty() {
-            text.word(" -")
-        } else {
-            text.digits(" ", self.payload.0)
-        }
-    }
 }

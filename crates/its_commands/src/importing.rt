@@ -7,8 +7,9 @@ ghost use Rattle.its_linkframe.specs.Captures.{IsFrameLength};
 ghost use Rattle.its_commands.specs.Lines.{HasFrame, lines_fault_status};
 ghost use Rattle.its_reporting.specs.Statuses.{IsStopped, IsWriterStatus};
 
+use its_frame_text::Explanation;
 use its_linkframe::{CaptureWriter, Counted, LONGEST_FRAME, Record};
-use its_reporting::{Explanation, Fault, Line, OutputFormat, Passed, Status, are_digits};
+use its_reporting::{Fault, Line, OutputFormat, Passed, Status, are_digits};
 use std::alloc::{AllocError, AllocFailed, Global};
 use std::io::{BufRead, Write};
 use std::str;

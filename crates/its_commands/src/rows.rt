@@ -35,8 +35,8 @@ impl Rows {
         })
     }
 
-    /// Puts the row of a frame into the text.
-    fn put_frame(&mut self, frame: &FrameLine<'_>) -> Result<(), AllocError> {
+    /// Adds the row of a frame to the text.
+    fn add_frame(&mut self, frame: &FrameLine<'_>) -> Result<(), AllocError> {
         let mut part = "";
         for field in self.fields.iter() {
             self.text.word(part)?;
@@ -46,8 +46,8 @@ impl Rows {
         self.text.word("\n")
     }
 
-    /// Puts the row of a refused record into the text.
-    fn put_refused(&mut self, moment: Moment, fault: RecordFault) -> Result<(), AllocError> {
+    /// Adds the row of a refused record to the text.
+    fn add_refused(&mut self, moment: Moment, fault: RecordFault) -> Result<(), AllocError> {
         let mut part = "";
         for field in self.fields.iter() {
             self.text.word(part)?;
@@ -74,8 +74,8 @@ impl RecordVisitor for Rows {
         let moment = self.clock.next(place);
         self.text.clear();
         match frame {
-            Ok(frame) => self.put_frame(&FrameLine::of(moment, &frame))?,
-            Err(fault) => self.put_refused(moment, fault)?,
+            Ok(frame) => self.add_frame(&FrameLine::of(moment, &frame))?,
+            Err(fault) => self.add_refused(moment, fault)?,
         }
         out.write_all(self.text.as_bytes())?;
         Ok(())

@@ -1,9 +1,9 @@
 //! What `show` and `check` tell beside frames: refused records, and a count. Each prints as its line of words, and is an object in JSON of the same values.
 
 use crate::moment::Moment;
+use its_frame_text::Explanation;
 use its_json::Printed;
 use its_records::{RecordCode, RecordFault};
-use its_reporting::Explanation;
 use serde::Serialize;
 use std::fmt;
 

@@ -1,6 +1,11 @@
-//! What lines tell of a frame: its fields, by the keys that objects have for them.
+//! What lines tell of a frame: its fields, by the keys that objects have for them, its octets, and
+//! why octets are none.
 #![tactic(auto)]
 
+mod explanation;
 mod frame_keys;
+mod hexadecimal;
 
+pub use explanation::{Explanation, FrameReason};
 pub use frame_keys::{FrameKeys, MessageKeys, TargetKeys};
+pub use hexadecimal::Hex;

@@ -1,60 +1,25 @@
 //! A call of a station, and what comes of its reply.
 
-ghost use Rattle.std.specs.Prelude.{◌≡◌, ◌∷◌, [], ℕ, Option, None, IfOk, IfSome, IsSomeAnd};
+ghost use Rattle.std.specs.Prelude.{◌≡◌, ◌∷◌, [], Option, None, IfOk};
 ghost use Rattle.its_model.specs.Packet.{Transmission};
-ghost use Rattle.its_model.specs.Calls.{Answer, OwnCall};
-ghost use Rattle.its_model.specs.Calls.Call.{Own};
+ghost use Rattle.its_model.specs.Calls.{Answer};
 ghost use Rattle.its_model.specs.Station.{StationModel};
 ghost use Rattle.its_model.specs.World.{entry_of, frame_of, numbered};
-ghost use Rattle.its_model.specs.World.What.{Calls, Deliver};
 ghost use Rattle.its_station.specs.Receiving.{IsRelay};
-ghost use Rattle.its_station.specs.Runs.{IsCall, IsInRange, IsIsolatedRunOf, TellsReply};
+ghost use Rattle.its_station.specs.Runs.{IsInRange, IsIsolatedRunOf, TellsReply};
 ghost use Rattle.its_station.specs.State.{RepresentsStation};
 ghost use Rattle.its_world.specs.Entries.{TellsEntry};
-ghost use Rattle.its_world.specs.Events.{what_of};
-ghost use Rattle.its_world.specs.Events as events;
 
 use its_gnvalue::NoMemory;
 use its_loctable::SortedTable;
 use its_station::{Call, Reply, Station};
-use its_world::{Entry, EntryFault, What};
+use its_world::{Entry, EntryFault};
 
 /// What comes of a call: the entry of its line, and the frame that is sent, if one is.
 #[derive(Drop)]
 pub(crate) struct CallOutcome {
     pub(crate) entry: Entry,
     pub(crate) frame: Option<Vec<u8>>,
-}
-
-/// The call that an event asks of its station: none where it delivers a frame.
-pub(crate) fn call_of(what: What) -> Option<Call>
-    requires { events.IsInRange what }
-    ensures call { (own : OwnCall) → what_of what ≡ Calls own
-        → IsSomeAnd result (λ call. IsCall call (Own own)) }
-    ensures delivery { (frame : ℕ) → what_of what ≡ Deliver frame → result ≡ None }
-    ensures range { IfSome result IsInRange }
-{
-    match what {
-        What::MoveTo {
-            place,
-            pai,
-            speed,
-            heading,
-        } => Some(Call::MoveTo {
-            place,
-            pai,
-            speed,
-            heading,
-        }),
-        What::Open(port) => Some(Call::Open(port)),
-        What::Close(port) => Some(Call::Close(port)),
-        What::Tick(jitter) => Some(Call::Tick(jitter)),
-        What::SendShb(request) => Some(Call::SendShb(request)),
-        What::SendGeobroadcast(request) => Some(Call::SendGeobroadcast(request)),
-        What::SendGeoanycast(request) => Some(Call::SendGeoanycast(request)),
-        What::Restart(number) => Some(Call::Restart(number)),
-        What::Deliver(_) => None,
-    }
 }
 
 /// Makes one call at a moment. `NoMemory` where an allocation failed.

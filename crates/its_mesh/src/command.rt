@@ -9,8 +9,8 @@ use crate::fault::MeshFault;
 use crate::mesh::Mesh;
 use crate::sockets::Sockets;
 use crate::udp::UdpSockets;
-use its_reporting::{OutputFormat, Status, Target, create, keep_apart, open};
-use its_runs::{FrameFile, FrameTarget, frame_target, read_scenario_without_air};
+use its_reporting::{FrameFile, OutputFormat, Status, Target, create, keep_apart, open};
+use its_runs::{FrameTarget, frame_target, read_scenario_without_air};
 use its_scenario::Scenario;
 use std::alloc::Global;
 use std::io::{Read, Write};
@@ -33,8 +33,9 @@ pub struct MeshOptions {
 /// Runs the scenario in the file, of at most 64 stations, each with a UDP socket on 127.0.0.1 at a
 /// port that the system picks. Prints a line for each event but `deliver`, and for each datagram
 /// that comes: its moment, its station and what is told of it. In JSON the stations have a line
-/// before. `input` is standard input, which is read where the file is `-`. With `frames` each frame that a station gives is also written to that
-/// file, at the moment of its line; it is created once the scenario is read.
+/// before. `input` is standard input, which is read where the file is `-`. With `frames` each frame
+/// that a station gives is also written to that file, at the moment of its line; it is created once
+/// the scenario is read.
 ///
 /// `BadArguments`, before anything is opened, where nothing says that file's format or its name is
 /// `-`, and before it is created where it is the scenario's own file. `Refused` for a text that is
@@ -84,7 +85,7 @@ where
 {
     let reader = open(rt, file, input, options.lines, err)?;
     let mut sockets = UdpSockets::new(rt, rt.alloc());
-    Ok(mesh(rt.alloc(), file, reader, options, &mut sockets, out, err))
+    Ok(mesh_over(rt.alloc(), file, reader, options, &mut sockets, out, err))
 }
 
 /// Reads the scenario, and only then creates the file of frames. An `Err` is the status of what
@@ -123,8 +124,8 @@ where
 }
 
 /// The command over a reader, and over the sockets of the stations, of which there is none yet.
-/// `file` is the name of what is read.
-pub(crate) fn mesh<R: Read + Drop, S: Sockets, W: Write, E: Write>(
+/// `file` is the name of what is read. It ends as `mesh_file` without frames does.
+pub fn mesh_over<R: Read + Drop, S: Sockets, W: Write, E: Write>(
     alloc: Global,
     file: &str,
     reader: R,

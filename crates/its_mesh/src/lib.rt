@@ -9,11 +9,9 @@ mod fault;
 mod lines;
 mod mesh;
 mod rounds;
-#[cfg(test)]
-mod scripted;
 mod sockets;
-#[cfg(test)]
-mod tests;
 mod udp;
 
-pub use command::{MeshOptions, mesh_file};
+pub use command::{MeshOptions, mesh_file, mesh_over};
+pub use sockets::{Received, Sent, Sockets};
+pub use udp::UdpSockets;

@@ -11,14 +11,14 @@ ghost use Rattle.its_world.specs.State.{RepresentStations};
 ghost use Rattle.its_mesh.specs.Stations.{AreStations, IsCalled};
 ghost use Rattle.its_mesh.specs.Statuses.{mesh_status};
 
-use crate::answers::{CallOutcome, answer, call_of, call_word, done_entry, no_station, outcome_of};
+use crate::answers::{CallOutcome, answer, call_word, done_entry, no_station, outcome_of};
 use crate::fault::{MeshFault, SocketFault, fault_of_lines};
 use crate::lines::{print_call, print_stations};
 use crate::sockets::{Sent, Sockets};
 use its_gnvalue::NoMemory;
 use its_loctable::SortedTable;
-use its_reporting::{Fault, OutputFormat, Status};
-use its_runs::{FrameFile, is_done};
+use its_reporting::{Fault, FrameFile, OutputFormat, Status};
+use its_runs::is_done;
 use its_simulation::SimulationFault;
 use its_station::{Call, Station};
 use its_world::{Config, Entry, Event, stations_of};
@@ -96,7 +96,7 @@ impl<'a, 't, S: Sockets, W: Write, E: Write, F: Write + Drop> Mesh<'a, 't, S, W,
             → OnOk result (AreStations self.new.stations.items) }
     {
         for event in events {
-            if let Some(call) = call_of(event.what) {
+            if let Some(call) = event.what.into_call() {
                 self.moment = self.moment.max(event.moment);
                 self.call(event.station, event.moment, call)?;
                 self.rounds()?;

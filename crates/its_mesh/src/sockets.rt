@@ -7,7 +7,7 @@ use std::io;
 
 /// What came of a send.
 #[derive(Clone, Copy, Debug, PartialEq, Eq)]
-pub(crate) enum Sent {
+pub enum Sent {
     Done,
     WouldBlock,
     Failed,
@@ -15,7 +15,7 @@ pub(crate) enum Sent {
 
 /// What came of a receive.
 #[derive(Clone, Copy, Debug, PartialEq, Eq)]
-pub(crate) enum Received {
+pub enum Received {
     /// A datagram: so many octets at the start of the buffer. What has no room there is cut off.
     Done(usize),
     WouldBlock,
@@ -23,7 +23,7 @@ pub(crate) enum Received {
 }
 
 /// A socket for each station, numbered from 0 in the order in which they are made.
-pub(crate) trait Sockets {
+pub trait Sockets {
     /// What they say of having been asked for so many datagrams. Sockets that don't count may say
     /// nothing of it.
     ghost Asked: { Self → ℕ → Type 0 };

@@ -8,14 +8,14 @@ use std::net::{Ipv4Addr, Net, SocketAddr};
 
 /// A socket on 127.0.0.1 for each station, at a port that the system picks.
 #[derive(Drop)]
-pub(crate) struct UdpSockets<'a, R> {
+pub struct UdpSockets<'a, R> {
     rt: &'a R,
     sockets: Vec<(UdpSocket, SocketAddr)>,
 }
 
 impl<'a, R: Net> UdpSockets<'a, R> {
     /// No socket yet.
-    pub(crate) fn new(rt: &'a R, alloc: Global) -> UdpSockets<'a, R> {
+    pub fn new(rt: &'a R, alloc: Global) -> UdpSockets<'a, R> {
         UdpSockets {
             rt,
             sockets: Vec::new(alloc),

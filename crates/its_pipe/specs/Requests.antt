@@ -190,8 +190,3 @@ IsBadCallKeyOf members key_faults.OutOfMemory = Unit {0}
 abbrev pub IsBadOf : Option ℕ → Data → ReadFault → Type 0
 IsBadOf now members (read_faults.Bad fault) = AsksIn now members (asks.Bad fault)
 IsBadOf now members read_faults.OutOfMemory = Unit {0}
-
--- a call that is no frame that came
-abbrev pub IsOwn : Call → Type 0
-IsOwn (calls.Receive frame) = ⊥
-IsOwn call = Unit {0}

@@ -4,14 +4,15 @@ ghost use Rattle.std.specs.Prelude.{IfOk};
 ghost use Rattle.its_json.specs.Lines.{IsLine};
 
 use crate::fault::PipeFault;
-use crate::reason::{LineReason, RefusedReason};
+use crate::reason::LineReason;
 use crate::request::{Id, LineFault};
 use crate::response::{Done, Known, Response, ResponseSink};
-use its_frame_text::FrameKeys;
+use its_answer_text::{RefusedReason, delivery_keys, why_word};
+use its_frame_text::{FrameKeys, MessageKeys};
 use its_gnvalue::{GnAddress, LongPv};
 use its_json::{Digits, JsonFault, JsonLine, Octets, Printed};
 use its_linkframe::{FrameCode, FrameFault, read_frame};
-use its_station::{Counts, Delivery, Refused, RefusedCode, Reply, Why};
+use its_station::{Counts, Refused, RefusedCode, Reply};
 use serde::{Described, Serialize, Serializer};
 use std::alloc::{AllocError, Global};
 use std::io::Write;
@@ -123,29 +124,11 @@ struct ReplyLine<'a> {
     #[serde(skip_serializing_if = "Option::is_none")]
     code: Option<Printed<RefusedCode>>,
     #[serde(flatten)]
-    delivered: Option<Delivered<'a>>,
+    delivered: Option<MessageKeys<'a>>,
     #[serde(skip_serializing_if = "Option::is_none")]
     frame: Option<Octets<'a>>,
     #[serde(skip_serializing_if = "Option::is_none")]
     reason: Option<Printed<RefusedReason>>,
-}
-
-/// What was delivered to a port.
-#[derive(Clone, Copy, Serialize)]
-struct Delivered<'a> {
-    port: u16,
-    info: u16,
-    payload: Octets<'a>,
-}
-
-impl<'a> Delivered<'a> {
-    fn of(delivery: &'a Delivery) -> Delivered<'a> {
-        Delivered {
-            port: delivery.port,
-            info: delivery.info,
-            payload: Octets(delivery.payload.as_slice()),
-        }
-    }
 }
 
 impl<'a> ReplyLine<'a> {
@@ -170,7 +153,7 @@ impl<'a> ReplyLine<'a> {
                 ..line
             },
             Reply::Accepted { handed, sent } => ReplyLine {
-                delivered: handed.as_ref().map(Delivered::of),
+                delivered: handed.as_ref().map(delivery_keys),
                 frame: sent.as_ref().map(octets_of),
                 ..line
             },
@@ -454,15 +437,5 @@ fn reply_word(done: Done, reply: &Reply) -> &'static str {
         Reply::Ignored(_) => "ignored",
         Reply::Accepted { .. } => "accepted",
         Reply::Refused(_) => REFUSED,
-    }
-}
-
-/// The word for why a frame is ignored.
-fn why_word(why: Why) -> &'static str {
-    match why {
-        Why::NotForMe => "not-for-me",
-        Why::OwnSource => "own-source",
-        Why::SenderMismatch => "sender-mismatch",
-        Why::Duplicate => "duplicate",
     }
 }

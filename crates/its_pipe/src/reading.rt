@@ -1,18 +1,13 @@
 //! Reading what a line asks for.
 
 ghost use Rattle.std.specs.Prelude.{◌≡◌, ◌↔◌, ◌⊎◌, ℕ, List, IfOk, IfErr, IfSome, IsSome, IfNone};
-ghost use Rattle.std.specs.Prelude.{IsSomeAnd, OnErr, None, Some};
-ghost use Rattle.its_model.specs.Calls.{OwnCall};
-ghost use Rattle.its_model.specs.Calls.Call.{Own};
-ghost use Rattle.its_model.specs.World.What.{Calls};
+ghost use Rattle.std.specs.Prelude.{OnErr, None, Some};
 ghost use Rattle.serde_json.specs.View.{view};
-ghost use Rattle.its_station.specs.Runs.{IsCall, IsInRange};
-ghost use Rattle.its_world.specs.Events.{what_of};
-ghost use Rattle.its_world.specs.Events as events;
+ghost use Rattle.its_station.specs.Runs.{IsInRange};
 ghost use Rattle.its_pipe.specs.Requests.{Asks, AsksCall, AsksIn, AsksOf, AsksQuery, IsAskedIn};
 ghost use Rattle.its_pipe.specs.Requests.{IsAskedAt, IsBadOf, IsBadCallKeyOf, IsFrameKey, IsFrameText, IsId};
 ghost use Rattle.its_pipe.specs.Requests.{IsIdFault, IsJitter, IsJsonObject, IsMomentFault, IsMomentOf, IsObject};
-ghost use Rattle.its_pipe.specs.Requests.{IsOfQuery, IsOwn, IsQueryFault, line_of};
+ghost use Rattle.its_pipe.specs.Requests.{IsOfQuery, IsQueryFault, line_of};
 
 use crate::lines::is_blank;
 use crate::members::Members;
@@ -20,7 +15,6 @@ use crate::request::{Asked, Id, LineFault, Query, QueryKey, Request};
 use its_gnvalue::GnAddress;
 use its_scenario::{Fields, Key, KeyFault, Wrong, read_what};
 use its_station::Call;
-use its_world::What;
 use serde_json::Value;
 use std::alloc::{AllocError, Global};
 
@@ -283,7 +277,10 @@ fn read_call(alloc: Global, members: &Members<'_>) -> Result<Call, KeyFault>
     match members.text("do") {
         Some("receive") => Ok(Call::Receive(read_frame(alloc, members)?)),
         Some("deliver") => Err(KeyFault::Refused(Key::Do, Wrong::Value)),
-        _ => call_of(read_what(alloc, members)?).ok_or(KeyFault::Refused(Key::Do, Wrong::Value)),
+        _ => {
+            let call = read_what(alloc, members)?.into_call();
+            call.ok_or(KeyFault::Refused(Key::Do, Wrong::Value))
+        }
     }
 }
 
@@ -306,36 +303,5 @@ fn read_frame(alloc: Global, members: &Members<'_>) -> Result<Vec<u8>, KeyFault>
         Ok(octets) => Ok(octets),
         Err(hex::FromHexError::OutOfMemory) => Err(KeyFault::OutOfMemory),
         Err(_) => Err(KeyFault::Refused(Key::Frame, Wrong::Value)),
-    }
-}
-
-/// The call that an event asks of its station: none where it delivers a frame.
-fn call_of(what: What) -> Option<Call>
-    requires { events.IsInRange what }
-    ensures call { (own : OwnCall) → what_of what ≡ Calls own
-        → IsSomeAnd result (λ call. IsCall call (Own own)) }
-    ensures own { IfSome result IsOwn }
-    ensures range { IfSome result IsInRange }
-{
-    match what {
-        What::MoveTo {
-            place,
-            pai,
-            speed,
-            heading,
-        } => Some(Call::MoveTo {
-            place,
-            pai,
-            speed,
-            heading,
-        }),
-        What::Open(port) => Some(Call::Open(port)),
-        What::Close(port) => Some(Call::Close(port)),
-        What::Tick(jitter) => Some(Call::Tick(jitter)),
-        What::SendShb(request) => Some(Call::SendShb(request)),
-        What::SendGeobroadcast(request) => Some(Call::SendGeobroadcast(request)),
-        What::SendGeoanycast(request) => Some(Call::SendGeoanycast(request)),
-        What::Restart(number) => Some(Call::Restart(number)),
-        What::Deliver(_) => None,
     }
 }

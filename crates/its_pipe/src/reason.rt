@@ -1,24 +1,8 @@
-//! Why a line can't be read or a call isn't done, as a sentence for a person.
+//! Why a line can't be read, as a sentence for a person.
 
 use crate::request::{LineFault, QueryKey};
-use its_linkframe::FrameFault;
 use its_scenario::{Key, Wrong, WrongOf};
-use its_station::Refused;
 use std::fmt;
-
-/// The sentence of a call that is refused. Of octets that are no frame it is theirs.
-#[derive(Clone, Copy, Debug, PartialEq, Eq)]
-pub(crate) struct RefusedReason(pub(crate) Refused);
-
-impl fmt::Display for RefusedReason {
-    fn fmt<W: fmt::Write>(&self, f: &mut fmt::Formatter<W>) -> fmt::Result {
-        match self.0 {
-            Refused::Frame(FrameFault::Packet(fault)) => write!(f, "{fault}"),
-            Refused::Frame(fault) => write!(f, "{fault}"),
-            refused => write!(f, "{refused}"),
-        }
-    }
-}
 
 /// The sentence of a line that can't be read. Places are told with their unit.
 #[derive(Clone, Copy, Debug, PartialEq, Eq)]

@@ -1,9 +1,10 @@
 //! Why a record or a capture is refused: a code, and a sentence for a person.
 
 use its_faults::FaultKind;
+use its_frame_text::FrameReason;
 use its_linkframe::{CaptureFault, FrameFault};
 use its_pcap::{Format, LinkFault, SourceFault};
-use its_reporting::{Fault, FrameReason};
+use its_reporting::Fault;
 use std::alloc::AllocError;
 use std::fmt;
 

@@ -1,7 +1,7 @@
 //! What is told of a file that is refused.
 
 use crate::refusal::FileFault;
-use its_reporting::Explanation;
+use its_frame_text::Explanation;
 use serde::Serialize;
 use std::fmt;
 

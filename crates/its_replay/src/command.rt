@@ -5,12 +5,11 @@ ghost use Rattle.its_reporting.specs.Statuses.{IsCommandStatus};
 ghost use Rattle.its_replay.specs.Units.{IsUnit};
 
 use crate::printing::Printer;
-use crate::relayed::RelayFile;
 use crate::replaying::replay_records;
 use crate::unit::Unit;
 use its_pcap::Format;
 use its_records::{FileFault, RefusedCapture, Selection, open_records};
-use its_reporting::{Fault, OutputFormat, Status, is_standard, status_of};
+use its_reporting::{Fault, FrameFile, OutputFormat, Status, is_standard, status_of};
 use std::alloc::Global;
 use std::io::{Read, Write};
 
@@ -45,12 +44,12 @@ pub fn replay<'a, R: Read + Drop, F: Write + Drop, W: Write, E: Write>(
     ensures { IsCommandStatus result }
 {
     let ended = match frames {
-        Some((writer, target, format)) => match RelayFile::start(writer, target, format) {
+        Some((writer, target, format)) => match FrameFile::start(alloc, writer, target, format, 1) {
             Ok(file) => replay_into(alloc, replay, reader, Some(file), out, err),
             Err(fault) => Err(fault),
         },
         None => {
-            let none: Option<RelayFile<'a, F>> = None;
+            let none: Option<FrameFile<'a, F>> = None;
             replay_into(alloc, replay, reader, none, out, err)
         }
     };
@@ -62,7 +61,7 @@ fn replay_into<'a, R: Read + Drop, F: Write + Drop, W: Write, E: Write>(
     alloc: Global,
     replay: &ReplayOptions<'a>,
     reader: R,
-    file: Option<RelayFile<'a, F>>,
+    file: Option<FrameFile<'a, F>>,
     out: &mut W,
     err: &mut E,
 ) -> Result<Status, Fault<'a>>

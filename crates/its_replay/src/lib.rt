@@ -7,7 +7,6 @@ mod heard;
 mod lines;
 mod on_air;
 mod printing;
-mod relayed;
 mod replaying;
 mod unit;
 

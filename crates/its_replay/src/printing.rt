@@ -1,10 +1,9 @@
 //! The lines of a replay, and the file of its frames.
 
 use crate::heard::{Heard, HeardSink};
-use crate::lines::Told;
-use crate::relayed::RelayFile;
+use crate::lines::ReplayLine;
 use its_json::JsonLine;
-use its_reporting::{Fault, OutputFormat};
+use its_reporting::{Fault, FrameFile, OutputFormat};
 use its_station::Reply;
 use serde::Serialize;
 use std::alloc::{AllocError, Global};
@@ -20,7 +19,7 @@ pub(crate) struct Printer<'p, 't, W, E, F: Write + Drop> {
     waits: bool,
     out: &'p mut W,
     err: &'p mut E,
-    pub(crate) file: Option<RelayFile<'t, F>>,
+    pub(crate) file: Option<FrameFile<'t, F>>,
     /// How many frames went on so far.
     frames: u64,
 }
@@ -31,7 +30,7 @@ impl<'p, 't, W: Write, E: Write, F: Write + Drop> Printer<'p, 't, W, E, F> {
         alloc: Global,
         lines: OutputFormat,
         waits: bool,
-        file: Option<RelayFile<'t, F>>,
+        file: Option<FrameFile<'t, F>>,
         out: &'p mut W,
         err: &'p mut E,
     ) -> Result<Printer<'p, 't, W, E, F>, AllocError> {
@@ -60,13 +59,12 @@ impl<'p, 't, W: Write, E: Write, F: Write + Drop> Printer<'p, 't, W, E, F> {
         Ok(())
     }
 
-    /// Numbers a frame that goes on, and writes it to the file.
+    /// Counts a frame that goes on, and writes it to the file.
     fn pass_on<'f>(&mut self, moment: u64, frame: &[u8]) -> Result<(), Fault<'f>> {
-        let number = self.frames;
         // No file has as many records as there are numbers.
-        self.frames = number.saturating_add(1);
+        self.frames = self.frames.saturating_add(1);
         if let Some(file) = &mut self.file {
-            file.put(number, moment, frame, self.lines, self.err)?;
+            file.put(0, moment, frame, self.lines, self.err)?;
         }
         Ok(())
     }
@@ -77,7 +75,7 @@ impl<W: Write, E: Write, F: Write + Drop> HeardSink for Printer<'_, '_, W, E, F>
     ghost Took = { λ _ _. Unit {0} };
 
     fn put<'f>(&mut self, heard: Heard) -> Result<(), Fault<'f>> {
-        self.line(&Told::of(&heard, self.frames, self.lines.explain))?;
+        self.line(&ReplayLine::of(&heard, self.frames, self.lines.explain))?;
         match &heard {
             Heard::Received {
                 moment,

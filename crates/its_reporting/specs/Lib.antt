@@ -1,2 +1,3 @@
 pub mod Statuses
 pub mod FileNames
+pub mod FrameFiles

@@ -3,10 +3,10 @@
 ghost use Rattle.std.specs.Prelude.{◌≡◌, MatchResult};
 
 use crate::cause::Cause;
-use crate::explanation::Explanation;
 use crate::options::OutputFormat;
 use crate::outputs::is_standard;
 use crate::status::Status;
+use its_frame_text::Explanation;
 use its_gnvalue::NoMemory;
 use its_json::JsonFault;
 use std::alloc::AllocError;

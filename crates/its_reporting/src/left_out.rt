@@ -2,8 +2,8 @@
 
 ghost use Rattle.std.specs.Prelude.{◌≡◌};
 
-use crate::explanation::Explanation;
 use crate::options::OutputFormat;
+use its_frame_text::Explanation;
 use its_pcap::SinkFault;
 use std::fmt;
 

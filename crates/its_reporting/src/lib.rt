@@ -3,9 +3,9 @@
 #![tactic(auto)]
 
 mod cause;
-mod explanation;
 mod fault;
 mod files;
+mod frame_file;
 mod left_out;
 mod lines;
 mod options;
@@ -13,9 +13,9 @@ mod outputs;
 mod status;
 
 pub use cause::Cause;
-pub use explanation::{Explanation, FrameReason};
 pub use fault::{Fault, status_of};
 pub use files::{Opened, create, create_apart, keep_apart, open};
+pub use frame_file::FrameFile;
 pub use left_out::LeftOut;
 pub use lines::{Line, Passed, are_digits};
 pub use options::OutputFormat;

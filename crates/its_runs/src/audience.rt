@@ -180,15 +180,19 @@ pub(crate) struct Audiences {
 }
 
 impl Audiences {
-    /// Those of a run that has not begun.
-    pub(crate) fn new(alloc: Global, are_wanted: bool) -> Audiences {
-        Audiences {
+    /// Those of a run that has not begun, of whose stations these are present then.
+    pub(crate) fn new(
+        alloc: Global,
+        present: &[bool],
+        are_wanted: bool,
+    ) -> Result<Audiences, NoMemory> {
+        Ok(Audiences {
             alloc,
             are_wanted,
             sends: Vec::new(alloc),
             carried: Vec::new(alloc),
-            presence: Presence::new(alloc),
-        }
+            presence: Presence::at_start(alloc, present)?,
+        })
     }
 
     /// The audience of a packet, by its place among those that were sent.

@@ -4,7 +4,8 @@ ghost use Rattle.std.specs.Prelude.{◌≡◌};
 ghost use Rattle.its_runs.specs.Runs.{run_fault_status};
 
 use its_air::AirFault;
-use its_reporting::{Explanation, Fault, OutputFormat, Status};
+use its_frame_text::Explanation;
+use its_reporting::{Fault, OutputFormat, Status};
 use its_scenario::ScenarioFault;
 use std::alloc::AllocError;
 use std::io::Write;

@@ -7,6 +7,7 @@ use crate::audience::{Audience, Audiences};
 use crate::full_tables::FullTables;
 use crate::options::RunOptions;
 use crate::results::Results;
+use its_gnvalue::NoMemory;
 use its_reporting::{Fault, Status};
 use its_scenario::{Expectation, Reached, Scenario};
 use its_simulation::{EventRecord, EventSink, Note, SimulationFault};
@@ -21,6 +22,8 @@ pub(crate) struct Findings<'s, 'a, W: Write + Drop> {
     full: FullTables,
     audiences: Audiences,
     results: Results<'a, W>,
+    /// Whether it isn't told of full location tables.
+    quiet: bool,
 }
 
 impl<'s, 'a, W: Write + Drop> Findings<'s, 'a, W> {
@@ -30,14 +33,15 @@ impl<'s, 'a, W: Write + Drop> Findings<'s, 'a, W> {
         scenario: &'s Scenario,
         options: RunOptions,
         results: Results<'a, W>,
-    ) -> Findings<'s, 'a, W> {
+    ) -> Result<Findings<'s, 'a, W>, NoMemory> {
         let are_wanted = options.tells_missed() || !scenario.expectations.is_empty();
-        Findings {
+        Ok(Findings {
             scenario,
             full: FullTables::new(),
-            audiences: Audiences::new(alloc, are_wanted),
+            audiences: Audiences::new(alloc, scenario.present.as_slice(), are_wanted)?,
             results,
-        }
+            quiet: options.quiet,
+        })
     }
 
     /// The audience of a packet, by its place among those that were sent, where it is known.
@@ -90,13 +94,13 @@ impl<'s, 'a, W: Write + Drop> Findings<'s, 'a, W> {
     }
 
     /// Tells on standard error what was found out about a run with this status: that location tables
-    /// were full, in an air, and each expectation that isn't met. `Refused` where one isn't, of a
-    /// run that is done.
+    /// were full, in an air and unless it is quiet, and each expectation that isn't met. `Refused`
+    /// where one isn't, of a run that is done.
     fn tell<E: Write>(&self, status: Status, err: &mut E) -> Status
         requires { IsCommandStatus status }
         ensures { IsCommandStatus result }
     {
-        if self.scenario.air.is_some() {
+        if self.scenario.air.is_some() && !self.quiet {
             self.full.report(err);
         }
         let are_met = self.report_unmet(err);

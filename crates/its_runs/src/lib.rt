@@ -25,9 +25,8 @@ mod watched;
 
 pub use fault::RunFault;
 pub use files::simulate_file;
-pub use frames::FrameFile;
 pub use options::RunOptions;
 pub use results::ResultFiles;
-pub use simulating::{read_scenario, read_scenario_without_air, simulate};
+pub use simulating::{read_scenario, read_scenario_without_air, simulate, simulate_scenario};
 pub use target::{FrameTarget, frame_target};
 pub use watched::is_done;

@@ -35,12 +35,12 @@ pub(crate) struct LoadRows {
 }
 
 impl LoadRows {
-    /// That of a run of so many stations that has not begun.
-    pub(crate) fn new(alloc: Global, stations: usize) -> Result<LoadRows, NoMemory> {
-        let mut hearings = Vec::with_capacity(alloc, stations)?;
-        for _ in 0..stations {
+    /// That of a run that has not begun, of whose stations these are present then.
+    pub(crate) fn new(alloc: Global, present: &[bool]) -> Result<LoadRows, NoMemory> {
+        let mut hearings = Vec::with_capacity(alloc, present.len())?;
+        for is_present in present {
             hearings.push(Hearing {
-                is_present: true,
+                is_present: *is_present,
                 busy: 0,
             })?;
         }

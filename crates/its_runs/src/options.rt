@@ -11,8 +11,12 @@ pub struct RunOptions {
     /// Whether what came of each packet for an area is printed, and the counts of all events, in
     /// place of the lines of events.
     pub summary: bool,
-    /// Whether someone looks at standard error: a run that is summed up shows there how far it is.
+    /// Whether someone looks at the lines of events: a line of column heads stands before them.
+    pub heads: bool,
+    /// Whether someone looks at standard error alone: how far the run is shows there.
     pub progress: bool,
+    /// Whether nothing is told on standard error but what makes the status another than `Done`.
+    pub quiet: bool,
     /// Whether an event that is refused makes the status `Refused`, where it would be `Done`.
     /// A key of the scenario that is unknown is refused then, too.
     pub strict: bool,

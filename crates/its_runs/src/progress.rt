@@ -21,14 +21,14 @@ pub(crate) struct Progress {
 }
 
 impl Progress {
-    /// Before the first event of a run. The line is shown where a summary is to be printed and
-    /// someone looks.
+    /// Before the first event of a run. The line is shown where someone looks.
     pub(crate) fn of(scenario: &Scenario, options: RunOptions) -> Progress {
         let events = scenario.events.as_slice();
+        let file = scenario.file.as_slice();
         Progress {
-            is_shown: options.summary && options.progress,
+            is_shown: options.progress,
             end: match &scenario.air {
-                Some(air) => air.end(events),
+                Some(air) => air.end(file),
                 None => events.last().map_or(0, |event| event.moment),
             },
             deliveries: 0,

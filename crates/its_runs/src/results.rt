@@ -155,6 +155,7 @@ impl<'a, W: Write + Drop> Results<'a, W> {
         writers: ResultWriters<W>,
     ) -> Result<Results<'a, W>, Fault<'a>> {
         let configs = scenario.stations.as_slice();
+        let present = scenario.present.as_slice();
         let ResultWriters {
             sends,
             stations,
@@ -162,8 +163,12 @@ impl<'a, W: Write + Drop> Results<'a, W> {
         } = writers;
         Ok(Results {
             sends: begin_file(names.sends, SendRows::new(alloc, scenario)?, sends)?,
-            stations: begin_file(names.stations, StationRows::new(alloc, configs)?, stations)?,
-            load: begin_file(names.load, LoadRows::new(alloc, configs.len())?, load)?,
+            stations: begin_file(
+                names.stations,
+                StationRows::new(alloc, configs, present)?,
+                stations,
+            )?,
+            load: begin_file(names.load, LoadRows::new(alloc, present)?, load)?,
         })
     }
 

@@ -35,7 +35,7 @@ impl SendRows {
     pub(crate) fn new(alloc: Global, scenario: &Scenario) -> Result<SendRows, NoMemory> {
         Ok(SendRows {
             alloc,
-            presence: Presence::new(alloc),
+            presence: Presence::at_start(alloc, scenario.present.as_slice())?,
             frames: WaitingFrames::new(alloc, scenario)?,
             written: 0,
             open: VecDeque::new(alloc),

@@ -6,7 +6,7 @@ ghost use Rattle.its_runs.specs.Runs.{IsRunStatus};
 
 use crate::fault::{RunFault, fault_of_air};
 use crate::findings::{Finding, Findings, Found};
-use crate::frames::{Both, FrameFile, Frames, NoFrames};
+use crate::frames::{Both, Frames, NoFrames};
 use crate::options::RunOptions;
 use crate::progress::Progress;
 use crate::results::Results;
@@ -14,7 +14,7 @@ use crate::summary::print_summary;
 use crate::target::FrameTarget;
 use crate::watched::Watched;
 use its_air::{AirFault, Tally, run_scenario};
-use its_reporting::{Fault, Status, status_of};
+use its_reporting::{Fault, FrameFile, Status, status_of};
 use its_scenario::{Reading, Scenario};
 use its_simulation::{EventSink, JsonLines, SimulationFault, TextLines};
 use std::alloc::Global;
@@ -40,13 +40,28 @@ pub fn simulate<R: Read + Drop, W: Write, E: Write>(
     ensures { IsCommandStatus result }
 {
     match read_scenario(alloc, file, reader, MOST_STATIONS, &options.reading(false)) {
-        Ok(scenario) => {
-            let results: Results<'_, Vec<u8>> = Results::none();
-            let ended = run_without_frames(alloc, &scenario, results, options, out, err);
-            status_of(ended, options.lines, err)
-        }
+        Ok(scenario) => simulate_scenario(alloc, &scenario, options, out, err),
         Err(fault) => fault.report_as(options.lines, err),
     }
+}
+
+/// Runs a scenario that was read, of at most 65535 stations, and prints its lines as `simulate` does.
+///
+/// `Refused` where something isn't met that it expects, and with `strict` where an event was
+/// refused; `Failed` where a write failed or memory ran out.
+pub fn simulate_scenario<W: Write, E: Write>(
+    alloc: Global,
+    scenario: &Scenario,
+    options: RunOptions,
+    out: &mut W,
+    err: &mut E,
+) -> Status
+    requires { vec_len scenario.now.stations ≤ 65535 }
+    ensures { IsCommandStatus result }
+{
+    let results: Results<'_, Vec<u8>> = Results::none();
+    let ended = run_without_frames(alloc, scenario, results, options, out, err);
+    status_of(ended, options.lines, err)
 }
 
 /// Runs a scenario, and writes these files of numbers.
@@ -62,7 +77,7 @@ pub(crate) fn run_without_frames<'a, F: Write + Drop, W: Write, E: Write>(
     ensures { IfOk result IsCommandStatus }
 {
     let mut progress = Progress::of(scenario, options);
-    let mut findings = Findings::new(alloc, scenario, options, results);
+    let mut findings = Findings::new(alloc, scenario, options, results)?;
     let frames = NoFrames {
         progress: &mut progress,
         err: &mut *err,
@@ -112,7 +127,7 @@ fn run_with_frames<'a, F: Write + Drop, W: Write, E: Write>(
 {
     let mut file = file;
     let mut progress = Progress::of(scenario, options);
-    let mut findings = Findings::new(alloc, scenario, options, results);
+    let mut findings = Findings::new(alloc, scenario, options, results)?;
     let frames = Frames {
         file: &mut file,
         lines: options.lines,
@@ -169,6 +184,9 @@ fn run_printed<F: EventSink + Drop, W: Write>(
         });
         return run_watched(alloc, scenario, &mut watched, options.strict);
     }
+    if options.heads {
+        print_heads(scenario, out)?;
+    }
     let explain = options.lines.explain;
     let words = match &scenario.air {
         Some(_) => TextLines::with_actions(out, explain),
@@ -181,6 +199,15 @@ fn run_printed<F: EventSink + Drop, W: Write>(
     run_watched(alloc, scenario, &mut watched, options.strict)
 }
 
+/// Prints the heads of the columns of the lines in words.
+fn print_heads<W: Write>(scenario: &Scenario, out: &mut W) -> Result<(), SimulationFault> {
+    match &scenario.air {
+        Some(_) => writeln!(out, "event time station action result")?,
+        None => writeln!(out, "event time station result")?,
+    }
+    Ok(())
+}
+
 /// Prints the object of the stations, and of the air where there is one.
 fn print_beginning<W: Write>(
     objects: &mut JsonLines<'_, W>,
@@ -189,7 +216,7 @@ fn print_beginning<W: Write>(
     let stations = scenario.stations.as_slice();
     match &scenario.air {
         Some(air) => {
-            let end = air.end(scenario.events.as_slice());
+            let end = air.end(scenario.file.as_slice());
             objects.stations_in_air(stations, air, Some(end))
         }
         None => objects.stations(stations),
@@ -208,7 +235,7 @@ fn run_summed_up<F: EventSink + Found + Drop, W: Write>(
     ensures { IfOk result (IsRunStatus options.strict scenario.now) }
 {
     let mut watched = Watched::new(Both {
-        lines: Tally::new(alloc),
+        lines: Tally::new(alloc, scenario.present.as_slice())?,
         frames,
     });
     let status = run_watched(alloc, scenario, &mut watched, options.strict)?;

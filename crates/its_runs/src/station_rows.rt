@@ -154,14 +154,18 @@ pub(crate) struct StationRows {
 }
 
 impl StationRows {
-    /// Those of a run of these stations that has not begun.
-    pub(crate) fn new(alloc: Global, configs: &[Config]) -> Result<StationRows, NoMemory> {
+    /// Those of a run of these stations that has not begun, of which some are present then.
+    pub(crate) fn new(
+        alloc: Global,
+        configs: &[Config],
+        present: &[bool],
+    ) -> Result<StationRows, NoMemory> {
         let mut rows = Vec::with_capacity(alloc, configs.len())?;
-        for config in configs {
+        for (config, is_present) in configs.iter().zip(present.iter()) {
             rows.push(Row {
                 id: String::new(alloc),
                 address: config.address,
-                stay: Stay::new(true),
+                stay: Stay::new(*is_present),
                 counts: Counts::default(),
                 busy: Busy::default(),
             })?;

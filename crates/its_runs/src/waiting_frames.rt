@@ -1,7 +1,7 @@
 //! The frames of packets for an area of which deliveries wait.
 
 use its_gnvalue::NoMemory;
-use its_scenario::Scenario;
+use its_scenario::{FileEvent, Scenario};
 use its_world::What;
 use std::alloc::Global;
 use std::collections::HashMap;
@@ -22,6 +22,17 @@ struct WaitingFrame {
     waiting: usize,
 }
 
+/// The frame that a scenario's own event delivers, if it is a delivery.
+fn delivered_by(filed: &FileEvent) -> Option<usize> {
+    match filed.event() {
+        Some(event) => match &event.what {
+            What::Deliver(frame) => Some(*frame),
+            _ => None,
+        },
+        None => None,
+    }
+}
+
 /// The frames of packets for an area of which deliveries wait, by their numbers. It keeps none that
 /// is done with.
 #[derive(Drop)]
@@ -35,13 +46,13 @@ pub(crate) struct WaitingFrames {
 }
 
 impl WaitingFrames {
-    /// Those of a run of a scenario that has not begun.
+    /// Those of a run of a scenario with an air that has not begun.
     pub(crate) fn new(alloc: Global, scenario: &Scenario) -> Result<WaitingFrames, NoMemory> {
         let mut own = HashMap::new(alloc);
-        for event in &scenario.events {
-            if let What::Deliver(frame) = &event.what {
-                let before = own.get(frame).copied().unwrap_or(0usize);
-                own.insert(*frame, before.saturating_add(1))?;
+        for filed in &scenario.file {
+            if let Some(frame) = delivered_by(filed) {
+                let before = own.get(&frame).copied().unwrap_or(0usize);
+                own.insert(frame, before.saturating_add(1))?;
             }
         }
         Ok(WaitingFrames {

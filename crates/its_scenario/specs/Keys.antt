@@ -16,6 +16,7 @@ least_of keys.A = pos 1
 least_of keys.B = pos 1
 least_of keys.Range = pos 1
 least_of keys.Period = pos 1
+least_of keys.Gone = pos 1
 least_of key = pos 0
 
 -- the greatest number that a key takes; 0 where its value is no number
@@ -46,6 +47,10 @@ most_of keys.Period = pos 4294967295
 most_of keys.Octets = pos 1394
 most_of keys.Send = pos 4294967295
 most_of keys.Within = pos 4611686018427387904
+most_of keys.Begin = pos 4611686018427387904
+most_of keys.Gone = pos 4294967295
+most_of keys.Mid = pos 0
+most_of keys.Ports = pos 0
 most_of keys.Absent = pos 0
 most_of keys.Id = pos 0
 most_of keys.Event = pos 0

@@ -2,13 +2,13 @@
 
 ghost use Rattle.std.specs.Prelude.{◌≡◌, ◌≤◌, ◌<◌, ◌^◌, ◌+◌, All, IfOk, IfSome};
 ghost use Rattle.std.proofs.Props.{props};
-ghost use Rattle.its_scenario.specs.Airs.{end_of, greatest_moment};
+ghost use Rattle.its_scenario.specs.Airs.{end_of, greatest_moment, moment_of};
 
+use crate::event::FileEvent;
 use crate::fault::KeyFault;
 use crate::fields::Fields;
 use crate::key::Key;
 use crate::keys::{number, truth, whole, whole_or};
-use its_world::Event;
 
 /// How frames go from station to station by themselves.
 #[derive(Clone, Copy, Debug, PartialEq, Eq)]
@@ -35,29 +35,29 @@ pub struct Air {
 const AFTER_EVENTS: u64 = 10_000;
 
 impl Air {
-    /// The last moment that is run over these events: the one that is given, else ten seconds after
-    /// the greatest moment of an event.
-    pub fn end(&self, events: &[Event]) -> u64
-        requires { All (λ event. event.moment < 2 ^ 63) events.now }
-        ensures end { result ≡ end_of self.now.until events.now }
+    /// The last moment that is run over these events and leaves: the one that is given, else ten
+    /// seconds after the greatest moment of one of them.
+    pub fn end(&self, file: &[FileEvent]) -> u64
+        requires { All (λ waiting. moment_of waiting < 2 ^ 63) file.now }
+        ensures end { result ≡ end_of self.now.until file.now }
         ensures bound { result < 2 ^ 63 + 10000 }
     {
         match self.until {
             Some(until) => until,
-            None => greatest(events) + AFTER_EVENTS,
+            None => greatest(file) + AFTER_EVENTS,
         }
     }
 }
 
-/// The greatest moment of an event, 0 where there is none.
-fn greatest(events: &[Event]) -> u64
-    requires { All (λ event. event.moment < 2 ^ 63) events.now }
-    ensures last { result ≡ greatest_moment events.now }
+/// The greatest moment of an event or a leave, 0 where there is none.
+fn greatest(file: &[FileEvent]) -> u64
+    requires { All (λ waiting. moment_of waiting < 2 ^ 63) file.now }
+    ensures last { result ≡ greatest_moment file.now }
     ensures bound { result < 2 ^ 63 }
 {
     let mut last = 0;
-    for event in events {
-        last = last.max(event.moment);
+    for waiting in file {
+        last = last.max(waiting.moment());
     }
     last
 }

@@ -1,7 +1,8 @@
 //! The events of a scenario.
 
-ghost use Rattle.std.specs.Prelude.{IfOk, IfErr};
-ghost use Rattle.its_scenario.specs.Events.{FitsEvent, FitsWhat};
+ghost use Rattle.std.specs.Prelude.{◌≡◌, IfOk, IfErr};
+ghost use Rattle.its_scenario.specs.Airs.{moment_of};
+ghost use Rattle.its_scenario.specs.Events.{FitsEvent, FitsFileEvent, FitsWhat};
 ghost use Rattle.its_scenario.specs.Faults.{IsWhatFault};
 
 use crate::fault::{KeyFault, Wrong};
@@ -13,6 +14,61 @@ use its_gnvalue::TrafficClass;
 use its_station::OwnedShbRequest;
 use its_world::{Event, What};
 use std::alloc::Global;
+
+/// What waits in an air: a line of the scenario's file of events.
+#[derive(Debug, Drop, PartialEq, Eq)]
+pub enum FileEvent {
+    /// An event of the world.
+    Happens(Event),
+    /// A station leaves: it is absent from then on. This is no event of the world.
+    Leaves {
+        /// The station, by its number: 0 to 65535. There may be no such station.
+        station: usize,
+        /// The moment in milliseconds: 0 to 2^63 - 1.
+        moment: u64,
+    },
+}
+
+impl FileEvent {
+    /// The moment in milliseconds.
+    pub fn moment(&self) -> u64
+        ensures { result ≡ moment_of self.now }
+    {
+        match self {
+            FileEvent::Happens(event) => event.moment,
+            FileEvent::Leaves { moment, .. } => *moment,
+        }
+    }
+
+    /// The event of the world, where it is one.
+    pub fn event(&self) -> Option<&Event> {
+        match self {
+            FileEvent::Happens(event) => Some(event),
+            FileEvent::Leaves { .. } => None,
+        }
+    }
+}
+
+/// Reads what waits in an air: a leave, `do = "leave"`, which has no further keys, or an event.
+/// `station`, `at` and `do` are checked in this order.
+pub(crate) fn read_file_event<F: Fields>(alloc: Global, fields: &F) -> Result<FileEvent, KeyFault>
+    ensures { IfOk result FitsFileEvent }
+{
+    match fields.text(Key::Do.word()) {
+        Some("leave") => read_leave(fields),
+        _ => Ok(FileEvent::Happens(read_event(alloc, fields)?)),
+    }
+}
+
+/// Reads a leave: `station` and `at`, checked in this order.
+fn read_leave<F: Fields>(fields: &F) -> Result<FileEvent, KeyFault>
+    ensures { IfOk result FitsFileEvent }
+{
+    Ok(FileEvent::Leaves {
+        station: number(fields, Key::Station)? as usize,
+        moment: whole(fields, Key::At)? as u64,
+    })
+}
 
 /// Reads an event: `station`, `at`, in milliseconds below 2^63, and then what is done there, checked
 /// in this order. There may be no such station, and for `deliver` no such frame.

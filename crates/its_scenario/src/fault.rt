@@ -32,6 +32,9 @@ pub enum ScenarioFault {
     /// `every` is there and no array of tables.
     #[error("scenario: every")]
     Every,
+    /// `moves` is there and no table.
+    #[error("scenario: moves")]
+    Moves,
     /// `expect` is there and no array of tables.
     #[error("scenario: expect")]
     Expectations,
@@ -47,6 +50,9 @@ pub enum ScenarioFault {
     /// A key of a traffic, counted from 0, is missing, of another kind or out of range.
     #[error("scenario: every {0}: {1}")]
     EveryKey(usize, Key, Wrong),
+    /// A key of how moves are read is of another kind or out of range.
+    #[error("scenario: moves: {0}")]
+    MovesKey(Key, Wrong),
     /// A key of an event, counted from 0, is missing, of another kind or out of range.
     #[error("scenario: event {0}: {1}")]
     Event(usize, Key, Wrong),
@@ -154,6 +160,16 @@ impl KeyFault {
     {
         match self {
             KeyFault::Refused(key, wrong) => ScenarioFault::EveryKey(number, key, wrong),
+            KeyFault::OutOfMemory => ScenarioFault::OutOfMemory,
+        }
+    }
+
+    /// The fault of the scenario of whose moves the key is.
+    pub(crate) fn of_moves(self) -> ScenarioFault
+        ensures { IsPastToml result }
+    {
+        match self {
+            KeyFault::Refused(key, wrong) => ScenarioFault::MovesKey(key, wrong),
             KeyFault::OutOfMemory => ScenarioFault::OutOfMemory,
         }
     }

@@ -86,6 +86,15 @@ pub enum Key {
     Reached,
     /// In how many milliseconds: 0 to 2^62.
     Within,
+    /// The moment of a file of moves at which the run begins: 0 to 2^62, else 0.
+    Begin,
+    /// The milliseconds without a row after which a station leaves: 1 to 4294967295, else 1000.
+    Gone,
+    /// The MID of the first station that a row makes: 12 hexadecimal digits, no group's, else
+    /// 020100000001.
+    Mid,
+    /// The ports that a station opens that a row makes: at most 64 different ones, else none.
+    Ports,
     /// The events of a scenario.
     Event,
     /// How frames go from station to station by themselves.
@@ -159,6 +168,16 @@ pub(crate) const EVENT_KEYS: [Key; 24] = [
     Key::Payload,
 ];
 
+/// The keys of how moves are read, in the order in which they are checked.
+pub(crate) const MOVES_KEYS: [Key; 6] = [
+    Key::Begin,
+    Key::Gone,
+    Key::Mid,
+    Key::Capacity,
+    Key::Remember,
+    Key::Ports,
+];
+
 /// The keys of what is expected, in the order in which they are checked.
 pub(crate) const EXPECTATION_KEYS: [Key; 3] = [Key::Send, Key::Reached, Key::Within];
 
@@ -205,6 +224,10 @@ impl Key {
             Key::Send => "send",
             Key::Reached => "reached",
             Key::Within => "within",
+            Key::Begin => "begin",
+            Key::Gone => "gone",
+            Key::Mid => "mid",
+            Key::Ports => "ports",
             Key::Event => "event",
             Key::Air => "air",
             Key::Every => "every",
@@ -221,7 +244,8 @@ impl Key {
             Key::Lat | Key::Alat => -900_000_000,
             Key::Lon | Key::Alon => -1_800_000_000,
             Key::Speed => -16384,
-            Key::Capacity | Key::Remember | Key::A | Key::B | Key::Range | Key::Period => 1,
+            Key::Capacity | Key::Remember | Key::A | Key::B | Key::Range => 1,
+            Key::Period | Key::Gone => 1,
             _ => 0,
         }
     }
@@ -232,7 +256,7 @@ impl Key {
     {
         match self {
             Key::Address | Key::Do | Key::Pai | Key::Payload | Key::Shape | Key::Beacons => 0,
-            Key::Absent | Key::Id => 0,
+            Key::Absent | Key::Id | Key::Mid | Key::Ports => 0,
             Key::Event | Key::Air | Key::Every | Key::Moves | Key::Expect => 0,
             Key::Lat | Key::Alat => 900_000_000,
             Key::Lon | Key::Alon => 1_800_000_000,
@@ -242,9 +266,9 @@ impl Key {
             Key::Loss => 100,
             Key::Tc | Key::Lt | Key::Hops => 255,
             Key::Angle => 359,
-            Key::Frame | Key::Send | Key::Period => 4_294_967_295,
+            Key::Frame | Key::Send | Key::Period | Key::Gone => 4_294_967_295,
             Key::Octets => 1394,
-            Key::Until | Key::Within => 1 << 62,
+            Key::Until | Key::Within | Key::Begin => 1 << 62,
             Key::At | Key::Seed => i64::MAX,
             _ => 65535,
         }
@@ -253,13 +277,14 @@ impl Key {
     /// What a value of another kind than it takes is not.
     pub(crate) fn kind(self) -> &'static str {
         match self {
-            Key::Address | Key::Do | Key::Payload | Key::Shape | Key::Id => "a text",
+            Key::Address | Key::Do | Key::Payload | Key::Shape | Key::Id | Key::Mid => "a text",
             Key::Pai | Key::Beacons | Key::Absent => "true or false",
             Key::Reached => "a whole number or all",
             Key::Lat | Key::Lon | Key::Alat | Key::Alon => {
                 "a whole number of tenths of a microdegree: 481000000 is 48.1 degrees"
             }
             Key::Air | Key::Moves => "a table",
+            Key::Ports => "an array",
             Key::Event | Key::Every | Key::Expect => "an array of tables",
             _ => "a whole number",
         }
@@ -272,6 +297,8 @@ impl Key {
             Key::Do => Some("a word for what a station does"),
             Key::Payload => Some("an even number of hexadecimal digits"),
             Key::Shape => Some("circle, rectangle or ellipse"),
+            Key::Mid => Some("12 hexadecimal digits of a MID that is no group's"),
+            Key::Ports => Some("at most 64 different ports"),
             _ => None,
         }
     }

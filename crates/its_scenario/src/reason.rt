@@ -18,10 +18,12 @@ impl fmt::Display for Reason<'_> {
             | ScenarioFault::Every
             | ScenarioFault::Expectations => { f.write_str("not an array of tables") }
             ScenarioFault::Air(wrong) => explain(f, Key::Air, *wrong),
+            ScenarioFault::Moves => explain(f, Key::Moves, Wrong::Kind),
             ScenarioFault::TooManyStations => f.write_str("more than the command takes"),
             ScenarioFault::Station(_, key, wrong)
             | ScenarioFault::AirKey(key, wrong)
             | ScenarioFault::EveryKey(_, key, wrong)
+            | ScenarioFault::MovesKey(key, wrong)
             | ScenarioFault::Expectation(_, key, wrong)
             | ScenarioFault::Event(_, key, wrong) => explain(f, *key, *wrong),
             ScenarioFault::Unknown(key) => match key.nearest() {

@@ -2,18 +2,19 @@
 
 ghost use Rattle.std.specs.Prelude.{◌≡◌, ◌≤◌, All, IfOk, IfErr, length, vec_len};
 ghost use Rattle.its_scenario.specs.Documents.{IsToml, IsOfToml, IsPastToml};
-ghost use Rattle.its_scenario.specs.Events.{FitsEvent};
+ghost use Rattle.its_scenario.specs.Events.{FitsEvent, FitsFileEvent};
 ghost use Rattle.its_world.specs.Events.{IsConfig};
 ghost use Rattle.its_world.specs.Mids.{AreApart};
 
 use crate::air::{Air, read_air};
-use crate::event::read_event;
+use crate::event::{FileEvent, read_event, read_file_event};
 use crate::expectation::{Expectation, read_expectation};
 use crate::fault::{ScenarioFault, Wrong};
 use crate::key::{AIR_KEYS, EXPECTATION_KEYS};
+use crate::moves::{Moves, read_known_moves};
 use crate::position::TomlFault;
 use crate::settings::{AirSettings, SetAir};
-use crate::station::read_station;
+use crate::station::{read_present, read_station};
 use crate::traffic::{Traffic, read_every};
 use crate::unknown::{Owner, refuse_all_unknown, refuse_unknown};
 use its_world::{Config, Event, refuse_shared};
@@ -25,18 +26,28 @@ use toml::{Table, Value};
 pub struct Scenario {
     /// The stations, no two of which have the same MID.
     pub stations: Vec<Config>,
-    /// The events, each with a station of 0 to 65535, a moment of 0 to 2^63 - 1, a speed in its
-    /// range and a frame of 0 to 4294967295. There may be no such station or frame.
+    /// Whether each of them is present at the start. Without an air all are.
+    pub present: Vec<bool>,
+    /// The events of a scenario without an air, each with a station of 0 to 65535, a moment of 0 to
+    /// 2^63 - 1, a speed in its range and a frame of 0 to 4294967295. There may be no such station or
+    /// frame. With an air there is none here.
     pub events: Vec<Event>,
+    /// The events and leaves of a scenario with an air, with numbers in the same ranges. Without an
+    /// air there is none here.
+    pub file: Vec<FileEvent>,
     /// How frames go from station to station by themselves. Without it they go by events alone.
     pub air: Option<Air>,
     /// What each station of the air sends by itself. Without an air there is none.
     pub every: Vec<Traffic>,
+    /// How the moves of a file are read, beside an air.
+    pub moves: Moves,
     /// What is expected of the run.
     pub expectations: Vec<Expectation>,
     ghost configs: { All IsConfig stations.items },
     ghost apart: { AreApart stations.items },
+    ghost present_or_not: { vec_len present ≡ vec_len stations },
     ghost in_range: { All FitsEvent events.items },
+    ghost file_in_range: { All FitsFileEvent file.items },
 }
 
 /// How a document is read as a scenario. `default` is how `from_toml` reads it.
@@ -52,14 +63,14 @@ pub struct Reading {
 
 impl Scenario {
     /// Reads a TOML document with the arrays of tables `station`, `event` and `expect`, the table
-    /// `air` and, where there is one, the array of tables `every`, each of which may be missing. A key
-    /// of the air, of traffic or of what is expected that is none of its words is refused; other keys
-    /// are passed over. At most so many stations are taken.
+    /// `air` and, where there is one, the array of tables `every` and the table `moves`, each of which
+    /// may be missing. A key of the air, of traffic, of moves or of what is expected that is none of
+    /// its words is refused; other keys are passed over. At most so many stations are taken.
     ///
     /// The first fault is given: that of the document, of its arrays `station` and `event`, of the
-    /// kind of `air`, of `every` and of `expect`, of the number of stations, of each station in turn,
-    /// of the air, of each traffic in turn, of each event in turn, of each table of what is expected,
-    /// of two stations with the same MID.
+    /// kind of `air`, of `every`, of `moves` and of `expect`, of the number of stations, of each
+    /// station in turn, of the air, of each traffic in turn, of moves, of each event in turn, of each
+    /// table of what is expected, of two stations with the same MID.
     pub fn from_toml(
         alloc: Global,
         text: &[u8],
@@ -72,7 +83,7 @@ impl Scenario {
         Scenario::read(alloc, text, most_stations, &Reading::default())
     }
 
-    /// The same, but that `air`, `every` and `expect` are among the keys that are passed over.
+    /// The same, but that `air`, `every`, `moves` and `expect` are among the keys that are passed over.
     pub fn from_toml_without_air(
         alloc: Global,
         text: &[u8],
@@ -135,6 +146,7 @@ struct Tables<'a> {
     events: &'a [Value],
     air: Option<SetAir<'a>>,
     every: &'a [Value],
+    moves: Option<&'a Table>,
     expectations: &'a [Value],
 }
 
@@ -149,6 +161,7 @@ impl<'a> Tables<'a> {
             events: array_of_tables(document, "event").ok_or(ScenarioFault::Events)?,
             air: None,
             every: &[],
+            moves: None,
             expectations: &[],
         })
     }
@@ -160,10 +173,12 @@ impl<'a> Tables<'a> {
         let first = Tables::without_air(document)?;
         let air = air_of(document, reading)?;
         let every = every_of(document, air.is_some())?;
+        let moves = moves_of(document, air.is_some())?;
         let expectations = array_of_tables(document, "expect").ok_or(ScenarioFault::Expectations)?;
         Ok(Tables {
             air,
             every,
+            moves,
             expectations,
             ..first
         })
@@ -178,20 +193,34 @@ impl<'a> Tables<'a> {
         if self.stations.len() > most_stations {
             return Err(ScenarioFault::TooManyStations);
         }
-        let stations = read_stations(alloc, self.stations)?;
+        let (stations, present) = read_stations(alloc, self.stations, self.air.is_some())?;
         let air = match self.air {
             Some(fields) => Some(read_known_air(alloc, fields)?),
             None => None,
         };
         let every = read_every(alloc, self.every)?;
-        let events = read_events(alloc, self.events)?;
+        let moves = match self.moves {
+            Some(table) => read_known_moves(alloc, table)?,
+            None => Moves::usual(alloc),
+        };
+        let none: &[Value] = &[];
+        let (alone, waiting) = if self.air.is_some() {
+            (none, self.events)
+        } else {
+            (self.events, none)
+        };
+        let events = read_events(alloc, alone)?;
+        let file = read_file(alloc, waiting)?;
         let expectations = read_expectations(alloc, self.expectations)?;
         refuse_shared(alloc, stations.as_slice())?;
         Ok(Scenario {
             stations,
+            present,
             events,
+            file,
             air,
             every,
+            moves,
             expectations,
         })
     }
@@ -240,6 +269,18 @@ fn every_of(document: &Table, has_air: bool) -> Result<&[Value], ScenarioFault>
     array_of_tables(document, "every").ok_or(ScenarioFault::Every)
 }
 
+/// The table of how moves are read, where there is one. Where there is no air, the key is passed
+/// over.
+fn moves_of(document: &Table, has_air: bool) -> Result<Option<&Table>, ScenarioFault>
+    ensures { IfErr result IsPastToml }
+{
+    match document.get("moves") {
+        Some(Value::Table(table)) if has_air => Ok(Some(table)),
+        Some(_) if has_air => Err(ScenarioFault::Moves),
+        _ => Ok(None),
+    }
+}
+
 /// Reads an air, in which each key is known.
 fn read_known_air(alloc: Global, fields: SetAir<'_>) -> Result<Air, ScenarioFault>
     ensures { IfErr result IsPastToml }
@@ -272,20 +313,39 @@ fn array_of_tables<'a>(document: &'a Table, key: &str) -> Option<&'a [Value]> {
     }
 }
 
-fn read_stations(alloc: Global, items: &[Value]) -> Result<Vec<Config>, ScenarioFault>
-    ensures all { IfOk result (λ stations. vec_len stations ≡ length items.now) }
-    ensures configs { IfOk result (λ stations. All IsConfig stations.items) }
+/// Reads stations and, with an air, whether each is present at the start. Without one all are, and
+/// `absent` is passed over.
+fn read_stations(
+    alloc: Global,
+    items: &[Value],
+    has_air: bool,
+) -> Result<(Vec<Config>, Vec<bool>), ScenarioFault>
+    ensures all { IfOk result (λ read. vec_len read.0 ≡ length items.now) }
+    ensures present { IfOk result (λ read. vec_len read.1 ≡ length items.now) }
+    ensures configs { IfOk result (λ read. All IsConfig read.0.items) }
     ensures refused { IfErr result IsPastToml }
 {
     let mut stations = Vec::with_capacity(alloc, items.len())?;
+    let mut present = Vec::with_capacity(alloc, items.len())?;
     for (number, item) in items.iter().enumerate() {
         // `array_of_tables` has seen that each item is one.
         let Value::Table(table) = item else {
             return Err(ScenarioFault::Stations);
         };
         stations.push(read_station(table).map_err(|fault| fault.of_station(number))?)?;
+        present.push(read_presence(table, number, has_air)?)?;
     }
-    Ok(stations)
+    Ok((stations, present))
+}
+
+/// Whether the station of this number is present at the start.
+fn read_presence(table: &Table, number: usize, has_air: bool) -> Result<bool, ScenarioFault>
+    ensures { IfErr result IsPastToml }
+{
+    if !has_air {
+        return Ok(true);
+    }
+    read_present(table).map_err(|fault| fault.of_station(number))
 }
 
 fn read_events(alloc: Global, items: &[Value]) -> Result<Vec<Event>, ScenarioFault>
@@ -302,6 +362,23 @@ fn read_events(alloc: Global, items: &[Value]) -> Result<Vec<Event>, ScenarioFau
         events.push(read_event(alloc, table).map_err(|fault| fault.of_event(number))?)?;
     }
     Ok(events)
+}
+
+/// Reads what waits in an air.
+fn read_file(alloc: Global, items: &[Value]) -> Result<Vec<FileEvent>, ScenarioFault>
+    ensures all { IfOk result (λ file. vec_len file ≡ length items.now) }
+    ensures ranges { IfOk result (λ file. All FitsFileEvent file.items) }
+    ensures refused { IfErr result IsPastToml }
+{
+    let mut file = Vec::with_capacity(alloc, items.len())?;
+    for (number, item) in items.iter().enumerate() {
+        // `array_of_tables` has seen that each item is one.
+        let Value::Table(table) = item else {
+            return Err(ScenarioFault::Events);
+        };
+        file.push(read_file_event(alloc, table).map_err(|fault| fault.of_event(number))?)?;
+    }
+    Ok(file)
 }
 
 fn read_expectations(alloc: Global, items: &[Value]) -> Result<Vec<Expectation>, ScenarioFault>

@@ -6,7 +6,7 @@ ghost use Rattle.its_world.specs.Events.{IsConfig};
 use crate::fault::{KeyFault, Wrong};
 use crate::fields::Fields;
 use crate::key::Key;
-use crate::keys::{place, text, whole_or};
+use crate::keys::{place, text, truth, whole_or};
 use its_gnvalue::GnAddress;
 use its_world::Config;
 
@@ -33,6 +33,11 @@ pub fn read_station<F: Fields>(fields: &F) -> Result<Config, KeyFault>
         capacity,
         remember,
     })
+}
+
+/// Whether a station is present at the start: `absent` is checked where it is there, else it is.
+pub(crate) fn read_present<F: Fields>(fields: &F) -> Result<bool, KeyFault> {
+    Ok(!fields.has(Key::Absent.word()) || !truth(fields, Key::Absent)?)
 }
 
 /// The address of 16 hexadecimal digits, whose MID is no group.

@@ -26,6 +26,8 @@ pub enum Owner {
     Air,
     /// Traffic of the air.
     Every(usize),
+    /// How moves are read.
+    Moves,
     /// Something that is expected.
     Expectation(usize),
 }
@@ -72,6 +74,7 @@ impl fmt::Display for UnknownKey {
             Owner::Event(number) => write!(f, "unknown: event {number}: {name}"),
             Owner::Air => write!(f, "air: {name}"),
             Owner::Every(number) => write!(f, "every {number}: {name}"),
+            Owner::Moves => write!(f, "moves: {name}"),
             Owner::Expectation(number) => write!(f, "expect {number}: {name}"),
         }
     }

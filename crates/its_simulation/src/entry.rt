@@ -1,100 +1,27 @@
 //! What is told of an entry.
 
-use crate::hexadecimal::Hex;
 use crate::reason::EntryReason;
-use its_json::{Octets, Printed};
-use its_station::{Delivery, Why};
+use its_answer_text::{AnswerKeys, PrintedAnswer};
 use its_world::{Entry, EntryCode};
-use serde::Serialize;
 use std::fmt;
 
-/// What is told of an entry, in the order in which lines tell it: as keys in JSON, and as words in
-/// text.
-#[derive(Clone, Copy, Serialize)]
-pub(crate) struct Told<'a> {
-    result: &'static str,
-    #[serde(skip_serializing_if = "Option::is_none")]
-    why: Option<&'static str>,
-    #[serde(skip_serializing_if = "Option::is_none")]
-    code: Option<Printed<EntryCode>>,
-    #[serde(skip_serializing_if = "Option::is_none")]
-    reason: Option<Printed<EntryReason>>,
-    #[serde(flatten)]
-    delivered: Option<Delivered<'a>>,
-    #[serde(skip_serializing_if = "Option::is_none")]
-    sent: Option<usize>,
-}
+/// What is told of an entry: as keys in JSON, and as words in text.
+pub(crate) type EntryKeys<'a> = PrintedAnswer<'a, EntryCode, EntryReason>;
 
-/// What is told of a payload that was delivered to a port.
-#[derive(Clone, Copy, Serialize)]
-struct Delivered<'a> {
-    port: u16,
-    info: u16,
-    payload: Octets<'a>,
-}
-
-/// The word of an entry that gives a frame and tells nothing else.
-const SENT: &str = "sent";
-
-impl<'a> Told<'a> {
-    /// A word, and nothing else.
-    fn word(word: &'static str) -> Told<'a> {
-        Told {
-            result: word,
-            why: None,
-            code: None,
-            reason: None,
-            delivered: None,
-            sent: None,
+/// What is told of this entry.
+pub(crate) fn entry_keys(entry: &Entry) -> EntryKeys<'_> {
+    match entry {
+        Entry::Moved => AnswerKeys::word("moved"),
+        Entry::Opened => AnswerKeys::word("opened"),
+        Entry::Closed => AnswerKeys::word("closed"),
+        Entry::Restarted => AnswerKeys::word("restarted"),
+        Entry::Quiet => AnswerKeys::word("quiet"),
+        Entry::Sent(frame) => AnswerKeys::sent(*frame as u64),
+        Entry::Ignored(why) => AnswerKeys::ignored(*why),
+        Entry::Accepted { handed, sent } => {
+            AnswerKeys::accepted(handed, sent.map(|frame| frame as u64))
         }
-    }
-
-    pub(crate) fn of(entry: &'a Entry) -> Told<'a> {
-        match entry {
-            Entry::Moved => Told::word("moved"),
-            Entry::Opened => Told::word("opened"),
-            Entry::Closed => Told::word("closed"),
-            Entry::Restarted => Told::word("restarted"),
-            Entry::Quiet => Told::word("quiet"),
-            Entry::Sent(frame) => Told {
-                sent: Some(*frame),
-                ..Told::word(SENT)
-            },
-            Entry::Ignored(why) => Told {
-                why: Some(why_word(*why)),
-                ..Told::word("ignored")
-            },
-            Entry::Accepted { handed, sent } => Told {
-                delivered: handed.as_ref().map(Delivered::of),
-                sent: *sent,
-                ..Told::word("accepted")
-            },
-            Entry::Refused(fault) => Told {
-                code: Some(Printed(fault.code())),
-                reason: Some(Printed(EntryReason(*fault))),
-                ..Told::word("refused")
-            },
-        }
-    }
-}
-
-impl<'a> Delivered<'a> {
-    fn of(delivery: &'a Delivery) -> Delivered<'a> {
-        Delivered {
-            port: delivery.port,
-            info: delivery.info,
-            payload: Octets(delivery.payload.as_slice()),
-        }
-    }
-}
-
-/// The word for why a frame is ignored.
-fn why_word(why: Why) -> &'static str {
-    match why {
-        Why::NotForMe => "not-for-me",
-        Why::OwnSource => "own-source",
-        Why::SenderMismatch => "sender-mismatch",
-        Why::Duplicate => "duplicate",
+        Entry::Refused(fault) => AnswerKeys::refused(fault.code(), EntryReason(*fault)),
     }
 }
 
@@ -110,31 +37,6 @@ pub struct EntryText<'a> {
 
 impl fmt::Display for EntryText<'_> {
     fn fmt<W: fmt::Write>(&self, f: &mut fmt::Formatter<W>) -> fmt::Result {
-        let told = Told::of(self.entry);
-        f.write_str(told.result)?;
-        if let Some(why) = told.why {
-            write!(f, " {why}")?;
-        }
-        if let Some(Printed(code)) = told.code {
-            write!(f, " {code}")?;
-        }
-        if let (true, Some(Printed(reason))) = (self.explain, told.reason) {
-            write!(f, " ({reason})")?;
-        }
-        if let Some(
-            Delivered {
-                port,
-                info,
-                payload,
-            },
-        ) = told.delivered
-        {
-            write!(f, " port {port} info {info} {}", Hex(payload.0))?;
-        }
-        match told.sent {
-            Some(frame) if told.result == SENT => write!(f, " {frame}"),
-            Some(frame) => write!(f, " sent {frame}"),
-            None => Ok(()),
-        }
+        write!(f, "{}", entry_keys(self.entry).explaining(self.explain))
     }
 }

@@ -1,6 +1,6 @@
 //! The lines of a simulation, as JSON.
 
-use crate::entry::Told;
+use crate::entry::{EntryKeys, entry_keys};
 use crate::fault::SimulationFault;
 use crate::note::{Note, NoteLine};
 use crate::record::{EventLine, EventRecord};
@@ -79,7 +79,7 @@ impl<'a, W: Write> JsonLines<'a, W> {
             moment,
             station,
             word,
-            told: Told::of(entry),
+            told: entry_keys(entry),
         })
     }
 
@@ -164,7 +164,7 @@ struct CallLine<'a> {
     #[serde(rename = "do")]
     word: &'static str,
     #[serde(flatten)]
-    told: Told<'a>,
+    told: EntryKeys<'a>,
 }
 
 /// What is told of a station that was made in a run.

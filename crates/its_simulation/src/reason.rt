@@ -1,23 +1,8 @@
-//! Sentences for a person, of what is refused by a code.
+//! Why an event is refused, as a sentence for a person.
 
-use its_faults::FrameFault;
-use its_station::Refused;
+use its_answer_text::RefusedReason;
 use its_world::EntryFault;
 use std::fmt;
-
-/// Why octets are no frame, as a sentence. Of a frame with no packet it is the packet's fault, as
-/// `more hops left than the maximum, at octet 10`.
-#[derive(Clone, Copy, Debug, PartialEq, Eq)]
-pub struct FrameReason(pub FrameFault);
-
-impl fmt::Display for FrameReason {
-    fn fmt<W: fmt::Write>(&self, f: &mut fmt::Formatter<W>) -> fmt::Result {
-        match self.0 {
-            FrameFault::Packet(fault) => write!(f, "{fault}"),
-            fault => write!(f, "{fault}"),
-        }
-    }
-}
 
 /// Why an event was refused, as a sentence. Of octets that are no frame it is theirs.
 #[derive(Clone, Copy, Debug, PartialEq, Eq)]
@@ -26,21 +11,8 @@ pub struct EntryReason(pub EntryFault);
 impl fmt::Display for EntryReason {
     fn fmt<W: fmt::Write>(&self, f: &mut fmt::Formatter<W>) -> fmt::Result {
         match self.0 {
-            EntryFault::Station(Refused::Frame(fault)) => write!(f, "{}", FrameReason(fault)),
+            EntryFault::Station(refused) => write!(f, "{}", RefusedReason(refused)),
             fault => write!(f, "{fault}"),
-        }
-    }
-}
-
-/// A space and a sentence in parentheses, after what a line tells by a code; or nothing.
-#[derive(Clone, Copy, Debug, PartialEq, Eq)]
-pub struct Explanation<T>(pub Option<T>);
-
-impl<T: fmt::Display> fmt::Display for Explanation<T> {
-    fn fmt<W: fmt::Write>(&self, f: &mut fmt::Formatter<W>) -> fmt::Result {
-        match &self.0 {
-            Some(sentence) => write!(f, " ({sentence})"),
-            None => Ok(()),
         }
     }
 }

@@ -9,7 +9,7 @@ ghost use Rattle.its_world.specs.Events.{event_of};
 ghost use Rattle.its_simulation.specs.Records.{happening_in, octets_of};
 
 use crate::action::Action;
-use crate::entry::Told;
+use crate::entry::{EntryKeys, entry_keys};
 use its_json::Octets;
 use its_world::{Entry, Event, What, World};
 use serde::Serialize;
@@ -75,7 +75,7 @@ pub(crate) struct EventLine<'a> {
     #[serde(skip_serializing_if = "Option::is_none")]
     lon: Option<i32>,
     #[serde(flatten)]
-    told: Told<'a>,
+    told: EntryKeys<'a>,
     #[serde(skip_serializing_if = "Option::is_none")]
     octets: Option<Octets<'a>>,
 }
@@ -96,7 +96,7 @@ impl<'a> EventLine<'a> {
             frame,
             lat,
             lon,
-            told: Told::of(done.entry),
+            told: entry_keys(done.entry),
             octets: done.octets.map(Octets),
         }
     }

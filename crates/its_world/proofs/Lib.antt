@@ -3,3 +3,4 @@ pub mod Worlds
 pub mod Logs
 pub mod Giving
 pub mod Apart
+pub mod Late

@@ -4,6 +4,8 @@ use Rattle.its_gnvalue.specs.Values.{IsSpeed}
 use Rattle.its_model.specs.Calls as asked
 use Rattle.its_model.specs.World as model
 use Rattle.its_station.specs.Requests.{owned_gbc, owned_shb}
+use Rattle.its_station.specs.declared.run.Call.{Call}
+use Rattle.its_station.specs.declared.run.Call.TheVariants as calls
 use Rattle.its_world.specs.declared.config.Config.{Config}
 use Rattle.its_world.specs.declared.event.Event.{Event}
 use Rattle.its_world.specs.declared.event.What.{What}
@@ -39,3 +41,8 @@ config_of c =
 -- the numbers of a config are in their ranges
 abbrev pub IsConfig : Config → Type 0
 IsConfig c = (1 ≤ c.capacity) × (c.capacity ≤ 4096) × (1 ≤ c.remember) × (c.remember ≤ 64)
+
+-- a call that is no frame that came
+abbrev pub IsOwn : Call → Type 0
+IsOwn (calls.Receive frame) = ⊥
+IsOwn call = Unit {0}

@@ -4,4 +4,5 @@ pub mod Entries
 pub mod Events
 pub mod Mids
 pub mod Steps
+pub mod Late
 pub mod Runs

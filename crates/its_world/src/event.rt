@@ -1,7 +1,15 @@
 //! What happens in a world.
 
+ghost use Rattle.std.specs.Prelude.{◌≡◌, ℕ, None, IfSome, IsSomeAnd};
+ghost use Rattle.its_model.specs.Calls.{OwnCall};
+ghost use Rattle.its_model.specs.Calls.Call.{Own};
+ghost use Rattle.its_model.specs.World.What.{Calls, Deliver};
+ghost use Rattle.its_station.specs.Runs.{IsCall};
+ghost use Rattle.its_station.specs.Runs as calls;
+ghost use Rattle.its_world.specs.Events.{IsInRange, IsOwn, what_of};
+
 use its_gnvalue::Place;
-use its_station::{OwnedGbcRequest, OwnedShbRequest};
+use its_station::{Call, OwnedGbcRequest, OwnedShbRequest};
 
 /// A call of a station, with its arguments but for the moment, or the delivery of a frame.
 #[derive(Debug, Drop, PartialEq, Eq)]
@@ -33,6 +41,41 @@ pub enum What {
     Restart(u16),
     /// The frame of this number is delivered to the station.
     Deliver(usize),
+}
+
+impl What {
+    /// The call that it asks of its station; `None` where it delivers a frame. The speed has to be
+    /// in its range where it is a `MoveTo`.
+    pub fn into_call(self) -> Option<Call>
+        requires { IsInRange self }
+        ensures call { (own : OwnCall) → what_of self ≡ Calls own
+            → IsSomeAnd result (λ call. IsCall call (Own own)) }
+        ensures delivery { (frame : ℕ) → what_of self ≡ Deliver frame → result ≡ None }
+        ensures own { IfSome result IsOwn }
+        ensures range { IfSome result calls.IsInRange }
+    {
+        match self {
+            What::MoveTo {
+                place,
+                pai,
+                speed,
+                heading,
+            } => Some(Call::MoveTo {
+                place,
+                pai,
+                speed,
+                heading,
+            }),
+            What::Open(port) => Some(Call::Open(port)),
+            What::Close(port) => Some(Call::Close(port)),
+            What::Tick(jitter) => Some(Call::Tick(jitter)),
+            What::SendShb(request) => Some(Call::SendShb(request)),
+            What::SendGeobroadcast(request) => Some(Call::SendGeobroadcast(request)),
+            What::SendGeoanycast(request) => Some(Call::SendGeoanycast(request)),
+            What::Restart(number) => Some(Call::Restart(number)),
+            What::Deliver(_) => None,
+        }
+    }
 }
 
 /// What happens, to which station, and when.

@@ -6,6 +6,7 @@ mod config;
 mod entry;
 mod event;
 mod given;
+pub mod laws;
 mod run;
 mod shared;
 mod stations;

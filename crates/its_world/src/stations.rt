@@ -1,7 +1,8 @@
 //! The stations that a world begins with.
 
 ghost use Rattle.std.specs.Prelude.{All, map, IfOk};
-ghost use Rattle.its_model.specs.World.{opening};
+ghost use Rattle.its_model.specs.World.{opening, station_of};
+ghost use Rattle.its_station.specs.State.{RepresentsStation};
 ghost use Rattle.its_world.specs.State.{RepresentStations};
 ghost use Rattle.its_world.specs.Events.{IsConfig, config_of};
 
@@ -19,16 +20,26 @@ pub fn stations_of(alloc: Global, configs: &[Config]) -> Result<Vec<Station<Sort
 {
     let mut stations = Vec::with_capacity(alloc, configs.len())?;
     for config in configs {
-        let Ok(station) = Station::new(
-            alloc,
-            config.address,
-            config.place,
-            config.capacity,
-            config.remember,
-        ) else {
-            return Err(NoMemory);
-        };
+        let station = begin_station(alloc, config)?;
         stations.push(station)?;
     }
     Ok(stations)
+}
+
+/// A new station of this config. It takes all memory of its location table.
+pub(crate) fn begin_station(
+    alloc: Global,
+    config: &Config,
+) -> Result<Station<SortedTable>, NoMemory>
+    requires { IsConfig config.now }
+    ensures { IfOk result (λ station. RepresentsStation station (station_of (config_of config.now))) }
+{
+    let begun = Station::new(
+        alloc,
+        config.address,
+        config.place,
+        config.capacity,
+        config.remember,
+    );
+    begun.map_err(|_| NoMemory)
 }

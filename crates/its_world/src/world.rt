@@ -1,6 +1,6 @@
 //! A world, and one event in it.
 
-ghost use Rattle.std.specs.Prelude.{◌≡◌, ◌<◌, ◌≤◌, ◌++◌, ◌∷◌, [], ℕ, List, All, map, length};
+ghost use Rattle.std.specs.Prelude.{◌≡◌, ◌<◌, ◌≤◌, ◌+◌, ◌++◌, ◌∷◌, [], ℕ, List, All, map, length};
 ghost use Rattle.std.specs.Prelude.{IfOk, IfErr, OnOk, OnErr, Some, slice_get};
 ghost use Rattle.std.specs.Option.{option_map};
 ghost use Rattle.its_model.specs.Calls.{Answer, Call};
@@ -14,13 +14,14 @@ ghost use Rattle.its_world.specs.Events.{IsConfig, IsInRange, config_of, event_o
 ghost use Rattle.its_world.specs.Entries.{TellsEntry, IsGivenBy};
 ghost use Rattle.its_world.specs.Mids.{AreApart, IsMidFault};
 ghost use Rattle.its_world.specs.Steps.{IsAskedBy, IsDelivered, AreSameBut};
+ghost use Rattle.its_world.specs.Late.{with_station};
 
 use crate::config::{Config, WorldFault};
 use crate::entry::{Entry, EntryFault};
 use crate::event::{Event, What};
 use crate::given::Given;
 use crate::shared::refuse_shared;
-use crate::stations::stations_of;
+use crate::stations::{begin_station, stations_of};
 use its_gnvalue::NoMemory;
 use its_linkframe::laws::{one_frame, one_frame_fault};
 use its_loctable::SortedTable;
@@ -83,6 +84,25 @@ impl World {
             air: Vec::new(alloc),
             room: Vec::new(alloc),
         })
+    }
+
+    /// Adds a station of this config, numbered behind all others, to which nothing happened yet. It
+    /// is as if it had been there from the beginning (`late_stations_were_there`). Its capacity is 1
+    /// to 4096, and what it remembers 1 to 64. Whether another has its MID isn't looked at. Where an
+    /// allocation failed nothing changed.
+    pub fn add_station(&mut self, config: &Config) -> Result<(), NoMemory>
+        requires { IsConfig config.now }
+        ensures added { OnOk result ((w : WorldModel) → RepresentsWorld self.old w →
+            RepresentsWorld self.new (with_station w (config_of config.now))) }
+        ensures count { OnOk result (length self.new.stations ≡ length self.old.stations + 1) }
+        ensures others { (number : ℕ) → number < length self.old.stations →
+            slice_get self.new.stations number ≡ slice_get self.old.stations number }
+        ensures frames { self.new.frames ≡ self.old.frames }
+        ensures unchanged { OnErr result (self.new ≡ self.old) }
+    {
+        let station = begin_station(self.alloc, config)?;
+        self.stations.push(station)?;
+        Ok(())
     }
 
     /// The station of a number, as it stands after the events done; `None` where there is none.

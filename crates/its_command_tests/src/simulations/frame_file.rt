@@ -1,8 +1,7 @@
 //! The file of the frames that stations give.
 
 use its_pcap::Format;
-use its_reporting::{OutputFormat, Status};
-use its_runs::FrameFile;
+use its_reporting::{FrameFile, OutputFormat, Status};
 use std::test::Fail;
 
 /// A device with room for less than a header, an interface and a frame fails at the first octet

@@ -41,11 +41,15 @@ total events 8 frames 4 deliveries 1 duplicates 2 ignored 1 refused 0
 fn how_far_a_run_is(rt: HostRuntime) -> Result<(), Fail> {
     let text = format!(in rt.alloc(); "{ROW}[air]\nrange = 500\nuntil = 5000\n")?;
     let shown = "0 of 5000 ms: events 1 deliveries 0\x1b[K\r\x1b[K";
-    for (summary, lines, want) in [(true, SUMMARY, shown), (false, HOPS, "")] {
+    for (summary, lines, progress, want) in [
+        (true, SUMMARY, true, shown),
+        (false, HOPS, true, shown),
+        (false, HOPS, false, ""),
+    ] {
         let (mut out, mut err) = (Vec::new(rt.alloc()), Vec::new(rt.alloc()));
         let options = RunOptions {
             summary,
-            progress: true,
+            progress,
             ..RunOptions::default()
         };
         let input = text.as_bytes();

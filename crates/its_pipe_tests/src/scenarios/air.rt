@@ -101,7 +101,7 @@ fn ends_of_the_air(rt: HostRuntime) -> Result<(), Fail> {
         let Some(air) = scenario.air else {
             return Err("no air")?;
         };
-        assert_eq!(rt; air.end(scenario.events.as_slice()), want);
+        assert_eq!(rt; air.end(scenario.file.as_slice()), want);
     }
     Ok(())
 }

@@ -2,11 +2,11 @@ use Rattle.std.proofs.Common.{◌≤◌, [], map, length, sym, subst}
 use Rattle.std.specs.Prelude.{Vec, All}
 use Rattle.std.specs.declared.alloc.Global.{Global}
 use denote.Ref.{Bor}
-use Rattle.its_world.specs.declared.event.Event.{Event}
-use Rattle.its_world.specs.Events.{IsInRange, config_of, event_of}
+use Rattle.its_scenario.specs.declared.event.FileEvent.{FileEvent}
+use Rattle.its_world.specs.Events.{config_of}
 use Rattle.its_scenario.specs.Airs.{end_of}
 use Rattle.its_air.specs.AirRun.{AreDue}
-use Rattle.its_air.specs.Queues.{happenings_in}
+use Rattle.its_air.specs.Queues.{filed_in, filed_of, IsFiledInRange}
 use Rattle.its_air.proofs.Under.{begins, ended}
 use Rattle.std.proofs.Common.{Bool, false, suc}
 use Rattle.its_air.specs.AirTimed.{rules_of}
@@ -15,8 +15,8 @@ use Rattle.its_air.specs.Timetable.{air_opening, air_run}
 use Rattle.its_air.specs.Traffics.{all_traffic}
 use Rattle.its_air.proofs.run.run_air.Goals as goal
 
-pub loop-number-init : goal.loop-number-init
-loop-number-init g c =
+pub loop-init : goal.loop-init
+loop-init g c =
     let run = c.in_ok-run.run' in
     let configs = map config_of c.args.configs.now in
     record {
@@ -31,7 +31,8 @@ loop-number-init g c =
       timed = λ took. (
         0,
         record {
-          rules_are = c.in_ok-run.ensures.rules;
+          goes_by = c.in_ok-run.ensures.rules;
+          present = c.in_ok-run.ensures.present;
           told = (begins configs run (g.S.EventSink.Took c.args.sink.now)
               c.in_ok-run.ensures.world (c.every_schedule.ensures configs []) took
               c.in_ok-run.ensures.start).told;
@@ -40,28 +41,29 @@ loop-number-init g c =
       );
     }
 
-pub loop-number-preserved : goal.loop-number-preserved
-loop-number-preserved g c =
+pub loop-preserved : goal.loop-preserved
+loop-preserved g c =
     let configs = map config_of c.args.configs.now in
     let due = c.go_on.ensures.due in
     record {
       due =
-          subst (λ (d : Vec (Bor Event) Global).
-          AreDue (map event_of c.args.events.now) (end_of c.args.air.now.until c.args.events.now) (happenings_in d.items))
-          (sym due) c.loop-number.invariant.due;
+          subst (λ (d : Vec (Bor FileEvent) Global).
+          AreDue (map filed_of c.args.file.now) (end_of c.args.air.now.until c.args.file.now) (filed_in d.items))
+          (sym due) c.loop.invariant.due;
       standings = c.in_ok-go_on.ensures.standings;
       ranges =
-          subst (λ (d : Vec (Bor Event) Global).
-          All (λ (e : Bor Event). IsInRange e.now.what) d.items)
-          (sym due) c.loop-number.invariant.ranges;
+          subst (λ (d : Vec (Bor FileEvent) Global).
+          All (λ (e : Bor FileEvent). IsFiledInRange e.now) d.items)
+          (sym due) c.loop.invariant.ranges;
       run = λ took.
-          let before = c.loop-number.invariant.run took in
+          let before = c.loop.invariant.run took in
           c.in_ok-go_on.ensures.run configs before.0 before.1;
       timed = λ took.
-          let rules = rules_of c.args.air.now (all_traffic c.args.every.now) (end_of c.args.air.now.until c.args.events.now) in
-          let before = c.loop-number.invariant.timed took in
+          let rules = rules_of c.args.air.now (all_traffic c.args.every.now)
+          (end_of c.args.air.now.until c.args.file.now) c.args.present.now in
+          let before = c.loop.invariant.timed took in
           let a = air_run rules configs before.0
-          (air_opening rules configs (map event_of c.args.events.now)) in (
+          (air_opening rules configs (map filed_of c.args.file.now)) in (
             suc before.0,
             subst (λ (b : Bool). GoesOn b rules configs a c.go_on.new.self
                 (g.S.EventSink.Took c.go_on.new.sink)) c.if-not-branch.false
@@ -73,25 +75,26 @@ pub returns-then-not-branch-clause-file : goal.returns-then-not-branch-clause-fi
 returns-then-not-branch-clause-file g c =
     λ took.
     let configs = map config_of c.args.configs.now in
-    let before = c.loop-number.invariant.run took in
+    let before = c.loop.invariant.run took in
     let after = c.in_ok-go_on.ensures.run configs before.0 before.1 in
     let all : length c.go_on.new.self.queue.due.items ≤ c.go_on.new.self.queue.taken =
     c.in_ok-go_on.ensures.ended c.if-not-branch.true in
-    ended configs (map event_of c.args.events.now) after.0 (end_of c.args.air.now.until c.args.events.now)
+    ended configs (map filed_of c.args.file.now) after.0 (end_of c.args.air.now.until c.args.file.now)
     c.go_on.new.self (g.S.EventSink.Took c.go_on.new.sink)
-    (subst (λ (d : Vec (Bor Event) Global).
-    AreDue (map event_of c.args.events.now) (end_of c.args.air.now.until c.args.events.now) (happenings_in d.items))
-    (sym c.go_on.ensures.due) c.loop-number.invariant.due)
+    (subst (λ (d : Vec (Bor FileEvent) Global).
+    AreDue (map filed_of c.args.file.now) (end_of c.args.air.now.until c.args.file.now) (filed_in d.items))
+    (sym c.go_on.ensures.due) c.loop.invariant.due)
     all after.1
 
 pub returns-then-not-branch-clause-timed : goal.returns-then-not-branch-clause-timed
 returns-then-not-branch-clause-timed g c =
     λ took.
     let configs = map config_of c.args.configs.now in
-    let rules = rules_of c.args.air.now (all_traffic c.args.every.now) (end_of c.args.air.now.until c.args.events.now) in
-    let before = c.loop-number.invariant.timed took in
+    let rules = rules_of c.args.air.now (all_traffic c.args.every.now)
+    (end_of c.args.air.now.until c.args.file.now) c.args.present.now in
+    let before = c.loop.invariant.timed took in
     let a = air_run rules configs before.0
-    (air_opening rules configs (map event_of c.args.events.now)) in
+    (air_opening rules configs (map filed_of c.args.file.now)) in
     let after : GoesOn false rules configs a c.go_on.new.self
     (g.S.EventSink.Took c.go_on.new.sink) =
     subst (λ (b : Bool). GoesOn b rules configs a c.go_on.new.self

@@ -1,30 +1,33 @@
 use Rattle.std.proofs.Common.{ℕ, List, [], map}
 use Rattle.std.specs.Prelude.{All}
 use Rattle.its_model.specs.World.{Event}
-use Rattle.its_world.specs.Events.{IsInRange, config_of, event_of}
+use Rattle.its_world.specs.Events.{config_of}
 use Rattle.its_scenario.specs.Airs.{end_of}
 use Rattle.its_air.specs.AirRun.{AreDue}
-use Rattle.its_air.specs.Files.{happenings_due}
+use Rattle.its_air.specs.Files.{filed_due}
 use Rattle.its_air.specs.AirTimed.{rules_of}
 use Rattle.its_air.specs.Keeps.{IsTimed}
+use Rattle.its_air.specs.Queues.{IsFiledInRange, filed_of}
 use Rattle.its_air.specs.Runs.{IsUnderWay}
 use Rattle.its_air.specs.Standings.{AreStandingsOf}
 use Rattle.its_air.specs.Timetable.{air_opening, air_run}
 use Rattle.its_air.specs.Traffics.{all_traffic}
 use Rattle.its_air.proofs.run.run_air.Given as goal
 
--- the run is under way, and the events of the file are those that wait
-abbrev pub invariant-loop-number : goal.invariant-loop-number
-invariant-loop-number g l =
+-- the run is under way, and the events and leaves of the file are those that wait
+abbrev pub invariant-loop : goal.invariant-loop
+invariant-loop g l =
     record {
-      due : AreDue (map event_of l.events) (end_of l.air.until l.events) (happenings_due l.run.queue);
+      due : AreDue (map filed_of l.file) (end_of l.air.until l.file) (filed_due l.run.queue);
       standings : AreStandingsOf l.run.world.stations l.run.standings.order.items;
-      ranges : All (λ e. IsInRange e.now.what) l.run.queue.due.items;
+      ranges : All (λ e. IsFiledInRange e.now) l.run.queue.due.items;
       run : g.S.EventSink.Took l.fn.sink [] [] → (past : List Event)
           × IsUnderWay (map config_of l.configs) past l.run (g.S.EventSink.Took l.sink);
       timed : g.S.EventSink.Took l.fn.sink [] [] → (steps : ℕ)
-          × IsTimed (rules_of l.air (all_traffic l.every) (end_of l.air.until l.events)) (map config_of l.configs)
-          (air_run (rules_of l.air (all_traffic l.every) (end_of l.air.until l.events)) (map config_of l.configs) steps
-          (air_opening (rules_of l.air (all_traffic l.every) (end_of l.air.until l.events)) (map config_of l.configs)
-          (map event_of l.events))) l.run (g.S.EventSink.Took l.sink);
+          × IsTimed (rules_of l.air (all_traffic l.every) (end_of l.air.until l.file) l.present)
+          (map config_of l.configs)
+          (air_run (rules_of l.air (all_traffic l.every) (end_of l.air.until l.file) l.present)
+          (map config_of l.configs) steps
+          (air_opening (rules_of l.air (all_traffic l.every) (end_of l.air.until l.file) l.present)
+          (map config_of l.configs) (map filed_of l.file))) l.run (g.S.EventSink.Took l.sink);
     }

@@ -26,5 +26,5 @@ loop-config-preserved c =
     RepresentStations l (map station_of (map config_of (take i configs))
     ++ station_of (config_of x) ∷ [])) (sym c.in_ok-push.ensures.items)
     (station_last c.loop-config.stations.items
-    (map station_of (map config_of (take i configs))) c.in-Ok.station
-    (station_of (config_of x)) c.loop-config.invariant c.in-Ok.ensures.represents))
+    (map station_of (map config_of (take i configs))) c.in_ok-station.station
+    (station_of (config_of x)) c.loop-config.invariant c.in_ok-station.ensures))

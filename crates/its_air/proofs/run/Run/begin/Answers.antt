@@ -1,6 +1,7 @@
 use Rattle.std.proofs.Common.{◌≡◌, ◌∙◌, [], map, length, cond, ap, sym, subst, Bool}
 use Rattle.std.proofs.lemmas.List.{length-map}
-use Rattle.its_world.specs.Events.{config_of, event_of}
+use Rattle.its_world.specs.Events.{config_of}
+use Rattle.its_air.specs.Queues.{filed_of}
 use Rattle.its_air.specs.Draws.{draws_of}
 use Rattle.its_air.specs.Keeps.{Keeps}
 use Rattle.its_air.specs.Timetable.{Timetable, of_file, put_all, put_first_ticks, put_traffic}
@@ -13,7 +14,7 @@ pub returns-clause-timed : goal.returns-clause-timed
 returns-clause-timed c =
     let air = c.args.air.now in
     let configs = c.args.configs.now in
-    let file = map event_of c.args.events.now in
+    let file = map filed_of c.args.file.now in
     let empty = c.in_ok-queue.ensures.empty in
     let t : Timetable = record { waiting = put_all (map of_file file) []; draws = draws_of air.seed } in
     let kept : Keeps c.in_ok-queue.queue c.of_seed-draws.result t =
@@ -28,11 +29,11 @@ returns-clause-timed c =
       | else-air w ↦ w.ticking-is
           ∙ ap (λ (b : Bool). cond b (length (map config_of configs)) 0) (sym w.if-air.false)
     ]) in
-    let ticked : Keeps c.put_first_ticks.new.queue c.put_first_ticks.new.draws
-    (put_first_ticks (cond air.beacons (length (map config_of configs)) 0) t) =
-    subst (λ n. Keeps c.put_first_ticks.new.queue c.put_first_ticks.new.draws (put_first_ticks n t))
-    ticking (c.in_ok-put_first_ticks.ensures.ticks t kept) in
-    subst (λ n. Keeps c.put_traffic.new.queue c.put_traffic.new.draws
-    (put_traffic (all_traffic c.args.every.now) n
-    (put_first_ticks (cond air.beacons (length (map config_of configs)) 0) t))) many
-    (c.in_ok-put_traffic.ensures.sends _ ticked)
+    let ticked : Keeps c.schedule_first_ticks.new.queue c.schedule_first_ticks.new.draws
+    (put_first_ticks c.args.present.now (cond air.beacons (length (map config_of configs)) 0) t) =
+    subst (λ n. Keeps c.schedule_first_ticks.new.queue c.schedule_first_ticks.new.draws (put_first_ticks c.args.present.now n t))
+    ticking (c.in_ok-schedule_first_ticks.ensures.ticks t kept) in
+    subst (λ n. Keeps c.schedule_traffic.new.queue c.schedule_traffic.new.draws
+    (put_traffic c.args.present.now (all_traffic c.args.every.now) n
+    (put_first_ticks c.args.present.now (cond air.beacons (length (map config_of configs)) 0) t))) many
+    (c.in_ok-schedule_traffic.ensures.sends _ ticked)

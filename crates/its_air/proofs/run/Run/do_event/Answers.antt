@@ -2,17 +2,17 @@ use Rattle.std.proofs.Common.{[], ◌∷◌, ◌++◌, sym, subst, ◌∙◌}
 use Rattle.its_world.specs.Events.{event_of}
 use Rattle.its_world.specs.State.{WorldState}
 use Rattle.its_simulation.specs.Simulated.{IsSimulated}
-use Rattle.its_air.proofs.run.Run.do_event.Goals.{in-Some+in_ok-spread, in_default}
+use Rattle.its_air.proofs.run.Run.do_event.Goals.{in-Some-frame+in_ok-spread, in_default-frame}
 use Rattle.its_air.proofs.run.Run.do_event.Goals as goal
-use Rattle.std.proofs.Common.{◌≡◌, ap, List, ℕ, Option, Some}
+use Rattle.std.proofs.Common.{◌≡◌, ap, List, ℕ, Option, Some, Bool}
+use Rattle.std.specs.Prelude.{Vec}
+use Rattle.std.specs.declared.alloc.Global.{Global}
 use Rattle.its_model.specs.World.{opening, world_run, entries}
-use Rattle.its_scenario.specs.declared.air.Air.{Air}
 use Rattle.its_world.specs.State.{RepresentsWorld}
-use Rattle.its_air.specs.AirTimed.{rules_of}
 use Rattle.its_air.specs.Keeps.{Keeps}
-use Rattle.its_air.specs.Timetable.{Rules, given, spread_frame}
+use Rattle.its_air.specs.Timetable.{given, spread_frame}
 use Rattle.its_air.specs.declared.waiting.Queue.{Queue}
-use Rattle.its_air.proofs.Keeping.{answered_last}
+use Rattle.its_air.proofs.Keeping.{answered_last, goes_on}
 use Rattle.its_air.proofs.Under.{told_on}
 
 pub returns-clause-run : goal.returns-clause-run
@@ -20,14 +20,14 @@ returns-clause-run g c = λ configs events before.
     let e = event_of c.args.event.now in
     let done = c.in_ok-entry.ensures.run configs events before in
     elim c.match-frame.branch [
-      | in-Some+in_ok-spread w ↦ rw w.self-is (rw w.sink-is (
+      | in-Some-frame+in_ok-spread w ↦ rw w.self-is (rw w.sink-is (
           subst (λ (x : WorldState). IsSimulated configs (events ++ e ∷ []) x
           (g.S.EventSink.Took w.spread.new.sink))
           (sym (w.spread.ensures.world ∙ c.follow.ensures.world))
           (told_on configs (events ++ e ∷ []) c.do_event.new.world
           (g.S.EventSink.Took c.do_event.new.sink) (g.S.EventSink.Took w.spread.new.sink)
           w.in_ok-spread.ensures.told done)))
-      | in_default w ↦ rw w.self-is (rw w.sink-is (
+      | in_default-frame w ↦ rw w.self-is (rw w.sink-is (
           subst (λ (x : WorldState). IsSimulated configs (events ++ e ∷ []) x
           (g.S.EventSink.Took c.do_event.new.sink)) (sym c.follow.ensures.world) done))
     ]
@@ -38,10 +38,10 @@ returns-clause-answered g c = λ configs events before.
     let e = event_of c.args.event.now in
     let l = answered_last (world_run (opening configs) (events ++ e ∷ [])).log
     (entries (world_run (opening configs) events).log) a.answer a.last in
-    record { answer = a.answer; tells = a.tells; gave = l.0; refused = l.1 }
+    record { answer = a.answer; tells = a.tells; gave = l.0; refused = l.1; moved = l.2 }
 
 pub returns-clause-spread : goal.returns-clause-spread
-returns-clause-spread g c = λ configs events t every before keeps.
+returns-clause-spread g c = λ rules configs events t goes_by before keeps.
     let a = c.in_ok-entry.ensures.entry configs events before in
     let e = event_of c.args.event.now in
     let after = world_run (opening configs) (events ++ e ∷ []) in
@@ -49,25 +49,26 @@ returns-clause-spread g c = λ configs events t every before keeps.
     a.last in
     let run = c.args.self.now in
     let moved = c.follow.new.self in
-    let rules = rules_of run.air every run.queue.until in
+    let present : List Bool = run.present.items in
+    let same : moved.present.items ≡ present =
+    ap (λ (v : Vec Bool Global). v.items) c.follow.ensures.present in
     let stands : RepresentsWorld moved.world after =
     subst (λ (x : WorldState). RepresentsWorld x after) (sym c.follow.ensures.world)
     (c.in_ok-entry.ensures.run configs events before).stands in
     let kept : Keeps moved.queue moved.draws t =
     subst (λ (q : Queue). Keeps q moved.draws t) (sym c.follow.ensures.queue)
     (subst (λ (ws : List ℕ). Keeps run.queue ws t) (sym c.follow.ensures.draws) keeps) in
-    let same : rules_of moved.air every moved.queue.until ≡ rules =
-    ap (λ (q : Queue). rules_of moved.air every q.until) c.follow.ensures.queue
-    ∙ ap (λ (x : Air). rules_of x every run.queue.until) c.follow.ensures.air in
+    let goes = goes_on rules run moved goes_by c.follow.ensures.air c.follow.ensures.every
+    (ap (λ (q : Queue). q.until) c.follow.ensures.queue) in
     let frame : c.frame.result ≡ given after.log = c.frame.ensures a.answer a.tells ∙ sym l.0 in
     elim c.match-frame.branch [
-      | in-Some+in_ok-spread w ↦ rw w.self-is (
+      | in-Some-frame+in_ok-spread w ↦ rw w.self-is (
           subst (λ (o : Option ℕ). Keeps w.spread.new.self.queue w.spread.new.self.draws
-          (spread_frame rules e after o t)) (sym w.in-Some.is ∙ frame)
-          (subst (λ (r : Rules). Keeps w.spread.new.self.queue w.spread.new.self.draws
-          (spread_frame r e after (Some w.in-Some.frame) t)) same
-          (w.in_ok-spread.ensures.spread after t every stands kept)))
-      | in_default w ↦ rw w.self-is (
-          subst (λ (o : Option ℕ). Keeps moved.queue moved.draws (spread_frame rules e after o t))
-          (sym w.in_default.is ∙ frame) kept)
+          (spread_frame rules present e after o t)) (sym w.in-Some-frame.is ∙ frame)
+          (subst (λ (l : List Bool). Keeps w.spread.new.self.queue w.spread.new.self.draws
+          (spread_frame rules l e after (Some w.in-Some-frame.frame) t)) same
+          (w.in_ok-spread.ensures.spread rules after t goes stands kept)))
+      | in_default-frame w ↦ rw w.self-is (
+          subst (λ (o : Option ℕ). Keeps moved.queue moved.draws
+          (spread_frame rules present e after o t)) (sym w.in_default-frame.is ∙ frame) kept)
     ]

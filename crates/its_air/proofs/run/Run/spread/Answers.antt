@@ -1,45 +1,38 @@
-use Rattle.std.proofs.Common.{◌≡◌, ◌+◌, ◌∙◌, ap, sym, subst, List, ℕ, Some, None, Option}
-use Rattle.std.specs.Prelude.{slice_get, OnOk}
-use Rattle.its_gnvalue.specs.Values.{PositionVector}
-use Rattle.its_station.specs.State.{StationState}
-use Rattle.its_model.specs.Station.{StationModel}
+use Rattle.std.proofs.Common.{◌≡◌, ◌+◌, ◌∙◌, sym, subst, List, ℕ, Some}
+use Rattle.std.specs.Prelude.{OnOk}
+use Rattle.its_scenario.specs.declared.air.Air.{Air}
+use Rattle.its_world.specs.Events.{event_of}
+use Rattle.its_air.specs.Files.{SameFile}
 use Rattle.its_air.specs.Keeps.{Keeps}
-use Rattle.its_air.specs.Reach.{hearers}
-use Rattle.its_air.specs.Timetable.{send_all, hear_it, heard_by}
-use Rattle.its_air.proofs.Keeping.{hear_same, no_model, found_some, found_none}
+use Rattle.its_air.specs.Timetable.{Rules, send_all, spread_frame, heard_by}
+use Rattle.its_air.specs.declared.waiting.Queue.{Queue}
 use Rattle.its_air.proofs.run.Run.spread.Goals as goal
 
-pub returns-in_default-clause-spread : goal.returns-in_default-clause-spread
-returns-in_default-clause-spread g c = λ w t every stands h.
-    let run = c.args.self.now in
-    let n = c.args.event.now.station in
-    let none : slice_get run.world.stations n ≡ None =
-    found_none _ c.station.result _ c.station.ensures c.in_default.is in
-    let gone : slice_get w.stations n ≡ None =
-    no_model n run.world.stations w.stations stands.stations none in
-    subst (λ (s : Option StationModel). Keeps run.queue run.draws
-    (send_all run.air.loss c.args.frame (c.args.event.now.moment + run.air.delay)
-    (hear_it run.air.range w.stations n s) t)) (sym gone) h
-
 pub returns-clause-spread : goal.returns-clause-spread
-returns-clause-spread g c = λ w t every stands h.
+returns-clause-spread g c = λ rules w t goes_by stands h.
     let run = c.args.self.now in
-    let n = c.args.event.now.station in
-    let st = c.in-Some.giver.now in
-    let at : slice_get run.world.stations n ≡ Some st =
-    found_some _ c.station.result c.in-Some.giver _ c.station.ensures c.in-Some.is in
-    let found : c.as_slice-hearers.result.now
-    ≡ hearers run.air.range run.world.stations n st.vector.place =
-    c.as_slice-hearers.ensures.value ∙ c.in_ok-find_hearers.ensures
-    ∙ ap (λ (l : List StationState). hearers run.air.range l n c.place.result) c.stations.ensures
-    ∙ ap (hearers run.air.range run.world.stations n)
-    (c.place.ensures ∙ ap (λ (v : PositionVector). v.place) c.vector.ensures) in
-    let heard : c.as_slice-hearers.result.now ≡ heard_by run.air.range w n =
-    found ∙ sym (hear_same run.air.range n st run.world.stations w.stations stands.stations at) in
-    subst (λ (l : List ℕ). OnOk c.put_deliveries.result (Keeps c.put_deliveries.new.queue
-    c.put_deliveries.new.draws (send_all run.air.loss c.args.frame
-    (c.args.event.now.moment + run.air.delay) l t))) heard
-    (subst (λ d. OnOk c.put_deliveries.result (Keeps c.put_deliveries.new.queue
-    c.put_deliveries.new.draws (send_all run.air.loss c.args.frame
-    (c.args.event.now.moment + d) c.as_slice-hearers.result.now t))) c.from.ensures
-    (c.put_deliveries.ensures.sent t h))
+    let found = c.find_hearers.new.self in
+    let e = c.args.event.now in
+    let queue = c.schedule_deliveries.new.queue in
+    let words = c.schedule_deliveries.new.draws in
+    let k = c.args.frame in
+    let js = heard_by run.air.range run.present.items w e.station in
+    let heard : c.as_slice-hearers.result.now ≡ js =
+    c.as_slice-hearers.ensures.value ∙ c.in_ok-find_hearers.ensures.heard w stands in
+    let kept : Keeps found.queue found.draws t =
+    subst (λ (q : Queue). Keeps q found.draws t) (sym c.find_hearers.ensures.queue)
+    (subst (λ (ws : List ℕ). Keeps run.queue ws t) (sym c.find_hearers.ensures.draws) h) in
+    subst (λ (r : Rules). OnOk c.schedule_deliveries.result
+    (Keeps queue words (spread_frame r run.present.items (event_of e) w (Some k) t))) goes_by
+    (subst (λ (a : Air). OnOk c.schedule_deliveries.result
+    (Keeps queue words (send_all a.loss k (e.moment + a.delay) js t))) c.find_hearers.ensures.air
+    (subst (λ (l : List ℕ). OnOk c.schedule_deliveries.result
+    (Keeps queue words (send_all found.air.loss k (e.moment + found.air.delay) l t))) heard
+    (subst (λ d. OnOk c.schedule_deliveries.result
+    (Keeps queue words (send_all found.air.loss k (e.moment + d) c.as_slice-hearers.result.now t)))
+    c.from.ensures (c.schedule_deliveries.ensures.sent t kept))))
+
+pub returns-clause-file : goal.returns-clause-file
+returns-clause-file g c =
+    subst (λ (q : Queue). SameFile q c.schedule_deliveries.new.queue) c.find_hearers.ensures.queue
+    c.schedule_deliveries.ensures.file

@@ -1,0 +1,54 @@
+use Rattle.std.proofs.Common.{◌≡◌, ◌+◌, ◌∷◌, refl, ap, subst, rules, IsPermutation, heap_items}
+use Rattle.std.specs.Prelude.{slice_get, OnOk}
+use Rattle.its_air.specs.declared.waiting.Waiting.{Waiting}
+use Rattle.its_air.specs.declared.waiting.Own.TheVariants as owns
+use Rattle.its_air.specs.Keeps.{Keeps, follow_own}
+use Rattle.its_air.specs.Timetable.{Timetable, is_refusal, sending}
+use Rattle.its_air.specs.Traffics.{traffic_of}
+use Rattle.its_air.proofs.Following.{follows_tick, follows_delivery, follows_send}
+use Rattle.its_air.proofs.Keeping.{keeps_put_alone, on_ok_both}
+use Rattle.its_air.proofs.run.Run.schedule_next.Goals as goal
+
+pub returns-in-Tick-clause-next : goal.returns-in-Tick-clause-next
+returns-in-Tick-clause-next c = λ w t answer stands tells h.
+    let done = c.args.done.now in
+    subst (λ (u : Timetable). OnOk c.schedule_next_tick.result
+    (Keeps c.schedule_next_tick.new.self.queue c.schedule_next_tick.new.self.draws u))
+    (follows_tick done c.in-Tick.field-0 (is_refusal answer) (slice_get w.stations done.station) t
+    c.in-Tick.is)
+    (c.schedule_next_tick.ensures.tick w t answer stands tells h)
+
+pub returns-in-Deliver-clause-next : goal.returns-in-Deliver-clause-next
+returns-in-Deliver-clause-next c = λ w t answer stands tells h.
+    let done = c.args.done.now in
+    subst (λ (u : Timetable). Keeps c.args.self.now.queue c.args.self.now.draws u)
+    (follows_delivery done c.in-Deliver.field-0 (is_refusal answer)
+    (slice_get w.stations done.station) t c.in-Deliver.is) h
+
+pub returns-in-Send-clause-next : goal.returns-in-Send-clause-next
+returns-in-Send-clause-next c = λ w t answer stands tells h.
+    let done = c.args.done.now in
+    let queue = c.args.self.now.queue in
+    let words = c.args.self.now.draws in
+    let n = c.in-Send.number in
+    let x = c.in-Send.traffic in
+    let m = done.moment + c.from.result in
+    let later : m ≡ done.moment + x.period = search rules in
+    let put : Waiting = record {
+      moment = m;
+      place = queue.put;
+      station = done.station;
+      own = owns.Send n x;
+    } in
+    on_ok_both c.put.result (IsPermutation (put ∷ heap_items queue.own) (heap_items c.put.new.self.own))
+    (c.put.new.self.put ≡ queue.put + 1)
+    (Keeps c.put.new.self words (follow_own done (is_refusal answer)
+    (slice_get w.stations done.station) t))
+    (λ moves count.
+    subst (λ (u : Timetable). Keeps c.put.new.self words u)
+    (follows_send done n x (is_refusal answer) (slice_get w.stations done.station) t c.in-Send.is)
+    (keeps_put_alone queue c.put.new.self words t put
+    (sending (traffic_of n x) done.station (done.moment + x.period))
+    (record { due = c.put.ensures.due; taken = c.put.ensures.taken; until = c.put.ensures.until })
+    moves count refl (ap (sending (traffic_of n x) done.station) later) h))
+    c.put.ensures.put c.put.ensures.count

@@ -1,0 +1,11 @@
+use Rattle.std.proofs.Common.{◌∙◌, sym, true≢false}
+use Rattle.its_air.proofs.Keeping.{keeps_sent}
+use Rattle.its_air.proofs.run.schedule_delivery.Goals as goal
+
+pub returns-clause-sent : goal.returns-clause-sent
+returns-clause-sent c = λ t h.
+    keeps_sent c.args.queue.now c.put.new.self c.args.draws.now c.is_lost.new.self t c.args.loss
+    c.args.given.frame c.args.given.heard_at c.args.station
+    (record { due = c.put.ensures.due; taken = c.put.ensures.taken; until = c.put.ensures.until })
+    c.in_ok-put.ensures.put c.in_ok-put.ensures.count c.is_lost.ensures.rest
+    (λ lt. true≢false (sym (c.is_lost.ensures.lost.1 lt) ∙ c.if-is_lost.false)) h

@@ -1,0 +1,10 @@
+//! What lines tell of a station's answer: its words, and the keys that objects have for them.
+#![tactic(auto)]
+
+mod answer_keys;
+mod reason;
+mod words;
+
+pub use answer_keys::{AnswerKeys, PrintedAnswer, delivery_keys};
+pub use reason::RefusedReason;
+pub use words::why_word;

@@ -1,0 +1,26 @@
+use Rattle.std.proofs.Common.{◌≡◌, ℕ, Result, Ok, rules, refl, subst}
+use Rattle.its_pcap.specs.declared.put_fault.PutFault.{PutFault}
+use Rattle.its_pcap.specs.RecordFiles.{RecordFile, Starts}
+use Rattle.its_pcap.specs.Sinks.{file_of_sink}
+use Rattle.its_reporting.specs.FrameFiles.{AddsInterfaces, fresh}
+use Rattle.its_reporting.proofs.frame_file.FrameFile.start.Goals as goal
+
+pub returns : goal.returns
+returns g c =
+    let before = file_of_sink c.new-sink.result in
+    let begun = file_of_sink c.start.new.self in
+    let format = c.args.format in
+    let is_fresh : before ≡ fresh format (g.W.Write.contents c.args.writer) = search rules in
+    let is_ok : c.start.result ≡ Ok tt = search rules in
+    let started : Starts before.format before begun (Ok tt) =
+    subst (λ (r : Result (Unit {0}) PutFault). Starts before.format before begun r) is_ok
+    c.start.ensures in
+    let all : c.loop-station.station-counter ≡ c.args.stations = search rules in (
+      begun,
+      subst (λ (f : RecordFile). Starts f.format f begun (Ok tt)) is_fresh started,
+      subst (λ (n : ℕ). AddsInterfaces n begun (file_of_sink c.loop-station.sink)) all
+          c.loop-station.invariant,
+      refl,
+      refl,
+      refl,
+    )

@@ -1,0 +1,90 @@
+//! A run that stands in the page: that the page opens it, and that what `geostation view` writes is
+//! the page with its styles, its scripts and the run in it. GEOSTATION may name the program.
+
+'use strict';
+
+const assert = require('node:assert/strict');
+const {spawnSync} = require('node:child_process');
+const fs = require('node:fs');
+const os = require('node:os');
+const path = require('node:path');
+const test = require('node:test');
+const {load, TOP} = require('./load.js');
+const {elementOf, whole} = require('./whole.js');
+
+const {open} = load();
+const BUILT = path.join(TOP, '..', 'crates', 'geostation', 'out', 'geostation');
+const PROGRAM = process.env.GEOSTATION ?? BUILT;
+const DATA = path.join(TOP, '..', 'cases', 'data');
+/** A name of a vehicle that would end the element, begin a comment, and is no ASCII. */
+const NAME = '</script><!--<script>&amp;\u00e9';
+
+/** What the page opens of an element with this text. */
+async function opened(textContent, name) {
+  const element = {textContent, dataset: {name}, isThere: true};
+  element.remove = () => (element.isThere = false);
+  globalThis.document = {getElementById: (id) => (id === 'inside' ? element : undefined)};
+  const runs = [];
+  await open.inside(async (blob, called) => runs.push([await blob.text(), called]));
+  delete globalThis.document;
+  assert.equal(element.isThere, false);
+  return runs;
+}
+
+test('the run that stands in the page is opened under its name', async () => {
+  assert.deepEqual(await opened('\n{"stations":[]}\n', 'a.jsonl'), [
+    ['{"stations":[]}\n', 'a.jsonl'],
+  ]);
+});
+
+test('where none stands there, none is opened', async () => {
+  assert.deepEqual(await opened('', undefined), []);
+  assert.deepEqual(await opened('\n', undefined), []);
+});
+
+/** Why the program can't be asked; false where it can. */
+function missing() {
+  if (!fs.existsSync(PROGRAM)) return 'the program isn’t built';
+  const asked = spawnSync(PROGRAM, ['view', '--help'], {encoding: 'utf8'});
+  return asked.status === 0 ? false : 'the program has no view';
+}
+
+/** What the program prints with this on standard input. */
+function print(input, ...words) {
+  const options = {encoding: 'utf8', input, maxBuffer: 1 << 28};
+  const {status, stdout, stderr} = spawnSync(PROGRAM, words, options);
+  assert.ok(status === 0 || status === 1, `${words.join(' ')}: status ${status}: ${stderr}`);
+  return stdout;
+}
+
+/** The page that the program makes of a file, with this on standard input. */
+function view(file, input = '') {
+  return print(input, 'view', '--quiet', '--viewer', TOP, file);
+}
+
+const skip = missing();
+
+test('a run is put into the page, its signs that begin a tag spelled', {skip}, () => {
+  const run = `{"stations":[{"address":"1400020000000001","lat":0,"lon":0,"id":"${NAME}"}]}\n`;
+  const spelled = run.replaceAll('<', '\\u003c');
+  assert.equal(view('-', run), whole(elementOf('standard input', spelled)));
+  assert.deepEqual(JSON.parse(spelled), JSON.parse(run));
+});
+
+test('the name of a run stands in the page as a text', {skip}, () => {
+  const room = fs.mkdtempSync(path.join(os.tmpdir(), 'inside-'));
+  const file = path.join(room, 'a"b<c>&.jsonl');
+  fs.writeFileSync(file, '{"stations":[]}');
+  const page = whole(elementOf('a&quot;b&lt;c>&amp;.jsonl', '{"stations":[]}'));
+  assert.equal(view(file), page);
+  fs.rmSync(room, {recursive: true});
+});
+
+for (const name of fs.readdirSync(DATA).filter((file) => file.endsWith('.toml'))) {
+  test(`${name} is run with its notes for the page`, {skip}, () => {
+    const file = path.join(DATA, name);
+    const hasAir = /^\s*\[air\]/m.test(fs.readFileSync(file, 'utf8'));
+    const run = print('', 'sim', '--json', ...(hasAir ? ['--notes'] : []), file);
+    assert.equal(view(file), whole(elementOf(name, run)));
+  });
+}
