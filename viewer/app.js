@@ -3,40 +3,41 @@
 (function (geostation) {
   'use strict';
 
-  const {byId, element} = geostation.dom;
-  const {run: runs, way: ways, why, reason, filter, clock, load} = geostation;
+  const {byId, element, grouped} = geostation.dom;
+  const {reading, way: ways, why, reason, rows, words, filter, clock, load} = geostation;
   const {countUpTo} = geostation.columns;
-  const {kindOf} = geostation.scene;
   const LIMITS = {links: geostation.map.MOST_LINKS, circles: geostation.map.MOST_CIRCLES};
 
   /** How long lists stay as they are while it plays, in milliseconds. */
   const LISTING = 120;
 
   /** All that is shown. */
-  const state = {run: undefined, at: 0, station: undefined, kind: '', result: '', send: -1,
-    chosen: undefined, rows: undefined, frames: {}, opening: 0, listed: 0};
+  const state = {run: undefined, at: 0, note: undefined, station: undefined, kind: '', result: '',
+    send: -1, chosen: undefined, rows: undefined, frames: {}, opening: 0, listed: 0};
 
   const map = new geostation.map.RunMap(byId('map'), byId('canvas'), toggleStation, showFrame);
   const timeline = new geostation.timeline.Timeline(go, stepBy);
   const strip = new geostation.strip.Strip();
-  const events = new geostation.list.List(byId('events'), fillEvent, (row) => {
-    timeline.pause();
-    go(eventOfRow(row));
-  });
+  const events = new geostation.list.List(byId('events'),
+    (row) => rows.entry(state, placeOfRow(row)), (row) => {
+      timeline.pause();
+      goToRow(row);
+    });
   const sends = new geostation.list.List(byId('sends'), fillSend, (row) => {
     timeline.pause();
     chooseSend(row - 1);
     if (state.chosen) go(ways.end(state.run, state.chosen));
   });
-  const missed = new geostation.list.List(byId('missed'), fillMissed, pickMissed);
-  const tree = new geostation.list.List(byId('tree'), fillStep, (row) => {
+  const missed = new geostation.list.List(byId('missed'), (row) => rows.miss(state, row),
+    pickMissed);
+  const tree = new geostation.list.List(byId('tree'), (row) => rows.step(state, row), (row) => {
     timeline.pause();
     go(state.steps[row].event);
   });
 
-  /** @param {string} words */
-  function tell(words) {
-    byId('totals').textContent = words;
+  /** @param {string} told */
+  function tell(told) {
+    byId('totals').textContent = told;
   }
 
   /** Opens a run; a file that is none gets a sentence. @param {Blob} blob @param {string} name */
@@ -46,7 +47,7 @@
     byId('fault').hidden = true;
     try {
       if (await isLoad(blob)) return void openLoad(await blob.text(), name);
-      const run = await runs.read(geostation.open.pieces(blob, tell));
+      const run = await reading.read(geostation.open.pieces(blob, tell), blob.size);
       if (mine === state.opening) begin(run, name);
     } catch (fault) {
       if (mine === state.opening) refuse(name, fault);
@@ -60,9 +61,10 @@
 
   /** Takes the load of all stations from a file of `sim --load`. @param {string} text */
   function openLoad(text, name) {
-    if (!state.run) throw new runs.RunFault('A file of “--load” goes with a run: open that first.');
+    const {RunFault} = reading;
+    if (!state.run) throw new RunFault('A file of “--load” goes with a run: open that first.');
     const told = load.told(text, load.bins(state.run).bins);
-    if (!told) throw new runs.RunFault('It begins as a file of “--load”, but isn’t one.');
+    if (!told) throw new RunFault('It begins as a file of “--load”, but isn’t one.');
     state.loads.set(undefined, told);
     byId('load').title = `Of all stations as ${name} tells`;
     showTotals();
@@ -71,7 +73,7 @@
 
   /** @param {string} name @param {any} fault */
   function refuse(name, fault) {
-    const known = fault instanceof runs.RunFault || fault instanceof DOMException;
+    const known = fault instanceof reading.RunFault || fault instanceof DOMException;
     const because = known ? fault.message : `It can't be read: ${fault.message}`;
     byId('fault').textContent = `${name}: ${because}`;
     byId('fault').hidden = false;
@@ -82,8 +84,9 @@
   /** Shows a run from its first warning on. @param {import('./run.js').Run} run */
   function begin(run, name) {
     timeline.pause();
-    Object.assign(state, {run, name, at: 0, station: undefined, kind: '', result: '',
-      rows: undefined, frames: {}, judgements: new Map(), loads: new Map()}, ways.follow(run));
+    Object.assign(state, {run, name, at: 0, note: undefined, station: undefined, kind: '',
+      result: '', rows: undefined, frames: {}, judgements: new Map(), loads: new Map()},
+    ways.follow(run));
     state.total = ways.total(run);
     document.body.dataset.state = 'run';
     document.title = `${name}: geostation`;
@@ -92,13 +95,14 @@
     byId('load').title = '';
     byId('station').max = String(Math.max(0, run.stations.length - 1));
     byId('all').hidden = true;
+    byId('away').hidden = !run.presence.isTold;
     showTotals();
     timeline.begin(run.times, state.sends.map(({event}, i) =>
       ({event, name: `Warning ${i + 1}, at ${run.moment(event)} ms`})));
     const packets = state.sends.slice(0, 200).map((send) => ways.packetOf(run, send));
     map.begin(run, packets.map((packet) => packet?.area).filter((area) => area));
     sends.show(state.sends.length + 1, 0);
-    chooseSend(state.sends.length > 0 ? 0 : -1);
+    setSend(state.sends.length > 0 ? 0 : -1);
     events.show(rowCount(), 0);
     const wanted = state.wanted ?? (state.chosen ? ways.end(run, state.chosen) : 0);
     state.wanted = undefined;
@@ -108,7 +112,7 @@
 
   function showTotals() {
     const count = (value, one, more = `${one}s`) =>
-      `${value.toLocaleString('en')} ${value === 1 ? one : more}`;
+      `${grouped(value)} ${value === 1 ? one : more}`;
     const {total, run} = state;
     tell([count(run.stations.length, 'station'), count(total.events, 'event'),
       count(total.frames, 'frame'), count(total.deliveries, 'delivery', 'deliveries'),
@@ -118,30 +122,40 @@
   }
 
   function rowCount() {
-    return state.rows ? state.rows.length : state.run.events.length;
+    return state.rows ? state.rows.length : state.run.entries.length;
   }
 
-  /** @param {number} row */
-  function eventOfRow(row) {
+  /** The place of what a row lists. @param {number} row */
+  function placeOfRow(row) {
     return state.rows ? state.rows[row] : row;
   }
 
-  /** The row of the present event, or of the last one before it; -1 where there is none. */
+  /** The row of what is present, or of the last one before it; -1 where there is none. */
   function presentRow() {
-    const {run, rows, at} = state;
-    if (!rows) return run.events.length === 0 ? -1 : at;
-    return countUpTo(rows, at) - 1;
+    const {run: {entries, events: {length}}, rows: listed, at, note} = state;
+    const place = note !== undefined ? entries.ofNote(note)
+      : length === 0 ? -1 : entries.ofEvent(at);
+    return listed ? countUpTo(listed, place) - 1 : place;
   }
 
-  /** Goes to an event. @param {number} at */
-  function go(at) {
+  /** Goes to what a row lists. @param {number} row */
+  function goToRow(row) {
+    const {event, note} = state.run.entries.at(placeOfRow(row));
+    go(event, note);
+  }
+
+  /** Goes to an event, or to a note that stands behind it. @param {number} at */
+  function go(at, note) {
     const {run} = state;
     state.at = Math.max(0, Math.min(at, run.events.length - 1));
+    state.note = note;
     const event = run.events.at(state.at);
-    state.frames = {came: event?.frame, given: event?.sent};
-    const words = event ? presentWords(event) : 'This run has no events.';
-    byId('present').textContent = words;
-    timeline.show(state.at, words);
+    state.frames = note === undefined ? {came: event?.frame, given: event?.sent}
+      : {came: run.notes.is(note, 'lost') ? run.notes.at(note).frame : undefined};
+    const told = note !== undefined ? words.ofNote(run, note)
+      : event ? words.ofEvent(run, event) : 'This run has no events.';
+    byId('present').textContent = told;
+    timeline.show(state.at, told);
     drawMap();
     // While it plays, nobody reads lists that change at each frame.
     if (timeline.playing && performance.now() - state.listed < LISTING) return;
@@ -166,29 +180,15 @@
     }, 150);
   }
 
-  /** Steps along the listed events. @param {number} by */
+  /**
+   * Steps along what is listed. All events are played without the notes among them.
+   * @param {number} by
+   */
   function stepBy(by) {
-    if (state.run.events.length === 0) return;
-    if (!state.rows) return void go(state.at + by);
+    if (timeline.playing && !state.rows) return void go(state.at + by);
     const row = Math.max(0, Math.min(presentRow() + by, rowCount() - 1));
-    if (rowCount() > 0) go(eventOfRow(row));
+    if (rowCount() > 0) goToRow(row);
     if (row >= rowCount() - 1) timeline.pause();
-  }
-
-  /** @param {import('./run.js').Event} event */
-  function presentWords(event) {
-    const because = event.reason ? ` (${event.reason})` : '';
-    return `Event ${event.index}, ${state.run.moment(event.index)} ms, station ` +
-      `${state.run.name(event.station)}: ${runs.doing(event)}, ${runs.entry(event)}${because}`;
-  }
-
-  /** @param {number} row @returns {import('./list.js').Row} */
-  function fillEvent(row) {
-    const event = state.run.events.at(eventOfRow(row));
-    return {kind: `event ${kindOf(event)}`, title: event.reason ?? runs.entry(event), cells: [
-      ['moment', state.run.moment(event.index)], ['who', state.run.name(event.station)],
-      ['what', runs.doing(event)], ['entry', runs.entry(event)],
-    ]};
   }
 
   /** Who was reached by a send and who wasn't, worked out once. */
@@ -199,19 +199,18 @@
 
   /** @param {number} row 0 for all @returns {import('./list.js').Row} */
   function fillSend(row) {
-    if (row === 0) return {kind: 'send', cells: [['entry', 'All frames, as they come']]};
-    const {run} = state;
-    const send = ways.figures(run, state.sends[row - 1]);
-    const {inside, reached} = judgementOf(state.sends[row - 1]);
-    const words = `port ${send.port ?? '?'}, ${reached.length} of ${inside.length} reached`;
-    return {kind: `send${reached.length < inside.length ? ' short' : ''}`, cells: [
-      ['moment', send.moment], ['who', run.name(send.station)], ['what', send.do],
-      ['entry', words],
-    ]};
+    const send = state.sends[row - 1];
+    return rows.send(state, send, send && judgementOf(send));
   }
 
   /** Shows the way of a send, or all frames. @param {number} send -1 for all */
   function chooseSend(send) {
+    setSend(send);
+    if (state.run.events.length > 0 || map.scene) drawMap();
+  }
+
+  /** Shows a send in the lists, or that all frames are shown. @param {number} send -1 for all */
+  function setSend(send) {
     const {run} = state;
     const chosen = state.sends[send];
     Object.assign(state, {chosen, send: chosen ? send : -1});
@@ -225,7 +224,6 @@
     byId('tree').hidden = !chosen;
     byId('sends').parentElement.classList.toggle('all', !chosen);
     tree.show(state.steps.length, state.steps.findIndex((step) => step.event === state.at));
-    if (run.events.length > 0 || map.scene) drawMap();
   }
 
   /** @param {import('./way.js').Send | undefined} send */
@@ -236,11 +234,11 @@
     const {delivered, frames, hops, last} = ways.figures(state.run, send);
     const {inside} = state.judgement;
     const repeats = delivered === 0 ? '–' : (send.duplicates / delivered).toFixed(1);
-    const rows = [
+    const parts = [
       ['delivered at', delivered], ['in the area', inside.length], ['frames', frames],
       ['hops', hops], ['last', `${last} ms`], ['dup./delivery', repeats],
     ];
-    box.replaceChildren(...rows.map(([name, value]) =>
+    box.replaceChildren(...parts.map(([name, value]) =>
       element('div', '', element('dt', '', name), element('dd', '', String(value)))));
     box.title = 'In the area: other stations that stood in it at the send, with a port open';
   }
@@ -262,14 +260,6 @@
     byId('missed').hidden = count === 0;
   }
 
-  /** @param {number} row @returns {import('./list.js').Row} */
-  function fillMissed(row) {
-    const miss = state.judgement.missed[row];
-    return {kind: `miss ${miss.reason}`, title: reason.sentence(state.run, state.chosen, miss),
-      cells: [['who', state.run.name(miss.station)], ['entry', miss.reason],
-        ['note', reason.short(miss)]]};
-  }
-
   /** Tells why a station wasn't reached, and goes to where it came closest. @param {number} row */
   function pickMissed(row) {
     timeline.pause();
@@ -278,21 +268,6 @@
     byId('why').textContent = reason.sentence(state.run, state.chosen, miss);
     chooseStation(miss.station);
     if (miss.event !== undefined) go(miss.event);
-  }
-
-  /** @param {number} row @returns {import('./list.js').Row} */
-  function fillStep(row) {
-    const {event, station, hop, delivered, sent, duplicates} = state.steps[row];
-    const start = state.run.elapsed(state.chosen.event, event);
-    const words = [hop === 0 ? 'sent it' : delivered ? 'delivered' : 'accepted'];
-    if (hop > 0 && sent !== undefined) words.push('relayed');
-    if (duplicates > 0) words.push(`${duplicates} knew it`);
-    const kind = hop === 0 ? 'sent' : delivered ? 'accepted delivered' : 'accepted';
-    const later = event > state.at ? ' later' : '';
-    const note = words.join(', ');
-    return {kind: `step ${kind}${later}`, hop: Math.min(hop, 12), title: note, cells: [
-      ['entry', `station ${state.run.name(station)}`], ['note', note], ['moment', `+${start} ms`],
-    ]};
   }
 
   function drawMap() {
@@ -337,11 +312,11 @@
       `${Math.round(rate)} frames/s`, busy, again, table].join(' · ');
   }
 
-  /** Shows a frame that came, and the one that was given for it. */
+  /** Shows a frame that came, or was lost, and the one that was given for it. */
   function showFrame(frame, event) {
     const {run} = state;
-    const given = run.events.isDelivery(event) ? run.events.at(event).sent : undefined;
-    state.frames = {came: frame, given};
+    const {frame: came, sent} = run.events.at(event);
+    state.frames = {came: frame, given: came === frame ? sent : undefined};
     geostation.packet.show(byId('packet'), run, state.frames);
     byId('packet').closest('section').scrollIntoView({block: 'nearest'});
   }

@@ -3,9 +3,12 @@
 (function (geostation) {
   'use strict';
 
-  const {shape} = geostation;
+  const {names, shape} = geostation;
+  const {grouped} = geostation.dom;
   /** How near a click has to be, in pixels. */
   const NEAR = 9;
+  /** How strong one that is away is painted, where it has a part in the warning. */
+  const FAINT = 0.35;
   const ROLES = ['idle', 'reached', 'delivered', 'sender'];
   const COLOURS = {idle: '--idle', reached: '--accepted', delivered: '--delivered',
     sender: '--sender', missed: '--red', accepted: '--accepted', duplicate: '--duplicate',
@@ -26,7 +29,7 @@
       this.xs = new Float32Array(run.stations.length);
       this.ys = new Float32Array(run.stations.length);
       this.placedAt = undefined;
-      this.hasPresence = run.presence.members.length > 0 || run.stations.some(({born}) => born > 0);
+      this.hasPresence = run.presence.isTold;
       const style = getComputedStyle(document.documentElement);
       this.colours = Object.fromEntries(Object.entries(COLOURS).map(([name, variable]) =>
         [name, style.getPropertyValue(variable).trim()]));
@@ -43,6 +46,7 @@
       this.drawBystanders();
       this.drawLinks();
       this.drawRoles();
+      this.drawNames();
     }
 
     size() {
@@ -83,17 +87,28 @@
 
     /** All that have no role: thousands, which go into the picture point by point. */
     drawBystanders() {
-      const {roles, at} = this.scene;
+      const {roles} = this.scene;
       const dense = window.devicePixelRatio || 1;
       const half = Math.max(1, Math.round(this.radius * dense));
       const colour = pixelOf(this.colours.idle);
       const {xs, ys} = this;
       this.pixels.fill(0);
+      this.away = 0;
       for (let i = 0; i < xs.length; i += 1) {
-        if (roles.has(i) || (this.hasPresence && !this.run.isPresent(i, at))) continue;
+        if (roles.has(i)) continue;
+        if (this.isAway(i)) {
+          this.away += 1;
+          continue;
+        }
         this.square(Math.round(xs[i] * dense), Math.round(ys[i] * dense), half, colour);
       }
       this.context.putImageData(this.image, 0, 0);
+    }
+
+    /** @param {number} station */
+    isAway(station) {
+      const {at, told} = this.scene;
+      return this.hasPresence && !this.run.presence.isThere(station, told, at);
     }
 
     /** Fills a square of the picture, as far as it lies inside. */
@@ -119,19 +134,43 @@
     /** Who has a part in the chosen send, and the present and the chosen station, above all. */
     drawRoles() {
       const {roles, active, chosen} = this.scene;
-      const {colours, radius} = this;
+      const {colours, context, radius} = this;
       for (const role of ROLES) {
         for (const [i, words] of roles) {
-          if (roleOf(words) === role) this.dot(i, 1.6 * radius, colours[role]);
+          if (roleOf(words) !== role) continue;
+          context.globalAlpha = this.isAway(i) ? FAINT : 1;
+          this.dot(i, 1.6 * radius, colours[role]);
         }
       }
       for (const [i, words] of roles) {
-        if (words.includes('missed')) {
-          this.ring(i, 1.7 * radius, colours.missed, Math.max(1, 0.7 * radius));
-        }
+        if (!words.includes('missed')) continue;
+        context.globalAlpha = this.isAway(i) ? FAINT : 1;
+        this.ring(i, 1.7 * radius, colours.missed, Math.max(1, 0.7 * radius));
       }
+      context.globalAlpha = 1;
       if (active !== undefined) this.ring(active, radius + 3, colours.active, 2);
       if (chosen !== undefined) this.ring(chosen, radius + 5, colours.chosen, 3);
+    }
+
+    /** The names of the stations in sight, where these are few. */
+    drawNames() {
+      const {context, colours, radius, run} = this;
+      const at = {x: 0, y: 0};
+      const placeOf = (i) => {
+        [at.x, at.y] = [this.xs[i], this.ys[i]];
+        return at;
+      };
+      this.named = names.inSight(this.xs.length, placeOf, this.map.box);
+      context.font = '600 11px system-ui, sans-serif';
+      context.textAlign = 'center';
+      for (const i of this.named ?? []) {
+        if (this.isAway(i)) continue;
+        context.lineWidth = 3;
+        context.strokeStyle = colours.ground;
+        context.strokeText(run.name(i), this.xs[i], this.ys[i] - radius - 6);
+        context.fillStyle = colours.active;
+        context.fillText(run.name(i), this.xs[i], this.ys[i] - radius - 6);
+      }
     }
 
     dot(index, radius, colour) {
@@ -182,7 +221,7 @@
       let [best, far] = [-1, NEAR];
       for (let i = 0; i < this.xs.length; i += 1) {
         const d = Math.hypot(this.xs[i] - x, this.ys[i] - y);
-        if (d < far) [best, far] = [i, d];
+        if (d < far && !this.isAway(i)) [best, far] = [i, d];
       }
       if (best >= 0) return {station: best};
       for (const {arc, frame, event} of this.links) {
@@ -196,7 +235,9 @@
 
     unseen() {
       const {length} = this.run.stations;
-      return [`the numbers and trails of ${length.toLocaleString('en')} stations`];
+      const parts = this.named ? 'trails' : 'numbers and trails';
+      const away = this.away > 0 ? [`${grouped(this.away)} stations that are away`] : [];
+      return [...away, `the ${parts} of ${grouped(length)} stations`];
     }
 
     clear() {

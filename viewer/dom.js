@@ -35,6 +35,11 @@
     }
   }
 
+  /** A whole number with commas between thousands. @param {number} value */
+  function grouped(value) {
+    return String(value).replace(/\B(?=(\d{3})+$)/g, ',');
+  }
+
   /** Makes a list of an array's elements as long as asked, and shows no more of them. */
   class Pool {
     /** @param {() => any} make @param {Element} parent */
@@ -68,5 +73,5 @@
     }
   }
 
-  geostation.dom = {byId, element, svg, set, Pool};
+  geostation.dom = {byId, element, svg, set, grouped, Pool};
 })(globalThis.geostation ??= {});

@@ -3,9 +3,8 @@
 (function (geostation) {
   'use strict';
 
-  const {svg, set, Pool} = geostation.dom;
-  const {shape} = geostation;
-  const MOST_LABELS = 60;
+  const {svg, set, grouped, Pool} = geostation.dom;
+  const {names, shape} = geostation;
   const LONGEST_TRAIL = 200;
   /** With more than these, lines have no tips. */
   const MANY_LINKS = 120;
@@ -17,61 +16,72 @@
       this.layers = layers;
       this.map = map;
       this.links = new Pool(makeLink, layers.links);
+      this.labels = new Pool(makeLabel, layers.labels);
     }
 
     /** @param {import('./run.js').Run} run */
     begin(run) {
       this.run = run;
-      const isFew = run.stations.length <= MOST_LABELS;
-      const radius = isFew ? 8 : run.stations.length <= 300 ? 5 : 3.5;
-      this.stations = run.stations.map((_, i) => this.makeStation(i, radius, isFew));
+      const {length} = run.stations;
+      const radius = length <= names.MOST ? 8 : length <= 300 ? 5 : 3.5;
+      this.stations = run.stations.map((_, i) => this.makeStation(i, radius));
       this.layers.stations.replaceChildren(...this.stations.map(({dot}) => dot));
-      const labels = this.stations.flatMap(({label, name}) => [label, name]);
-      this.layers.labels.replaceChildren(...labels.filter((label) => label));
       this.layers.trails.replaceChildren();
     }
 
-    /** @param {number} index @param {number} radius @param {boolean} isLabelled */
-    makeStation(index, radius, isLabelled) {
+    /** @param {number} index @param {number} radius */
+    makeStation(index, radius) {
       const dot = svg('circle', {class: 'station', r: radius, 'data-station': index});
       const {id, address} = this.run.stations[index];
       const title = svg('title');
       title.textContent = `station ${index}${id === undefined ? '' : `, ${id}`}, ${address}`;
       dot.append(title);
-      const label = isLabelled ? svg('text', {class: 'label'}) : undefined;
-      if (label) label.textContent = String(index);
-      const name = isLabelled && id !== undefined ? svg('text', {class: 'place-name'}) : undefined;
-      if (name) name.textContent = id;
-      return {dot, label, name, radius, trail: undefined, place: undefined, role: '', x: 0, y: 0};
+      return {dot, radius, trail: undefined, place: undefined, role: '', x: 0, y: 0};
     }
 
     /** @param {any} scene @param {boolean} isAnew whether all moves on the screen */
     draw(scene, isAnew) {
       this.scene = scene;
       this.stations.forEach((station, index) => this.drawStation(station, index, isAnew));
+      this.drawLabels();
       this.drawLinks();
+    }
+
+    /** The numbers and names of the stations in sight, where these are few. */
+    drawLabels() {
+      const {stations, map, run} = this;
+      this.labelled = names.inSight(stations.length, (i) => stations[i], map.box);
+      this.labels.begin();
+      for (const index of this.labelled ?? []) {
+        const {x, y, radius, role} = stations[index];
+        const isInside = radius >= 8;
+        const [number, name] = this.labels.next().children;
+        const at = {x: x.toFixed(1), y: y.toFixed(1)};
+        const beside = isInside ? '' : 'beside ';
+        set(number, {...at, dy: isInside ? 3.8 : radius + 12, class: `label ${beside}${role}`});
+        set(name, {...at, dy: -radius - 5, class: `place-name ${role}`});
+        write(number, isInside || run.stations[index].id === undefined ? String(index) : '');
+        write(name, run.stations[index].id ?? '');
+      }
+      this.labels.finish();
     }
 
     /** @param {any} station @param {number} index @param {boolean} isAnew */
     drawStation(station, index, isAnew) {
-      const {at, active, chosen, roles} = this.scene;
+      const {at, told, active, chosen, roles} = this.scene;
       const place = this.run.placeAt(index, at);
       if (isAnew || place.lat !== station.place?.lat || place.lon !== station.place?.lon) {
         station.place = place;
         Object.assign(station, this.map.screenOf(place));
-        const [x, y] = [station.x.toFixed(1), station.y.toFixed(1)];
-        set(station.dot, {cx: x, cy: y});
-        if (station.label) set(station.label, {x, y, dy: 3.8});
-        if (station.name) set(station.name, {x, y, dy: -station.radius - 5});
+        set(station.dot, {cx: station.x.toFixed(1), cy: station.y.toFixed(1)});
         this.drawTrail(station, index);
       }
+      const isThere = this.run.presence.isThere(index, told, at);
       const role = [roles.get(index) ?? '', index === active ? 'active' : '',
-        index === chosen ? 'chosen' : '', this.run.isPresent(index, at) ? '' : 'away'].join(' ');
+        index === chosen ? 'chosen' : '', isThere ? '' : 'away'].join(' ');
       if (role === station.role) return;
       station.role = role;
       station.dot.setAttribute('class', `station ${role}`);
-      station.label?.setAttribute('class', `label ${role}`);
-      station.name?.setAttribute('class', `place-name ${role}`);
     }
 
     /** @param {any} station @param {number} index */
@@ -126,13 +136,15 @@
     /** What isn't drawn of a run. */
     unseen() {
       const {length} = this.run.stations;
-      return length > MOST_LABELS ? [`the numbers of ${length.toLocaleString('en')} stations`] : [];
+      return this.labelled ? [] : [`the numbers of ${grouped(length)} stations`];
     }
 
     clear() {
-      for (const name of ['stations', 'labels', 'trails']) this.layers[name].replaceChildren();
-      this.links.begin();
-      this.links.finish();
+      for (const name of ['stations', 'trails']) this.layers[name].replaceChildren();
+      for (const pool of [this.links, this.labels]) {
+        pool.begin();
+        pool.finish();
+      }
     }
   }
 
@@ -147,6 +159,18 @@
       defs.append(marker);
     }
     return defs;
+  }
+
+  /** A station's number, and its name. */
+  function makeLabel() {
+    const group = svg('g');
+    group.append(svg('text'), svg('text'));
+    return group;
+  }
+
+  /** @param {Element} element @param {string} text */
+  function write(element, text) {
+    if (element.textContent !== text) element.textContent = text;
   }
 
   /** A line that is seen, and a wider one to click at. */

@@ -3,7 +3,7 @@
 (function (geostation) {
   'use strict';
 
-  const {Table, Words} = geostation.columns;
+  const {Table, Words, widened} = geostation.columns;
 
   /**
    * @typedef {object} Event
@@ -28,10 +28,12 @@
   const RESULTS = ['moved', 'opened', 'closed', 'restarted', 'quiet', 'sent', 'ignored',
     'accepted', 'refused'];
   const NOTES = ['came', 'left', 'lost', 'absent'];
-  /** The number of a word of `do`, and of `result`. */
+  /** The number of a word of `do`, of `result` and of a note. */
   const DO = numbers(DOS);
   const RESULT = numbers(RESULTS);
   const NOTE = numbers(NOTES);
+  /** More octets than a frame has. */
+  const LONGEST = 2048;
 
   /** Words to their numbers, and no other keys. @param {string[]} words */
   function numbers(words) {
@@ -39,47 +41,60 @@
     return Object.assign(Object.create(null), Object.fromEntries(pairs));
   }
 
-  class Events extends Table {
+  /** An event as its columns have it: numbers, which are read into it one event after the other. */
+  class Row {
     constructor() {
-      // `word` is the number of `why` or `code`.
+      this.clear();
+    }
+
+    clear() {
+      this.moment = 0;
+      this.station = 0;
+      this.do = 0;
+      this.result = 0;
+      this.frame = 0;
+      this.sent = -1;
+      this.port = -1;
+      this.info = 0;
+      this.word = 0;
+      this.reason = 0;
+      this.payload = 0;
+      this.lat = 0;
+      this.lon = 0;
+    }
+  }
+
+  class Events extends Table {
+    /** @param {number} [capacity] */
+    constructor(capacity) {
+      // `word` is the number of `why` or `code`; `sent` and `port` are -1 where there is none.
       super({moment: Float64Array, station: Int32Array, do: Uint8Array, result: Uint8Array,
         frame: Uint32Array, sent: Int32Array, port: Int32Array, info: Uint16Array,
         word: Uint32Array, reason: Uint32Array, payload: Uint32Array, lat: Int32Array,
-        lon: Int32Array});
+        lon: Int32Array}, capacity);
       this.words = new Words();
+      this.duplicate = this.words.number('duplicate');
+      this.full = this.words.number('S4');
       /** The digits of moments past what a number holds, by event. @type {Map<number, string>} */
       this.exact = new Map();
     }
 
-    /** @param {Event} event the next one */
-    push(event) {
+    /** @param {Row} row the next one */
+    push(row) {
       const i = this.next();
-      this.moment.values[i] = event.moment;
-      this.station.values[i] = event.station;
-      this.do.values[i] = DO[event.do];
-      this.result.values[i] = RESULT[event.result];
-      this.sent.values[i] = event.sent ?? -1;
-      this.port.values[i] = event.port ?? -1;
-      if (event.frame !== undefined) this.frame.values[i] = event.frame;
-      if (event.why !== undefined) this.word.values[i] = this.words.number(event.why);
-      if (event.code !== undefined) this.pushRefusal(i, event);
-      if (event.port !== undefined) this.pushPayload(i, event);
-      if (event.lat !== undefined) this.pushPlace(i, event);
-    }
-
-    pushRefusal(i, {code, reason}) {
-      this.word.values[i] = this.words.number(code);
-      this.reason.values[i] = this.words.number(reason);
-    }
-
-    pushPayload(i, {info, payload}) {
-      this.info.values[i] = info;
-      this.payload.values[i] = this.words.number(payload);
-    }
-
-    pushPlace(i, {lat, lon}) {
-      this.lat.values[i] = lat;
-      this.lon.values[i] = lon;
+      this.moment.values[i] = row.moment;
+      this.station.values[i] = row.station;
+      this.do.values[i] = row.do;
+      this.result.values[i] = row.result;
+      this.frame.values[i] = row.frame;
+      this.sent.values[i] = row.sent;
+      this.port.values[i] = row.port;
+      this.info.values[i] = row.info;
+      this.word.values[i] = row.word;
+      this.reason.values[i] = row.reason;
+      this.payload.values[i] = row.payload;
+      this.lat.values[i] = row.lat;
+      this.lon.values[i] = row.lon;
     }
 
     /** @param {number} index @returns {Event | undefined} */
@@ -118,6 +133,16 @@
       return this.result.values[index] === RESULT[result];
     }
 
+    /** Whether a frame was ignored as one that is known. @param {number} index */
+    isDuplicate(index) {
+      return this.word.values[index] === this.duplicate;
+    }
+
+    /** Whether it was refused for a full location table. @param {number} index */
+    isFull(index) {
+      return this.word.values[index] === this.full;
+    }
+
     /** Of what an event was ignored or refused for. @param {number} index */
     wordOf(index) {
       return this.words.texts[this.word.values[index]];
@@ -133,43 +158,92 @@
     }
   }
 
-  /** Frames by number: the event that gave each, and its octets in hexadecimal. */
+  /** Frames by number: the event that gave each, and its octets, all in one store. */
   class Frames extends Table {
     constructor() {
-      super({giver: Int32Array});
-      /** @type {string[]} */
-      this.octets = [];
+      super({giver: Int32Array, end: Uint32Array});
+      this.store = new Uint8Array(1 << 20);
+      this.used = 0;
     }
 
-    /** @param {number} giver @param {string} octets */
+    /** Where the octets of the next frame go, with room for the longest. */
+    room() {
+      if (this.used + LONGEST > this.store.length) {
+        this.store = widened(this.store, 2 * this.store.length);
+      }
+      return this.store;
+    }
+
+    /** @param {number} giver @param {number} length of octets that stand at the store's end */
+    close(giver, length) {
+      const number = this.next();
+      this.used += length;
+      this.giver.values[number] = giver;
+      this.end.values[number] = this.used;
+    }
+
+    /** @param {number} giver @param {Uint8Array} octets */
     push(giver, octets) {
-      this.giver.values[this.next()] = giver;
-      this.octets.push(octets);
+      while (this.used + octets.length > this.store.length) {
+        this.store = widened(this.store, 2 * this.store.length);
+      }
+      this.store.set(octets, this.used);
+      this.close(giver, octets.length);
     }
 
-    /** @param {number} number @returns {{giver: number, octets: string} | undefined} */
-    at(number) {
-      if (!(number >= 0 && number < this.length)) return undefined;
-      return {giver: this.giver.values[number], octets: this.octets[number]};
+    /** The octets of a frame, none where it isn't there. @param {number} number */
+    octets(number) {
+      const {values} = this.end;
+      if (!(number >= 0 && number < this.length)) return this.store.subarray(0, 0);
+      return this.store.subarray(number === 0 ? 0 : values[number - 1], values[number]);
+    }
+
+    /** An octet of a frame, undefined where it isn't there. @param {number} number */
+    octet(number, at) {
+      const {values} = this.end;
+      if (!(number < this.length)) return undefined;
+      const place = (number === 0 ? 0 : values[number - 1]) + at;
+      return place < values[number] ? this.store[place] : undefined;
+    }
+
+    /** How many octets a frame has. @param {number} number */
+    lengthOf(number) {
+      const {values} = this.end;
+      return number === 0 ? values[0] : values[number] - values[number - 1];
     }
   }
 
   /** Notes: who came and left, which frame was lost where, and which stations weren't there. */
   class Notes extends Table {
     constructor() {
-      // `after` is the event that a note stands behind, -1 where it stands before all.
+      // `after` is the event that a note stands behind, -1 where it stands before all; `id` the
+      // number of a name.
       super({kind: Uint8Array, moment: Float64Array, station: Int32Array, frame: Int32Array,
-        after: Int32Array});
+        after: Int32Array, id: Uint32Array});
+      this.ids = new Words();
+      /** The digits of moments past what a number holds, by note. @type {Map<number, string>} */
+      this.exact = new Map();
     }
 
-    /** @param {{note: string, moment: number, station?: number, frame?: number}} note */
-    push({note, moment, station = -1, frame = -1}, after) {
+    /**
+     * @param {number} kind its number @param {number} moment @param {number} station -1 for none
+     * @param {number} frame -1 for none @param {number} after
+     */
+    push(kind, moment, station, frame, after, id = 0) {
       const i = this.next();
-      this.kind.values[i] = NOTE[note];
+      this.kind.values[i] = kind;
       this.moment.values[i] = moment;
       this.station.values[i] = station;
       this.frame.values[i] = frame;
       this.after.values[i] = after;
+      this.id.values[i] = id;
+    }
+
+    /** @param {number} index */
+    at(index) {
+      return {note: NOTES[this.kind.values[index]], moment: this.moment.values[index],
+        station: this.station.values[index], frame: this.frame.values[index],
+        after: this.after.values[index], id: this.ids.texts[this.id.values[index]]};
     }
 
     /** @param {number} index @param {string} note */
@@ -178,5 +252,5 @@
     }
   }
 
-  geostation.events = {Events, Frames, Notes, DOS, RESULTS, NOTES, DO, RESULT};
+  geostation.events = {Events, Frames, Notes, Row, LONGEST, DOS, RESULTS, NOTES, DO, RESULT, NOTE};
 })(globalThis.geostation ??= {});

@@ -1,60 +1,74 @@
-//! Which events are listed: by the kind of what was done or came, by its result, by station.
+//! Which events and notes are listed: by the kind of what was done, came or was lost, by its
+//! result, by station.
 
 (function (geostation) {
   'use strict';
 
-  const {DOS, RESULT} = geostation.events;
-  const TYPES = {1: 'beacon', 3: 'gac', 4: 'gbc', 5: 'shb'};
+  const {peek} = geostation;
+  const {DO, DOS, NOTE, NOTES, RESULT} = geostation.events;
   const OWN = {tick: 'beacon', shb: 'shb', gbc: 'gbc', gac: 'gac'};
-  /** The kinds that can be chosen: those of packets, then what else a station is told to do. */
-  const KINDS = ['beacon', 'shb', 'gbc', 'gac', 'move', 'open', 'close', 'restart'];
-  const RESULTS = ['sent', 'delivered', 'accepted', 'duplicate', 'ignored', 'refused'];
+  /** The kinds that can be chosen: packets, what else a station is told to do, notes of it. */
+  const KINDS = ['beacon', 'shb', 'gbc', 'gac', 'move', 'open', 'close', 'restart', 'came', 'left',
+    'absent'];
+  const RESULTS = ['sent', 'delivered', 'accepted', 'duplicate', 'ignored', 'refused', 'lost'];
 
-  /** The kind of the packet in a frame, undefined where it is none. @param {string} octets */
-  function kindOfFrame(octets) {
-    return TYPES[octets?.[38]];
+  /** The kind of an event. @param {import('./run.js').Run} run @param {number} index */
+  function kind({events, frames}, index) {
+    const what = events.do.values[index];
+    if (what === DO.deliver) return peek.kind(frames, events.frame.values[index]);
+    return OWN[DOS[what]] ?? DOS[what];
   }
 
-  /** @param {import('./run.js').Run} run @param {number} index */
-  function kind(run, index) {
-    const {events, frames} = run;
-    if (events.isDelivery(index)) return kindOfFrame(frames.octets[events.frame.values[index]]);
-    const what = DOS[events.do.values[index]];
-    return OWN[what] ?? what;
+  /** The kind of a note. @param {import('./run.js').Run} run @param {number} index */
+  function kindOfNote({notes, frames}, index) {
+    const note = notes.kind.values[index];
+    return note === NOTE.lost ? peek.kind(frames, notes.frame.values[index]) : NOTES[note];
   }
 
   /** Whether an event has a result, as the page groups them. @param {string} result */
   function has(events, index, result) {
     if (result === 'sent') return events.sent.values[index] >= 0;
     if (result === 'delivered') return events.port.values[index] >= 0;
-    if (result === 'duplicate') return events.wordOf(index) === 'duplicate';
-    if (result === 'ignored') {
-      return events.is(index, 'ignored') && events.wordOf(index) !== 'duplicate';
-    }
+    if (result === 'duplicate') return events.isDuplicate(index);
+    if (result === 'ignored') return events.is(index, 'ignored') && !events.isDuplicate(index);
     return events.result.values[index] === RESULT[result];
   }
 
   /**
-   * The events that are listed, undefined for all.
-   * @param {import('./run.js').Run} run
-   * @param {{station?: number, kind?: string, result?: string}} chosen
-   * @returns {ArrayLike<number> | undefined}
+   * Those of 0 .. count - 1, or of some numbers, that are wanted.
+   * @param {number} count @param {Int32Array | undefined} own
+   * @param {(index: number) => boolean} isWanted
    */
-  function rows(run, {station, kind: wanted, result}) {
-    if (!wanted && !result) return station === undefined ? undefined : run.byStation.of(station);
-    const own = station === undefined ? undefined : run.byStation.of(station);
-    const count = own ? own.length : run.events.length;
-    const found = new Int32Array(count);
+  function choose(count, own, isWanted) {
+    const found = new Int32Array(own ? own.length : count);
     let length = 0;
-    for (let i = 0; i < count; i += 1) {
+    for (let i = 0; i < found.length; i += 1) {
       const index = own ? own[i] : i;
-      if (result && !has(run.events, index, result)) continue;
-      if (wanted && kind(run, index) !== wanted) continue;
+      if (!isWanted(index)) continue;
       found[length] = index;
       length += 1;
     }
     return found.subarray(0, length);
   }
 
-  geostation.filter = {KINDS, RESULTS, rows, kind, kindOfFrame};
+  /**
+   * The places of the events and notes that are listed, undefined for all.
+   * @param {import('./run.js').Run} run
+   * @param {{station?: number, kind?: string, result?: string}} chosen
+   * @returns {ArrayLike<number> | undefined}
+   */
+  function rows(run, {station, kind: wanted, result}) {
+    if (!wanted && !result && station === undefined) return undefined;
+    const {events, notes} = run;
+    const isAll = station === undefined;
+    const isEvent = (index) => (!result || has(events, index, result)) &&
+      (!wanted || kind(run, index) === wanted);
+    const isNote = (index) => (!result || (result === 'lost' && notes.is(index, 'lost'))) &&
+      (!wanted || kindOfNote(run, index) === wanted);
+    return run.entries.merge(
+      choose(events.length, isAll ? undefined : run.byStation.of(station), isEvent),
+      choose(notes.length, isAll ? undefined : run.notesOf.of(station), isNote));
+  }
+
+  geostation.filter = {KINDS, RESULTS, rows, kind, kindOfNote};
 })(globalThis.geostation ??= {});

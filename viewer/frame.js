@@ -33,6 +33,8 @@
   const SHAPES = ['circle', 'rectangle', 'ellipse'];
   const KINDS = {1: 'beacon', 3: 'gac', 4: 'gbc', 5: 'shb'};
   const BASES = [50, 1000, 10000, 100000];
+  /** The two digits of each octet. */
+  const PAIRS = Array.from({length: 256}, (_, octet) => octet.toString(16).padStart(2, '0'));
 
   /** What is wrong with a packet, and at which octet of it. */
   class Fault extends Error {
@@ -98,7 +100,9 @@
 
   /** @param {Uint8Array} octets */
   function toHex(octets) {
-    return Array.from(octets, (octet) => octet.toString(16).padStart(2, '0')).join('');
+    let text = '';
+    for (const octet of octets) text += PAIRS[octet];
+    return text;
   }
 
   /** The octets of hexadecimal text, undefined where it is none. @param {string} text */
@@ -186,24 +190,29 @@
 
   /**
    * Reads a frame.
-   * @param {string} text its octets, in hexadecimal
+   * @param {Uint8Array} octets
    * @returns {{packet: Packet} | {fault: string}} the packet with the link addresses, or the code
    *   of what is wrong with it
    */
-  function decode(text) {
-    const octets = fromHex(text);
-    if (octets === undefined) return {fault: 'not hexadecimal'};
+  function read(octets) {
     if (octets.length < HEADER) return {fault: 'L1'};
     if (octets[12] !== 0x89 || octets[13] !== 0x47) return {fault: 'L2'};
     if (octets.length > LONGEST) return {fault: 'L3'};
     try {
       const {packet, end} = readPacket(new Octets(octets.subarray(HEADER)));
       if (HEADER + end < octets.length) return {fault: 'L4'};
-      return {packet: {to: text.slice(0, 12), from: text.slice(12, 24), ...packet}};
+      const [to, from] = [0, 6].map((at) => toHex(octets.subarray(at, at + 6)));
+      return {packet: {to, from, ...packet}};
     } catch (fault) {
       if (!(fault instanceof Fault)) throw fault;
       return {fault: `L5 ${fault.message}`};
     }
+  }
+
+  /** Reads a frame of hexadecimal text. @param {string} text */
+  function decode(text) {
+    const octets = fromHex(text);
+    return octets === undefined ? {fault: 'not hexadecimal'} : read(octets);
   }
 
   /** How long a packet lives, in milliseconds. @param {number} octet */
@@ -211,16 +220,11 @@
     return (octet >> 2) * BASES[octet & 3];
   }
 
-  /** @param {number} octet */
-  function hexOctet(octet) {
-    return octet.toString(16).padStart(2, '0');
-  }
-
   /** The line that `show` prints of a packet, without its moment. @param {Packet} p */
   function line(p) {
     const words = [p.from, p.to, p.kind, p.address, 'tst', p.tst, 'lat', p.lat, 'lon', p.lon];
-    words.push('pai', p.pai, 'speed', p.speed, 'heading', p.heading, 'lt', hexOctet(p.lifetime));
-    words.push('tc', hexOctet(p.trafficClass), 'mobile', p.mobile, 'hops', `${p.left}/${p.max}`);
+    words.push('pai', p.pai, 'speed', p.speed, 'heading', p.heading, 'lt', PAIRS[p.lifetime]);
+    words.push('tc', PAIRS[p.trafficClass], 'mobile', p.mobile, 'hops', `${p.left}/${p.max}`);
     if (p.area) {
       const {shape, lat, lon, a, b, angle} = p.area;
       words.push('number', p.number, shape, lat, lon, a, b, angle);
@@ -229,5 +233,5 @@
     return words.join(' ');
   }
 
-  geostation.frame = {decode, line, lifetimeMillis, toHex, fromHex};
+  geostation.frame = {read, decode, line, lifetimeMillis, toHex, fromHex};
 })(globalThis.geostation ??= {});

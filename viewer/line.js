@@ -1,76 +1,130 @@
-//! The lines of events that a run is mostly made of, read quicker than JSON is: a line in the very
-//! order and spelling of `sim --json`. Any other is left to JSON.
+//! The lines that a run is mostly made of, read octet by octet into its columns, which is quicker
+//! than JSON: an event or a note in the very order and spelling of `sim --json`. Any other line is
+//! left to `reading.js`.
 
 (function (geostation) {
   'use strict';
 
-  /** Reads one line after the other. */
-  class Scanner {
+  const {DO, RESULT, NOTE, Row, LONGEST} = geostation.events;
+  const {Prefix} = geostation.scan;
+  /** The greatest numbers that the columns hold. */
+  const MOST = {station: 65535, frame: 2 ** 31 - 1, port: 65535, lat: 9e8, lon: 18e8};
+
+  /** Words behind a prefix, with their numbers in a column; the most frequent ones stand first. */
+  function words(prefix, numbers, frequent) {
+    const names = [...new Set([...frequent, ...Object.keys(numbers)])];
+    return {prefixes: names.map((name) => new Prefix(`${prefix}${name}"`)),
+      numbers: names.map((name) => numbers[name])};
+  }
+
+  /** Keys with what begins their values. @param {string[]} names @param {string} start */
+  function keys(names, start) {
+    return Object.fromEntries(names.map((name) => [name, new Prefix(`,"${name}":${start}`)]));
+  }
+
+  const DOS = words(',"do":"', DO, ['deliver', 'move', 'tick']);
+  const RESULTS = words(',"result":"', RESULT, ['accepted', 'ignored', 'moved', 'sent']);
+  const NOTES = words('{"note":"', NOTE, ['lost']);
+  const KEYS = keys(['moment', 'station', 'frame', 'lat', 'lon', 'port', 'info', 'sent'], '');
+  const TEXTS = keys(['why', 'payload', 'octets'], '"');
+  const EVENT = new Prefix('{"event":');
+
+  /** Reads lines from a scanner into a run. */
+  class Lines {
     /**
-     * @param {string} text
-     * @returns {any} what JSON.parse gives, undefined where it is no line of that form
+     * @param {import('./run.js').Run} run
+     * @param {import('./scan.js').Scanner} scanner
      */
-    read(text) {
-      this.text = text;
-      this.at = 0;
-      const event = this.number('{"event":');
-      const moment = this.number(',"moment":');
-      const station = this.number(',"station":');
-      const what = this.word(',"do":"');
-      if (event < 0 || moment < 0 || station < 0 || what === '') return undefined;
-      const value = {event, moment, station, do: what};
-      if (what === 'deliver') value.frame = this.number(',"frame":');
-      value.result = this.word(',"result":"');
-      if (value.frame < 0 || value.result === '') return undefined;
-      return this.end(value);
+    constructor(run, scanner) {
+      this.run = run;
+      this.scanner = scanner;
+      this.row = new Row();
     }
 
-    /** What may stand behind the result. @param {any} value */
-    end(value) {
-      if (this.takes(',"why":"')) {
-        this.at -= 8;
-        value.why = this.word(',"why":"');
-      } else if (this.takes(',"sent":')) {
-        this.at -= 8;
-        value.sent = this.number(',"sent":');
-        value.octets = this.word(',"octets":"');
-        if (value.sent < 0 || value.octets === '') return undefined;
-      }
-      return this.takes('}') && this.at === this.text.length ? value : undefined;
+    /** Takes a line. @returns {boolean} whether it was one of these; else nothing is added */
+    take() {
+      return this.scanner.takes(EVENT) ? this.takeEvent() : this.takeNote();
     }
 
-    /** Passes a prefix. @param {string} prefix */
-    takes(prefix) {
-      if (!this.text.startsWith(prefix, this.at)) return false;
-      this.at += prefix.length;
+    takeEvent() {
+      const {scanner, row, run: {events, frames}} = this;
+      row.clear();
+      if (scanner.whole() !== events.length) return false;
+      row.moment = scanner.wholeBehind(KEYS.moment);
+      row.station = scanner.wholeBehind(KEYS.station);
+      if (row.moment < 0 || !isWithin(row.station, MOST.station)) return false;
+      const what = scanner.takesOne(DOS.prefixes);
+      row.do = DOS.numbers[what];
+      if (what < 0 || !this.takeDoing()) return false;
+      const result = scanner.takesOne(RESULTS.prefixes);
+      row.result = RESULTS.numbers[result];
+      if (result < 0 || row.result === RESULT.refused || !this.takeResult()) return false;
+      const length = this.takeSent();
+      if (length < 0 || !scanner.takesEnd()) return false;
+      if (row.sent >= 0) frames.close(events.length, length);
+      events.push(row);
       return true;
     }
 
-    /** A whole number of at most 15 digits, -1 where there is none. @param {string} prefix */
-    number(prefix) {
-      if (!this.takes(prefix)) return -1;
-      const start = this.at;
-      let value = 0;
-      let digit = this.text.charCodeAt(this.at) - 48;
-      while (digit >= 0 && digit <= 9) {
-        value = 10 * value + digit;
-        this.at += 1;
-        digit = this.text.charCodeAt(this.at) - 48;
+    /** What stands behind `do`: the frame of a delivery, the place of a move. */
+    takeDoing() {
+      const {scanner, row} = this;
+      if (row.do === DO.deliver) {
+        row.frame = scanner.wholeBehind(KEYS.frame);
+        return isWithin(row.frame, MOST.frame);
       }
-      const length = this.at - start;
-      const isZeroLed = length > 1 && this.text.charCodeAt(start) === 48;
-      return length === 0 || length > 15 || isZeroLed ? -1 : value;
+      if (row.do !== DO.move) return true;
+      row.lat = scanner.takes(KEYS.lat) ? scanner.signed(MOST.lat) : NaN;
+      row.lon = scanner.takes(KEYS.lon) ? scanner.signed(MOST.lon) : NaN;
+      return !Number.isNaN(row.lat + row.lon);
     }
 
-    /** A text without escapes that isn't empty, else ''. @param {string} prefix */
-    word(prefix) {
-      if (!this.takes(prefix)) return '';
-      const end = this.text.indexOf('"', this.at);
-      const word = end < 0 ? '' : this.text.slice(this.at, end);
-      this.at = end + 1;
-      return /^[\w-]*$/.test(word) ? word : '';
+    /** What stands behind the result: why it was ignored, what was delivered to its port. */
+    takeResult() {
+      const {scanner, row, run: {events}} = this;
+      if (row.result === RESULT.ignored) {
+        row.word = scanner.takes(TEXTS.why) ? scanner.word(events.words) : -1;
+        return row.word >= 0;
+      }
+      if (row.result !== RESULT.accepted || !scanner.takes(KEYS.port)) return true;
+      row.port = scanner.whole();
+      row.info = scanner.wholeBehind(KEYS.info);
+      if (!isWithin(row.port, MOST.port) || !isWithin(row.info, MOST.port)) return false;
+      if (!scanner.takes(TEXTS.payload)) return false;
+      row.payload = scanner.hexWord(events.words);
+      return row.payload >= 0;
+    }
+
+    /** The frame that was given. @returns {number} its length, 0 where there is none, -1 */
+    takeSent() {
+      const {scanner, row, run: {frames}} = this;
+      if (!scanner.takes(KEYS.sent)) return row.result === RESULT.sent ? -1 : 0;
+      row.sent = scanner.whole();
+      if (row.sent !== frames.length || !scanner.takes(TEXTS.octets)) return -1;
+      const store = frames.room();
+      return scanner.hex(store, frames.used, LONGEST);
+    }
+
+    takeNote() {
+      const {scanner, run: {events, notes}} = this;
+      const note = scanner.takesOne(NOTES.prefixes);
+      const kind = NOTES.numbers[note];
+      if (note < 0 || kind === NOTE.absent) return false;
+      const moment = scanner.wholeBehind(KEYS.moment);
+      const station = scanner.wholeBehind(KEYS.station);
+      if (moment < 0 || !isWithin(station, MOST.station)) return false;
+      const frame = kind === NOTE.lost ? scanner.wholeBehind(KEYS.frame) : -1;
+      if (kind === NOTE.lost && !isWithin(frame, MOST.frame)) return false;
+      if (!scanner.takesEnd()) return false;
+      notes.push(kind, moment, station, frame, events.length - 1);
+      return true;
     }
   }
 
-  geostation.line = {Scanner};
+  /** @param {number} value @param {number} most */
+  function isWithin(value, most) {
+    return value >= 0 && value <= most;
+  }
+
+  geostation.line = {Lines};
 })(globalThis.geostation ??= {});

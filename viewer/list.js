@@ -78,12 +78,17 @@
       const lowestFirst = Math.max(0, this.count - inSight + 2);
       const first = Math.min(Math.floor(scrollTop / this.step), lowestFirst);
       const length = Math.max(0, Math.min(inSight, this.count - first));
-      while (this.rows.children.length > length) this.rows.lastChild.remove();
-      while (this.rows.children.length < length) this.rows.append(this.makeRow());
+      const {children} = this.rows;
+      // One that is pressed is hidden and not taken away, as it would give no click then.
+      while (children.length > length && this.pressed === undefined) this.rows.lastChild.remove();
+      while (children.length < length) this.rows.append(this.makeRow());
       const lowest = Math.max(0, this.height - length * ROW);
       this.rows.style.transform = `translateY(${Math.min(first * this.step, lowest)}px)`;
       this.box.removeAttribute('aria-activedescendant');
-      for (let i = 0; i < length; i += 1) this.write(this.rows.children[i], first + i);
+      for (let i = 0; i < children.length; i += 1) {
+        children[i].hidden = i >= length;
+        if (i < length) this.write(children[i], first + i);
+      }
     }
 
     makeRow() {

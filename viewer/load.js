@@ -1,13 +1,9 @@
-//! Load: the air time of frames, how busy stations were in each interval, and how full their
-//! location tables were.
+//! Load: the air time of frames, and how busy stations were in each interval.
 
 (function (geostation) {
   'use strict';
 
-  const {DO} = geostation.events;
   const {countUpTo} = geostation.columns;
-  /** How long an entry of a location table lives, in milliseconds. */
-  const ENTRY_LIFE = 20000;
   /** A run up to so long is shown in tenths of a second, a longer one in seconds. */
   const SHORT = 20000;
   /** The strip has no room for more intervals. */
@@ -53,7 +49,7 @@
       /** @type {Bin[]} */
       this.bins = [];
       this.number = undefined;
-      this.tables = new Tables(run, station);
+      this.tables = new geostation.tables.Tables(run, station);
     }
 
     /** Ends the bin before an event of a later one. @param {number} index */
@@ -67,8 +63,9 @@
     /** The air time of the stations that are there at an event. @param {number} last */
     present(last) {
       const {run, busy} = this;
-      const isFixed = run.presence.members.length === 0 && (run.stations.at(-1)?.born ?? 0) === 0;
-      return isFixed ? busy.slice() : busy.filter((_, i) => run.isPresent(i, last));
+      if (!run.presence.isTold) return busy.slice();
+      const told = run.entries.notesUpTo(last);
+      return busy.filter((_, i) => run.presence.isThere(i, told, last));
     }
 
     /** @param {number} last event of the bin */
@@ -89,62 +86,17 @@
     /** Adds a frame at its giving. @param {number} giver @param {number} frame */
     give(giver, frame) {
       const {run, station} = this;
-      const time = airTime(run.frames.octets[frame].length / 2);
+      const time = airTime(run.frames.lengthOf(frame));
       if (station === undefined || station === giver) this.frames += 1;
       this.busy[giver] += time;
-      const {events, notes} = run;
-      for (const event of run.deliveries.of(frame)) this.busy[events.station.values[event]] += time;
-      for (const note of run.lost.of(frame)) this.busy[notes.station.values[note]] += time;
-    }
-  }
-
-  /** The location tables of all stations, or of one. */
-  class Tables {
-    /** @param {import('./run.js').Run} run @param {number | undefined} station */
-    constructor(run, station) {
-      this.run = run;
-      this.station = station;
-      /** The latest moment of each source, by station. @type {Map<string, number>[]} */
-      this.sources = run.stations.map(() => new Map());
-      this.waiting = [];
-      this.first = 0;
+      this.add(run.deliveries.of(frame), run.events.station.values, time);
+      this.add(run.lost.of(frame), run.notes.station.values, time);
     }
 
-    /** @param {number} index of an event */
-    take(index) {
-      const {events} = this.run;
-      const station = events.station.values[index];
-      if (this.station !== undefined && station !== this.station) return;
-      const own = this.sources[station];
-      if (!own) return;
-      if (events.do.values[index] === DO.restart && events.is(index, 'restarted')) own.clear();
-      if (!events.isDelivery(index) || !events.is(index, 'accepted')) return;
-      const source = sourceOf(this.run.frames.octets[events.frame.values[index]]);
-      if (source === undefined) return;
-      const moment = events.moment.values[index];
-      own.set(source, moment);
-      this.waiting.push({station, source, moment});
+    /** Adds air time at the stations of some events or notes. */
+    add(members, stations, time) {
+      for (let i = 0; i < members.length; i += 1) this.busy[stations[members[i]]] += time;
     }
-
-    /** Entries of the fullest table before a moment. @param {number} moment */
-    fullest(moment) {
-      while (this.first < this.waiting.length) {
-        const {station, source, moment: heard} = this.waiting[this.first];
-        if (heard + ENTRY_LIFE >= moment) break;
-        if (this.sources[station].get(source) === heard) this.sources[station].delete(source);
-        this.first += 1;
-      }
-      if (this.station !== undefined) return this.sources[this.station]?.size ?? 0;
-      return this.sources.reduce((most, {size}) => Math.max(most, size), 0);
-    }
-  }
-
-  /** The address of a frame's source. @param {string | undefined} octets */
-  function sourceOf(octets) {
-    const kind = geostation.filter.kindOfFrame(octets);
-    if (kind === undefined) return undefined;
-    const at = kind === 'gbc' || kind === 'gac' ? 60 : 52;
-    return octets.slice(at, at + 16);
   }
 
   /**
@@ -188,9 +140,8 @@
     for (let i = 0; i < count; i += 1) {
       const index = own ? own[i] : i;
       if (events.port.values[index] >= 0) counts.delivered += 1;
-      const word = events.wordOf(index);
-      if (word === 'duplicate') counts.duplicates += 1;
-      if (word === 'S4') counts.full += 1;
+      if (events.isDuplicate(index)) counts.duplicates += 1;
+      if (events.isFull(index)) counts.full += 1;
     }
     return counts;
   }
@@ -217,5 +168,5 @@
     }))};
   }
 
-  geostation.load = {airTime, bins, inTurns, repeats, width, sourceOf, told, HEAD};
+  geostation.load = {airTime, bins, inTurns, repeats, width, told, HEAD};
 })(globalThis.geostation ??= {});

@@ -25,6 +25,7 @@
   /**
    * @typedef {object} Scene what is to be seen
    * @property {number} at the present event
+   * @property {number} told how many notes were told until then
    * @property {number | undefined} active the present event's station
    * @property {number | undefined} chosen station
    * @property {Link[]} links
@@ -58,6 +59,7 @@
       this.makeScale();
       this.view = {east: 0, north: 0, scale: 1};
       this.box = {width: 300, height: 150};
+      this.free = this.box.height;
       this.scene = undefined;
       root.addEventListener('click', (event) => this.click(event, pickStation, pickFrame));
       this.listen();
@@ -72,11 +74,11 @@
       this.run = run;
       this.scene = undefined;
       this.origin = run.stations[0] ?? {lat: 0, lon: 0};
+      this.measure();
       this.painter.clear();
       this.painter = run.stations.length > MOST_ELEMENTS ? this.painted : this.drawn;
       this.painter.begin(run);
       this.bounds = this.findBounds(areas);
-      this.measure();
       this.fit();
     }
 
@@ -122,16 +124,21 @@
       const {width, height} = this.box;
       const {west, east, south, north} = this.bounds;
       const across = ((1 - 2 * MARGIN) * width) / Math.max(east - west, 20);
-      const along = ((1 - 2 * MARGIN) * height - 40) / Math.max(north - south, 20);
+      const along = ((1 - 2 * MARGIN) * this.free) / Math.max(north - south, 20);
       const scale = Math.max(1e-6, Math.min(across, along));
+      const below = (height - this.free) / scale;
       this.isFitted = true;
-      this.look({east: (west + east) / 2, north: (south + north) / 2, scale});
+      this.look({east: (west + east) / 2, north: (south + north - below) / 2, scale});
     }
 
     /** Asks the browser for the map's size, which is dear between changes, so only here. */
     measure() {
       const {clientWidth, clientHeight} = this.root;
       this.box = {width: clientWidth || 300, height: clientHeight || 150};
+      // What lies on the map's lower end hides it: none of it where it stands below the map.
+      const top = this.root.getBoundingClientRect().top;
+      const covered = byId('below').getBoundingClientRect().top - top;
+      this.free = Math.max(this.box.height / 2, Math.min(this.box.height, covered));
     }
 
     resize() {

@@ -5,28 +5,31 @@
   'use strict';
 
   const {byId} = geostation.dom;
-  const PIECE = 1 << 20;
-
   /**
-   * The text of a file, a piece at a time, so that the page stays alive.
+   * The octets of a file, a piece at a time, as the browser has them: more is fetched while one is
+   * read.
    * @param {Blob} blob @param {(words: string) => void} tell
    */
   async function* pieces(blob, tell) {
-    const decoder = new TextDecoder();
-    const take = (at) => blob.slice(at, at + PIECE).arrayBuffer();
-    let next = take(0);
-    for (let at = 0; at < blob.size; at += PIECE) {
-      const octets = await next;
-      // The next piece is fetched while this one is read.
-      next = take(at + PIECE);
-      tell(`Reading: ${Math.round((100 * at) / blob.size)} %`);
-      yield decoder.decode(octets, {stream: at + PIECE < blob.size});
+    const reader = blob.stream().getReader();
+    let [read, told] = [0, -1];
+    try {
+      for (let piece = await reader.read(); !piece.done; piece = await reader.read()) {
+        const percent = Math.floor((100 * read) / blob.size);
+        if (percent !== told) tell(`Reading: ${percent} %`);
+        told = percent;
+        read += piece.value.length;
+        yield piece.value;
+      }
+    } finally {
+      // A line that is refused ends the reading before the file's end.
+      await reader.cancel();
     }
   }
 
   /**
-   * Opens the run that stands in the page itself, where `geostation view` has put one. It isn't kept
-   * there: its lines are read once.
+   * Opens the run that stands in the page itself, where `geostation view` has put one. It isn't
+   * kept there: its lines are read once.
    * @param {(blob: Blob, name: string) => Promise<void>} open
    */
   async function inside(open) {

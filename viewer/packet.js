@@ -71,7 +71,7 @@
    * @param {import('./run.js').Run} run @param {number} number
    */
   function fate(run, number) {
-    const {giver} = run.frames.at(number);
+    const giver = run.frames.giver.values[number];
     const deliveries = Array.from(run.deliveries.of(number));
     const count = (result) => deliveries.filter((index) => run.events.is(index, result)).length;
     const lost = run.lost.of(number).length;
@@ -84,7 +84,7 @@
 
   /** The rows of a frame's fields, none where it is no packet. */
   function rowsOf(run, number) {
-    const {packet, fault} = geostation.frame.decode(run.frames.octets[number]);
+    const {packet, fault} = geostation.frame.read(run.frames.octets(number));
     return {rows: packet ? fields(packet) : [], fault};
   }
 
@@ -97,7 +97,7 @@
     const {rows, fault} = rowsOf(run, number);
     const body = fault ? element('p', 'quiet', `Its octets are no packet: ${fault}.`)
       : table(rows, new Map(before));
-    const code = element('code', 'octets', run.frames.octets[number]);
+    const code = element('code', 'octets', geostation.frame.toHex(run.frames.octets(number)));
     return element('div', 'frame', ...(title ? [element('h3', '', title)] : []),
       element('p', 'fate', fate(run, number)), body, code);
   }

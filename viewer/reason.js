@@ -3,7 +3,7 @@
 (function (geostation) {
   'use strict';
 
-  const {why, way} = geostation;
+  const {hearing, way} = geostation;
 
   /** A reason in a few words. @type {Record<string, string>} */
   const SHORT = {
@@ -43,7 +43,7 @@
   /** Where no frame came: the nearest one that was given, and where the way ended. */
   function missing(run, send, {station, isLikely}, who) {
     const near = nearest(run, send, station);
-    const {metres, isTold} = why.range(run);
+    const {metres, isTold} = hearing.range(run);
     const range = isTold ? `they are heard within ${metres} m`
       : `frames were heard up to ${Math.round(metres)} m in this run`;
     const likely = isLikely ? ' It was likely lost: the run has no notes that tell.' : '';
@@ -59,7 +59,7 @@
       const event = run.frames.giver.values[frame];
       const giver = run.events.station.values[event];
       if (!run.stations[giver]) continue;
-      const far = why.distance2(run, giver, station, event);
+      const far = hearing.distance2(run, giver, station, event);
       if (best.far < 0n || far < best.far) {
         best = {far, frame, giver, metres: Math.sqrt(Number(far)) / 100};
       }

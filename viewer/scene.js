@@ -4,7 +4,8 @@
 (function (geostation) {
   'use strict';
 
-  const {way, why} = geostation;
+  const {hearing, way, why} = geostation;
+  const {grouped} = geostation.dom;
   const {countUpTo} = geostation.columns;
   /** How long a frame stays on the map where no send is chosen, in milliseconds. */
   const AFTERGLOW = 20;
@@ -67,7 +68,7 @@
   /** The stations that gave a frame that is shown, with how far it is heard. */
   function circles(state) {
     const {run, at, chosen} = state;
-    const {metres} = why.range(run);
+    const {metres} = hearing.range(run);
     const present = run.events.at(at);
     const frame = present?.sent ?? present?.frame;
     const numbers = new Set(chosen?.numbers);
@@ -91,12 +92,19 @@
     return packets.map((packet) => packet?.area).filter((found) => found);
   }
 
+  /** The station of the present event or note, undefined where there is none. */
+  function activeStation({run, at, note}) {
+    if (note === undefined) return run.events.at(at)?.station;
+    const {station} = run.notes.at(note);
+    return station < 0 ? undefined : station;
+  }
+
   /**
    * @param {any} state of the page
    * @param {{links: number, circles: number, isRange: boolean}} limits
    */
   function scene(state, {links: most, circles: mostCircles, isRange}) {
-    const {run, at, station, chosen, steps, judgement} = state;
+    const {run, at, note, station, chosen, steps, judgement} = state;
     const isEmpty = run.events.length === 0;
     const {links, count} = isEmpty ? {links: [], count: 0}
       : chosen ? ofSend(state, most) : ofAll(state, most);
@@ -104,11 +112,12 @@
     const rings = isRange && !isEmpty ? circles(state) : [];
     const unseen = [];
     if (count > shown.length) {
-      unseen.push(`${(count - shown.length).toLocaleString('en')} of ` +
-        `${count.toLocaleString('en')} frames`);
+      unseen.push(`${grouped(count - shown.length)} of ` +
+        `${grouped(count)} frames`);
     }
     if (rings.length > mostCircles) unseen.push(`${rings.length - mostCircles} circles`);
-    return {at, active: run.events.at(at)?.station, chosen: station, links: shown, circles: rings,
+    const told = note === undefined ? run.entries.notesTold(at) : note + 1;
+    return {at, told, active: activeStation(state), chosen: station, links: shown, circles: rings,
       unseen, areas: isEmpty ? [] : areas(state, shown),
       roles: chosen ? why.roles(steps, judgement, at) : new Map()};
   }

@@ -152,7 +152,7 @@
       if (event.key === ' ' && target.closest?.('button, summary, a')) return;
       const size = event.shiftKey ? 10 : 1;
       const steps = {ArrowRight: size, ArrowDown: size, ArrowLeft: -size, ArrowUp: -size,
-        Home: -this.count, End: this.count};
+        Home: -Infinity, End: Infinity};
       if (event.key === ' ') this.toggle();
       else if (event.key in steps) this.step(steps[event.key]);
       else return;

@@ -4,7 +4,7 @@
 (function (geostation) {
   'use strict';
 
-  const {DO} = geostation.events;
+  const {DO, RESULT} = geostation.events;
 
   /**
    * @typedef {object} Send
@@ -33,27 +33,29 @@
    *   it is a beacon's or an shb's, and how many relays came before it
    */
   function follow(run) {
-    const sendOf = new Int32Array(run.frames.length).fill(-1);
-    const depth = new Int32Array(run.frames.length);
+    const {events, frames} = run;
+    const sendOf = new Int32Array(frames.length).fill(-1);
+    const depth = new Int32Array(frames.length);
     /** @type {Send[]} */
     const sends = [];
-    const {events} = run;
-    const known = run.deliveries;
+    const [sent, frame, what] = [events.sent.values, events.frame.values, events.do.values];
     for (let i = 0; i < events.length; i += 1) {
-      const sent = events.sent.values[i];
-      const isDelivery = events.isDelivery(i);
-      const frame = isDelivery ? events.frame.values[i] : -1;
-      if (sent >= 0 && isDelivery) {
-        sendOf[sent] = sendOf[frame];
-        depth[sent] = depth[frame] + 1;
-      } else if (sent >= 0 && hasArea(events.do.values[i])) {
-        sendOf[sent] = sends.length;
-        sends.push({event: i, first: sent, numbers: [], reached: new Map(), hops: 0,
+      const given = sent[i];
+      if (what[i] === DO.deliver) {
+        const came = frame[i];
+        const send = came < frames.length ? sendOf[came] : -1;
+        if (send < 0) continue;
+        if (given >= 0) {
+          sendOf[given] = send;
+          depth[given] = depth[came] + 1;
+          sends[send].numbers.push(given);
+        }
+        noteDelivery(sends[send], events, i, depth[came] + 1);
+      } else if (given >= 0 && hasArea(what[i])) {
+        sendOf[given] = sends.length;
+        sends.push({event: i, first: given, numbers: [given], reached: new Map(), hops: 0,
           duplicates: 0});
       }
-      if (sent >= 0) sends[sendOf[sent]]?.numbers.push(sent);
-      const send = frame >= 0 && frame < known.starts.length - 1 && sends[sendOf[frame]];
-      if (send) noteDelivery(send, events, i, depth[frame] + 1);
     }
     return {sends, sendOf, depth};
   }
@@ -65,7 +67,7 @@
 
   /** @param {Send} send @param {any} events @param {number} index @param {number} hops */
   function noteDelivery(send, events, index, hops) {
-    if (events.wordOf(index) === 'duplicate') send.duplicates += 1;
+    if (events.isDuplicate(index)) send.duplicates += 1;
     if (events.port.values[index] < 0) return;
     const station = events.station.values[index];
     send.hops = Math.max(send.hops, hops);
@@ -90,7 +92,7 @@
    * @param {import('./run.js').Run} run @param {Send} send
    */
   function packetOf(run, send) {
-    return geostation.frame.decode(run.frames.octets[send.first]).packet;
+    return geostation.frame.read(run.frames.octets(send.first)).packet;
   }
 
   /**
@@ -124,7 +126,7 @@
       const {station, sent, port} = run.events.at(index);
       const deliveries = sent === undefined ? [] : Array.from(run.deliveries.of(sent));
       const accepted = deliveries.filter((i) => run.events.is(i, 'accepted'));
-      const duplicates = deliveries.filter((i) => run.events.wordOf(i) === 'duplicate').length;
+      const duplicates = deliveries.filter((i) => run.events.isDuplicate(i)).length;
       steps.push({event: index, station, hop, delivered: port !== undefined, sent, duplicates});
       for (const next of accepted.reverse()) waiting.push({index: next, hop: hop + 1});
     }
@@ -155,18 +157,16 @@
   }
 
   /** The counts of a whole run, by the summary's names. @param {import('./run.js').Run} run */
-  function total(run) {
-    const counts = {events: run.events.length, frames: run.frames.length, deliveries: 0,
-      duplicates: 0, ignored: 0, refused: 0};
-    const {events} = run;
+  function total({events, frames}) {
+    const [port, result] = [events.port.values, events.result.values];
+    let [deliveries, duplicates, ignored, refused] = [0, 0, 0, 0];
     for (let i = 0; i < events.length; i += 1) {
-      if (events.port.values[i] >= 0) counts.deliveries += 1;
-      if (events.is(i, 'refused')) counts.refused += 1;
-      else if (events.is(i, 'ignored')) {
-        counts[events.wordOf(i) === 'duplicate' ? 'duplicates' : 'ignored'] += 1;
-      }
+      if (port[i] >= 0) deliveries += 1;
+      if (result[i] === RESULT.refused) refused += 1;
+      else if (events.isDuplicate(i)) duplicates += 1;
+      else if (result[i] === RESULT.ignored) ignored += 1;
     }
-    return counts;
+    return {events: events.length, frames: frames.length, deliveries, duplicates, ignored, refused};
   }
 
   geostation.way = {follow, figures, tree, deliveries, end, total, packetOf};

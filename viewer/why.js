@@ -5,7 +5,7 @@
 (function (geostation) {
   'use strict';
 
-  const {geo, way} = geostation;
+  const {geo, hearing, peek, way} = geostation;
   const {RESULT} = geostation.events;
   const {countUpTo} = geostation.columns;
 
@@ -61,9 +61,10 @@
   function inArea(run, send, area) {
     const sender = run.events.station.values[send.event];
     const far = 101 * (area.a + area.b) + 100;
+    const told = run.entries.notesUpTo(send.event - 1);
     const stood = [];
     for (let station = 0; station < run.stations.length; station += 1) {
-      if (station === sender || !run.isPresent(station, send.event - 1)) continue;
+      if (station === sender || !run.presence.isThere(station, told, send.event - 1)) continue;
       const place = run.placeAt(station, send.event);
       // One unit northward is 1.1132 cm: most are too far by that alone.
       if (Math.abs(place.lat - area.lat) * 1.1132 > far) continue;
@@ -111,12 +112,11 @@
     const {events} = run;
     if (events.port.values[index] === port) return true;
     if (!events.isDelivery(index) || !events.is(index, 'accepted')) return undefined;
-    if (events.port.values[index] >= 0) return undefined;
-    const octets = run.frames.octets[events.frame.values[index]];
-    const {packet} = geostation.frame.decode(octets ?? '');
-    if (packet?.port !== port) return undefined;
-    const station = events.station.values[index];
-    const isForIt = !packet.area || geo.contains(packet.area, run.placeAt(station, index));
+    const frame = events.frame.values[index];
+    if (events.port.values[index] >= 0 || peek.port(run.frames, frame) !== port) return undefined;
+    const {packet} = geostation.frame.read(run.frames.octets(frame));
+    const place = run.placeAt(events.station.values[index], index);
+    const isForIt = packet && (!packet.area || geo.contains(packet.area, place));
     return isForIt ? false : undefined;
   }
 
@@ -147,7 +147,7 @@
     const {events} = run;
     if (events.is(event, 'ignored')) return REASONS.indexOf('ignored');
     if (events.is(event, 'refused')) {
-      return REASONS.indexOf(events.wordOf(event) === 'S4' ? 'full' : 'refused');
+      return REASONS.indexOf(events.isFull(event) ? 'full' : 'refused');
     }
     const place = run.placeAt(events.station.values[event], event);
     return REASONS.indexOf(geo.contains(area, place) ? 'closed' : 'outside');
@@ -172,63 +172,17 @@
 
   /**
    * The first frame of a send that would have been heard at a station where none came: the station
-   * was in range of its giver, so that it was lost. Without the air's range the farthest that any
-   * frame was heard from stands for it.
+   * was in range of its giver, so that it was lost.
    * @param {import('./run.js').Run} run @param {import('./way.js').Send} send
    * @returns {{event: number, frame: number} | undefined}
    */
   function lostNear(run, send, station) {
     if (run.air?.loss === 0) return undefined;
-    const limit = run.air ? BigInt(100 * run.air.range) ** 2n : heardFrom(run);
     for (const frame of send.numbers) {
       const event = run.frames.giver.values[frame];
-      const giver = run.events.station.values[event];
-      if (giver === station || !run.isPresent(station, event) || !run.isPresent(giver, event)) {
-        continue;
-      }
-      if (run.air && isPastEnd(run, event)) continue;
-      if (distance2(run, giver, station, event) <= limit) return {event, frame};
+      if (hearing.isInRange(run, station, event)) return {event, frame};
     }
     return undefined;
-  }
-
-  /** Whether what is given at an event would come when the run is over. */
-  function isPastEnd({air, events}, event) {
-    return air.until !== null && events.moment.values[event] + air.delay > air.until;
-  }
-
-  /** The square of how far two stations stand apart at an event, in square centimetres. */
-  function distance2(run, from, to, event) {
-    const {north, east} = geo.offset(run.placeAt(from, event), run.placeAt(to, event));
-    return north * north + east * east;
-  }
-
-  const heard = new WeakMap();
-
-  /** The farthest that a frame was heard from in a run, squared, looked for once. */
-  function heardFrom(run) {
-    if (heard.has(run)) return heard.get(run);
-    let most = 0n;
-    const step = Math.max(1, Math.floor(run.frames.length / 20000));
-    for (let frame = 0; frame < run.frames.length; frame += step) {
-      const giver = run.frames.giver.values[frame];
-      const from = run.events.station.values[giver];
-      if (!run.stations[from]) continue;
-      for (const event of run.deliveries.of(frame)) {
-        const to = run.events.station.values[event];
-        if (!run.stations[to]) continue;
-        const far = distance2(run, from, to, giver);
-        if (far > most) most = far;
-      }
-    }
-    heard.set(run, most);
-    return most;
-  }
-
-  /** How far frames are heard, in metres, and whether the run tells it or shows it at least. */
-  function range(run) {
-    if (run.air) return {metres: run.air.range, isTold: true};
-    return {metres: Math.sqrt(Number(heardFrom(run))) / 100, isTold: false};
   }
 
   /**
@@ -254,5 +208,5 @@
     return found;
   }
 
-  geostation.why = {REASONS, judge, portAt, range, roles, distance2};
+  geostation.why = {REASONS, judge, portAt, roles};
 })(globalThis.geostation ??= {});

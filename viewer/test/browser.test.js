@@ -69,6 +69,25 @@ function figures() {
     .map((pair) => [...pair.children].map((part) => part.textContent)))`);
 }
 
+/** Chooses what is listed. @param {'kind' | 'result'} id @param {string} value */
+function pick(id, value) {
+  return page.value(`(() => {
+    document.getElementById('${id}').value = '${value}';
+    document.getElementById('${id}').dispatchEvent(new Event('change'));
+  })()`);
+}
+
+/** Clicks at the middle of a line of the map. @param {string} selector */
+async function clickLine(selector) {
+  const [x, y] = await page.value(`(() => {
+    const line = document.querySelector(${JSON.stringify(selector)});
+    const {x, y} = line.getPointAtLength(line.getTotalLength() / 2);
+    const box = document.getElementById('map').getBoundingClientRect();
+    return [box.x + x, box.y + y];
+  })()`);
+  await page.clickAt(x, y);
+}
+
 function noFault() {
   assert.deepEqual(page.faults, []);
 }
@@ -83,6 +102,8 @@ test('a page with a run in it opens that, from wherever it lies', async () => {
   assert.equal(await text('#totals'), totals);
   assert.equal(await count('.station'), 4);
   assert.equal(await page.value(`document.getElementById('inside') === null`), true);
+  await page.go(`${pathToFileURL(file).href}?again#event=3`);
+  await page.until('document.getElementById("present").textContent.startsWith("Event 3,")');
   noFault();
 });
 
@@ -145,13 +166,7 @@ test('a click on a station lists its events, a click again all', async () => {
 test('a click on a frame shows its packet', async () => {
   await show(FOUR);
   await page.press('End');
-  const [x, y] = await page.value(`(() => {
-    const line = document.querySelector('g.link[data-frame="2"].accepted .seen');
-    const {x, y} = line.getPointAtLength(line.getTotalLength() / 2);
-    const box = document.getElementById('map').getBoundingClientRect();
-    return [box.x + x, box.y + y];
-  })()`);
-  await page.clickAt(x, y);
+  await clickLine('g.link[data-frame="2"].accepted .seen');
   assert.equal(await text('#packet .fate'), 'Frame 2, given by station 2 at 1002 ms: ' +
     '1 accepted it, 1 ignored it, 0 refused it.');
   const shown = await text('#packet .fields');
@@ -213,6 +228,23 @@ test('space plays to the end and stops', async () => {
   noFault();
 });
 
+test('it plays by its clock, from a hundredth to ten times as fast', async () => {
+  assert.deepEqual(await page.value(`[...document.querySelectorAll('#speed option')]
+    .map(({value}) => value)`), ['x0.01', 'x0.1', 'x1', 'x10', '2', '8', '40', '400', '4000']);
+  await show(FOUR);
+  const at = 'geostation.app.state.at';
+  // The first event is at 0, the others are from 1000 ms on: a hundred seconds away, then a tenth.
+  await page.value('document.getElementById("speed").value = "x0.01"');
+  await page.press('Home');
+  await page.press(' ');
+  await new Promise((resolve) => setTimeout(resolve, 400));
+  assert.equal(await page.value(at), 0);
+  await page.value('document.getElementById("speed").value = "x10"');
+  await page.until(`${at} === 7`);
+  await page.until('!geostation.app.timeline.playing');
+  noFault();
+});
+
 test('the sample opens by the keyboard alone', async () => {
   for (let i = 0; i < 8; i += 1) {
     await page.press('Tab', 0, {code: 'Tab', windowsVirtualKeyCode: 9});
@@ -251,6 +283,94 @@ test('why did 11 not get the second warning? two clicks', async () => {
   noFault();
 });
 
+/** The hue of a colour in degrees, undefined of a grey one. @param {string} rgb */
+function hue(rgb) {
+  const [r, g, b] = rgb.match(/\d+/g).map(Number);
+  const [least, most] = [Math.min(r, g, b), Math.max(r, g, b)];
+  if (most - least < 40) return undefined;
+  const turn = most === r ? (g - b) / (most - least) : most === g ? 2 + (b - r) / (most - least)
+    : 4 + (r - g) / (most - least);
+  return Math.round(60 * turn + 360) % 360;
+}
+
+test('a warning at once: orange, green, blue, a red ring, grey, red dashes', async () => {
+  await show(samples.COMERS);
+  await page.until('document.getAnimations().length === 0');
+  const style = (selector, key) => page.value(
+    `getComputedStyle(document.querySelector(${JSON.stringify(selector)})).${key}`);
+  const within = (value, low, high) => assert.ok(value >= low && value <= high, `${value}`);
+  within(hue(await style('.station.sender', 'fill')), 15, 40);
+  within(hue(await style('.station.delivered', 'fill')), 120, 160);
+  within(hue(await style('.station.reached', 'fill')), 200, 230);
+  within(hue(await style('.station.missed', 'stroke')), 0, 10);
+  assert.equal(hue(await style('.station.missed', 'fill')), undefined);
+  within(hue(await style('g.link.lost .seen', 'stroke')), 0, 10);
+  assert.notEqual(await style('g.link.lost .seen', 'strokeDasharray'), 'none');
+  assert.equal(await text('.bar-text'), '500 m');
+  assert.deepEqual(await page.value(`[...document.querySelectorAll('.legend li')]
+    .filter((key) => !key.hidden).map((key) => key.textContent.trim())`), ['sent it', 'delivered',
+    'accepted', 'not reached', 'bystander', 'away', 'accepted', 'ignored', 'refused', 'lost',
+    'range']);
+  noFault();
+});
+
+test('stations that come and leave: drawn faint while they are away, told by notes', async () => {
+  await show(FOUR);
+  assert.equal(await page.value('document.getElementById("away").hidden'), true);
+  await show(samples.COMERS);
+  assert.equal(await page.value('document.getElementById("away").hidden'), false);
+  const away = () => page.value(`[...document.querySelectorAll('.station.away')]
+    .map((dot) => Number(dot.dataset.station))`);
+  assert.deepEqual(await away(), [5, 7]);
+  assert.notEqual(await page.value(
+    'getComputedStyle(document.querySelector(".station.away")).strokeDasharray'), 'none');
+  assert.equal(await count('.station.missed'), 1);
+  await pick('kind', 'came');
+  assert.deepEqual(await rows('events'),
+    ['2500 5 came is there from now on', '5200 6 came is there from now on']);
+  await page.click('#events [data-index="0"]');
+  assert.equal(await text('#present'), 'Note, 2500 ms, station 5: came, is there from now on');
+  assert.deepEqual(await away(), [7]);
+  await page.press('ArrowLeft');
+  await pick('kind', 'left');
+  const left = `document.querySelector('#events [data-index="0"]')`;
+  assert.equal(await page.value(`getComputedStyle(${left}).flexDirection`), 'row');
+  await page.click('#events [data-index="0"]');
+  assert.deepEqual(await away(), [6, 7]);
+  assert.equal(await count('.station.active'), 1);
+  noFault();
+});
+
+test('what was lost is listed and drawn at its sending', async () => {
+  await show(samples.COMERS);
+  await pick('kind', 'gbc');
+  await pick('result', 'lost');
+  await page.click('#events [data-index="0"]');
+  const words = await text('#present');
+  const [, station, frame] = /station (\d): lost (\d+), given by station \d$/.exec(words);
+  assert.equal(await count(`g.link.lost.new[data-frame="${frame}"]`), 1);
+  assert.ok((await text('#packet .fate')).startsWith(`Frame ${frame}, given by station`));
+  assert.match(await text('#packet .fate'), / 1 lost it\.$/);
+  const active = 'document.querySelector(".station.active").dataset.station';
+  assert.equal(await page.value(active), station);
+  await page.press('ArrowRight');
+  assert.match(await text('#present'), /^Note, .* lost \d+, /);
+  assert.notEqual(await text('#present'), words);
+  // That of a relay, which was itself given for another frame, stands alone too.
+  await page.click('#sends [data-index="1"]');
+  await clickLine('g.link.lost .seen');
+  assert.equal(await count('#packet .frame'), 1);
+  assert.match(await text('#packet .fate'), /^Frame \d+, given by station [1-4] .* 1 lost it\.$/);
+  // Along all that is listed an arrow goes from an event to the note behind it, and on.
+  await page.click('#all');
+  await page.click('#sends [data-index="4"]');
+  await page.press('ArrowRight');
+  assert.match(await text('#present'), /^Note, 6000 ms, station 1: lost 28/);
+  await page.press('ArrowLeft');
+  assert.match(await text('#present'), /^Event 61, 6000 ms, station 0: gbc, sent 28$/);
+  noFault();
+});
+
 test('all frames in place of a warning, and another run while one plays', async () => {
   await page.value('document.getElementById("sample").click()');
   await page.until('document.body.dataset.state === "run"');
@@ -282,12 +402,8 @@ test('the address names the event, and leads there', async () => {
 test('filters list a kind and a result, and arrows go along them', async () => {
   await page.choose(samples.LOSS);
   await page.until('document.body.dataset.state === "run"');
-  await page.value(`(() => {
-    for (const [id, value] of [['kind', 'gbc'], ['result', 'delivered']]) {
-      document.getElementById(id).value = value;
-      document.getElementById(id).dispatchEvent(new Event('change'));
-    }
-  })()`);
+  await pick('kind', 'gbc');
+  await pick('result', 'delivered');
   assert.deepEqual((await rows('events')).map((row) => row.split(' ').slice(0, 2).join(' ')),
     ['2009 9', '4009 9', '4010 10', '4011 11']);
   await page.press('End');
@@ -300,7 +416,7 @@ test('filters list a kind and a result, and arrows go along them', async () => {
 
 test('a delivery shows the frame that came and the one that was given', async () => {
   await show(FOUR);
-  await page.value('geostation.app.go(4)');
+  await page.click('#events [data-index="4"]');
   const titles = () => page.value(`[...document.querySelectorAll('#packet .fate')]
     .map((words) => words.textContent.split(',')[0])`);
   assert.deepEqual(await titles(), ['Frame 1', 'Frame 2']);
@@ -403,6 +519,9 @@ test('10,000 stations and a million events: painted, and what is not is said', a
   assert.equal(await page.value('geostation.app.state.station'), station);
   await page.value('document.getElementById("all").click()');
   await page.until('document.getElementById("load").textContent.startsWith("All")');
+  for (let i = 0; i < 8; i += 1) await page.click('#zoom-in');
+  assert.match(await text('#unseen'), /the trails of 10,000 stations\.$/);
+  await page.click('#zoom-fit');
   const rate = await page.value(`new Promise((done) => {
     const {timeline} = geostation.app;
     let frames = 0;
@@ -458,7 +577,8 @@ test('a frame is drawn by what became of it', async () => {
     to(3, {result: 'refused', code: 'S4', reason: 'the table is full'}),
   ];
   const lost = {note: 'lost', moment: 5, station: 4, frame: 0};
-  const lines = [{stations}, ...events.map((event, i) => ({event: i, ...event})), lost];
+  const [sent, ...others] = events.map((event, i) => ({event: i, ...event}));
+  const lines = [{stations}, sent, lost, ...others];
   const file = path.join(room, 'fates.jsonl');
   fs.writeFileSync(file, lines.map((line) => JSON.stringify(line)).join('\n'));
   await show(file);

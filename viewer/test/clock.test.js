@@ -4,11 +4,10 @@
 
 const assert = require('node:assert/strict');
 const test = require('node:test');
-const {read} = require('./draws.js');
-const {load: parts} = require('./load.js');
+const {load: parts, read} = require('./load.js');
 const samples = require('./samples.js');
 
-const {clock, filter, line, load, split} = parts();
+const {clock, filter, load, split} = parts();
 const TIMES = Float64Array.of(0, 10, 11, 12, 3000);
 const byTime = (rate) => ({by: 'time', rate});
 
@@ -58,13 +57,14 @@ test('an address names an event', () => {
 test('events are listed by station, kind and result', async () => {
   const run = await read(samples.loss());
   const list = (chosen) => {
-    const rows = filter.rows(run, chosen);
-    return rows && Array.from(rows);
+    const places = filter.rows(run, chosen);
+    return places && Array.from(places, (place) => run.entries.at(place))
+      .map(({event, note}) => (note === undefined ? event : `note ${note}`));
   };
   assert.equal(list({}), undefined);
   assert.deepEqual(list({kind: 'open'}), [0, 1, 2, 3, 4, 5, 6, 7, 8, 9, 10, 11]);
   assert.deepEqual(list({kind: 'gbc', result: 'delivered'}), [53, 92, 94, 96]);
-  assert.deepEqual(list({station: 10, kind: 'gbc'}), [94, 97]);
+  assert.deepEqual(list({station: 10, kind: 'gbc'}), ['note 10', 94, 97]);
   assert.deepEqual(list({station: 10, result: 'duplicate'}), [97]);
   assert.deepEqual(list({station: 0, kind: 'gbc', result: 'sent'}), [39, 55, 77]);
   assert.deepEqual(list({result: 'refused'}), []);
@@ -139,23 +139,4 @@ test('duplicates, deliveries and full tables are counted', async () => {
   const run = await read(samples.four());
   assert.deepEqual(load.repeats(run), {delivered: 1, duplicates: 2, full: 0});
   assert.deepEqual(load.repeats(run, 1), {delivered: 0, duplicates: 1, full: 0});
-});
-
-test('the quick reading of a line is that of JSON, or it is left to JSON', () => {
-  const scanner = new line.Scanner();
-  const text = samples.loss().trimEnd().split('\n').slice(1);
-  let quick = 0;
-  for (const one of text) {
-    const value = scanner.read(one);
-    if (value) {
-      quick += 1;
-      assert.deepEqual(value, JSON.parse(one));
-    }
-  }
-  assert.ok(quick > 60, `${quick}`);
-  const start = '{"event":1,"moment":2,"station":3,"do":"tick","result":"quiet"';
-  const others = [start, `${start}} `, `${start},"x":1}`, start.replace(':1', ':01') + '}',
-    start.replace(':2', ':-2') + '}', start.replace('quiet', 'qu\\u0069et') + '}',
-    start.replace(':3', ':3.5') + '}', `${start},"sent":1}`, '', '{}'];
-  for (const other of others) assert.equal(scanner.read(other), undefined, other);
 });

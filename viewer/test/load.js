@@ -8,9 +8,9 @@ const path = require('node:path');
 const vm = require('node:vm');
 
 const TOP = path.join(__dirname, '..');
-const NAMES = ['dom', 'geo', 'columns', 'events', 'frame', 'line', 'run', 'way', 'why', 'reason',
-  'clock', 'filter', 'load', 'shape', 'drawn', 'canvas', 'map', 'scene', 'split',
-  'open'];
+const NAMES = ['dom', 'geo', 'columns', 'events', 'frame', 'peek', 'scan', 'line', 'hearing',
+  'presence', 'entries', 'run', 'reading', 'words', 'way', 'why', 'reason', 'clock', 'filter',
+  'tables', 'load', 'shape', 'names', 'drawn', 'canvas', 'map', 'scene', 'split', 'open'];
 
 /** @returns {any} the namespace `geostation`, with the parts that are tested by node */
 function load() {
@@ -23,4 +23,15 @@ function load() {
   return globalThis.geostation;
 }
 
-module.exports = {load, TOP};
+/**
+ * Reads a run of text, in one piece or in some.
+ * @param {...string} pieces @returns {Promise<any>}
+ */
+function read(...pieces) {
+  const encoder = new TextEncoder();
+  return load().reading.read((async function* () {
+    for (const piece of pieces) yield encoder.encode(piece);
+  })());
+}
+
+module.exports = {load, read, TOP};

@@ -7,21 +7,14 @@ const assert = require('node:assert/strict');
 const fs = require('node:fs');
 const path = require('node:path');
 const test = require('node:test');
-const {load, TOP} = require('./load.js');
+const {load, read, TOP} = require('./load.js');
 const samples = require('./samples.js');
 
-const {frame, geo, shape, run: runs, way, why} = load();
+const {frame, geo, reading, shape, way, why, words} = load();
 const EXAMPLES = path.join(TOP, '..', 'cases', 'data');
 const WARNING = 'ffffffffffff020000000001894711001a0a2040008000060a00000000001400020000000001' +
   '000000000000000000000000000000000000000000000000006400000000000007d200006869';
 const HEAD = '{"stations":[{"address":"1400020000000001","lat":0,"lon":0}]}';
-
-/** @param {string} text */
-function read(text) {
-  return runs.read((async function* () {
-    yield text;
-  })());
-}
 
 /** The lines of a sample, without the last line's end. */
 function lines(name) {
@@ -126,7 +119,7 @@ test('the scale bar is a round length', () => {
 test('the four stations run as their scenario says', async () => {
   const run = await read(samples.four());
   const shown = run.events.map((event) =>
-    [event.index, event.moment, event.station, runs.doing(event), runs.entry(event)].join(' '));
+    [event.index, event.moment, event.station, words.doing(event), words.entry(event)].join(' '));
   assert.deepEqual(shown, [
     '0 0 3 open opened', '1 1000 0 gbc sent 0', '2 1001 1 deliver 0 accepted sent 1',
     '3 1002 0 deliver 1 ignored own-source', '4 1002 2 deliver 1 accepted sent 2',
@@ -162,7 +155,7 @@ test('a station delivers a send twice, and is counted once', async () => {
   const {delivered, hops, last, frames} = way.figures(run, way.follow(run).sends[0]);
   assert.deepEqual({delivered, hops, last, frames}, {delivered: 1, hops: 1, last: '4', frames: 1});
   assert.equal(way.total(run).deliveries, 2);
-  assert.equal(runs.entry(run.events.at(1)), 'accepted port 2002 info 0 -');
+  assert.equal(words.entry(run.events.at(1)), 'accepted port 2002 info 0 -');
 });
 
 test('moments past what a number holds are exact', async () => {
@@ -183,24 +176,24 @@ test('stations stand where they last moved, a refused move aside', async () => {
   const run = await read(text);
   assert.deepEqual([-1, 0, 1, 2].map((at) => run.placeAt(0, at).lat), [0, 10, 10, 30]);
   assert.deepEqual(run.trail(0, 2).map(({lat}) => lat), [0, 10, 30]);
-  assert.equal(runs.entry(run.events.at(1)), 'refused S1');
+  assert.equal(words.entry(run.events.at(1)), 'refused S1');
   assert.equal(run.events.at(1).reason, 'earlier than the clock');
 });
 
 test('lines are whole wherever the text was cut into pieces', async () => {
   const text = samples.four();
   for (const size of [1, 7, 100]) {
-    const run = await runs.read((async function* () {
-      for (let at = 0; at < text.length; at += size) yield text.slice(at, at + size);
-    })());
+    const count = Math.ceil(text.length / size);
+    const pieces = Array.from({length: count}, (_, i) => text.slice(i * size, (i + 1) * size));
+    const run = await read(...pieces);
     assert.equal(run.events.length, 8);
   }
 });
 
 test('a line without an end is refused before it fills the memory', async () => {
   let pieces = 0;
-  const endless = runs.read((async function* () {
-    for (; pieces < 64; pieces += 1) yield 'x'.repeat(1 << 20);
+  const endless = reading.read((async function* () {
+    for (; pieces < 64; pieces += 1) yield new Uint8Array(1 << 20).fill(120);
   })());
   await assert.rejects(endless, /a line has no end/);
   assert.ok(pieces < 20);
@@ -234,7 +227,7 @@ test('what is no run is refused with a sentence', async () => {
   ];
   for (const [text, sentence] of cases) {
     await assert.rejects(read(text), (fault) => {
-      assert.ok(fault instanceof runs.RunFault, String(fault.stack));
+      assert.ok(fault instanceof reading.RunFault, String(fault.stack));
       assert.match(fault.message, sentence);
       return true;
     });

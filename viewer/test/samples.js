@@ -11,6 +11,7 @@ const {TOP} = require('./load.js');
 
 const DATA = path.join(__dirname, 'data');
 const LOSS = path.join(DATA, 'loss.jsonl');
+const COMERS = path.join(DATA, 'comers.jsonl');
 
 /** Four stations 400 m apart, and a warning for where the last one stands. */
 function four() {
@@ -69,6 +70,9 @@ function road() {
   return world.run();
 }
 
+/** In the city one station in so many comes, and one leaves. */
+const COMERS_EVERY = 50;
+
 /** A town of 1000 stations and 200,000 events: a warning every 50 ms, each for a block or two. */
 function town() {
   let seed = 1;
@@ -92,7 +96,10 @@ function town() {
   return world.run();
 }
 
-/** A city of 100 by 100 stations that move, hear their eight neighbours, and warn some blocks. */
+/**
+ * A city of 100 by 100 stations that move, hear their eight neighbours, and warn some blocks. One
+ * copy in ten is lost; some stations come, others leave.
+ */
 class City {
   /** @param {string} file @param {number} most events */
   constructor(file, most) {
@@ -108,6 +115,7 @@ class City {
       lat: 481000000 + 9000 * Math.floor(i / this.side), lon: 115000000 + 13500 * (i % this.side),
     }));
     this.neighbours = this.stations.map((_, i) => this.around(i));
+    this.away = new Set([...this.stations.keys()].filter((i) => i % COMERS_EVERY === 7));
     const air = {range: 150, delay: 1, loss: 10, seed: 1, beacons: true, until: null};
     this.lines.push(JSON.stringify({stations: this.stations, air}));
   }
@@ -132,10 +140,31 @@ class City {
     this.lines = [];
   }
 
+  note(word, moment, station, rest = '') {
+    if (this.events === this.most) return;
+    this.lines.push(`{"note":"${word}","moment":${moment},"station":${station}${rest}}`);
+  }
+
   move(moment, i) {
     const place = this.stations[i];
     place.lat += (i % 7) * 20 - 60;
     this.event(moment, i, `"do":"move","lat":${place.lat},"lon":${place.lon},"result":"moved"`);
+    if (this.away.delete(i)) this.note('came', moment, i);
+    else if (i % COMERS_EVERY === 21) {
+      this.away.add(i);
+      this.note('left', moment, i);
+    }
+  }
+
+  /** The stations that hear a frame; of those that lost it a note tells. */
+  hearers(moment, i) {
+    const number = this.frames - 1;
+    return this.neighbours[i].filter((other) => {
+      if (this.away.has(other)) return false;
+      const isLost = (number * 7 + other * 3) % 10 === 0;
+      if (isLost) this.note('lost', moment, other, `,"frame":${number}`);
+      return !isLost;
+    });
   }
 
   give(packet, i) {
@@ -148,10 +177,11 @@ class City {
   }
 
   beacon(moment, i) {
+    if (this.away.has(i)) return;
     const given = this.give({kind: 'beacon', left: 1, max: 1}, i);
     this.event(moment, i, `"do":"tick","result":"sent",${given}`);
     const number = this.frames - 1;
-    for (const other of this.neighbours[i]) {
+    for (const other of this.hearers(moment, i)) {
       this.event(moment + 1, other, `"do":"deliver","frame":${number},"result":"accepted"`);
     }
   }
@@ -165,11 +195,11 @@ class City {
     this.numbers += 1;
     this.event(moment, i, `"do":"gbc","result":"sent",${this.give(packet, i)}`);
     const known = new Set([i]);
-    let waiting = [[i, this.frames - 1]];
+    let waiting = [[this.frames - 1, this.hearers(moment, i)]];
     for (let hop = 1; hop < 9; hop += 1) {
       const next = [];
-      for (const [giver, number] of waiting) {
-        for (const other of this.neighbours[giver]) {
+      for (const [number, hearers] of waiting) {
+        for (const other of hearers) {
           const start = `"do":"deliver","frame":${number}`;
           if (known.has(other)) {
             this.event(moment + hop, other, `${start},"result":"ignored","why":"duplicate"`);
@@ -177,9 +207,9 @@ class City {
           }
           known.add(other);
           const given = this.give({...packet, left: 10 - hop}, other);
-          next.push([other, this.frames - 1]);
           this.event(moment + hop, other, `${start},"result":"accepted","port":2002,"info":0,` +
             `"payload":"6869",${given}`);
+          next.push([this.frames - 1, this.hearers(moment + hop, other)]);
         }
       }
       waiting = next;
@@ -204,9 +234,14 @@ function city(file, most) {
   fs.closeSync(made.file);
 }
 
+/** A run of the program that is kept, as `loss`, the road with losses. @param {string} name */
+function kept(name) {
+  return fs.readFileSync(path.join(DATA, `${name}.jsonl`), 'utf8');
+}
+
 /** The road with losses, as the program ran it, with the notes of what was lost. */
 function loss() {
-  return fs.readFileSync(LOSS, 'utf8');
+  return kept('loss');
 }
 
 if (require.main === module) {
@@ -230,4 +265,4 @@ ${loss()}\`.slice(1);
 `;
 }
 
-module.exports = {four, road, town, city, loss, pageSample, DATA, LOSS};
+module.exports = {four, road, town, city, kept, loss, pageSample, DATA, LOSS, COMERS};

@@ -5,12 +5,11 @@
 
 const assert = require('node:assert/strict');
 const test = require('node:test');
-const {Draws, read} = require('./draws.js');
 const {frame: encode} = require('./encode.js');
-const {load} = require('./load.js');
+const {load, read} = require('./load.js');
 const samples = require('./samples.js');
 
-const {reason, scene, way, why} = load();
+const {hearing, reason, scene, way, why} = load();
 const AREA = {shape: 'circle', lat: 0, lon: 0, a: 1000, b: 0, angle: 0};
 
 /** Stations a hundred metres apart along a meridian. */
@@ -144,16 +143,11 @@ test('each frame of that road was delivered or lost at each station in range', a
     const giver = found.frames.giver.values[frame];
     const from = found.events.station.values[giver];
     const near = [...found.stations.keys()].filter((i) =>
-      i !== from && why.distance2(found, from, i, giver) <= 50000n ** 2n);
+      i !== from && hearing.distance2(found, from, i, giver) <= 50000n ** 2n);
     const told = [...found.deliveries.of(frame)].map((event) => found.events.station.values[event])
       .concat([...found.lost.of(frame)].map((note) => found.notes.station.values[note]));
     assert.deepEqual(told.sort((a, b) => a - b), near);
   }
-});
-
-test('the draws are those of the program: four stations’ first ticks, a seed of 7', () => {
-  const draws = new Draws(7n);
-  assert.deepEqual(Array.from({length: 4}, () => draws.next(751)), [137, 724, 726, 93]);
 });
 
 /** The octets of a frame of a station, as an air's `every` or a scenario's `gbc` gives it. */
@@ -205,7 +199,7 @@ test('stations that rows of moves make: names, presence, a frame that was lost',
   const found = await read(text.join('\n'));
   assert.deepEqual([found.name(0), found.name(1), found.stations[1].born], ['v1', 'v2', 2]);
   assert.deepEqual([0, 1, 5, 6].map((at) => found.isPresent(0, at)), [false, true, true, false]);
-  assert.deepEqual(found.air, {range: 500, delay: 1, loss: 50, until: null});
+  assert.deepEqual(found.air, {range: 500, delay: 1, loss: 50, beacons: false, until: null});
   const [sent] = way.follow(found).sends;
   const {inside, reached} = why.judge(found, sent);
   assert.deepEqual([inside, reached, sent.numbers, sent.hops], [[0], [0], [0, 1], 1]);

@@ -1,0 +1,75 @@
+//! Who hears a frame: how far stations stand apart at an event, and how far frames are heard.
+
+(function (geostation) {
+  'use strict';
+
+  const {geo} = geostation;
+  /** So many frames are enough to find how far frames were heard. */
+  const MOST_FRAMES = 20000;
+
+  /**
+   * The square of how far two stations stand apart at an event, in square centimetres.
+   * @param {import('./run.js').Run} run @param {number} from @param {number} to
+   * @param {number} event
+   */
+  function distance2(run, from, to, event) {
+    const {north, east} = geo.offset(run.placeAt(from, event), run.placeAt(to, event));
+    return north * north + east * east;
+  }
+
+  /**
+   * The square of the farthest that a frame is heard from, in square centimetres: the air's range,
+   * else the farthest that one was heard from.
+   * @param {import('./run.js').Run} run
+   */
+  function limit2(run) {
+    return run.air ? BigInt(100 * run.air.range) ** 2n : heardFrom(run);
+  }
+
+  /**
+   * Whether a station would have heard what another gave at an event, if no draw had lost it.
+   * @param {import('./run.js').Run} run @param {number} station @param {number} event
+   */
+  function isInRange(run, station, event) {
+    const giver = run.events.station.values[event];
+    if (giver === station || !run.stations[giver]) return false;
+    if (run.air && isPastEnd(run, event)) return false;
+    if (!run.isPresent(station, event - 1) || !run.isPresent(giver, event - 1)) return false;
+    return distance2(run, giver, station, event) <= limit2(run);
+  }
+
+  /** Whether what is given at an event would come when the run is over. */
+  function isPastEnd({air, events}, event) {
+    return air.until !== null && events.moment.values[event] + air.delay > air.until;
+  }
+
+  const heard = new WeakMap();
+
+  /** The farthest that a frame was heard from in a run, squared, looked for once. */
+  function heardFrom(run) {
+    if (heard.has(run)) return heard.get(run);
+    let most = 0n;
+    const step = Math.max(1, Math.floor(run.frames.length / MOST_FRAMES));
+    for (let frame = 0; frame < run.frames.length; frame += step) {
+      const giver = run.frames.giver.values[frame];
+      const from = run.events.station.values[giver];
+      if (!run.stations[from]) continue;
+      for (const event of run.deliveries.of(frame)) {
+        const to = run.events.station.values[event];
+        if (!run.stations[to]) continue;
+        const far = distance2(run, from, to, giver);
+        if (far > most) most = far;
+      }
+    }
+    heard.set(run, most);
+    return most;
+  }
+
+  /** How far frames are heard, in metres, and whether the run tells it or shows it at least. */
+  function range(run) {
+    if (run.air) return {metres: run.air.range, isTold: true};
+    return {metres: Math.sqrt(Number(heardFrom(run))) / 100, isTold: false};
+  }
+
+  geostation.hearing = {distance2, isInRange, range};
+})(globalThis.geostation ??= {});

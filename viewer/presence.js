@@ -1,0 +1,102 @@
+//! Who is there: stations of an air come and leave, as the notes tell. Of a station that no note
+//! tells of, what it hears and sends shows whether it is there.
+
+(function (geostation) {
+  'use strict';
+
+  const {DO, NOTE} = geostation.events;
+  const {Groups, countUpTo} = geostation.columns;
+  /** A station that is there at the start sends its first beacon until then, in milliseconds. */
+  const FIRST_BEACON = 750;
+  /** So many frames are looked at for stations that heard none; others are taken to be there. */
+  const MOST_LOOKS = 1000000;
+
+  class Presence {
+    /** @param {import('./run.js').Run} run */
+    constructor(run) {
+      const {notes, stations} = run;
+      this.stations = stations;
+      this.notes = notes;
+      this.changes = new Groups(changers(notes), stations.length);
+      /** Those that are never there. @type {Set<number>} */
+      this.never = new Set();
+    }
+
+    /** Whether a station is away at some time. */
+    get isTold() {
+      const {changes, never, stations} = this;
+      return changes.members.length > 0 || never.size > 0 || (stations.at(-1)?.born ?? 0) > 0;
+    }
+
+    /**
+     * Whether a station is there once some notes were told, and an event was run.
+     * @param {number} station @param {number} told how many notes @param {number} at the event
+     */
+    isThere(station, told, at) {
+      const {starts, members} = this.changes;
+      const [from, to] = [starts[station], starts[station + 1]];
+      if (from === to) {
+        return this.stations[station].born <= Math.max(0, at) && !this.never.has(station);
+      }
+      const next = countUpTo(members, told - 1, to, from);
+      if (next === from) return this.notes.is(members[from], 'left');
+      return this.notes.is(members[next - 1], 'came');
+    }
+  }
+
+  /** The station of each note that it came or left, -1 of others. @param {any} notes */
+  function changers({length, kind, station}) {
+    const keys = new Int32Array(length).fill(-1);
+    for (let i = 0; i < length; i += 1) {
+      const isChange = kind.values[i] === NOTE.came || kind.values[i] === NOTE.left;
+      if (isChange) keys[i] = station.values[i];
+    }
+    return keys;
+  }
+
+  /**
+   * Finds the stations that are never there: of such a one no note tells, and it heard nothing.
+   * Where each sends beacons it sent none, or one that is there gave a frame in its range. Where
+   * frames are lost and no note tells of it, this can't be known.
+   * @param {import('./run.js').Run} run whose events and notes are in groups
+   */
+  function findNever(run) {
+    const {air, frames, notes, presence, stations, times} = run;
+    if (!air || (air.loss > 0 && notes.length === 0)) return;
+    const there = showing(run);
+    const isQuiet = air.beacons && times.length > 0 && times.at(-1) > FIRST_BEACON;
+    let looks = MOST_LOOKS;
+    for (let station = 0; station < stations.length; station += 1) {
+      if (there[station] || stations[station].born > 0) continue;
+      looks -= isQuiet ? 0 : frames.length;
+      if (isQuiet || (looks >= 0 && missesFrame(run, station, there))) presence.never.add(station);
+    }
+  }
+
+  /** Which stations show that they are there: a note tells of them, they hear, or send beacons. */
+  function showing({air, events, notes, presence, stations}) {
+    const there = Uint8Array.from(stations, (_, i) => Number(presence.changes.of(i).length > 0));
+    for (let i = 0; i < events.length; i += 1) {
+      const what = events.do.values[i];
+      const shows = what === DO.deliver || (what === DO.tick && air.beacons);
+      if (shows) there[events.station.values[i]] = 1;
+    }
+    for (let i = 0; i < notes.length; i += 1) {
+      if (notes.kind.values[i] === NOTE.lost) there[notes.station.values[i]] = 1;
+    }
+    return there;
+  }
+
+  /** Whether a station that is there gave a frame in range of one that heard nothing. */
+  function missesFrame(run, station, there) {
+    const {giver, length} = run.frames;
+    for (let frame = 0; frame < length; frame += 1) {
+      const event = giver.values[frame];
+      if (!there[run.events.station.values[event]]) continue;
+      if (geostation.hearing.isInRange(run, station, event)) return true;
+    }
+    return false;
+  }
+
+  geostation.presence = {Presence, findNever};
+})(globalThis.geostation ??= {});

@@ -1,0 +1,71 @@
+//! What stands in the rows of the page's lists, from what the page shows.
+
+(function (geostation) {
+  'use strict';
+
+  const {reason, way: ways, words} = geostation;
+  const {kindOf} = geostation.scene;
+
+  /** @typedef {import('./list.js').Row} Row */
+
+  /** An event or a note. @param {any} state @param {number} place of it @returns {Row} */
+  function entry({run}, place) {
+    const {event, note} = run.entries.at(place);
+    return note === undefined ? ofEvent(run, run.events.at(event)) : ofNote(run, note);
+  }
+
+  /** @param {import('./run.js').Run} run @param {import('./events.js').Event} event */
+  function ofEvent(run, event) {
+    return {kind: `event ${kindOf(event)}`, title: event.reason ?? words.entry(event), cells: [
+      ['moment', run.moment(event.index)], ['who', run.name(event.station)],
+      ['what', words.doing(event)], ['entry', words.entry(event)],
+    ]};
+  }
+
+  /** @param {import('./run.js').Run} run @param {number} note */
+  function ofNote(run, note) {
+    const {who, what, entry: more} = words.partsOfNote(run, note);
+    return {kind: `note note-${run.notes.at(note).note}`, title: words.ofNote(run, note), cells: [
+      ['moment', run.noteMoment(note)], ['who', who], ['what', what], ['entry', more],
+    ]};
+  }
+
+  /**
+   * A warning, or all frames.
+   * @param {any} state @param {import('./way.js').Send | undefined} send
+   * @param {import('./why.js').Judgement} [judgement] of it
+   * @returns {Row}
+   */
+  function send({run}, send, judgement) {
+    if (!send) return {kind: 'send', cells: [['entry', 'All frames, as they come']]};
+    const {moment, station, do: what, port} = ways.figures(run, send);
+    const {inside, reached} = judgement;
+    const entered = `port ${port ?? '?'}, ${reached.length} of ${inside.length} reached`;
+    return {kind: `send${reached.length < inside.length ? ' short' : ''}`, cells: [
+      ['moment', moment], ['who', run.name(station)], ['what', what], ['entry', entered],
+    ]};
+  }
+
+  /** A station that wasn't reached. @param {any} state @param {number} row @returns {Row} */
+  function miss({run, judgement, chosen}, row) {
+    const missed = judgement.missed[row];
+    return {kind: `miss ${missed.reason}`, title: reason.sentence(run, chosen, missed),
+      cells: [['who', run.name(missed.station)], ['entry', missed.reason],
+        ['note', reason.short(missed)]]};
+  }
+
+  /** A hop of the chosen warning's way. @param {any} state @param {number} row @returns {Row} */
+  function step({run, steps, chosen, at}, row) {
+    const {event, station, hop, delivered, sent, duplicates} = steps[row];
+    const done = [hop === 0 ? 'sent it' : delivered ? 'delivered' : 'accepted'];
+    if (hop > 0 && sent !== undefined) done.push('relayed');
+    if (duplicates > 0) done.push(`${duplicates} knew it`);
+    const kind = hop === 0 ? 'sent' : delivered ? 'accepted delivered' : 'accepted';
+    const note = done.join(', ');
+    return {kind: `step ${kind}${event > at ? ' later' : ''}`, hop: Math.min(hop, 12), title: note,
+      cells: [['entry', `station ${run.name(station)}`], ['note', note],
+        ['moment', `+${run.elapsed(chosen.event, event)} ms`]]};
+  }
+
+  geostation.rows = {entry, send, miss, step};
+})(globalThis.geostation ??= {});

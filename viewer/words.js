@@ -1,0 +1,56 @@
+//! What events and notes are called: in the words of `sim`, and in a sentence.
+
+(function (geostation) {
+  'use strict';
+
+  /** @typedef {import('./events.js').Event} Event */
+
+  /** What was done, as `sim` prints it. @param {Event} event */
+  function doing(event) {
+    return event.do === 'deliver' ? `deliver ${event.frame}` : event.do;
+  }
+
+  /** What came of it, as `sim` prints it. @param {Event} event */
+  function entry(event) {
+    const words = [event.result];
+    if (event.why !== undefined) words.push(event.why);
+    if (event.code !== undefined) words.push(event.code);
+    if (event.port !== undefined) {
+      words.push('port', event.port, 'info', event.info, event.payload || '-');
+    }
+    if (event.result === 'accepted' && event.sent !== undefined) words.push('sent');
+    if (event.sent !== undefined) words.push(event.sent);
+    return words.join(' ');
+  }
+
+  /** @param {import('./run.js').Run} run @param {Event} event */
+  function ofEvent(run, event) {
+    const because = event.reason ? ` (${event.reason})` : '';
+    return `Event ${event.index}, ${run.moment(event.index)} ms, station ` +
+      `${run.name(event.station)}: ${doing(event)}, ${entry(event)}${because}`;
+  }
+
+  /**
+   * The parts of a note: who, and in words of `sim` and others what became of it.
+   * @param {import('./run.js').Run} run @param {number} number
+   */
+  function partsOfNote(run, number) {
+    const {note, station, frame, id} = run.notes.at(number);
+    const who = note === 'absent' ? String(id) : run.name(station);
+    if (note !== 'lost') return {who, what: note, entry: WHAT[note]};
+    const giver = run.events.station.values[run.frames.giver.values[frame]];
+    const from = giver === undefined ? '' : `given by station ${run.name(giver)}`;
+    return {who, what: `lost ${frame}`, entry: from};
+  }
+
+  const WHAT = {came: 'is there from now on', left: 'is away from now on',
+    absent: 'is away: its event isn’t run'};
+
+  /** @param {import('./run.js').Run} run @param {number} number of a note */
+  function ofNote(run, number) {
+    const {who, what, entry: more} = partsOfNote(run, number);
+    return `Note, ${run.noteMoment(number)} ms, station ${who}: ${what}, ${more}`;
+  }
+
+  geostation.words = {doing, entry, ofEvent, partsOfNote, ofNote};
+})(globalThis.geostation ??= {});
