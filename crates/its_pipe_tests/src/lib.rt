@@ -5,3 +5,5 @@
 mod pipes;
 #[cfg(test)]
 mod scenarios;
+#[cfg(test)]
+mod short;

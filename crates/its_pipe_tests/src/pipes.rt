@@ -1,72 +1,105 @@
 //! A station on a pipe over readers and writers in memory.
 
-ghost use Rattle.std.specs.Prelude.{◌≤◌, IfOk};
+ghost use Rattle.std.specs.Prelude.{◌≤◌, IfSome};
 ghost use Rattle.its_world.specs.Events.{IsConfig};
 
 mod devices;
 mod interplay;
 mod large;
-mod memory;
 
 use its_gnvalue::{GnAddress, Place};
 use its_pipe::{Ended, run_station};
-use its_vectors::FIRST;
+use its_shortage::written;
+use its_vectors::{FIRST, SECOND};
 use its_world::Config;
 use std::alloc::Global;
-use std::io::Read;
-use std::process::Abort;
-use std::str;
-use std::test::Fail;
-
-/// A beacon of the second station, which never moved.
-static BEACON: &str = "ffffffffffff020000000002894711001a010010008000000100\
-    140002000000000200000000000000000000000000000000";
+use std::io::{Read, Write};
 
 /// A line that opens the port, and its answer.
-static OPEN: &str = "{\"at\":0,\"do\":\"open\",\"port\":2002}\n";
+pub(crate) static OPEN: &str = "{\"at\":0,\"do\":\"open\",\"port\":2002}\n";
 
-static OPENED: &str = "{\"at\":0,\"result\":\"opened\"}\n";
-
-/// What the command left: its status, standard output and standard error.
-#[derive(Drop)]
-struct Left {
-    status: Ended,
-    out: Vec<u8>,
-    err: Vec<u8>,
-}
-
-impl Left {
-    /// It is this.
-    fn expect(&self, rt: &impl Abort, status: Ended, out: &str, err: &str) {
-        assert_eq!(rt; str::from_utf8(self.out.as_slice()), Ok(out));
-        assert_eq!(rt; str::from_utf8(self.err.as_slice()), Ok(err));
-        assert_eq!(rt; self.status, status);
-    }
-}
+pub(crate) static OPENED: &str = "{\"at\":0,\"result\":\"opened\"}\n";
 
 /// A station at a latitude, with room for so many sources, of each of which one number is
 /// remembered.
-fn config(address: u64, lat: i32, capacity: u16) -> Result<Config, Fail>
-    requires { (1 ≤ capacity) × (capacity ≤ 4096) }
-    ensures { IfOk result IsConfig }
+#[derive(Clone, Copy)]
+pub(crate) struct Site {
+    address: u64,
+    lat: i32,
+    capacity: u16,
+}
+
+/// The first station, which stands at the centre of the areas.
+const FIRST_SITE: Site = Site {
+    address: FIRST,
+    lat: 0,
+    capacity: 64,
+};
+
+/// The same with room for one source.
+const SMALL_SITE: Site = Site {
+    capacity: 1,
+    ..FIRST_SITE
+};
+
+/// The second station, inside of the areas, with room for one source.
+pub(crate) const SECOND_SITE: Site = Site {
+    address: SECOND,
+    lat: 449,
+    capacity: 1,
+};
+
+fn config_of(site: Site) -> Option<Config>
+    ensures { IfSome result IsConfig }
 {
-    Ok(Config {
-        address: GnAddress::from_u64(address)?,
-        place: Place::new(lat, 0)?,
-        capacity,
+    if !(1..=4096).contains(&site.capacity) {
+        return None;
+    }
+    Some(Config {
+        address: GnAddress::from_u64(site.address).ok()?,
+        place: Place::new(site.lat, 0).ok()?,
+        capacity: site.capacity,
         remember: 1,
     })
 }
 
-/// What is left of this input by the first station, which stands at the centre of the areas.
-fn first<R: Read + Drop>(alloc: Global, input: R) -> Result<Left, Fail> {
-    left_of(alloc, &config(FIRST, 0, 64)?, input)
+/// How a station ends that is given this, with nothing promised: all that the call's contract says
+/// would else be carried along in the proof of each test.
+pub(crate) fn run<R: Read + Drop, W: Write, E: Write>(
+    alloc: Global,
+    site: Site,
+    input: R,
+    out: &mut W,
+    err: &mut E,
+) -> Option<Ended> {
+    let config = config_of(site)?;
+    Some(run_station(alloc, &config, input, out, err))
 }
 
-fn left_of<R: Read + Drop>(alloc: Global, config: &Config, input: R) -> Result<Left, Fail>
-    requires { IsConfig config.now }
-{
-    let (mut out, mut err) = (Vec::new(alloc), Vec::new(alloc));
-    let status = run_station(alloc, config, input, &mut out, &mut err);
-    Ok(Left { status, out, err })
+/// What a station left: its status, and standard output and standard error, with zeros behind what
+/// it wrote there.
+#[derive(Drop)]
+pub(crate) struct Left {
+    status: Option<Ended>,
+    pub(crate) out: [u8; 1000],
+    err: [u8; 64],
+}
+
+impl Left {
+    /// It left just this.
+    pub(crate) fn is(&self, status: Ended, out: &[u8], err: &[u8]) -> bool {
+        self.status == Some(status) && written(&self.out) == out && written(&self.err) == err
+    }
+}
+
+/// What a station leaves that is given this.
+pub(crate) fn left_of<R: Read + Drop>(alloc: Global, site: Site, input: R) -> Left {
+    let (mut printed, mut said) = ([0; 1000], [0; 64]);
+    let (mut out, mut err) = (printed.as_mut_slice(), said.as_mut_slice());
+    let status = run(alloc, site, input, &mut out, &mut err);
+    Left {
+        status,
+        out: printed,
+        err: said,
+    }
 }

@@ -1,31 +1,53 @@
 //! Payloads: their lengths, and where they stand.
 
-use super::{ENDS, GAC, GBC, SHB, fault_of, returns};
+use super::Vector::{Gac, Gbc, Shb};
+use super::{Vector, octets_of};
 use its_headers::{FaultKind, LONGEST_PAYLOAD, PacketView, Payload, SHORTEST_PAYLOAD};
 use its_vectors::put;
+use std::alloc::{AllocError, Global};
 use std::test::Fail;
 
+/// The lengths of a packet and of its payload, where its header tells this payload length, or the
+/// fault.
+fn lengths(vector: Vector, told: u16) -> Result<(usize, usize), (usize, FaultKind)> {
+    let mut octets = [0; 1500];
+    put(&mut octets, 0, octets_of(vector));
+    put(&mut octets, 8, &told.to_be_bytes());
+    match PacketView::read(&octets) {
+        Ok((view, length)) => Ok((length, view.payload().len())),
+        Err(fault) => Err((fault.at, fault.kind)),
+    }
+}
+
 #[test]
-fn payload_lengths(rt: HostRuntime) -> Result<(), Fail> {
-    for (packet, headers) in [(SHB.as_slice(), 40), (&GBC, 56), (&GAC, 56)] {
-        let mut octets = [0; 1500];
-        put(&mut octets, 0, packet);
-        for (size, high, low) in [(4, 0, 4), (1398, 5, 0x76)] {
-            put(&mut octets, 8, &[high, low]);
-            let (view, length) = PacketView::read(&octets)?;
-            assert_eq!(rt; length, size + headers);
-            assert_eq!(rt; view.payload().len(), size);
-        }
-        for wrong in [[0, 3], [5, 0x77], [0xff, 0xff]] {
-            put(&mut octets, 8, &wrong);
-            assert_eq!(rt; fault_of(&octets), Some((8, FaultKind::PayloadLength)));
+fn payload_lengths(rt: HostRuntime) {
+    let wrong = Err((8, FaultKind::PayloadLength));
+    for vector in [Shb, Gbc, Gac] {
+        let headers = if matches!(vector, Shb) { 40 } else { 56 };
+        for (told, want) in [
+            (4, Ok((4 + headers, 4))),
+            (1398, Ok((1398 + headers, 1398))),
+            (3, wrong),
+            (1399, wrong),
+            (0xffff, wrong),
+        ] {
+            assert!(rt; lengths(vector, told) == want, "{vector:?} {told}");
         }
     }
-    Ok(())
+}
+
+/// Whether so many octets are a payload, and how many it has and gives back, or are given back in
+/// its place.
+fn made_of(alloc: Global, size: usize) -> Result<(bool, usize, usize), AllocError> {
+    Ok(match Payload::new(vec![in alloc; 0; size]?) {
+        Ok(payload) => (true, payload.octets().len(), payload.into_octets().len()),
+        Err(octets) => (false, octets.len(), octets.len()),
+    })
 }
 
 #[test]
 fn payloads(rt: HostRuntime) -> Result<(), Fail> {
+    assert_eq!(rt; (SHORTEST_PAYLOAD, LONGEST_PAYLOAD), (4, 1398));
     for (size, fits) in [
         (0, false),
         (3, false),
@@ -33,29 +55,7 @@ fn payloads(rt: HostRuntime) -> Result<(), Fail> {
         (1398, true),
         (1399, false),
     ] {
-        let octets = vec![in rt.alloc(); 0; size]?;
-        match Payload::new(octets) {
-            Ok(payload) => {
-                assert!(rt; fits, "{size}");
-                assert_eq!(rt; payload.octets().len(), size);
-                assert_eq!(rt; payload.into_octets().len(), size);
-            }
-            Err(octets) => {
-                assert!(rt; !fits, "{size}");
-                assert_eq!(rt; octets.len(), size);
-            }
-        }
+        assert!(rt; made_of(rt.alloc(), size)? == (fits, size, size), "{size}");
     }
-    Ok(())
-}
-
-#[test]
-fn octets_of_any_value(rt: HostRuntime) -> Result<(), Fail> {
-    for with in [[0; 7], [0xff; 7]] {
-        let mut octets = ENDS;
-        put(&mut octets, 56, &with);
-        returns(&rt, rt.alloc(), &octets)?;
-    }
-    assert_eq!(rt; (SHORTEST_PAYLOAD, LONGEST_PAYLOAD), (4, 1398));
     Ok(())
 }

@@ -1,12 +1,10 @@
 //! A bench that waits for each answer before it sends the next line.
 
-use super::config;
-use its_pipe::{Ended, run_station};
-use its_vectors::FIRST;
+use super::{SMALL_SITE, run};
+use its_pipe::Ended;
 use std::cell::Cell;
 use std::io;
 use std::io::{Read, Write};
-use std::test::Fail;
 
 /// The bench's end of both pipes: how many lines were sent, and how many answers were flushed.
 #[derive(Drop)]
@@ -62,26 +60,16 @@ impl Write for Answers<'_> {
 }
 
 #[test]
-fn each_answer_comes_before_the_next_line(rt: HostRuntime) -> Result<(), Fail> {
-    let alloc = rt.alloc();
+fn each_answer_comes_before_the_next_line(rt: HostRuntime) {
     let bench = Bench {
         sent: Cell::new(0),
         written: Cell::new(0),
         flushed: Cell::new(0),
         early: Cell::new(false),
     };
-    let mut err = Vec::new(alloc);
-    let mut out = Answers(&bench);
-    let status = run_station(
-        alloc,
-        &config(FIRST, 0, 1)?,
-        Lines(&bench),
-        &mut out,
-        &mut err,
-    );
-    assert_eq!(rt; status, Ended::Refused);
-    assert_eq!(rt; (bench.sent.get(), bench.flushed.get()), (4, 4));
-    assert!(rt; !bench.early.get());
-    assert!(rt; err.is_empty());
-    Ok(())
+    let mut said = [0; 64];
+    let (mut out, mut err) = (Answers(&bench), said.as_mut_slice());
+    let status = run(rt.alloc(), SMALL_SITE, Lines(&bench), &mut out, &mut err);
+    assert!(rt; status == Some(Ended::Refused) && said == [0; 64]);
+    assert!(rt; (bench.sent.get(), bench.flushed.get(), bench.early.get()) == (4, 4, false));
 }
