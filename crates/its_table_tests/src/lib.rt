@@ -1,5 +1,5 @@
-//! Tests of location tables, of lists of recent numbers, of forwarding, of walks over neighbours and of
-//! ports through their public calls, a module for each subject.
+//! Tests of location tables, of lists of recent numbers, of forwarding, of walks over neighbours
+//! and of ports through their public calls, a module for each subject.
 #![tactic(auto)]
 
 #[cfg(test)]

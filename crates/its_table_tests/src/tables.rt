@@ -5,51 +5,38 @@ ghost use Rattle.std.specs.Prelude.{◌^◌, ◌≤◌};
 
 use its_gnvalue::{GnAddress, LongPv, Place};
 use its_loctable::{Heard, Known, LocationStore, StoreRefused, Verdict};
-use std::process::Abort;
-use std::test::Fail;
+use std::alloc::Global;
 
-mod largest;
 mod memory;
 mod plain;
 mod recent;
 mod refusals;
-mod reused;
 mod rows;
+mod worked;
 
 const FIRST: u64 = 0x1400_0200_0000_0001;
 
-const SECOND: u64 = 0x1400_0200_0000_0002;
-
-const THIRD: u64 = 0x1400_0200_0000_0003;
-
 /// A packet of a station at (0, 0): a GBC where there is a number, else a BEACON.
-fn heard_at(address: u64, timestamp: u32, number: Option<u16>) -> Result<Heard, Fail> {
-    let address = GnAddress::from_u64(address)?;
-    let vector = LongPv::new(address, timestamp, Place::new(0, 0)?, false, 0, 0)?;
-    Ok(Heard::new(vector, number))
+fn heard_at(address: u64, timestamp: u32, number: Option<u16>) -> Option<Heard> {
+    let address = GnAddress::from_u64(address).ok()?;
+    let vector = LongPv::new(address, timestamp, Place::new(0, 0).ok()?, false, 0, 0).ok()?;
+    Some(Heard::new(vector, number))
 }
 
-fn heard(address: u64, number: Option<u16>) -> Result<Heard, Fail> {
-    heard_at(address, 0, number)
-}
-
-const ACCEPTED: Result<Verdict, StoreRefused> = Ok(Verdict::Accepted);
-
-const DUPLICATE: Result<Verdict, StoreRefused> = Ok(Verdict::Duplicate);
-
-const FULL: Result<Verdict, StoreRefused> = Err(StoreRefused::Full);
-
-/// A packet has this answer.
-fn expect<S: LocationStore>(
-    rt: &impl Abort,
-    store: &mut S,
-    now: u64,
-    heard: &Heard,
-    want: Result<Verdict, StoreRefused>,
-)
+/// What becomes of a packet, with nothing promised: all that the call's contract says would else be
+/// carried along in the proof of each test. So it is of the calls below.
+fn accept<S: LocationStore>(store: &mut S, now: u64, heard: &Heard) -> Result<Verdict, StoreRefused>
     requires { now ≤ 2 ^ 62 }
 {
-    assert!(rt; store.accept(now, heard) == want, "at {now}");
+    store.accept(now, heard)
+}
+
+/// A store, where the numbers are in their ranges and there is memory for it.
+fn store_of<S: LocationStore>(alloc: Global, capacity: u16, remember: u8) -> Option<S> {
+    if !(1..=4096).contains(&capacity) || !(1..=64).contains(&remember) {
+        return None;
+    }
+    S::empty(alloc, capacity, remember).ok()
 }
 
 /// What is looked up.
@@ -61,7 +48,7 @@ struct Asked {
 }
 
 /// What all look-ups answer.
-#[derive(Clone, Copy, Debug, PartialEq)]
+#[derive(Clone, Copy, PartialEq)]
 struct LookUps {
     known: Option<Known>,
     is_remembered: bool,
@@ -70,13 +57,31 @@ struct LookUps {
     by_mid: Option<Known>,
 }
 
+fn lookup<S: LocationStore>(store: &S, now: u64, address: GnAddress) -> Option<Known>
+    requires { now ≤ 2 ^ 62 }
+{
+    store.lookup(now, address)
+}
+
+fn remembers<S: LocationStore>(store: &S, now: u64, address: GnAddress, number: u16) -> bool
+    requires { now ≤ 2 ^ 62 }
+{
+    store.remembers(now, address, number)
+}
+
+fn has_room<S: LocationStore>(store: &S, now: u64, address: GnAddress) -> bool
+    requires { now ≤ 2 ^ 62 }
+{
+    store.has_room(now, address)
+}
+
 fn look_up_all<S: LocationStore>(store: &S, now: u64, asked: &Asked) -> LookUps
     requires { now ≤ 2 ^ 62 }
 {
     LookUps {
-        known: store.lookup(now, asked.address),
-        is_remembered: store.remembers(now, asked.address, asked.number),
-        has_room: store.has_room(now, asked.address),
+        known: lookup(store, now, asked.address),
+        is_remembered: remembers(store, now, asked.address, asked.number),
+        has_room: has_room(store, now, asked.address),
         next: store.next_neighbour(now, asked.after),
         by_mid: store.by_mid(now, asked.address.mid()),
     }

@@ -2,18 +2,18 @@
 
 ghost use Rattle.std.specs.Prelude.{◌^◌, ◌<◌, ◌≤◌};
 
-use super::{Asked, LookUps, heard_at, look_up_all};
+use super::rows::{ACCEPTED, Answer, DUPLICATE, FULL};
+use super::{Asked, LookUps, accept, heard_at, look_up_all, store_of};
 use its_gnvalue::{GnAddress, newer};
-use its_loctable::{Heard, Known, LocationStore, OrderedTable, SortedTable, StoreRefused, Verdict};
-use std::alloc::{AllocError, Global};
+use its_loctable::{Heard, Known, LocationStore, OrderedTable, SortedTable};
+use std::alloc::Global;
 use std::process::Abort;
-use std::test::Fail;
 
 /// No moment is greater.
 const LAST: u64 = 1 << 62;
 
-/// The sources of the run: some share a MID.
-const SOURCES: [u64; 9] = [
+/// The sources of the run, in ascending order: some share a MID.
+static SOURCES: [u64; 9] = [
     0x0000_0200_0000_0001,
     0x0000_0200_0000_0002,
     0x1400_0200_0000_0001,
@@ -28,105 +28,131 @@ const SOURCES: [u64; 9] = [
 /// All packets that were accepted, the oldest first.
 #[derive(Drop)]
 struct Plain {
-    alloc: Global,
     capacity: usize,
     remembered: usize,
     accepted: Vec<(u64, Heard)>,
 }
 
+/// What is known of a source after a packet of it, and what was known before.
+fn known_after(heard: &Heard, before: Option<Known>) -> Known {
+    match before {
+        None => Known {
+            vector: heard.vector(),
+            neighbour: heard.neighbour(),
+        },
+        Some(old) => Known {
+            vector: if newer(heard.vector().tst(), old.vector.tst()) {
+                heard.vector()
+            } else {
+                old.vector
+            },
+            neighbour: old.neighbour || heard.neighbour(),
+        },
+    }
+}
+
 impl Plain {
-    /// The packets of a source that count at a moment, the oldest first.
-    fn session(&self, now: u64, address: GnAddress) -> Result<Vec<Heard>, AllocError> {
-        let mut session = Vec::new(self.alloc);
-        let mut next = now;
-        for (moment, heard) in self.accepted.iter().rev() {
+    /// The packets from the oldest one on that counts of a source at a moment, others' among them.
+    fn session(&self, now: u64, address: GnAddress) -> &[(u64, Heard)] {
+        let (mut start, mut next) = (self.accepted.len(), now);
+        for (index, (moment, heard)) in self.accepted.iter().enumerate().rev() {
             if heard.address() == address {
                 if moment.saturating_add(20000) <= next {
                     break;
                 }
-                session.push(*heard)?;
+                start = index;
                 next = *moment;
             }
         }
-        session.reverse();
-        Ok(session)
+        self.accepted.get(start..).unwrap_or(&[])
     }
 
-    fn lookup(&self, now: u64, address: GnAddress) -> Result<Option<Known>, AllocError> {
-        let mut known: Option<Known> = None;
-        for heard in self.session(now, address)?.iter() {
-            known = Some(match known {
-                None => Known {
-                    vector: heard.vector(),
-                    neighbour: heard.neighbour(),
-                },
-                Some(old) => Known {
-                    vector: if newer(heard.vector().tst(), old.vector.tst()) {
-                        heard.vector()
-                    } else {
-                        old.vector
-                    },
-                    neighbour: old.neighbour || heard.neighbour(),
-                },
-            });
-        }
-        Ok(known)
-    }
-
-    fn remembers(&self, now: u64, address: GnAddress, number: u16) -> Result<bool, AllocError> {
-        let session = self.session(now, address)?;
-        Ok(
-            session
-                .iter()
-                .rev()
-                .filter_map(|heard| heard.number())
-                .take(self.remembered)
-                .any(|kept| kept == number),
-        )
-    }
-
-    /// What is known of each live source, in ascending order of addresses.
-    fn stations(&self, now: u64) -> Result<Vec<Known>, Fail> {
-        let mut stations = Vec::new(self.alloc);
-        for source in SOURCES {
-            if let Some(known) = self.lookup(now, GnAddress::from_u64(source)?)? {
-                stations.push(known)?;
+    fn lookup(&self, now: u64, address: GnAddress) -> Option<Known> {
+        let mut known = None;
+        for (_, heard) in self.session(now, address) {
+            if heard.address() == address {
+                known = Some(known_after(heard, known));
             }
         }
-        Ok(stations)
+        known
     }
 
-    fn accept(&mut self, now: u64, heard: &Heard) -> Result<Result<Verdict, StoreRefused>, Fail> {
+    fn remembers(&self, now: u64, address: GnAddress, number: u16) -> bool {
+        let mut left = self.remembered;
+        for (_, heard) in self.session(now, address).iter().rev() {
+            if heard.address() != address || heard.number().is_none() {
+                continue;
+            }
+            if left == 0 {
+                return false;
+            }
+            left -= 1;
+            if heard.number() == Some(number) {
+                return true;
+            }
+        }
+        false
+    }
+
+    /// What is known of each of the sources that is live.
+    fn stations(&self, now: u64) -> [Option<Known>; 9] {
+        let mut stations = [None; 9];
+        for (station, source) in stations.iter_mut().zip(&SOURCES) {
+            *station = match GnAddress::from_u64(*source) {
+                Ok(address) => self.lookup(now, address),
+                Err(_) => None,
+            };
+        }
+        stations
+    }
+
+    fn is_full(&self, now: u64) -> bool {
+        let mut live = 0usize;
+        for station in &self.stations(now) {
+            if station.is_some() {
+                live = live.saturating_add(1);
+            }
+        }
+        live >= self.capacity
+    }
+
+    /// What becomes of a packet; `None` where there is no memory for it.
+    fn accept(&mut self, now: u64, heard: &Heard) -> Option<Answer> {
         let address = heard.address();
         if let Some(number) = heard.number() {
-            if self.remembers(now, address, number)? {
-                return Ok(Ok(Verdict::Duplicate));
+            if self.remembers(now, address, number) {
+                return Some(DUPLICATE);
             }
         }
-        if self.lookup(now, address)?.is_none() && self.stations(now)?.len() >= self.capacity {
-            return Ok(Err(StoreRefused::Full));
+        if self.lookup(now, address).is_none() && self.is_full(now) {
+            return Some(FULL);
         }
-        self.accepted.push((now, *heard))?;
-        Ok(Ok(Verdict::Accepted))
+        self.accepted.push((now, *heard)).ok()?;
+        Some(ACCEPTED)
     }
 
-    fn look_up_all(&self, now: u64, asked: &Asked) -> Result<LookUps, Fail> {
-        let stations = self.stations(now)?;
-        let known = self.lookup(now, asked.address)?;
-        let mid = asked.address.mid();
-        Ok(LookUps {
+    fn look_up_all(&self, now: u64, asked: &Asked) -> LookUps {
+        let known = self.lookup(now, asked.address);
+        let (mut next, mut by_mid) = (None, None);
+        for station in &self.stations(now) {
+            let Some(station) = station else {
+                continue;
+            };
+            let address = station.vector.address();
+            if next.is_none() && station.neighbour && is_above(asked.after, address) {
+                next = Some(station.vector);
+            }
+            if by_mid.is_none() && address.mid() == asked.address.mid() {
+                by_mid = Some(*station);
+            }
+        }
+        LookUps {
             known,
-            is_remembered: self.remembers(now, asked.address, asked.number)?,
-            has_room: known.is_some() || stations.len() < self.capacity,
-            next: stations
-                .iter()
-                .find(|known| known.neighbour && is_above(asked.after, known.vector.address()))
-                .map(|known| known.vector),
-            by_mid: stations
-                .iter()
-                .find(|known| known.vector.address().mid() == mid)
-                .copied(),
-        })
+            is_remembered: self.remembers(now, asked.address, asked.number),
+            has_room: known.is_some() || !self.is_full(now),
+            next,
+            by_mid,
+        }
     }
 }
 
@@ -157,16 +183,14 @@ impl Draws {
     }
 }
 
-/// One packet and then all look-ups, compared with the plain list.
-fn one_call<S: LocationStore>(
-    rt: &impl Abort,
-    store: &mut S,
-    plain: &mut Plain,
-    draws: &mut Draws,
-    now: u64,
-) -> Result<(), Fail>
-    requires { now ≤ 2 ^ 62 }
-{
+/// A packet, and what is looked up after it.
+#[derive(Clone, Copy)]
+struct Drawn {
+    heard: Heard,
+    asked: Asked,
+}
+
+fn draw(draws: &mut Draws) -> Option<Drawn> {
     let source = SOURCES[draws.below(9) as usize];
     let number = draws.below(80) as u16;
     let timestamp = draws.below(4) as u32;
@@ -176,13 +200,8 @@ fn one_call<S: LocationStore>(
         Some(number)
     };
     let heard = heard_at(source, timestamp, numbered)?;
-    assert!(rt;
-        store.accept(now, &heard) == plain.accept(now, &heard)?,
-        "at {now}"
-    );
-    let other = GnAddress::from_u64(SOURCES[draws.below(9) as usize])?;
     let asked = Asked {
-        address: other,
+        address: GnAddress::from_u64(SOURCES[draws.below(9) as usize]).ok()?,
         number,
         after: if draws.below(4) == 0 {
             None
@@ -190,69 +209,78 @@ fn one_call<S: LocationStore>(
             Some(heard.address())
         },
     };
-    assert!(rt;
-        look_up_all(store, now, &asked) == plain.look_up_all(now, &asked)?,
-        "at {now}"
-    );
-    Ok(())
+    Some(Drawn { heard, asked })
 }
 
-/// A run of calls, the table being cleared now and then.
-fn run<S: LocationStore>(
-    rt: &impl Abort,
-    alloc: Global,
-    mut store: S,
-    remembered: u8,
-) -> Result<(), Fail> {
-    let mut plain = Plain {
-        alloc,
-        capacity: store.capacity() as usize,
-        remembered: remembered as usize,
-        accepted: Vec::new(alloc),
-    };
+/// Whether a packet and then all look-ups are answered as by the plain list.
+fn is_same<S: LocationStore>(store: &mut S, plain: &mut Plain, drawn: &Drawn, now: u64) -> bool
+    requires { now ≤ 2 ^ 62 }
+{
+    let answer = accept(store, now, &drawn.heard);
+    plain.accept(now, &drawn.heard) == Some(answer)
+        && look_up_all(store, now, &drawn.asked) == plain.look_up_all(now, &drawn.asked)
+}
+
+/// A run of calls, the table being cleared now and then. The first call, from 0, that isn't
+/// answered as by the plain list; `None` where all are.
+fn first_other<S: LocationStore>(store: &mut S, plain: &mut Plain) -> Option<u32> {
     let mut draws = Draws { state: 1 };
     let mut clock: u64 = 0;
-    for _ in 0..2000 {
+    for call in 0..2000u32 {
         let step = if draws.below(8) == 0 { 12000 } else { 300 };
         clock = clock.saturating_add(draws.below(step));
         if draws.below(400) == 0 {
             store.clear();
             plain.accepted.clear();
         }
-        one_call(rt, &mut store, &mut plain, &mut draws, clock.min(LAST))?;
+        match draw(&mut draws) {
+            Some(drawn) if is_same(store, plain, &drawn, clock.min(LAST)) => {}
+            _ => return Some(call),
+        }
     }
-    Ok(())
+    None
+}
+
+/// The same over a new table. An error says that there is none.
+fn first_other_of<S: LocationStore>(
+    alloc: Global,
+    capacity: u16,
+    remembered: u8,
+) -> Result<Option<u32>, &'static str> {
+    let mut store = store_of::<S>(alloc, capacity, remembered).ok_or("no such table")?;
+    let mut plain = Plain {
+        capacity: usize::from(capacity),
+        remembered: usize::from(remembered),
+        accepted: Vec::new(alloc),
+    };
+    Ok(first_other(&mut store, &mut plain))
 }
 
 /// Both stores, with room for few, for some and for all sources of the run.
-fn runs(rt: &impl Abort, alloc: Global, remembered: u8) -> Result<(), Fail>
-    requires { (1 ≤ remembered) × (remembered ≤ 64) }
-{
+fn runs(rt: &impl Abort, alloc: Global, remembered: u8) {
     for capacity in [1, 4, 9] {
-        let ordered = OrderedTable::empty(alloc, capacity, remembered)?;
-        run(rt, alloc, ordered, remembered)?;
-        let sorted = SortedTable::empty(alloc, capacity, remembered)?;
-        run(rt, alloc, sorted, remembered)?;
+        let ordered = first_other_of::<OrderedTable>(alloc, capacity, remembered);
+        let sorted = first_other_of::<SortedTable>(alloc, capacity, remembered);
+        assert_eq!(rt; (ordered, sorted), (Ok(None), Ok(None)), "{capacity}");
     }
-    Ok(())
 }
 
 #[test]
-fn one_number_is_remembered(rt: HostRuntime) -> Result<(), Fail> {
-    runs(&rt, rt.alloc(), 1)
+fn one_number_is_remembered(rt: HostRuntime) {
+    runs(&rt, rt.alloc(), 1);
 }
 
 #[test]
-fn two_numbers_are_remembered(rt: HostRuntime) -> Result<(), Fail> {
-    runs(&rt, rt.alloc(), 2)
+fn two_numbers_are_remembered(rt: HostRuntime) {
+    runs(&rt, rt.alloc(), 2);
 }
 
 #[test]
-fn eight_numbers_are_remembered(rt: HostRuntime) -> Result<(), Fail> {
-    runs(&rt, rt.alloc(), 8)
+fn eight_numbers_are_remembered(rt: HostRuntime) {
+    runs(&rt, rt.alloc(), 8);
 }
 
 #[test]
-fn sixty_four_numbers_are_remembered(rt: HostRuntime) -> Result<(), Fail> {
-    runs(&rt, rt.alloc(), 64)
+fn sixty_four_numbers_are_remembered(rt: HostRuntime) {
+    runs(&rt, rt.alloc(), 64);
 }

@@ -1,39 +1,38 @@
 //! Lists of recent numbers of any length.
 
 use its_duplicates::Recent;
-use std::alloc::Global;
-use std::process::Abort;
 use std::test::Fail;
 
-/// As many numbers as fit are held; one more lets the first go; none is held after `clear`.
-fn holds_the_last(rt: &impl Abort, mut recent: Recent, limit: u16) -> Result<(), Fail> {
-    assert!(rt; !recent.holds(0));
+/// Whether the first so many numbers are held, all of them or none.
+fn holds_all(recent: &Recent, limit: u16, want: bool) -> bool {
+    for number in 0..limit {
+        if recent.holds(number) != want {
+            return false;
+        }
+    }
+    true
+}
+
+/// Whether as many numbers as fit are held; one more lets the first go; none is held after `clear`.
+fn holds_the_last(mut recent: Recent, limit: u16) -> bool {
+    let began_empty = !recent.holds(0);
     for number in 0..limit {
         recent.note(number);
     }
-    for number in 0..limit {
-        assert!(rt; recent.holds(number), "{number} of {limit}");
-    }
+    let held_all = holds_all(&recent, limit, true);
     recent.note(limit);
-    assert!(rt; !recent.holds(0), "{limit}");
-    assert!(rt; recent.holds(limit), "{limit}");
+    let let_go = !recent.holds(0) && recent.holds(limit);
     recent.clear();
-    for number in 0..limit {
-        assert!(rt; !recent.holds(number), "{number} of {limit}");
-    }
+    let was_cleared = holds_all(&recent, limit, false);
     recent.note(7);
-    assert!(rt; recent.holds(7));
-    Ok(())
-}
-
-fn of_each_length(rt: &impl Abort, alloc: Global) -> Result<(), Fail> {
-    holds_the_last(rt, Recent::new(alloc, 1)?, 1)?;
-    holds_the_last(rt, Recent::new(alloc, 2)?, 2)?;
-    holds_the_last(rt, Recent::new(alloc, 8)?, 8)?;
-    holds_the_last(rt, Recent::new(alloc, 64)?, 64)
+    began_empty && held_all && let_go && was_cleared && recent.holds(7)
 }
 
 #[test]
 fn the_last_numbers_are_held(rt: HostRuntime) -> Result<(), Fail> {
-    of_each_length(&rt, rt.alloc())
+    assert!(rt; holds_the_last(Recent::new(rt.alloc(), 1)?, 1));
+    assert!(rt; holds_the_last(Recent::new(rt.alloc(), 2)?, 2));
+    assert!(rt; holds_the_last(Recent::new(rt.alloc(), 8)?, 8));
+    assert!(rt; holds_the_last(Recent::new(rt.alloc(), 64)?, 64));
+    Ok(())
 }

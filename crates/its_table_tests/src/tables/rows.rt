@@ -1,111 +1,160 @@
-//! Worked rows that are calls on a store.
+//! Packets and look-ups of a table as rows, each with what becomes of it. A test that is such rows
+//! holds no table, so its own proof is short.
 
-ghost use Rattle.std.specs.Prelude.{◌≤◌};
-
-use super::{
-    ACCEPTED, Asked, DUPLICATE, FIRST, FULL, LookUps, SECOND, THIRD, expect, heard, look_up_all,
-};
-use its_loctable::{LocationStore, OrderedTable, SortedTable, Verdict};
+use super::{Asked, FIRST, LookUps, accept, has_room, heard_at, look_up_all, lookup, remembers};
+use crate::tables::store_of;
+use its_gnvalue::GnAddress;
+use its_loctable::{Heard, LocationStore, StoreRefused, Verdict};
 use std::alloc::Global;
-use std::process::Abort;
-use std::test::Fail;
 
-/// The answers to five packets at one place, and what is known of the first source after them.
-fn one_place<S: LocationStore>(rt: &impl Abort, store: &mut S) -> Result<(), Fail> {
-    let (copy, other) = (heard(FIRST, Some(0))?, heard(THIRD, None)?);
-    expect(rt, store, 1000, &copy, ACCEPTED);
-    assert!(rt; !store.has_room(2000, other.address()));
-    expect(rt, store, 2000, &other, FULL);
-    expect(rt, store, 2001, &copy, DUPLICATE);
-    expect(rt, store, 20999, &copy, DUPLICATE);
-    expect(rt, store, 21000, &other, ACCEPTED);
-    assert!(rt; store.lookup(21000, copy.address()).is_none());
-    Ok(())
+/// What becomes of a packet.
+pub(super) type Answer = Result<Verdict, StoreRefused>;
+
+pub(super) const ACCEPTED: Answer = Ok(Verdict::Accepted);
+
+pub(super) const DUPLICATE: Answer = Ok(Verdict::Duplicate);
+
+pub(super) const FULL: Answer = Err(StoreRefused::Full);
+
+/// Numbers from the first up to the second, without that.
+pub(super) type Range = (u16, u16);
+
+/// A row: a moment, sources, counted from the first, and what becomes of their packets or is
+/// answered of them.
+#[derive(Clone, Copy)]
+pub(super) enum Row {
+    /// A packet of a source, a GBC where there is a number, else a BEACON.
+    Packet(u32, u16, Option<u16>, Answer),
+    /// A packet of each of these sources, in order.
+    Sources(u32, Range, Option<u16>, Answer),
+    /// A packet with each of these numbers of a source.
+    Numbers(u32, u16, Range, Answer),
+    /// Of each of these numbers a packet with it of one source and, with that greater by 1000, of
+    /// the next. All are accepted.
+    SideBySide(u32, u16, Range),
+    /// Whether a source would find room.
+    HasRoom(u32, u16, bool),
+    /// None of these sources is live.
+    Unknown(u32, Range),
+    /// Whether each of these numbers of a source is remembered.
+    Remembers(u32, u16, Range, bool),
+    /// Whether this number of each of these sources is remembered.
+    AllRemember(u32, Range, u16, bool),
+    /// A source isn't known, nor anyone else.
+    Nobody(u32, u16),
+    /// The table has this capacity.
+    Capacity(u16),
+    /// The table is cleared.
+    Clear,
 }
 
-#[test]
-fn a_full_table_keeps_its_source(rt: HostRuntime) -> Result<(), Fail> {
-    one_place(&rt, &mut OrderedTable::empty(rt.alloc(), 1, 8)?)?;
-    one_place(&rt, &mut SortedTable::empty(rt.alloc(), 1, 8)?)
+fn heard(source: u16, number: Option<u16>) -> Option<Heard> {
+    heard_at(FIRST + u64::from(source), 0, number)
 }
 
-/// The answer to the first number, after as many were accepted, in a table that remembers so many.
-fn first_again<S: LocationStore>(alloc: Global, remember: u8, count: u16) -> Result<Verdict, Fail>
-    requires { (1 ≤ remember) × (remember ≤ 64) }
-{
-    let mut store = S::empty(alloc, 64, remember)?;
-    for number in 0..count {
-        store.accept(1010, &heard(FIRST, Some(number))?)?;
+fn address_of(source: u16) -> Option<GnAddress> {
+    GnAddress::from_u64(FIRST + u64::from(source)).ok()
+}
+
+/// Whether this becomes of a packet.
+fn is_answered<S: LocationStore>(
+    store: &mut S,
+    now: u32,
+    source: u16,
+    number: Option<u16>,
+    want: Answer,
+) -> bool {
+    match heard(source, number) {
+        Some(heard) => accept(store, u64::from(now), &heard) == want,
+        None => false,
     }
-    Ok(store.accept(1011, &heard(FIRST, Some(0))?)?)
 }
 
-/// The first number is a duplicate while no more came than are remembered, and is accepted once one
-/// more did.
-fn lets_the_first_go<S: LocationStore>(
-    rt: &impl Abort,
-    alloc: Global,
-    remember: u8,
-) -> Result<(), Fail>
-    requires { (1 ≤ remember) × (remember ≤ 64) }
-{
-    let last = u16::from(remember);
-    for (count, want) in [(last, Verdict::Duplicate), (last + 1, Verdict::Accepted)] {
-        assert!(rt;
-            first_again::<S>(alloc, remember, count)? == want,
-            "{count}"
-        );
+fn are_sources<S: LocationStore>(
+    store: &mut S,
+    now: u32,
+    sources: Range,
+    number: Option<u16>,
+    want: Answer,
+) -> bool {
+    for source in sources.0..sources.1 {
+        if !is_answered(store, now, source, number, want) {
+            return false;
+        }
     }
-    Ok(())
+    true
 }
 
-/// Both stores remember as many numbers as they were made for.
-#[test]
-fn one_number_too_many_lets_the_first_go(rt: HostRuntime) -> Result<(), Fail> {
-    lets_the_first_go::<OrderedTable>(&rt, rt.alloc(), 1)?;
-    lets_the_first_go::<OrderedTable>(&rt, rt.alloc(), 2)?;
-    lets_the_first_go::<OrderedTable>(&rt, rt.alloc(), 8)?;
-    lets_the_first_go::<OrderedTable>(&rt, rt.alloc(), 64)?;
-    lets_the_first_go::<SortedTable>(&rt, rt.alloc(), 1)?;
-    lets_the_first_go::<SortedTable>(&rt, rt.alloc(), 2)?;
-    lets_the_first_go::<SortedTable>(&rt, rt.alloc(), 8)?;
-    lets_the_first_go::<SortedTable>(&rt, rt.alloc(), 64)
-}
-
-/// The answers to one number at 1000, 20999 and 21000, with a beacon at 11000 or without one.
-fn copies<S: LocationStore>(mut store: S, beacon: bool) -> Result<[Verdict; 3], Fail> {
-    let copy = heard(FIRST, Some(0))?;
-    let first = store.accept(1000, &copy)?;
-    if beacon {
-        store.accept(11000, &heard(FIRST, None)?)?;
+fn are_numbers<S: LocationStore>(
+    store: &mut S,
+    now: u32,
+    source: u16,
+    numbers: Range,
+    want: Answer,
+) -> bool {
+    for number in numbers.0..numbers.1 {
+        if !is_answered(store, now, source, Some(number), want) {
+            return false;
+        }
     }
-    let second = store.accept(20999, &copy)?;
-    Ok([first, second, store.accept(21000, &copy)?])
+    true
 }
 
-#[test]
-fn a_duplicate_refreshes_nothing_and_a_beacon_does(rt: HostRuntime) -> Result<(), Fail> {
-    for (beacon, last) in [(false, Verdict::Accepted), (true, Verdict::Duplicate)] {
-        let want = [Verdict::Accepted, Verdict::Duplicate, last];
-        let ordered = copies(OrderedTable::empty(rt.alloc(), 64, 8)?, beacon)?;
-        let sorted = copies(SortedTable::empty(rt.alloc(), 64, 8)?, beacon)?;
-        assert!(rt; ordered.as_slice() == want.as_slice(), "{beacon}");
-        assert!(rt; sorted.as_slice() == want.as_slice(), "{beacon}");
+fn are_side_by_side<S: LocationStore>(
+    store: &mut S,
+    now: u32,
+    source: u16,
+    numbers: Range,
+) -> bool {
+    for number in numbers.0..numbers.1 {
+        let (next, greater) = (source.saturating_add(1), number.saturating_add(1000));
+        if !is_answered(store, now, source, Some(number), ACCEPTED)
+            || !is_answered(store, now, next, Some(greater), ACCEPTED)
+        {
+            return false;
+        }
     }
-    Ok(())
+    true
 }
 
-/// A cleared table knows nobody, has its capacity as before, and takes in again what it had.
-fn cleared<S: LocationStore>(rt: &impl Abort, mut store: S) -> Result<(), Fail> {
-    let (copy, beacon) = (heard(FIRST, Some(0))?, heard(SECOND, None)?);
-    let third = heard(THIRD, None)?;
-    expect(rt, &mut store, 1010, &copy, ACCEPTED);
-    expect(rt, &mut store, 1010, &beacon, ACCEPTED);
-    expect(rt, &mut store, 1010, &third, FULL);
-    store.clear();
-    assert!(rt; store.capacity() == 2);
+fn are_unknown<S: LocationStore>(store: &S, now: u32, sources: Range) -> bool {
+    for source in sources.0..sources.1 {
+        match address_of(source) {
+            Some(address) if lookup(store, u64::from(now), address).is_none() => {}
+            _ => return false,
+        }
+    }
+    true
+}
+
+/// Whether a number of a source is remembered.
+fn is_remembered<S: LocationStore>(store: &S, now: u32, source: u16, number: u16) -> Option<bool> {
+    Some(remembers(store, u64::from(now), address_of(source)?, number))
+}
+
+fn do_remember<S: LocationStore>(
+    store: &S,
+    now: u32,
+    sources: Range,
+    numbers: Range,
+    want: bool,
+) -> bool {
+    for source in sources.0..sources.1 {
+        for number in numbers.0..numbers.1 {
+            if is_remembered(store, now, source, number) != Some(want) {
+                return false;
+            }
+        }
+    }
+    true
+}
+
+fn is_nobody<S: LocationStore>(store: &S, now: u32, source: u16) -> bool {
+    let Some(address) = address_of(source) else {
+        return false;
+    };
     let asked = Asked {
-        address: copy.address(),
+        address,
         number: 0,
         after: None,
     };
@@ -116,55 +165,65 @@ fn cleared<S: LocationStore>(rt: &impl Abort, mut store: S) -> Result<(), Fail> 
         next: None,
         by_mid: None,
     };
-    assert!(rt; look_up_all(&store, 1011, &asked) == nobody);
-    expect(rt, &mut store, 1013, &copy, ACCEPTED);
-    expect(rt, &mut store, 1013, &copy, DUPLICATE);
-    expect(rt, &mut store, 1013, &third, ACCEPTED);
-    expect(rt, &mut store, 1013, &beacon, FULL);
-    Ok(())
+    look_up_all(store, u64::from(now), &asked) == nobody
 }
 
-#[test]
-fn a_cleared_table_begins_anew(rt: HostRuntime) -> Result<(), Fail> {
-    cleared(&rt, OrderedTable::empty(rt.alloc(), 2, 8)?)?;
-    cleared(&rt, SortedTable::empty(rt.alloc(), 2, 8)?)
-}
-
-/// A source whose numbers begin anew: the one that is remembered is a duplicate, another is
-/// accepted.
-fn begins_anew<S: LocationStore>(rt: &impl Abort, mut store: S) -> Result<(), Fail> {
-    expect(rt, &mut store, 1010, &heard(FIRST, Some(0))?, ACCEPTED);
-    expect(rt, &mut store, 1040, &heard(FIRST, Some(0))?, DUPLICATE);
-    expect(rt, &mut store, 1040, &heard(FIRST, Some(7))?, ACCEPTED);
-    Ok(())
-}
-
-#[test]
-fn a_source_that_restarts_is_told_by_its_number(rt: HostRuntime) -> Result<(), Fail> {
-    begins_anew(&rt, OrderedTable::empty(rt.alloc(), 64, 8)?)?;
-    begins_anew(&rt, SortedTable::empty(rt.alloc(), 64, 8)?)
-}
-
-/// Beacons of 10000 sources at one moment: how many are accepted, and how many find no room. Then
-/// one of the accepted, and one that was refused.
-fn flood<S: LocationStore>(rt: &impl Abort, mut store: S) -> Result<(u64, u64), Fail> {
-    let (mut accepted, mut full) = (0u64, 0u64);
-    for source in 0..10000 {
-        match store.accept(1000, &heard(FIRST + source, None)?) {
-            Ok(_) => accepted = accepted.saturating_add(1),
-            Err(_) => full = full.saturating_add(1),
+fn holds<S: LocationStore>(store: &mut S, row: Row) -> bool {
+    match row {
+        Row::Packet(now, source, number, want) => is_answered(store, now, source, number, want),
+        Row::Sources(now, sources, number, want) => are_sources(store, now, sources, number, want),
+        Row::Numbers(now, source, numbers, want) => are_numbers(store, now, source, numbers, want),
+        Row::SideBySide(now, source, numbers) => are_side_by_side(store, now, source, numbers),
+        Row::HasRoom(now, source, want) => match address_of(source) {
+            Some(address) => has_room(store, u64::from(now), address) == want,
+            None => false,
+        },
+        Row::Unknown(now, sources) => are_unknown(store, now, sources),
+        Row::Remembers(now, source, numbers, want) => {
+            do_remember(
+                store,
+                now,
+                (source, source.saturating_add(1)),
+                numbers,
+                want,
+            )
+        }
+        Row::AllRemember(now, sources, number, want) => {
+            do_remember(
+                store,
+                now,
+                sources,
+                (number, number.saturating_add(1)),
+                want,
+            )
+        }
+        Row::Nobody(now, source) => is_nobody(store, now, source),
+        Row::Capacity(want) => store.capacity() == want,
+        Row::Clear => {
+            store.clear();
+            true
         }
     }
-    expect(rt, &mut store, 1001, &heard(FIRST + 63, None)?, ACCEPTED);
-    expect(rt, &mut store, 1001, &heard(FIRST + 64, None)?, FULL);
-    expect(rt, &mut store, 21000, &heard(FIRST + 64, None)?, ACCEPTED);
-    Ok((accepted, full))
 }
 
-#[test]
-fn a_flood_of_sources(rt: HostRuntime) -> Result<(), Fail> {
-    let ordered = flood(&rt, OrderedTable::empty(rt.alloc(), 64, 8)?)?;
-    let sorted = flood(&rt, SortedTable::empty(rt.alloc(), 64, 8)?)?;
-    assert!(rt; ordered == (64, 9936) && sorted == (64, 9936));
-    Ok(())
+/// The number, from 0, of the first row that comes out otherwise; `None` where all come out so.
+pub(super) fn first_other<S: LocationStore>(store: &mut S, rows: &[Row]) -> Option<usize> {
+    for (number, row) in rows.iter().enumerate() {
+        if !holds(store, *row) {
+            return Some(number);
+        }
+    }
+    None
+}
+
+/// The same over a new table of this capacity, which remembers so many numbers. An error says that
+/// there is no such table.
+pub(super) fn first_other_of<S: LocationStore>(
+    alloc: Global,
+    capacity: u16,
+    remember: u8,
+    rows: &[Row],
+) -> Result<Option<usize>, &'static str> {
+    let mut store = store_of::<S>(alloc, capacity, remember).ok_or("no such table")?;
+    Ok(first_other(&mut store, rows))
 }
