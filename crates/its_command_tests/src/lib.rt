@@ -1,10 +1,12 @@
-//! Tests of the commands of the program through their public calls: memory that runs out, readers and
-//! writers that fail.
+//! Tests of the commands of the program through their public calls: memory that runs out, readers
+//! and writers that fail.
 #![tactic(auto)]
 
 #[cfg(test)]
 mod commands;
 #[cfg(test)]
-mod left;
+mod run;
+#[cfg(test)]
+mod short;
 #[cfg(test)]
 mod simulations;

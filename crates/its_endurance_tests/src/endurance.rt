@@ -1,4 +1,5 @@
-//! Damaged frames, floods, other sources, the longest payloads and want of memory, over both tables.
+//! Damaged frames, floods, other sources, the longest payloads and want of memory, over both
+//! tables.
 
 mod damage;
 mod flood;

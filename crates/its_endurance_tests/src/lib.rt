@@ -1,8 +1,10 @@
-//! Tests of what a station withstands, and of a station as a program that embeds it sees it, through
-//! its public calls.
+//! Tests of what a station withstands, and of a station as a program that embeds it sees it,
+//! through its public calls.
 #![tactic(auto)]
 
 #[cfg(test)]
 mod embedding;
 #[cfg(test)]
 mod endurance;
+#[cfg(test)]
+mod vectors;

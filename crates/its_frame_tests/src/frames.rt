@@ -1,23 +1,18 @@
 //! Frames: addresses, type and one packet.
 
-use crate::captures::{BEACON, GEOBROADCAST};
+use crate::largest::longest_frame;
+use crate::vectors::{BEACON, GEOBROADCAST};
 use its_gnvalue::Mac;
 use its_headers::{Fault, FaultKind, decode};
 use its_linkframe::{FrameFault, LONGEST_FRAME, read_frame, relay_frame, retarget, write_frame};
 use its_vectors::put;
-use std::alloc::{AllocError, Global};
-use std::process::Abort;
-use std::test::Fail;
+use std::alloc::Global;
 
 const OTHER: [u8; 6] = [0x02, 0, 0, 0, 0, 0x02];
 
-/// The geobroadcast with other link addresses and another number of hops left.
-fn sent_on(alloc: Global, to: [u8; 6], from: [u8; 6], left: u8) -> Result<Vec<u8>, AllocError> {
-    let mut octets = Vec::from_slice(alloc, &GEOBROADCAST)?;
-    put(&mut octets, 0, &to);
-    put(&mut octets, 6, &from);
-    put(&mut octets, 17, &[left]);
-    Ok(octets)
+/// The fault of a packet.
+fn of_packet(at: usize, kind: FaultKind) -> FrameFault {
+    FrameFault::Packet(Fault { at, kind })
 }
 
 #[test]
@@ -26,111 +21,129 @@ fn cut_frames(rt: HostRuntime) {
         let want = if n < 14 {
             FrameFault::Short
         } else {
-            FrameFault::Packet(Fault {
-                at: n - 14,
-                kind: FaultKind::Truncated,
-            })
+            of_packet(n - 14, FaultKind::Truncated)
         };
-        assert_eq!(rt;
-            read_frame(&GEOBROADCAST[..n]).err(),
-            Some(want),
+        assert!(rt;
+            read_frame(&GEOBROADCAST[..n]).err() == Some(want),
             "{n} octets"
         );
     }
 }
 
-/// Why the frame with one bit of its packet turned isn't read. Bits count from the packet's first.
-fn fault_with_bit_turned(frame: &mut [u8], bit: usize) -> Option<FrameFault> {
-    let at = 14 + bit / 8;
-    let octet = *frame.get(at)?;
-    put(frame, at, &[octet ^ (0x80 >> (bit % 8))]);
-    let fault = read_frame(frame).err();
-    put(frame, at, &[octet]);
-    fault
+/// Why a frame isn't read, where a bit of its packet is turned. Bits count from the packet's first.
+fn fault_with_bit_turned(frame: &mut [u8; 76], bit: usize) -> Option<FrameFault> {
+    let octet = frame.get_mut(14 + bit / 8)?;
+    *octet ^= 0x80 >> (bit % 8);
+    read_frame(frame).err()
 }
 
-/// Of the frames that differ in one bit so many are read. Too long for their packets are those with
-/// these bits turned.
-fn expect_bits(rt: &impl Abort, frame: &mut [u8], longer: [usize; 2]) {
-    let mut read = 0u16;
-    for bit in 0..496 {
-        let fault = fault_with_bit_turned(frame, bit);
-        let is_trailing = fault == Some(FrameFault::Trailing);
-        assert_eq!(rt; is_trailing, longer.contains(&bit), "bit {bit}");
-        if fault.is_none() {
-            read = read.saturating_add(1);
+/// Of the frames that differ in one bit so many are read. Too long for its packet is the one whose
+/// payload length is 4 (bit 78), and that of the geobroadcast whose header type is 5, which is a
+/// single-hop broadcast of 46 octets (bit 43). Then the same of a geoanycast.
+#[test]
+fn single_bits(rt: HostRuntime) {
+    for (types, longer) in [(0x40, [43, 78]), (0x30, [78, 78])] {
+        let mut read = 0u16;
+        for bit in 0..496 {
+            let mut frame = GEOBROADCAST;
+            put(&mut frame, 19, &[types]);
+            let fault = fault_with_bit_turned(&mut frame, bit);
+            let is_trailing = fault == Some(FrameFault::Trailing);
+            assert!(rt; is_trailing == longer.contains(&bit), "bit {bit}");
+            if fault.is_none() {
+                read = read.saturating_add(1);
+            }
         }
+        assert_eq!(rt; read, 354);
     }
-    assert_eq!(rt; read, 354);
 }
 
-/// Too long for its packet is the one whose payload length is 4 (bit 78), and that of the
-/// geobroadcast whose header type is 5, which is a single-hop broadcast of 46 octets (bit 43).
+/// Lengths of frames, the last octets of their types, and payload lengths that they tell.
 #[test]
-fn single_bits(rt: HostRuntime) -> Result<(), Fail> {
-    let mut frame = Vec::from_slice(rt.alloc(), &GEOBROADCAST)?;
-    expect_bits(&rt, &mut frame, [43, 78]);
-    // A geoanycast.
-    put(&mut frame, 19, &[0x30]);
-    expect_bits(&rt, &mut frame, [78, 78]);
-    Ok(())
+fn the_longest_frame(rt: HostRuntime) {
+    let too_long = of_packet(8, FaultKind::PayloadLength);
+    assert_eq!(rt; LONGEST_FRAME, 1468);
+    for (length, type_end, payload, fault) in [
+        (1468, 0x47, [0x05, 0x76], None),
+        (1468, 0x47, [0x05, 0x77], Some(too_long)),
+        (1469, 0x47, [0x05, 0x77], Some(FrameFault::TooLong)),
+        (1469, 0x46, [0x05, 0x77], Some(FrameFault::EtherType)),
+    ] {
+        let mut octets = [0; 1469];
+        put(&mut octets, 0, &GEOBROADCAST);
+        put(&mut octets, 13, &[type_end]);
+        put(&mut octets, 22, &payload);
+        let found = read_frame(octets.get(..length).unwrap_or(&[])).err();
+        assert!(rt; found == fault, "{length}");
+    }
 }
 
-#[test]
-fn the_longest_frame(rt: HostRuntime) -> Result<(), Fail> {
-    let mut octets = Vec::from_slice(rt.alloc(), &GEOBROADCAST)?;
-    octets.resize(LONGEST_FRAME, 0)?;
-    octets[22..24].copy_from_slice(&[0x05, 0x76]);
-    assert!(rt; read_frame(&octets).is_ok());
-    octets[23] = 0x77;
-    let want = FrameFault::Packet(Fault {
-        at: 8,
-        kind: FaultKind::PayloadLength,
-    });
-    assert_eq!(rt; read_frame(&octets).err(), Some(want));
-    octets.push(0)?;
-    assert_eq!(rt; read_frame(&octets).err(), Some(FrameFault::TooLong));
-    octets[13] = 0x46;
-    assert_eq!(rt; read_frame(&octets).err(), Some(FrameFault::EtherType));
-    Ok(())
+/// The frame of the packet of a frame, between its addresses.
+fn written(alloc: Global, frame: &[u8]) -> Option<Vec<u8>> {
+    let (packet, _) = decode(alloc, frame.get(14..)?).ok()?;
+    let view = read_frame(frame).ok()?;
+    write_frame(alloc, view.to, view.from, &packet).ok()
 }
 
-#[test]
-fn written(rt: HostRuntime) -> Result<(), Fail> {
-    let view = read_frame(&GEOBROADCAST)?;
-    let (packet, _) = decode(rt.alloc(), &GEOBROADCAST[14..])?;
-    let written = write_frame(rt.alloc(), view.to, view.from, &packet)?;
-    assert_eq!(rt; written.as_slice(), GEOBROADCAST.as_slice());
-    Ok(())
-}
-
-#[test]
-fn relayed_and_retargeted(rt: HostRuntime) -> Result<(), Fail> {
-    let want_relayed = sent_on(rt.alloc(), [0xff; 6], OTHER, 9)?;
-    let want_retargeted = sent_on(rt.alloc(), OTHER, OTHER, 9)?;
-    let view = read_frame(&GEOBROADCAST)?;
+/// The frame in which another station passes a packet on to the link address of its frame, or to
+/// another.
+fn relayed(alloc: Global, frame: &[u8], to: Option<Mac>) -> Option<Vec<u8>> {
+    let view = read_frame(frame).ok()?;
+    if view.packet.hops().left() != 10 {
+        return None;
+    }
     let other = Mac::from_octets(OTHER);
-    assert_eq!(rt; view.packet.hops().left(), 10);
-    let mut relayed = relay_frame(rt.alloc(), view.to, other, &view)?;
-    assert_eq!(rt; relayed.as_slice(), want_relayed.as_slice());
-    retarget(&mut relayed, other);
-    assert_eq!(rt; relayed.as_slice(), want_retargeted.as_slice());
-    Ok(())
+    let Ok(mut relay) = relay_frame(alloc, view.to, other, &view) else {
+        return None;
+    };
+    if let Some(to) = to {
+        retarget(&mut relay, to);
+    }
+    Some(relay)
+}
+
+/// Whether a frame is these octets.
+fn is(frame: Option<Vec<u8>>, octets: &[u8]) -> bool {
+    match frame {
+        Some(frame) => frame.as_slice() == octets,
+        None => false,
+    }
+}
+
+/// Whether a frame is written as it is, relayed to all with another source and a hop fewer, and so
+/// to another link address.
+fn is_sent_on(alloc: Global, frame: &mut [u8]) -> bool {
+    let is_written = is(written(alloc, frame), frame);
+    let to_all = relayed(alloc, frame, None);
+    let to_other = relayed(alloc, frame, Some(Mac::from_octets(OTHER)));
+    put(frame, 6, &OTHER);
+    put(frame, 17, &[9]);
+    let is_relayed = is(to_all, frame);
+    put(frame, 0, &OTHER);
+    is_written && is_relayed && is(to_other, frame)
+}
+
+/// A short frame, and the longest.
+#[test]
+fn frames_are_written_relayed_and_retargeted(rt: HostRuntime) {
+    let (mut short, mut longest) = (GEOBROADCAST, longest_frame());
+    assert!(rt; is_sent_on(rt.alloc(), &mut short));
+    assert!(rt; is_sent_on(rt.alloc(), &mut longest));
 }
 
 /// What a location table takes of a packet that was heard: its vector, and a number where it has
 /// one.
 #[test]
-fn vector_and_number_of_a_frame(rt: HostRuntime) -> Result<(), Fail> {
-    for (frame, number) in [
-        (BEACON.as_slice(), None),
-        (GEOBROADCAST.as_slice(), Some(0)),
-    ] {
-        let view = read_frame(frame)?;
-        let vector = view.packet.vector();
-        assert_eq!(rt; vector.address().as_u64(), 0x1400_0200_0000_0001);
-        assert_eq!(rt; vector.address().mid(), view.from);
-        assert_eq!(rt; view.packet.number(), number);
+fn vector_and_number_of_a_frame(rt: HostRuntime) {
+    for (frame, number) in [(BEACON.as_slice(), None), (&GEOBROADCAST, Some(0))] {
+        let heard = match read_frame(frame) {
+            Ok(view) => {
+                let address = view.packet.vector().address();
+                let is_sender = address.mid() == view.from;
+                Some((address.as_u64(), is_sender, view.packet.number()))
+            }
+            Err(_) => None,
+        };
+        assert_eq!(rt; heard, Some((0x1400_0200_0000_0001, true, number)));
     }
-    Ok(())
 }

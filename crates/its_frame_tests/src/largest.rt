@@ -1,72 +1,56 @@
-//! Each call that takes memory, at the greatest size that there is: the longest payload.
+//! Each call that takes memory, at the greatest size that there is: the longest payload. Frames are
+//! tested beside others.
 
-use crate::captures::GEOBROADCAST;
+use crate::answers::{next_of, put_into};
+use crate::vectors::GEOBROADCAST;
 use its_headers::{LONGEST_PAYLOAD, Packet, PacketView, decode, encode_into};
-use its_linkframe::{
-    CaptureReader, CaptureWriter, Counted, LONGEST_FRAME, read_frame, relay_frame, write_frame,
-};
+use its_linkframe::{CaptureReader, CaptureWriter, Counted};
 use its_vectors::put;
 use std::alloc::Global;
-use std::process::Abort;
-use std::test::Fail;
 
 /// The geobroadcast with a payload of 1398 octets, all of them 0x5a.
-fn longest_frame(alloc: Global) -> Result<Vec<u8>, Fail> {
-    let mut octets = Vec::from_elem(alloc, 0x5a, LONGEST_FRAME)?;
+pub(crate) fn longest_frame() -> [u8; 1468] {
+    let mut octets = [0x5a; 1468];
     put(&mut octets, 0, &GEOBROADCAST[..70]);
     put(&mut octets, 22, &[0x05, 0x76]);
-    Ok(octets)
+    octets
 }
 
-/// The packet is written as these octets.
-fn is_written(rt: &impl Abort, alloc: Global, packet: &Packet, octets: &[u8]) -> Result<(), Fail> {
-    let mut out = Vec::from_elem(alloc, 7, 1454)?;
-    assert_eq!(rt; encode_into(packet, &mut out), Ok(1454));
-    assert_eq!(rt; out.as_slice(), octets);
-    Ok(())
+/// Whether the packet is written as these octets.
+fn is_written(packet: &Packet, octets: &[u8]) -> bool {
+    let mut out = [7; 1454];
+    encode_into(packet, &mut out) == Ok(1454) && out.as_slice() == octets
 }
 
-#[test]
-fn the_longest_packet_is_decoded(rt: HostRuntime) -> Result<(), Fail> {
-    let frame = longest_frame(rt.alloc())?;
-    let octets = frame.get(14..).ok_or("short")?;
-    let (packet, length) = decode(rt.alloc(), octets)?;
-    assert_eq!(rt; length, 1454);
-    is_written(&rt, rt.alloc(), &packet, octets)?;
-    let (view, _) = PacketView::read(octets)?;
-    assert_eq!(rt; view.payload().len(), LONGEST_PAYLOAD);
-    let Ok(packet) = view.to_packet(rt.alloc()) else {
-        return Err("memory")?;
-    };
-    is_written(&rt, rt.alloc(), &packet, octets)
+/// Whether the octets are decoded whole, and their packet, and that of a view, is written as they
+/// are.
+fn is_decoded(alloc: Global, octets: &[u8]) -> Option<bool> {
+    let (packet, length) = decode(alloc, octets).ok()?;
+    let (view, _) = PacketView::read(octets).ok()?;
+    let viewed = view.to_packet(alloc).ok()?;
+    let are_long = length == 1454 && view.payload().len() == LONGEST_PAYLOAD;
+    Some(are_long && is_written(&packet, octets) && is_written(&viewed, octets))
 }
 
 #[test]
-fn the_longest_frame_is_written_and_relayed(rt: HostRuntime) -> Result<(), Fail> {
-    let mut frame = longest_frame(rt.alloc())?;
-    let (packet, _) = decode(rt.alloc(), frame.get(14..).ok_or("short")?)?;
-    let view = read_frame(&frame)?;
-    assert_eq!(rt; view.packet.hops().left(), 10);
-    let written = write_frame(rt.alloc(), view.to, view.from, &packet)?;
-    let relayed = relay_frame(rt.alloc(), view.to, view.from, &view)?;
-    assert_eq!(rt; written.as_slice(), frame.as_slice());
-    put(&mut frame, 17, &[9]);
-    assert_eq!(rt; relayed.as_slice(), frame.as_slice());
-    Ok(())
+fn the_longest_packet_is_decoded(rt: HostRuntime) {
+    assert!(rt; is_decoded(rt.alloc(), &longest_frame()[14..]) == Some(true));
 }
 
 #[test]
-fn the_longest_record_is_read(rt: HostRuntime) -> Result<(), Fail> {
-    let frame = longest_frame(rt.alloc())?;
-    let mut octets = Vec::from_slice(rt.alloc(), &[0, 0, 0, 0, 0, 0, 0, 7, 0x05, 0xbc])?;
-    octets.extend_from_slice(&frame)?;
+fn the_longest_record_is_read_and_written(rt: HostRuntime) {
+    let frame = longest_frame();
+    let mut octets = [0; 1478];
+    put(&mut octets, 0, &[0, 0, 0, 0, 0, 0, 0, 7, 0x05, 0xbc]);
+    put(&mut octets, 10, &frame);
     let mut reader = CaptureReader::new(rt.alloc(), Counted::new(octets.as_slice()));
-    let record = reader.next()?.ok_or("no record")?;
-    assert_eq!(rt; record.moment, 7);
-    assert_eq!(rt; record.frame.as_slice(), frame.as_slice());
-    let mut writer = CaptureWriter::new(Counted::new(Vec::new(rt.alloc())));
-    assert_eq!(rt; writer.put(7, &frame), Ok(()));
-    let written = writer.into_inner().into_inner();
-    assert_eq!(rt; written.as_slice(), octets.as_slice());
-    Ok(())
+    let is_read = match next_of(&mut reader) {
+        Ok(Some(record)) => record.moment == 7 && record.frame.as_slice() == frame.as_slice(),
+        Ok(None) | Err(_) => false,
+    };
+    assert!(rt; is_read);
+    let mut written = [0; 1478];
+    let mut writer = CaptureWriter::new(Counted::new(written.as_mut_slice()));
+    assert!(rt; put_into(&mut writer, 7, &frame) == Ok(()));
+    assert!(rt; written == octets);
 }

@@ -3,7 +3,7 @@
 #![tactic(auto)]
 
 #[cfg(test)]
-mod captures;
+mod answers;
 #[cfg(test)]
 mod devices;
 #[cfg(test)]
@@ -19,4 +19,4 @@ mod pcapng;
 #[cfg(test)]
 mod pcapng_writer;
 #[cfg(test)]
-mod record_devices;
+mod vectors;

@@ -1,75 +1,55 @@
-//! pcapng: sections of either order, interfaces and their options, packets, and each fault.
+//! pcapng: sections of either order, interfaces and their options, packets, and each fault; devices
+//! that fail or end at each octet, and memory that ends at each allocation.
 
+use crate::answers::{Answer, CUT, FAILED, IO, eight_of, end_of, then};
+use crate::devices::Slow;
 use its_linkframe::{CaptureFault, Counted};
-use its_pcap::{Head, LinkLayer, PcapngReader, SourceFault, Step};
-use std::test::Fail;
+use its_pcap::{AnySource, Head, LinkLayer, PcapngReader, RecordSource, SourceFault, Step};
+use its_shortage::{MOST, STEP, Shortage};
+use its_vectors::put;
+use std::alloc::Global;
+use std::io::Read;
 
-/// A section header, the lowest octet first: 28 octets, version 1.0, of no known length.
-pub(crate) const SECTION: &[u8; 28] = b"\x0a\x0d\x0d\x0a\x1c\0\0\0\x4d\x3c\x2b\x1a\x01\0\0\0\
-    \xff\xff\xff\xff\xff\xff\xff\xff\x1c\0\0\0";
-
-/// The same, the highest octet first.
-pub(crate) const OTHER_SECTION: &[u8; 28] = b"\x0a\x0d\x0d\x0a\0\0\0\x1c\x1a\x2b\x3c\x4d\0\x01\0\0\
-    \xff\xff\xff\xff\xff\xff\xff\xff\0\0\0\x1c";
-
-/// An interface of Ethernet with no option, snap length 4, the highest octet first.
-pub(crate) const OTHER_INTERFACE: &[u8; 20] = b"\0\0\0\x01\0\0\0\x14\0\x01\0\0\0\0\0\x04\0\0\0\x14";
-
-/// A simple packet of 6 octets on the wire, of which there are 4, the highest octet first.
-pub(crate) const OTHER_SIMPLE: &[u8; 20] = b"\0\0\0\x03\0\0\0\x14\0\0\0\x06wxyz\0\0\0\x14";
-
-/// An interface of Ethernet with thousandths (3) and an offset of one second taken, and the end of
-/// options.
-pub(crate) const INTERFACE: &[u8; 44] = b"\x01\0\0\0\x2c\0\0\0\x01\0\0\0\0\0\0\0\
-    \x09\0\x01\0\x03\0\0\0\x0e\0\x08\0\xff\xff\xff\xff\xff\xff\xff\xff\0\0\0\0\x2c\0\0\0";
-
-/// An enhanced packet of the first interface at tick 1001, with 3 octets of 3.
-pub(crate) const PACKET: &[u8; 36] = b"\x06\0\0\0\x24\0\0\0\0\0\0\0\0\0\0\0\xe9\x03\0\0\
+/// The lowest octet first. A section header of 28 octets, version 1.0, of no known length; an
+/// interface of 44, of Ethernet with thousandths (3) and an offset of one second taken, and the end
+/// of options; an enhanced packet of 36, of the first interface at tick 1001, with 3 octets of 3.
+static LOW: [u8; 108] = *b"\x0a\x0d\x0d\x0a\x1c\0\0\0\x4d\x3c\x2b\x1a\x01\0\0\0\
+    \xff\xff\xff\xff\xff\xff\xff\xff\x1c\0\0\0\
+    \x01\0\0\0\x2c\0\0\0\x01\0\0\0\0\0\0\0\
+    \x09\0\x01\0\x03\0\0\0\x0e\0\x08\0\xff\xff\xff\xff\xff\xff\xff\xff\0\0\0\0\x2c\0\0\0\
+    \x06\0\0\0\x24\0\0\0\0\0\0\0\0\0\0\0\xe9\x03\0\0\
     \x03\0\0\0\x03\0\0\0abc\0\x24\0\0\0";
 
-/// A block of another kind, with 4 octets.
-const UNKNOWN: &[u8; 16] = b"\x05\0\0\0\x10\0\0\0....\x10\0\0\0";
+/// The highest octet first. The same section header; an interface of 20 octets, of Ethernet with no
+/// option, snap length 4; a simple packet of 20, of 6 octets on the wire, of which there are 4.
+static HIGH: [u8; 68] = *b"\x0a\x0d\x0d\x0a\0\0\0\x1c\x1a\x2b\x3c\x4d\0\x01\0\0\
+    \xff\xff\xff\xff\xff\xff\xff\xff\0\0\0\x1c\
+    \0\0\0\x01\0\0\0\x14\0\x01\0\0\0\0\0\x04\0\0\0\x14\
+    \0\0\0\x03\0\0\0\x14\0\0\0\x06wxyz\0\0\0\x14";
 
-/// The pieces, one behind the other.
-pub(crate) fn joined(rt: &HostRuntime, pieces: &[&[u8]]) -> Result<Vec<u8>, Fail> {
-    let mut whole = Vec::new(rt.alloc());
-    for piece in pieces {
-        whole.extend_from_slice(piece)?;
-    }
-    Ok(whole)
+/// A block of another kind, with 4 octets.
+static UNKNOWN: [u8; 16] = *b"\x05\0\0\0\x10\0\0\0....\x10\0\0\0";
+
+/// What a reader answers, and the octets of the last record.
+pub(crate) fn answers<R: Read + Drop>(alloc: Global, device: R) -> ([Answer; 8], Vec<u8>) {
+    eight_of(alloc, PcapngReader::new(alloc, Counted::new(device), 1469))
 }
 
-/// The answers of a reader up to the first end or fault, and that one.
-fn answers(rt: &HostRuntime, file: &[u8]) -> Result<Vec<Result<Step, SourceFault>>, Fail> {
-    let mut reader = PcapngReader::new(rt.alloc(), Counted::new(file), 1469);
-    let mut frame = Vec::new(rt.alloc());
-    let mut given = Vec::new(rt.alloc());
-    for _ in 0..20 {
-        let answer = reader.next_into(&mut frame);
-        given.push(answer)?;
-        match answer {
-            Ok(Step::End) | Err(_) => break,
-            Ok(_) => {}
-        }
+/// The pieces, one behind the other, and zeros.
+fn joined(pieces: &[&[u8]]) -> [u8; 192] {
+    let mut octets = [0; 192];
+    let mut end = 0usize;
+    for piece in pieces {
+        put(&mut octets, end, piece);
+        end = end.saturating_add(piece.len());
     }
-    Ok(given)
+    octets
 }
 
 #[test]
-fn sections_of_both_orders_are_read(rt: HostRuntime) -> Result<(), Fail> {
-    let file = joined(
-        &rt,
-        &[
-            SECTION.as_slice(),
-            UNKNOWN.as_slice(),
-            INTERFACE.as_slice(),
-            PACKET.as_slice(),
-            OTHER_SECTION.as_slice(),
-            OTHER_INTERFACE.as_slice(),
-            OTHER_SIMPLE.as_slice(),
-        ],
-    )?;
-    let given = answers(&rt, file.as_slice())?;
+fn sections_of_both_orders_are_read(rt: HostRuntime) {
+    let file = joined(&[&LOW[..28], &UNKNOWN, &LOW[28..], &HIGH]);
+    let (given, frame) = answers(rt.alloc(), file.as_slice());
     let first = Head {
         moment: 1,
         captured: 3,
@@ -82,111 +62,136 @@ fn sections_of_both_orders_are_read(rt: HostRuntime) -> Result<(), Fail> {
         wire: 6,
         layer: Some(LinkLayer::Ethernet),
     };
+    let passed = Ok(Step::Passed);
+    let (first, second) = (Ok(Step::Record(first)), Ok(Step::Record(second)));
     let wanted = [
-        Ok(Step::Passed),
-        Ok(Step::Passed),
-        Ok(Step::Passed),
-        Ok(Step::Record(first)),
-        Ok(Step::Passed),
-        Ok(Step::Passed),
-        Ok(Step::Record(second)),
+        passed,
+        passed,
+        passed,
+        first,
+        passed,
+        passed,
+        second,
         Ok(Step::End),
     ];
-    assert_eq!(rt; given.as_slice(), wanted.as_slice());
-    Ok(())
+    assert!(rt; given == wanted && frame.as_slice() == b"wxyz".as_slice());
 }
 
-/// The blocks of which files begin.
-#[derive(Clone, Copy, Debug)]
-enum Block {
-    Unknown,
-    Section,
-    Interface,
-    Packet,
-}
-
-/// The first so many octets of a block.
-fn front(block: Block, length: usize) -> Option<&'static [u8]> {
-    match block {
-        Block::Unknown => UNKNOWN.get(..length),
-        Block::Section => SECTION.get(..length),
-        Block::Interface => INTERFACE.get(..length),
-        Block::Packet => PACKET.get(..length),
-    }
-}
-
-/// The last answer to a file of the first octets of blocks, and of others.
-fn last_of(
-    rt: &HostRuntime,
-    fronts: &[(Block, usize)],
-    rest: &[u8],
-) -> Result<Option<Result<Step, SourceFault>>, Fail> {
-    let mut file = Vec::new(rt.alloc());
-    for (block, length) in fronts {
-        file.extend_from_slice(front(*block, *length).ok_or("no such front")?)?;
-    }
-    file.extend_from_slice(rest)?;
-    let given = answers(rt, file.as_slice())?;
-    Ok(given.last().copied())
-}
-
-const SECTION_WHOLE: (Block, usize) = (Block::Section, 28);
-
-const INTERFACE_WHOLE: (Block, usize) = (Block::Interface, 44);
-
-/// A first block of another kind, a packet of no interface, a moment below 0, and lengths.
-static WRONG: [(&[(Block, usize)], &[u8]); 13] = [
-    (&[(Block::Unknown, 4)], b""),
-    (&[(Block::Section, 8)], b"\x4d\x3c\x2b\x1b"),
-    (&[(Block::Section, 12)], b"\x02\0"),
-    (&[(Block::Section, 24)], b"\x1d\0\0\0"),
-    (&[SECTION_WHOLE, (Block::Packet, 12)], b""),
-    (&[SECTION_WHOLE], b"\x05\0\0\0\x0a\0\0\0"),
-    (&[SECTION_WHOLE], b"\x05\0\0\0\x08\0\0\0"),
-    (&[SECTION_WHOLE], b"\x05\0\0\0\x04\0\x05\0"),
+/// How many octets of the first file stand before others, and how the answers to both end: a first
+/// block of another kind, a packet of no interface, a moment below 0, and lengths; the finest unit
+/// of time, behind which the file is cut; and files that end at once.
+static ENDS: [(usize, &[u8], [Answer; 2]); 16] = [
+    (0, b"\x05\0\0\0", [Err(SourceFault::Malformed), FAILED]),
     (
-        &[SECTION_WHOLE, INTERFACE_WHOLE, (Block::Packet, 16)],
-        b"\xe7\x03\0\0",
+        8,
+        b"\x4d\x3c\x2b\x1b",
+        [Err(SourceFault::Malformed), FAILED],
+    ),
+    (12, b"\x02\0", [Err(SourceFault::Malformed), FAILED]),
+    (24, b"\x1d\0\0\0", [Err(SourceFault::Malformed), FAILED]),
+    (
+        28,
+        b"\x06\0\0\0\x24\0\0\0\0\0\0\0",
+        [Err(SourceFault::Malformed), FAILED],
     ),
     (
-        &[SECTION_WHOLE, INTERFACE_WHOLE, (Block::Packet, 20)],
-        b"\x05\0\0\0",
+        28,
+        b"\x05\0\0\0\x0a\0\0\0",
+        [Err(SourceFault::Malformed), FAILED],
     ),
-    (&[SECTION_WHOLE, (Block::Interface, 20)], b"\x14"),
-    (&[SECTION_WHOLE, (Block::Interface, 20)], b"\xc0"),
-    (&[SECTION_WHOLE, (Block::Interface, 16)], b"\x02\0\x15\0"),
+    (
+        28,
+        b"\x05\0\0\0\x08\0\0\0",
+        [Err(SourceFault::Malformed), FAILED],
+    ),
+    (
+        28,
+        b"\x05\0\0\0\x04\0\x05\0",
+        [Err(SourceFault::Malformed), FAILED],
+    ),
+    (88, b"\xe7\x03\0\0", [Err(SourceFault::Malformed), FAILED]),
+    (92, b"\x05\0\0\0", [Err(SourceFault::Malformed), FAILED]),
+    (48, b"\x14", [Err(SourceFault::Malformed), FAILED]),
+    (48, b"\xc0", [Err(SourceFault::Malformed), FAILED]),
+    (44, b"\x02\0\x15\0", [Err(SourceFault::Malformed), FAILED]),
+    (48, b"\xbf", [CUT, FAILED]),
+    (0, b"\x0a", [CUT, FAILED]),
+    (0, b"", [Ok(Step::End), Ok(Step::End)]),
 ];
 
 #[test]
-fn what_is_wrong_is_refused(rt: HostRuntime) -> Result<(), Fail> {
-    for (fronts, rest) in &WRONG {
-        let found = last_of(&rt, fronts, rest)?;
-        assert_eq!(rt;
-            found,
-            Some(Err(SourceFault::Malformed)),
-            "{fronts:?} {rest:?}"
-        );
+fn ends_of_files(rt: HostRuntime) {
+    for (length, rest, want) in &ENDS {
+        let file = joined(&[LOW.get(..*length).unwrap_or(&[]), rest]);
+        let size = length.saturating_add(rest.len());
+        let (given, _) = answers(rt.alloc(), file.get(..size).unwrap_or(&[]));
+        assert!(rt; end_of(&given) == *want, "{length} {rest:?}");
     }
-    Ok(())
 }
 
-/// The finest unit of time, behind which the file is cut.
+/// A device that fails is told by C3 wherever it fails, one that ends inside a block by P1; both go
+/// on with C5. Between blocks the file ends.
 #[test]
-fn the_finest_unit_is_taken(rt: HostRuntime) -> Result<(), Fail> {
-    let found = last_of(&rt, &[SECTION_WHOLE, (Block::Interface, 20)], b"\xbf")?;
-    assert_eq!(rt; found, Some(Err(SourceFault::CutFile)));
-    Ok(())
+fn a_failing_device_is_told_at_each_octet(rt: HostRuntime) {
+    for (file, wholes) in [(LOW.as_slice(), [0, 28, 72]), (&HIGH, [0, 28, 48])] {
+        for at in 0..file.len() {
+            let octets = &file[..at];
+            let ends = wholes.contains(&at);
+            let end = if ends {
+                then(&[], Ok(Step::End))
+            } else {
+                then(&[CUT], FAILED)
+            };
+            for (calls, want) in [(at as u64, then(&[IO], FAILED)), (u64::MAX, end)] {
+                let device = Slow {
+                    octets,
+                    most: 1,
+                    calls,
+                };
+                let (given, _) = answers(rt.alloc(), device);
+                assert!(rt; end_of(&given) == end_of(&want), "{at} {calls}");
+            }
+        }
+    }
 }
 
-/// After a fault C5, after the end the end.
+/// How many records a file has.
+fn count_records(alloc: Global, file: &[u8]) -> Result<usize, SourceFault> {
+    let mut source = AnySource::open(alloc, Counted::new(file), None, 1469)?;
+    let mut frame = Vec::new(alloc);
+    let mut records: usize = 0;
+    for _ in 0..20 {
+        match source.next_into(&mut frame)? {
+            Step::End => return Ok(records),
+            Step::Record(_) => records = records.saturating_add(1),
+            Step::Passed => {}
+        }
+    }
+    Ok(20)
+}
+
+/// Whether the two records of a file are read under some budgets, and memory runs out under some;
+/// `None` where anything else comes, or a budget could not be left.
+fn read_short_of_memory(alloc: Global) -> Option<[bool; 2]> {
+    let file = joined(&[&LOW[..72], &LOW[28..], &LOW[72..]]);
+    let file = file.get(..188)?;
+    let mut shortage = Shortage::new(alloc).ok()?;
+    let (mut done, mut refused) = (false, false);
+    for step in 0..200 {
+        if !shortage.leave((step * STEP).min(MOST)) {
+            return None;
+        }
+        match count_records(alloc, file) {
+            Ok(2) => done = true,
+            Err(SourceFault::Capture(CaptureFault::NoMemory)) => refused = true,
+            Ok(_) | Err(_) => return None,
+        }
+    }
+    Some([done, refused])
+}
+
+/// Each allocation that fails is told by C4, be it for the list of interfaces or for a frame.
 #[test]
-fn a_fault_stays(rt: HostRuntime) {
-    let mut frame = Vec::new(rt.alloc());
-    let mut reader = PcapngReader::new(rt.alloc(), Counted::new(b"\x0a".as_slice()), 0);
-    assert_eq!(rt; reader.next_into(&mut frame), Err(SourceFault::CutFile));
-    let failed = Err(SourceFault::Capture(CaptureFault::Failed));
-    assert_eq!(rt; reader.next_into(&mut frame), failed);
-    let mut reader = PcapngReader::new(rt.alloc(), Counted::new(b"".as_slice()), 0);
-    assert_eq!(rt; reader.next_into(&mut frame), Ok(Step::End));
-    assert_eq!(rt; reader.next_into(&mut frame), Ok(Step::End));
+fn memory_that_ends_is_told(rt: HostRuntime) {
+    assert_eq!(rt; read_short_of_memory(rt.alloc()), Some([true, true]));
 }

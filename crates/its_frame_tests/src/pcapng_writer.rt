@@ -1,13 +1,15 @@
-//! pcapng as it is written, octet for octet, and read again; sources and sinks of every format.
+//! pcapng as it is written, octet for octet, and read again; sources and sinks of every format, and
+//! devices that are full.
 
+use crate::answers::{eight_of, then};
+use crate::devices::Slot;
+use crate::pcapng::answers;
 use its_linkframe::Counted;
 use its_pcap::{
-    AnySink, CaptureSource, Format, Head, LinkFault, LinkLayer, PcapngReader, PcapngWriter,
-    PutFault, RecordFault, RecordSink, RecordSource, SinkFault, Step, has_place, layer_for,
+    AnySink, CaptureSource, Format, Head, LinkFault, LinkLayer, PcapngWriter, PutFault,
+    RecordFault, RecordSink, SinkFault, Step, has_place, layer_for,
 };
-use std::alloc::Global;
-use std::process::Abort;
-use std::test::Fail;
+use std::alloc::{AllocError, Global};
 
 /// A section header, an interface with the name `station 0`, and a packet of 3 octets at moment
 /// 2^32 + 5, with one octet of padding.
@@ -32,77 +34,116 @@ fn whole(moment: u64, size: u32) -> Head {
 }
 
 /// A file of one interface and one packet, which the device has room for.
-fn write_all(rt: &impl Abort, writer: &mut PcapngWriter<Counted<&mut [u8]>>) {
-    assert_eq!(rt; writer.start(), Ok(()));
-    assert_eq!(rt; writer.put(0, 0, b"xyz"), Err(PutFault::Interface));
-    assert_eq!(rt;
-        writer.add_interface(LinkLayer::Ethernet, "station 0"),
-        Ok(())
-    );
-    assert_eq!(rt; writer.put(1, 0, b"xyz"), Err(PutFault::Interface));
-    assert_eq!(rt; writer.put(0, 4_294_967_301, b"xyz"), Ok(()));
-    assert_eq!(rt; writer.put(0, 0, b""), Err(PutFault::Io));
-    assert_eq!(rt; writer.put(0, 0, b""), Err(PutFault::Failed));
-}
-
 #[test]
 fn a_file_is_written(rt: HostRuntime) {
     let mut octets = [0u8; 112];
     let mut writer = PcapngWriter::new(Counted::new(octets.as_mut_slice()));
-    write_all(&rt, &mut writer);
-    assert_eq!(rt; octets.as_slice(), FILE.as_slice());
+    let found = [
+        writer.start(),
+        writer.put(0, 0, b"xyz"),
+        writer.add_interface(LinkLayer::Ethernet, "station 0"),
+        writer.put(1, 0, b"xyz"),
+        writer.put(0, 4_294_967_301, b"xyz"),
+        writer.put(0, 0, b""),
+        writer.put(0, 0, b""),
+    ];
+    let none = Err(PutFault::Interface);
+    let (io, failed) = (Err(PutFault::Io), Err(PutFault::Failed));
+    assert!(rt; found == [Ok(()), none, Ok(()), none, Ok(()), io, failed]);
+    assert!(rt; octets == *FILE);
 }
 
-/// What was written is read again as the same record.
+/// What was written is read again as the same record; and a capture, through the call for every
+/// format.
 #[test]
-fn a_file_is_read_again(rt: HostRuntime) -> Result<(), Fail> {
-    let mut reader = PcapngReader::new(rt.alloc(), Counted::new(FILE.as_slice()), 1469);
-    let mut frame = Vec::new(rt.alloc());
-    assert_eq!(rt; reader.next_into(&mut frame), Ok(Step::Passed));
-    assert_eq!(rt; reader.next_into(&mut frame), Ok(Step::Passed));
-    let head = whole(4_294_967_301, 3);
-    assert_eq!(rt; reader.next_into(&mut frame), Ok(Step::Record(head)));
-    assert_eq!(rt; frame.as_slice(), b"xyz".as_slice());
-    assert_eq!(rt; reader.next_into(&mut frame), Ok(Step::End));
-    Ok(())
+fn records_are_read_again(rt: HostRuntime) {
+    let (given, frame) = answers(rt.alloc(), FILE.as_slice());
+    let record = Ok(Step::Record(whole(4_294_967_301, 3)));
+    let wanted = then(&[Ok(Step::Passed), Ok(Step::Passed), record], Ok(Step::End));
+    assert!(rt; given == wanted && frame.as_slice() == b"xyz".as_slice());
+    let capture = b"\0\0\0\0\0\0\0\x05\0\x02ab".as_slice();
+    let source = CaptureSource::new(rt.alloc(), Counted::new(capture));
+    let (given, frame) = eight_of(rt.alloc(), source);
+    let wanted = then(&[Ok(Step::Record(whole(5, 2)))], Ok(Step::End));
+    assert!(rt; given == wanted && frame.as_slice() == b"ab".as_slice());
 }
 
-/// What the writer answers to a frame behind an interface with no name, and the file that it made.
-fn written(alloc: Global, frame: &[u8]) -> Result<(Result<(), PutFault>, Vec<u8>), Fail> {
-    let file = Vec::with_capacity(alloc, 263_000)?;
-    let mut writer = PcapngWriter::new(Counted::new(file));
+/// What the writer answers to a frame of so many octets behind an interface with no name; how long
+/// the file is then, and whether the interface is in it.
+fn written(alloc: Global, size: usize) -> Result<(Result<(), PutFault>, usize, bool), AllocError> {
+    let frame = Vec::from_elem(alloc, 7, size)?;
+    let mut writer = PcapngWriter::new(Counted::new(Vec::with_capacity(alloc, 263_000)?));
     let mut answer = writer.start();
     if answer.is_ok() {
         answer = writer.add_interface(LinkLayer::Ethernet, "");
     }
     if answer.is_ok() {
-        answer = writer.put(0, 1, frame);
+        answer = writer.put(0, 1, &frame);
     }
-    Ok((answer, writer.into_inner().into_inner()))
+    let file = writer.into_inner().into_inner();
+    Ok((
+        answer,
+        file.len(),
+        file.get(28..60) == Some(PLAIN.as_slice()),
+    ))
 }
 
 /// 262144 octets are written at most.
 #[test]
-fn the_longest_frame_is_written(rt: HostRuntime) -> Result<(), Fail> {
-    let (longest, longer) = (262_144, 262_145);
-    let frame = [7u8].repeat(rt.alloc(), longer)?;
-    let (answer, file) = written(rt.alloc(), frame.as_slice())?;
-    assert_eq!(rt; answer, Err(PutFault::Length));
-    assert_eq!(rt; file.len(), 28 + 32);
-    let frame = [7u8].repeat(rt.alloc(), longest)?;
-    let (answer, file) = written(rt.alloc(), frame.as_slice())?;
-    assert_eq!(rt; answer, Ok(()));
-    assert_eq!(rt; file.len(), 28 + 32 + 32 + longest);
-    assert!(rt;
-        file.as_slice()
-            .get(28..60)
-            .is_some_and(|octets| octets == PLAIN.as_slice())
-    );
-    Ok(())
+fn the_longest_frame_is_written(rt: HostRuntime) {
+    for (size, answer, length) in [
+        (262_145, Err(PutFault::Length), 28 + 32),
+        (262_144, Ok(()), 28 + 32 + 32 + 262_144),
+    ] {
+        assert!(rt;
+            written(rt.alloc(), size) == Ok((answer, length, true)),
+            "{size}"
+        );
+    }
 }
 
-/// A record of another link layer than the file's is refused before one that was cut, and its length
-/// before its moment.
+/// What a sink answers to a start, an interface and a frame, up to the first fault.
+fn put_all<S: RecordSink>(sink: &mut S) -> Result<(), PutFault> {
+    sink.start()?;
+    sink.add_interface("station 0")?;
+    sink.put_frame(0, 5, b"xyz")
+}
+
+/// What is answered to a file in this format, and to one more frame, on a device that takes so many
+/// octets; and the device.
+fn filled(format: Format, room: u64) -> ([Result<(), PutFault>; 2], Slot) {
+    let mut sink = AnySink::new(Counted::new(Slot::new(room, true)), format);
+    let answers = [put_all(&mut sink), sink.put_frame(0, 5, b"xyz")];
+    (answers, sink.into_inner().into_inner())
+}
+
+/// A device that is full is told wherever it is, and has the octets before; nothing is written to
+/// it again, and the file answers that it failed from then on.
+#[test]
+fn a_full_device_is_told_at_each_octet(rt: HostRuntime) {
+    let full = [Err(PutFault::Io), Err(PutFault::Failed)];
+    for (format, size) in [
+        (Format::Capture, 13),
+        (Format::Pcap, 43),
+        (Format::Pcapng, 112),
+    ] {
+        let (ample, whole) = filled(format, 200);
+        assert!(rt; ample == [Ok(()), Ok(())]);
+        for room in 0..=size {
+            let (given, part) = filled(format, room as u64);
+            let want = if room == size {
+                [Ok(()), Err(PutFault::Io)]
+            } else {
+                full
+            };
+            let front = whole.octets().get(..room);
+            assert!(rt; given == want && Some(part.octets()) == front, "{room}");
+        }
+    }
+}
+
+/// A record of another link layer than the file's is refused before one that was cut, and its
+/// length before its moment.
 #[test]
 fn a_record_without_place_is_refused(rt: HostRuntime) {
     let cut = Head {
@@ -111,46 +152,48 @@ fn a_record_without_place_is_refused(rt: HostRuntime) {
         wire: 1,
         layer: Some(LinkLayer::Radiotap),
     };
-    let fault = RecordFault::LinkType;
-    assert_eq!(rt; layer_for(&cut, Some(LinkLayer::Ethernet)), Err(fault));
-    assert_eq!(rt; SinkFault::from(fault).word(), Some("link type"));
-    let fault = RecordFault::CutFrame;
-    assert_eq!(rt; layer_for(&cut, None), Err(fault));
-    assert_eq!(rt; SinkFault::from(fault).word(), Some("cut"));
-    assert_eq!(rt; layer_for(&whole(0, 1), None), Ok(LinkLayer::Ethernet));
-    assert_eq!(rt; SinkFault::from(LinkFault::Kind).word(), Some("L2"));
-    let fault = PutFault::Length;
-    assert_eq!(rt; has_place(Format::Capture, 0, b""), Err(fault));
-    assert_eq!(rt; SinkFault::from(fault).word(), Some("length"));
-    let fault = PutFault::Moment;
-    assert_eq!(rt;
+    let found = [
+        layer_for(&cut, Some(LinkLayer::Ethernet)),
+        layer_for(&cut, None),
+        layer_for(&whole(0, 1), None),
+    ];
+    let other = Err(RecordFault::LinkType);
+    let wanted = [other, Err(RecordFault::CutFrame), Ok(LinkLayer::Ethernet)];
+    assert_eq!(rt; found, wanted);
+    let found = [
+        has_place(Format::Capture, 0, b""),
         has_place(Format::Pcap, 4_294_967_296_000, b"x"),
-        Err(fault)
+        has_place(Format::Pcapng, 4_294_967_296_000, b"x"),
+    ];
+    assert_eq!(rt;
+        found,
+        [Err(PutFault::Length), Err(PutFault::Moment), Ok(())]
     );
-    assert_eq!(rt; SinkFault::from(fault).word(), Some("moment"));
-    assert_eq!(rt; has_place(Format::Pcapng, 4_294_967_296_000, b"x"), Ok(()));
-    assert_eq!(rt; SinkFault::from(PutFault::Io).word(), None);
+    let words = [
+        SinkFault::from(RecordFault::LinkType).word(),
+        SinkFault::from(RecordFault::CutFrame).word(),
+        SinkFault::from(LinkFault::Kind).word(),
+        SinkFault::from(PutFault::Length).word(),
+        SinkFault::from(PutFault::Moment).word(),
+        SinkFault::from(PutFault::Io).word(),
+    ];
+    let wanted = [
+        Some("link type"),
+        Some("cut"),
+        Some("L2"),
+        Some("length"),
+        Some("moment"),
+        None,
+    ];
+    assert_eq!(rt; words, wanted);
 }
 
 /// A file of radiotap, octet for octet.
 #[test]
-fn a_file_of_another_link_layer_is_written(rt: HostRuntime) -> Result<(), Fail> {
+fn a_file_of_another_link_layer_is_written(rt: HostRuntime) {
     let mut octets = [0u8; 24];
     let mut sink = AnySink::new(Counted::new(octets.as_mut_slice()), Format::Pcap);
-    assert_eq!(rt; sink.start_on(LinkLayer::Radiotap), Ok(()));
+    assert!(rt; sink.start_on(LinkLayer::Radiotap) == Ok(()));
     let wanted = b"\xd4\xc3\xb2\xa1\x02\0\x04\0\0\0\0\0\0\0\0\0\0\0\x04\0\x7f\0\0\0";
-    assert_eq!(rt; octets.as_slice(), wanted.as_slice());
-    Ok(())
-}
-
-/// A capture through the call for every format.
-#[test]
-fn a_capture_is_a_source(rt: HostRuntime) -> Result<(), Fail> {
-    let capture = b"\0\0\0\0\0\0\0\x05\0\x02ab";
-    let mut source = CaptureSource::new(rt.alloc(), Counted::new(capture.as_slice()));
-    let mut frame = Vec::new(rt.alloc());
-    assert_eq!(rt; source.next_into(&mut frame), Ok(Step::Record(whole(5, 2))));
-    assert_eq!(rt; frame.as_slice(), b"ab".as_slice());
-    assert_eq!(rt; source.next_into(&mut frame), Ok(Step::End));
-    Ok(())
+    assert!(rt; octets == *wanted);
 }

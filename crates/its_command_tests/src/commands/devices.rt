@@ -1,17 +1,25 @@
 //! Readers and writers that fail.
 
-use super::{BEACON, BEACON_LINE, EMPTY, SHORT, check_of, joined, show_of};
-use its_commands::{Selection, Showing, check, read_lines, show, write_records};
+use super::{BAD, BEACON_LINE, beacon};
+use crate::run::{Command, left_of, run};
+use its_commands::{read_lines, write_records};
 use its_linkframe::Record;
 use its_reporting::{OutputFormat, Status};
+use its_shortage::written;
 use its_test_devices::{Failing, Full};
-use std::alloc::Global;
+use std::alloc::{AllocError, Global};
 use std::io;
-use std::io::BufReader;
-use std::process::Abort;
+use std::io::{BufRead, BufReader};
 use std::test::Fail;
 
+static CANNOT_READ: &[u8] = b"geostation: cannot read a.cap\n";
+
 static CANNOT_WRITE: &[u8] = b"geostation: cannot write a.cap\n";
+
+/// Lines of `import`, and the capture that they make.
+static LINES: &[u8] = b"7 00ff\n8 aabbcc\n";
+
+static MADE: [u8; 25] = *b"\0\0\0\0\0\0\0\x07\0\x02\0\xff\0\0\0\0\0\0\0\x08\0\x03\xaa\xbb\xcc";
 
 /// A reader that gives one octet a call, and fails at the call `fails_at`, counted from 1.
 fn failing(octets: &[u8], fails_at: u64) -> Failing<'_> {
@@ -19,131 +27,110 @@ fn failing(octets: &[u8], fails_at: u64) -> Failing<'_> {
 }
 
 #[test]
-fn a_capture_ends_at_the_read_that_fails(rt: HostRuntime) -> Result<(), Fail> {
-    let alloc = rt.alloc();
-    let capture = hex::decode(alloc, BEACON)?;
+fn a_capture_ends_at_the_read_that_fails(rt: HostRuntime) {
     for fails_at in 1..62u64 {
-        let octets = capture.as_slice();
-        let printed = if fails_at == 61 { BEACON_LINE } else { "" };
-        let shown = show_of(alloc, failing(octets, fails_at));
-        let checked = check_of(alloc, failing(octets, fails_at));
-        let said = "geostation: cannot read a.cap\n";
-        shown.expect(&rt, Status::Failed, printed.as_bytes(), said.as_bytes());
-        checked.expect_err(&rt, Status::Failed, said);
+        let line = if fails_at == 61 { BEACON_LINE } else { "" };
+        for (command, printed) in [(Command::Show, line), (Command::Check, "")] {
+            let left = left_of(rt.alloc(), command, failing(beacon(), fails_at));
+            let is_so = left.is(Status::Failed, printed.as_bytes(), CANNOT_READ);
+            assert!(rt; is_so, "{command:?} {fails_at}");
+        }
     }
-    Ok(())
+}
+
+/// The records of the lines that come so, or the status of what kept them from being read; and what
+/// was said.
+fn imported<R: BufRead + Drop>(
+    alloc: Global,
+    reader: R,
+) -> (Result<Vec<Record>, Status>, [u8; 64]) {
+    let mut said = [0; 64];
+    let mut err = said.as_mut_slice();
+    let read = read_lines(alloc, "a.txt", reader, OutputFormat::default(), &mut err);
+    (read, said)
+}
+
+/// Whether the lines are read where a read of them fails: `None` where neither that is told nor
+/// they are.
+fn is_imported(alloc: Global, fails_at: u64) -> Result<Option<bool>, io::Error> {
+    let reader = BufReader::new(alloc, failing(LINES, fails_at))?;
+    let (read, said) = imported(alloc, reader);
+    Ok(match (read.err(), written(&said)) {
+        (None, b"") => Some(true),
+        (Some(Status::Failed), b"geostation: cannot read a.txt\n") => Some(false),
+        _ => None,
+    })
 }
 
 #[test]
 fn an_import_ends_at_the_read_that_fails(rt: HostRuntime) -> Result<(), Fail> {
-    let alloc = rt.alloc();
-    let octets = b"7 00ff\n8 aabbcc\n".as_slice();
     for fails_at in 1..19u64 {
-        let is_read = fails_at == 18;
-        let said = if is_read {
-            ""
-        } else {
-            "geostation: cannot read a.txt\n"
-        };
-        let mut err = Vec::new(alloc);
-        let reader = BufReader::new(alloc, failing(octets, fails_at))?;
-        let read = read_lines(alloc, "a.txt", reader, OutputFormat::default(), &mut err).err();
-        let status = if is_read { None } else { Some(Status::Failed) };
-        assert_eq!(rt; read, status, "{fails_at}");
-        assert_eq!(rt; err.as_slice(), said.as_bytes(), "{fails_at}");
+        let found = is_imported(rt.alloc(), fails_at)?;
+        assert_eq!(rt; found, Some(fails_at == 18), "{fails_at}");
     }
     Ok(())
 }
 
-/// The first so many octets of the whole were taken, and the command failed.
-fn expect_cut(rt: &impl Abort, status: Status, taken: &[u8], whole: &[u8], room: usize) {
-    assert_eq!(rt; status, Status::Failed, "{room}");
-    assert_eq!(rt; Some(taken), whole.get(..room));
+/// What `show` and `check` print of a good record, a damaged one and one of no octet.
+static PRINTED: [(Command, &str, &str); 2] = [
+    (
+        Command::Show,
+        BEACON_LINE,
+        "5 refused L1\ncapture: C2 at record 2\n",
+    ),
+    (
+        Command::Check,
+        "record 1: L1\n",
+        "capture: C2 at record 2\n2 records, 1 refused\n",
+    ),
+];
+
+/// Whether a command whose output has so much room fails, and the output has the first so many
+/// octets of the whole.
+fn is_cut(alloc: Global, command: Command, whole: &[u8], room: usize) -> bool {
+    let (mut out, mut said) = (Full::with_room(alloc, room), [0; 64]);
+    let mut err = said.as_mut_slice();
+    let status = run(alloc, command, BAD.as_slice(), &mut out, &mut err);
+    status == Status::Failed && Some(out.taken.as_slice()) == whole.get(..room) && said == [0; 64]
 }
 
 #[test]
-fn show_ends_at_the_write_that_fails(rt: HostRuntime) -> Result<(), Fail> {
-    let alloc = rt.alloc();
-    let digits = joined(alloc, &[BEACON, SHORT, EMPTY])?;
-    let capture = hex::decode(alloc, digits.as_str())?;
-    let whole = joined(
-        alloc,
-        &[BEACON_LINE, "5 refused L1\ncapture: C2 at record 2\n"],
-    )?;
-    for room in 0..whole.len() {
-        let (mut out, mut err) = (Full::with_room(alloc, room), Vec::new(alloc));
-        let status = show(
-            alloc,
-            "a.cap",
-            capture.as_slice(),
-            &Selection::all(),
-            Showing::of(OutputFormat::default()),
-            None,
-            &mut out,
-            &mut err,
+fn a_command_ends_at_the_write_that_fails(rt: HostRuntime) -> Result<(), Fail> {
+    for (command, first, rest) in &PRINTED {
+        let whole = format!(in rt.alloc(); "{first}{rest}")?;
+        for room in 0..whole.len() {
+            let is_so = is_cut(rt.alloc(), *command, whole.as_bytes(), room);
+            assert!(rt; is_so, "{command:?} {room}");
+        }
+        let left = left_of(rt.alloc(), *command, BAD.as_slice());
+        assert!(rt;
+            left.is(Status::Refused, whole.as_bytes(), b""),
+            "{command:?}"
         );
-        expect_cut(&rt, status, &out.taken, whole.as_bytes(), room);
-        assert!(rt; err.is_empty(), "{room}");
     }
-    show_of(alloc, capture.as_slice()).expect_out(&rt, Status::Refused, whole.as_str());
     Ok(())
 }
 
+/// Whether an import into this output, which fails, tells it, and the output has the first so many
+/// octets of the capture.
+fn is_import_cut(records: &[Record], mut out: Full, count: usize) -> bool {
+    let mut said = [0; 64];
+    let mut err = said.as_mut_slice();
+    let status = write_records("a.cap", records, &mut out, &mut err);
+    let taken = out.taken.as_slice();
+    status == Status::Failed && Some(taken) == MADE.get(..count) && written(&said) == CANNOT_WRITE
+}
+
+/// It ends at a write that fails, or at a flush.
 #[test]
-fn check_ends_at_the_write_that_fails(rt: HostRuntime) -> Result<(), Fail> {
-    let alloc = rt.alloc();
-    let digits = joined(alloc, &[BEACON, SHORT, EMPTY])?;
-    let capture = hex::decode(alloc, digits.as_str())?;
-    let whole = "record 1: L1\ncapture: C2 at record 2\n2 records, 1 refused\n";
-    for room in 0..whole.len() {
-        let (mut out, mut err) = (Full::with_room(alloc, room), Vec::new(alloc));
-        let status = check(
-            alloc,
-            "a.cap",
-            capture.as_slice(),
-            &Selection::all(),
-            OutputFormat::default(),
-            &mut out,
-            &mut err,
-        );
-        expect_cut(&rt, status, &out.taken, whole.as_bytes(), room);
-        assert!(rt; err.is_empty(), "{room}");
-    }
-    check_of(alloc, capture.as_slice()).expect_out(&rt, Status::Refused, whole);
-    Ok(())
-}
-
-/// The records of two lines, and the capture that they make.
-fn two_records(alloc: Global) -> Result<(Vec<Record>, Vec<u8>), Fail> {
-    let lines = b"7 00ff\n8 aabbcc\n".as_slice();
-    let mut err: Vec<u8> = Vec::new(alloc);
-    let Ok(records) = read_lines(alloc, "a.txt", lines, OutputFormat::default(), &mut err) else {
+fn an_import_ends_at_the_write_that_fails(rt: HostRuntime) -> Result<(), Fail> {
+    let Ok(records) = imported(rt.alloc(), LINES).0 else {
         return Err("refused")?;
     };
-    let capture = hex::decode(alloc, "0000000000000007000200ff00000000000000080003aabbcc")?;
-    Ok((records, capture))
-}
-
-#[test]
-fn import_ends_at_the_write_that_fails(rt: HostRuntime) -> Result<(), Fail> {
-    let alloc = rt.alloc();
-    let (records, whole) = two_records(alloc)?;
-    for room in 0..whole.len() {
-        let (mut out, mut err) = (Full::with_room(alloc, room), Vec::new(alloc));
-        let status = write_records("a.cap", records.as_slice(), &mut out, &mut err);
-        expect_cut(&rt, status, &out.taken, &whole, room);
-        assert_eq!(rt; err.as_slice(), CANNOT_WRITE);
+    for room in 0..MADE.len() {
+        let out = Full::with_room(rt.alloc(), room);
+        assert!(rt; is_import_cut(&records, out, room), "{room}");
     }
-    Ok(())
-}
-
-#[test]
-fn import_ends_at_the_flush_that_fails(rt: HostRuntime) -> Result<(), Fail> {
-    let alloc = rt.alloc();
-    let (records, whole) = two_records(alloc)?;
-    let (mut out, mut err) = (Full::after_flushes(alloc, 0), Vec::new(alloc));
-    let status = write_records("a.cap", records.as_slice(), &mut out, &mut err);
-    expect_cut(&rt, status, &out.taken, &whole, whole.len());
-    assert_eq!(rt; err.as_slice(), CANNOT_WRITE);
+    assert!(rt; is_import_cut(&records, Full::after_flushes(rt.alloc(), 0), 25));
     Ok(())
 }

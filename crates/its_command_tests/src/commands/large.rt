@@ -1,48 +1,38 @@
 //! A capture of a million records.
 
-use super::SHORT;
-use its_commands::{Selection, Showing, check, show};
-use its_reporting::{OutputFormat, Status};
+use super::short;
+use crate::run::{Command, run};
+use its_reporting::Status;
 use its_shortage::{MOST, Shortage};
 use its_test_devices::{LineCount, Repeated};
+use std::alloc::Global;
 use std::test::Fail;
 
 const RECORDS: u32 = 1_000_000;
 
+/// The status of a command over a million damaged records, how many lines it prints, and what it
+/// says.
+fn count_lines(alloc: Global, command: Command) -> (Status, u32, [u8; 64]) {
+    let (mut lines, mut said) = (LineCount::new(), [0; 64]);
+    let mut err = said.as_mut_slice();
+    let status = run(
+        alloc,
+        command,
+        Repeated::new(short(), RECORDS),
+        &mut lines,
+        &mut err,
+    );
+    (status, lines.lines, said)
+}
+
 /// Each of a million damaged records has its line, in memory that is enough for one.
 #[test]
 fn memory_does_not_grow_with_a_capture(rt: HostRuntime) -> Result<(), Fail> {
-    let alloc = rt.alloc();
-    let record = hex::decode(alloc, SHORT)?;
-    let octets = record.as_slice();
-    let (mut shown, mut checked) = (LineCount::new(), LineCount::new());
-    let mut said = [0u8; 64];
-    let mut err = said.as_mut_slice();
-    let mut shortage = Shortage::new(alloc)?;
+    let mut shortage = Shortage::new(rt.alloc())?;
     assert!(rt; shortage.leave(MOST));
-    let capture = Repeated::new(octets, RECORDS);
-    let status = show(
-        alloc,
-        "a.cap",
-        capture,
-        &Selection::all(),
-        Showing::of(OutputFormat::default()),
-        None,
-        &mut shown,
-        &mut err,
-    );
-    assert_eq!(rt; (status, shown.lines), (Status::Refused, RECORDS));
-    let capture = Repeated::new(octets, RECORDS);
-    let status = check(
-        alloc,
-        "a.cap",
-        capture,
-        &Selection::all(),
-        OutputFormat::default(),
-        &mut checked,
-        &mut err,
-    );
-    assert_eq!(rt; (status, checked.lines), (Status::Refused, RECORDS + 1));
-    assert_eq!(rt; said, [0u8; 64]);
+    for (command, lines) in [(Command::Show, RECORDS), (Command::Check, RECORDS + 1)] {
+        let found = count_lines(rt.alloc(), command);
+        assert!(rt; found == (Status::Refused, lines, [0; 64]), "{command:?}");
+    }
     Ok(())
 }

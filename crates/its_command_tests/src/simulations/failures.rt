@@ -1,114 +1,82 @@
-//! A reader or an output that fails, and every budget of memory from none to enough.
+//! A reader or an output that fails, and every budget of memory from none to enough: of lines, and
+//! of objects in JSON.
 
-use super::{DELIVER, OPEN, SEND, STATIONS, scenario, simulation_of};
+use super::{LINES, SMALL, THREE};
+use crate::run::{Command, Left, left_of, run};
+use crate::short::{Try, under_budgets};
 use its_reporting::Status;
-use its_runs::{RunOptions, simulate};
-use its_shortage::{MOST, STEP, Shortage, written};
+use its_shortage::written;
+use its_test_devices::Failing;
+use std::alloc::Global;
 use std::io;
-use std::io::Read;
 use std::test::Fail;
 
-static LINES: &str =
-    "0 0 1 opened\n1 1000 0 sent 0\n2 1010 1 accepted port 2002 info 0 6869 sent 1\n";
-
-static NO_MEMORY: &[u8] = b"geostation: out of memory\n";
-
-/// Two stations with the smallest location tables.
-static SMALL: &str = "\
-station = [
-  {address = \"1400020000000001\", lat = 0, lon = 0, capacity = 1, remember = 1},
-  {address = \"1400020000000002\", lat = 449, lon = 0, capacity = 1, remember = 1},
-]
-";
-
-/// Standard input with nothing in it.
-static NOTHING: &[u8] = b"";
-
-/// A reader that gives these octets, and then fails.
-#[derive(Drop)]
-struct Failing<'a> {
-    octets: &'a [u8],
-}
-
-impl Read for Failing<'_> {
-    fn read(&mut self, buf: &mut [u8]) -> io::Result<usize> {
-        if self.octets.is_empty() {
-            return Err(io::Error::from(io::ErrorKind::Other));
-        }
-        let count = self.octets.len().min(buf.len());
-        buf[..count].copy_from_slice(&self.octets[..count]);
-        self.octets = &self.octets[count..];
-        Ok(count)
-    }
-}
+static CANNOT_READ: &[u8] = b"geostation: cannot read a.toml\n";
 
 /// Nothing is run of a scenario that could not be read to its end.
 #[test]
-fn a_read_that_fails_ends_it(rt: HostRuntime) -> Result<(), Fail> {
-    let text = scenario(rt.alloc(), STATIONS, &[OPEN, SEND, DELIVER])?;
-    for octets in [b"".as_slice(), text.as_bytes()] {
-        let left = simulation_of(rt.alloc(), Failing { octets });
-        left.expect_err(&rt, Status::Failed, "geostation: cannot read a.toml\n");
+fn a_read_that_fails_ends_it(rt: HostRuntime) {
+    for fails_at in [1, THREE.len() as u64 + 1] {
+        let input = Failing::at(THREE.as_bytes(), fails_at, io::ErrorKind::Other);
+        let left = left_of(rt.alloc(), Command::Sim, input);
+        assert!(rt; left.is(Status::Failed, b"", CANNOT_READ), "{fails_at}");
     }
-    Ok(())
 }
 
-/// An output with room for less than all lines holds a prefix of them.
+/// Whether an output with room for so many octets of the whole holds these, and nothing is said:
+/// it is done where that is all.
+fn is_cut(alloc: Global, command: Command, whole: &[u8], room: usize) -> bool {
+    let (mut printed, mut said) = ([0; 1200], [0; 64]);
+    let mut err = said.as_mut_slice();
+    let Some(mut out) = printed.get_mut(..room) else {
+        return false;
+    };
+    let status = run(alloc, command, THREE.as_bytes(), &mut out, &mut err);
+    let want = if room == whole.len() {
+        Status::Done
+    } else {
+        Status::Failed
+    };
+    status == want && said == [0; 64] && printed.get(..room) == whole.get(..room)
+}
+
+/// What is printed of three stations in JSON, as it is with ample memory.
+fn objects(alloc: Global) -> Left {
+    left_of(alloc, Command::SimObjects, THREE.as_bytes())
+}
+
+/// An output with room for less than all holds a prefix.
 #[test]
-fn a_write_that_fails_ends_it(rt: HostRuntime) -> Result<(), Fail> {
-    let text = scenario(rt.alloc(), STATIONS, &[OPEN, SEND, DELIVER])?;
-    for room in 0..=LINES.len() {
-        let mut printed = [0u8; 200];
-        let mut err = Vec::new(rt.alloc());
-        let mut out = &mut printed[..room];
-        let status = simulate(
-            rt.alloc(),
-            "a.toml",
-            text.as_bytes(),
-            RunOptions::default(),
-            &mut out,
-            &mut err,
-        );
-        let done = room == LINES.len();
-        assert_eq!(rt; status == Status::Done, done, "{room}");
-        assert_eq!(rt; status == Status::Failed, !done, "{room}");
-        assert!(rt; err.is_empty(), "{room}");
-        assert_eq!(rt; &printed[..room], &LINES.as_bytes()[..room], "{room}");
+fn a_write_that_fails_ends_it(rt: HostRuntime) {
+    let left = objects(rt.alloc());
+    for (command, whole) in [
+        (Command::Sim, LINES.as_bytes()),
+        (Command::SimObjects, written(&left.out)),
+    ] {
+        for room in 0..=whole.len() {
+            assert!(rt;
+                is_cut(rt.alloc(), command, whole, room),
+                "{command:?} {room}"
+            );
+        }
     }
-    Ok(())
 }
 
-/// With any budget it prints a prefix of its lines, and says that memory ran out; the whole with
-/// enough.
+/// With any budget a prefix is printed, and memory told to have run out; the whole with enough.
 #[test]
 fn it_runs_short_of_memory(rt: HostRuntime) -> Result<(), Fail> {
-    let alloc = rt.alloc();
-    let text = scenario(alloc, SMALL, &[OPEN, SEND, DELIVER])?;
-    let mut shortage = Shortage::new(alloc)?;
-    let (mut done, mut refused) = (0u32, 0u32);
-    for step in 0..=MOST / STEP {
-        assert!(rt; shortage.leave(step * STEP));
-        let (mut printed, mut said) = ([0u8; 200], [0u8; 64]);
-        let (mut out, mut err) = (printed.as_mut_slice(), said.as_mut_slice());
-        let status = simulate(
-            alloc,
-            "a.toml",
-            text.as_bytes(),
-            RunOptions::default(),
-            &mut out,
-            &mut err,
-        );
-        let is_done = status == Status::Done;
-        if is_done {
-            done = done.saturating_add(1);
-            assert_eq!(rt; written(&printed), LINES.as_bytes());
-        } else {
-            refused = refused.saturating_add(1);
-            assert_eq!(rt; status, Status::Failed);
-        }
-        assert_eq!(rt; written(&said), if is_done { NOTHING } else { NO_MEMORY });
-        assert!(rt; LINES.as_bytes().starts_with(written(&printed)));
-    }
-    assert!(rt; refused > 0 && done > 0);
+    let lines = Try::Over(Command::Sim, SMALL.as_bytes(), LINES.as_bytes());
+    assert_eq!(rt; under_budgets(&rt, lines, lines), Ok([true, true]));
+    Ok(())
+}
+
+/// The same of objects.
+#[test]
+fn it_prints_objects_short_of_memory(rt: HostRuntime) -> Result<(), Fail> {
+    let left = objects(rt.alloc());
+    let printed = written(&left.out);
+    assert!(rt; left.is(Status::Done, printed, b""));
+    let objects = Try::Over(Command::SimObjects, THREE.as_bytes(), printed);
+    assert_eq!(rt; under_budgets(&rt, objects, objects), Ok([true, true]));
     Ok(())
 }

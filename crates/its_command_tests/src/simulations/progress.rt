@@ -2,7 +2,8 @@
 
 use its_reporting::Status;
 use its_runs::{RunOptions, simulate};
-use std::test::Fail;
+use its_shortage::written;
+use std::alloc::Global;
 
 /// Four stations in a row, each some 400 m from the next. Station 3 opens port 2002, and station 0
 /// sends to it at 1000.
@@ -18,6 +19,9 @@ event = [
   {station = 0, at = 1000, do = \"gbc\", port = 2002, info = 0, tc = 0, lt = 26, hops = 10,
    shape = \"circle\", alat = 108000, alon = 0, a = 100, b = 0, angle = 0, payload = \"6869\"},
 ]
+[air]
+range = 500
+until = 5000
 ";
 
 static HOPS: &str = "\
@@ -36,27 +40,33 @@ send 1 1000 0 gbc port 2002 inside 1 delivered 1 frames 4 hops 3 last 3
 total events 8 frames 4 deliveries 1 duplicates 2 ignored 1 refused 0
 ";
 
+/// Whether a run of the row is done, and leaves these lines and this on standard error.
+fn is_run(alloc: Global, options: RunOptions, lines: &str, shown: &str) -> bool {
+    let (mut printed, mut said) = ([0; 400], [0; 100]);
+    let (mut out, mut err) = (printed.as_mut_slice(), said.as_mut_slice());
+    let status = simulate(alloc, "a.toml", ROW.as_bytes(), options, &mut out, &mut err);
+    status == Status::Done
+        && written(&printed) == lines.as_bytes()
+        && written(&said) == shown.as_bytes()
+}
+
 /// The line of a run that is watched is written at its first event, and taken away at its end.
 #[test]
-fn how_far_a_run_is(rt: HostRuntime) -> Result<(), Fail> {
-    let text = format!(in rt.alloc(); "{ROW}[air]\nrange = 500\nuntil = 5000\n")?;
+fn how_far_a_run_is(rt: HostRuntime) {
     let shown = "0 of 5000 ms: events 1 deliveries 0\x1b[K\r\x1b[K";
     for (summary, lines, progress, want) in [
         (true, SUMMARY, true, shown),
         (false, HOPS, true, shown),
         (false, HOPS, false, ""),
     ] {
-        let (mut out, mut err) = (Vec::new(rt.alloc()), Vec::new(rt.alloc()));
         let options = RunOptions {
             summary,
             progress,
             ..RunOptions::default()
         };
-        let input = text.as_bytes();
-        let status = simulate(rt.alloc(), "a.toml", input, options, &mut out, &mut err);
-        assert_eq!(rt; status, Status::Done);
-        assert_eq!(rt; out.as_slice(), lines.as_bytes());
-        assert_eq!(rt; err.as_slice(), want.as_bytes());
+        assert!(rt;
+            is_run(rt.alloc(), options, lines, want),
+            "{summary} {progress}"
+        );
     }
-    Ok(())
 }

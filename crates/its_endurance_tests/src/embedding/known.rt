@@ -1,147 +1,151 @@
 //! What an embedding program reads of a station and of a world.
 
-use super::beacon;
+use crate::vectors::{GEOBROADCAST, beacon_of};
 use its_gnvalue::{GnAddress, Place};
 use its_linkframe::{FrameView, read_frame};
 use its_loctable::{LocationStore, OrderedTable, SortedTable};
 use its_station::{GbcRequest, Outcome, Station};
 use its_test_stations::{Fate, circle, fate_of, receiver, request};
-use its_vectors::{FIRST, GEOBROADCAST, PORT, SECOND};
-use std::alloc::{AllocError, Global};
-use std::process::Abort;
+use its_vectors::{FIRST, PORT, SECOND};
+use std::alloc::Global;
 use std::test::Fail;
 
-/// The frame is delivered and relayed once, and refused at a moment of the past.
-fn receives_once(
-    rt: &impl Abort,
-    station: &mut Station<SortedTable>,
-    frame: &FrameView<'_>,
-) -> Result<(), Fail> {
-    match station.receive_frame(1000, frame) {
+/// Whether a frame is delivered, as "hi" for `PORT`, and relayed in 76 octets.
+fn is_delivered(station: &mut Station<SortedTable>, now: u64, frame: &FrameView<'_>) -> bool {
+    match station.receive_frame(now, frame) {
         Ok(
             Outcome::Accepted {
                 handed: Some(handed),
                 sent: Some(sent),
             },
-        ) => {
-            assert_eq!(rt; handed.port, PORT);
-            assert_eq!(rt; handed.payload, b"hi".as_slice());
-            assert_eq!(rt; sent.len(), 76);
-        }
-        Ok(Outcome::Accepted { .. } | Outcome::Ignored(_)) | Err(_) => {
-            return Err("not delivered".into());
-        }
+        ) => handed.port == PORT && handed.payload == b"hi".as_slice() && sent.len() == 76,
+        Ok(Outcome::Accepted { .. } | Outcome::Ignored(_)) | Err(_) => false,
     }
-    assert!(rt; station.receive_frame(999, frame).is_err());
-    assert_eq!(rt; station.clock(), 1000);
+}
+
+fn is_refused(station: &mut Station<SortedTable>, now: u64, frame: &FrameView<'_>) -> bool {
+    station.receive_frame(now, frame).is_err()
+}
+
+/// The frame is delivered and relayed once, and refused at a moment of the past.
+#[test]
+fn a_frame_is_read_once(rt: HostRuntime) -> Result<(), Fail> {
+    let frame = read_frame(&GEOBROADCAST)?;
+    let mut station = receiver(rt.alloc(), 449)?;
+    assert!(rt; frame.packet.vector().address().as_u64() == FIRST);
+    assert!(rt; is_delivered(&mut station, 1000, &frame));
+    assert!(rt; is_refused(&mut station, 999, &frame) && station.clock() == 1000);
     Ok(())
 }
 
-#[test]
-fn a_frame_is_read_once(rt: HostRuntime) -> Result<(), Fail> {
-    let octets = hex::decode(rt.alloc(), GEOBROADCAST)?;
-    let frame = read_frame(&octets)?;
-    assert_eq!(rt; frame.packet.vector().address().as_u64(), FIRST);
-    receives_once(&rt, &mut receiver(rt.alloc(), 449)?, &frame)
+/// Whether a station takes a place, with nothing promised: all that the call's contract says would
+/// else be carried along in the proof of each test. So it is of the calls below.
+fn moves<S: LocationStore>(
+    station: &mut Station<S>,
+    now: u64,
+    place: Place,
+    speed: i8,
+    heading: u16,
+) -> bool {
+    station
+        .move_to(now, place, true, i16::from(speed), heading)
+        .is_ok()
+}
+
+fn sends(station: &mut Station<OrderedTable>, now: u64, request: &GbcRequest<'_>) -> bool {
+    station.send_geobroadcast(now, request).is_ok()
+}
+
+/// Whether a beacon is due.
+fn beacon_comes(station: &mut Station<SortedTable>, now: u64) -> Option<bool> {
+    Some(station.tick(now, 0).ok()?.is_some())
+}
+
+/// Whether this is what a station tells of itself that moved to this place at 5, but for the number
+/// of its next packet.
+fn is_told(station: &Station<OrderedTable>, place: Place) -> bool {
+    let vector = station.vector();
+    station.address().as_u64() == SECOND
+        && (vector.tst(), station.clock()) == (5, 5)
+        && vector.place() == place
+        && station.is_open(PORT)
+        && !station.is_open(PORT + 1)
+        && station.open_ports() == [PORT].as_slice()
 }
 
 /// What a station that moved tells of itself, before and after it sends.
-fn tells_of_itself(
-    rt: &impl Abort,
-    station: &mut Station<OrderedTable>,
-    place: Place,
-    request: &GbcRequest<'_>,
-) {
-    assert!(rt; station.move_to(5, place, true, -3, 900).is_ok());
-    assert_eq!(rt; station.address().as_u64(), SECOND);
-    assert_eq!(rt; station.vector().tst(), 5);
-    assert_eq!(rt; station.vector().place(), place);
-    assert_eq!(rt; station.clock(), 5);
-    assert!(rt; station.is_open(PORT) && !station.is_open(PORT + 1));
-    assert_eq!(rt; station.open_ports(), [PORT].as_slice());
-    assert_eq!(rt; station.next_number(), 0);
-    assert!(rt; station.send_geobroadcast(6, request).is_ok());
-    assert_eq!(rt; station.next_number(), 1);
-}
-
 #[test]
 fn a_station_tells_what_it_knows_of_itself(rt: HostRuntime) -> Result<(), Fail> {
     let (place, request) = (Place::new(7, -7)?, request(circle()?, b"hi"));
-    tells_of_itself(&rt, &mut receiver(rt.alloc(), 449)?, place, &request);
+    let mut station = receiver(rt.alloc(), 449)?;
+    assert!(rt; moves(&mut station, 5, place, -3, 900));
+    assert!(rt; is_told(&station, place) && station.next_number() == 0);
+    assert!(rt; sends(&mut station, 6, &request) && station.next_number() == 1);
     Ok(())
 }
 
-/// Whether a beacon comes.
-fn beacon_comes(station: &mut Station<SortedTable>, now: u64) -> bool {
-    matches!(&station.tick(now, 0), Ok(Some(_)))
-}
-
-fn beacons_come(rt: &impl Abort, station: &mut Station<SortedTable>, place: Place) {
-    assert!(rt; station.move_to(40, place, true, 0, 0).is_ok());
-    assert_eq!(rt; (station.beacon_from(), station.next_beacon()), (0, 40));
-    assert!(rt; beacon_comes(station, 40));
-    assert_eq!(rt;
-        (station.beacon_from(), station.next_beacon()),
-        (3040, 3040)
-    );
-    assert_eq!(rt; station.tick(3039, 0), Ok(None));
-    assert!(rt; beacon_comes(station, 3040));
+/// From when on a beacon is due, and when the next one is.
+fn beacons_of(station: &Station<SortedTable>) -> (u64, u64) {
+    (station.beacon_from(), station.next_beacon())
 }
 
 #[test]
 fn a_beacon_comes_at_its_moment(rt: HostRuntime) -> Result<(), Fail> {
-    beacons_come(&rt, &mut receiver(rt.alloc(), 449)?, Place::new(449, 0)?);
+    let place = Place::new(449, 0)?;
+    let mut station = receiver(rt.alloc(), 449)?;
+    assert!(rt; moves(&mut station, 40, place, 0, 0));
+    assert_eq!(rt; beacons_of(&station), (0, 40));
+    assert!(rt; beacon_comes(&mut station, 40) == Some(true));
+    assert_eq!(rt; beacons_of(&station), (3040, 3040));
+    let found = [
+        beacon_comes(&mut station, 3039),
+        beacon_comes(&mut station, 3040),
+    ];
+    assert_eq!(rt; found, [Some(false), Some(true)]);
     Ok(())
 }
 
-/// The beacons of three stations, and a geobroadcast, whose source is no neighbour.
-fn hear<S: LocationStore>(station: &mut Station<S>, alloc: Global) -> Result<(), Fail> {
+/// Whether a station takes in the beacons of three stations, and a geobroadcast, whose source is no
+/// neighbour.
+fn hears<S: LocationStore>(station: &mut Station<S>) -> bool {
     for (now, number) in [(1000, 3), (1004, 9), (1005, 5)] {
-        expect_kept(fate_of(station, now, &beacon(alloc, number)?))?;
+        if fate_of(station, now, &beacon_of(number)) != Fate::Kept {
+            return false;
+        }
     }
-    let geobroadcast = hex::decode(alloc, GEOBROADCAST)?;
-    match fate_of(station, 1010, &geobroadcast) {
-        Fate::DeliveredAndRelayed => Ok(()),
-        _ => Err("not delivered and relayed".into()),
-    }
+    fate_of(station, 1010, &GEOBROADCAST) == Fate::DeliveredAndRelayed
 }
 
-fn expect_kept(fate: Fate) -> Result<(), &'static str> {
-    match fate {
-        Fate::Kept => Ok(()),
-        _ => Err("not kept"),
-    }
-}
-
-/// The ends of the addresses of the neighbours after 21 s.
-fn neighbours<S: LocationStore>(
-    station: &Station<S>,
-    alloc: Global,
-) -> Result<Vec<u64>, AllocError> {
-    let mut heard = Vec::new(alloc);
+/// Whether the ends of the addresses of the neighbours after 21 s are these.
+fn are_neighbours<S: LocationStore>(station: &Station<S>, ends: [u64; 2]) -> bool {
+    let mut found = [0; 3];
+    let mut place = 0usize;
     for vector in station.neighbours(21_000) {
-        heard.push(vector.address().as_u64() & 0xff)?;
+        if let Some(end) = found.get_mut(place) {
+            *end = vector.address().as_u64() & 0xff;
+        }
+        place = place.saturating_add(1);
     }
-    Ok(heard)
+    place == 2 && found.get(..2) == Some(ends.as_slice())
+}
+
+fn knows<S: LocationStore>(station: &Station<S>, now: u32, address: u64) -> bool {
+    match GnAddress::from_u64(address) {
+        Ok(address) => station.table().lookup(u64::from(now), address).is_some(),
+        Err(_) => false,
+    }
 }
 
 /// The first beacon came at 1000, so at 21000 its entry has expired.
-fn expect_neighbours<S: LocationStore>(
-    rt: &impl Abort,
-    alloc: Global,
-    station: &mut Station<S>,
-) -> Result<(), Fail> {
-    hear(station, alloc)?;
-    let source = GnAddress::from_u64(FIRST)?;
-    assert!(rt; station.table().lookup(1010, source).is_some());
-    let heard = neighbours(station, alloc)?;
-    assert_eq!(rt; heard.as_slice(), [5, 9].as_slice());
-    Ok(())
+fn has_neighbours<S: LocationStore>(alloc: Global) -> Result<bool, &'static str> {
+    let mut station = receiver::<S>(alloc, 449)?;
+    let heard = hears(&mut station);
+    Ok(heard && knows(&station, 1010, FIRST) && are_neighbours(&station, [5, 9]))
 }
 
 #[test]
 fn neighbours_come_by_address(rt: HostRuntime) -> Result<(), Fail> {
-    let alloc = rt.alloc();
-    expect_neighbours(&rt, alloc, &mut receiver::<SortedTable>(alloc, 449)?)?;
-    expect_neighbours(&rt, alloc, &mut receiver::<OrderedTable>(alloc, 449)?)
+    assert!(rt; has_neighbours::<SortedTable>(rt.alloc())?);
+    assert!(rt; has_neighbours::<OrderedTable>(rt.alloc())?);
+    Ok(())
 }

@@ -3,14 +3,13 @@
 use its_loctable::{OrderedTable, SortedTable};
 use its_shortage::{MOST, STEP, Shortage};
 use its_station::{Refused, Station, Why};
-use its_test_stations::Fate::Sent;
+use its_test_stations::Fate::{DeliveredAndRelayed, Sent};
 use its_test_stations::Row::{Call, Copy, Put};
 use its_test_stations::Step::{SendGeoanycast, SendGeobroadcast, Tick};
 use its_test_stations::{
     Cast, DUPLICATE, Fate, HI, Row, SENDER, SHORT, fate_of, frames_of, receiver,
 };
 use std::alloc::Global;
-use std::process::Abort;
 use std::test::Fail;
 
 const ONE_HOP: Cast = Cast { max_hops: 1, ..HI };
@@ -28,6 +27,7 @@ const BEACON: usize = 4;
 
 const TO_ANOTHER: usize = 5;
 
+/// Octets that are too few for a frame.
 const SHORT_FRAME: usize = 6;
 
 /// One source sends all but the last, which is the second one for another station.
@@ -41,32 +41,37 @@ static FRAMES: [Row; 7] = [
     Put(TO_ANOTHER, 0, 2),
 ];
 
-/// These, and octets that are too few for a frame.
-fn all_frames(alloc: Global) -> Result<Vec<Vec<u8>>, Fail> {
-    let mut frames = frames_of::<SortedTable>(alloc, &[SENDER], &FRAMES)?;
-    frames.push(Vec::from_slice(alloc, &[0; 13])?)?;
-    Ok(frames)
-}
-
-/// Receivers over both tables.
+/// Receivers over both tables, and the frames that they hear.
 #[derive(Drop)]
 struct Receivers {
     ordered: Station<OrderedTable>,
     sorted: Station<SortedTable>,
+    frames: Vec<Vec<u8>>,
 }
 
 impl Receivers {
-    fn new(alloc: Global) -> Result<Receivers, Fail> {
+    fn new(alloc: Global) -> Result<Receivers, &'static str> {
+        let mut frames = frames_of::<SortedTable>(alloc, &[SENDER], &FRAMES)?;
+        let Ok(short) = Vec::from_elem(alloc, 0, 13) else {
+            return Err("out of memory");
+        };
+        let Ok(()) = frames.push(short) else {
+            return Err("out of memory");
+        };
         Ok(Receivers {
             ordered: receiver(alloc, 449)?,
             sorted: receiver(alloc, 449)?,
+            frames,
         })
     }
 
-    /// This becomes of a frame, at each of them.
-    fn expect(&mut self, rt: &impl Abort, now: u64, frame: &[u8], want: Fate) {
-        assert_eq!(rt; fate_of(&mut self.ordered, now, frame), want, "at {now}");
-        assert_eq!(rt; fate_of(&mut self.sorted, now, frame), want, "at {now}");
+    /// Whether this becomes of a frame, at each of them.
+    fn have(&mut self, now: u64, frame: usize, want: Fate) -> bool {
+        let Some(octets) = self.frames.get(frame) else {
+            return false;
+        };
+        fate_of(&mut self.ordered, now, octets.as_slice()) == want
+            && fate_of(&mut self.sorted, now, octets.as_slice()) == want
     }
 }
 
@@ -81,63 +86,36 @@ static TAKES_NONE: [(u64, usize, Fate); 7] = [
     (1011, TO_ANOTHER, Fate::Ignored(Why::NotForMe)),
 ];
 
-fn takes_none(
-    rt: &impl Abort,
-    near: &mut Receivers,
-    frames: &[Vec<u8>],
-) -> Result<(), &'static str> {
-    for (now, frame, want) in &TAKES_NONE {
-        near.expect(rt, *now, frames.get(*frame).ok_or("no such frame")?, *want);
-    }
-    Ok(())
-}
-
-/// How often the frame is refused until there is a piece of memory as large as it is.
-fn refusals(
-    rt: &impl Abort,
-    alloc: Global,
-    near: &mut Receivers,
-    shortage: &mut Shortage,
-    frame: &[u8],
-) -> u64 {
-    let mut refused = 0u64;
+/// How often the new frame is refused until there is a piece of memory as large as it is; `None`
+/// where anything else becomes of it, or a budget could not be left.
+fn refusals(alloc: Global, near: &mut Receivers, shortage: &mut Shortage) -> Option<usize> {
     for step in 0..MOST / STEP {
-        assert!(rt; shortage.leave(step * STEP), "at step {step}");
-        if Vec::<u8>::with_capacity(alloc, frame.len()).is_ok() {
-            break;
+        if !shortage.leave(step * STEP) {
+            return None;
         }
-        near.expect(rt, 1012, frame, Fate::Refused(Refused::NoMemory));
-        refused = refused.saturating_add(1);
+        if Vec::<u8>::with_capacity(alloc, 76).is_ok() {
+            return Some(step);
+        }
+        if !near.have(1012, NEW, Fate::Refused(Refused::NoMemory)) {
+            return None;
+        }
     }
-    refused
+    None
 }
 
 /// From a live source a packet that goes on takes one piece of memory, as large as its frame, and
 /// no second; whatever else comes takes none, be it refused, ignored or delivered.
-fn takes_one(
-    rt: &impl Abort,
-    alloc: Global,
-    near: &mut Receivers,
-    frames: &[Vec<u8>],
-) -> Result<(), Fail> {
-    near.expect(
-        rt,
-        1010,
-        frames.get(OLD).ok_or("no frame")?,
-        Fate::DeliveredAndRelayed,
-    );
-    let new = frames.get(NEW).ok_or("no frame")?;
-    let mut shortage = Shortage::new(alloc)?;
-    assert!(rt; shortage.leave(0));
-    takes_none(rt, near, frames)?;
-    let refused = refusals(rt, alloc, near, &mut shortage, new);
-    near.expect(rt, 1012, new, Fate::DeliveredAndRelayed);
-    assert!(rt; refused > 0);
-    Ok(())
-}
-
 #[test]
 fn a_relay_is_one_allocation(rt: HostRuntime) -> Result<(), Fail> {
-    let frames = all_frames(rt.alloc())?;
-    takes_one(&rt, rt.alloc(), &mut Receivers::new(rt.alloc())?, &frames)
+    let mut near = Receivers::new(rt.alloc())?;
+    assert!(rt; near.have(1010, OLD, DeliveredAndRelayed));
+    let mut shortage = Shortage::new(rt.alloc())?;
+    assert!(rt; shortage.leave(0));
+    for (now, frame, want) in &TAKES_NONE {
+        assert!(rt; near.have(*now, *frame, *want), "{frame}");
+    }
+    let refused = refusals(rt.alloc(), &mut near, &mut shortage);
+    assert!(rt; refused.is_some_and(|refused| 0 < refused), "{refused:?}");
+    assert!(rt; near.have(1012, NEW, DeliveredAndRelayed));
+    Ok(())
 }
