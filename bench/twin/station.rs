@@ -99,6 +99,20 @@ impl Station {
         Ok(())
     }
 
+    pub fn move_to(
+        &mut self,
+        now: u64,
+        place: Place,
+        speed: i16,
+        heading: u16,
+    ) -> Result<(), Refused> {
+        self.check_moment(now)?;
+        let tst = (now % (1 << 32)) as u32;
+        self.vector = LongPv { tst, place, pai: true, speed, heading, ..self.vector };
+        self.clock = now;
+        Ok(())
+    }
+
     pub fn receive<'a>(&mut self, now: u64, octets: &'a [u8]) -> Result<Outcome<'a>, Refused> {
         self.check_moment(now)?;
         let frame = read_frame(octets).map_err(Refused::Frame)?;
