@@ -1,21 +1,27 @@
 """A second opinion of `geostation sim`, written from the rules and not from the program.
 
-    python3 checks/air.py SCENARIO.toml              the lines of a run
-    python3 checks/air.py --summary SCENARIO.toml    its summary
+    python3 checks/air.py SCENARIO.toml                 the lines of a run
+    python3 checks/air.py --notes SCENARIO.toml         its notes among them
+    python3 checks/air.py --summary SCENARIO.toml       its summary
+    python3 checks/air.py .. --moves FILE SCENARIO.toml the same of a run with moves
 
 It prints what `geostation sim` prints of a scenario that isn't refused, with a table `air` or
-without. Nothing is taken from the program's sources: here a frame is a record without octets, a
-location table a dictionary, a search a `min`. `checks/air` compares what the two print.
+without; of a bad line of FILE it tells on standard error, and ends with status 1. Nothing is taken
+from the program's sources: here a frame is a record without octets, a location table a dictionary,
+a search a `min`. `checks/air` compares what the two print.
 """
 
 from __future__ import annotations
 
 import heapq
 import itertools
+import re
 import sys
 import tomllib
 from collections import Counter
 from dataclasses import dataclass, field
+from decimal import ROUND_HALF_UP, Decimal
+from math import inf
 from typing import Iterator, NamedTuple
 
 LAST_MOMENT, ENTRY_LIFE, BEACON_WAIT = 2**62, 20000, 3000
@@ -294,7 +300,7 @@ class Station:
         return self.originate(now, BROADCAST, 1, Packet("shb", self.vector, read_message(keys)))
 
     def gbc(self, now: int, keys: dict) -> Entry:
-        message, area = read_message(keys), read_area(keys)
+        message, area = read_message(keys), read_area(keys, self.vector.place)
         if keys["hops"] == 0:
             raise Refused("S7")
         to = choose(self.table, now, self.vector.place, area, None)
@@ -336,8 +342,9 @@ class Station:
         return "duplicate" if known is not None and packet.number in known.numbers else None
 
 
-def read_area(keys: dict) -> Area:
-    centre = Place(keys["alat"], keys["alon"])
+def read_area(keys: dict, here: Place) -> Area:
+    """The area of a geocast; without a centre it lies round where its station stands."""
+    centre = Place(keys["alat"], keys["alon"]) if "alat" in keys else here
     return Area(keys["shape"], centre, keys["a"], keys["b"], keys["angle"])
 
 
@@ -353,10 +360,163 @@ def read_station(keys: dict) -> Station:
     return Station(vector, Table(keys.get("capacity", 64), keys.get("remember", 8)))
 
 
+class BadRow(Exception):
+    """A line of a file of moves that ends the run: its number and what is wrong with it."""
+
+    def __init__(self, line: int, word: str):
+        super().__init__(f"moves: line {line}: {word}")
+
+
+class Row(NamedTuple):
+    """A move of a station that has an id, and the line that it stands in."""
+
+    line: int
+    at: int
+    id: str
+    keys: dict
+
+
+class Column(NamedTuple):
+    """A column of a file of moves: its names, the decimals of its unit, and its range."""
+
+    own: bytes
+    sumo: bytes
+    places: int
+    least: int
+    most: int
+
+
+NUMBERS = {
+    "at": Column(b"at", b"timestep_time", 3, 0, 2**62),
+    "lat": Column(b"lat", b"vehicle_y", 7, -900000000, 900000000),
+    "lon": Column(b"lon", b"vehicle_x", 7, -1800000000, 1800000000),
+    "speed": Column(b"speed", b"vehicle_speed", 2, -16384, 16383),
+    "heading": Column(b"heading", b"vehicle_angle", 1, 0, 3600),
+}
+OWN = [b"id", *(column.own for column in NUMBERS.values())]
+SUMO = [b"vehicle_id", *(column.sumo for column in NUMBERS.values())]
+MAY_LACK = {b"speed", b"heading", b"vehicle_speed", b"vehicle_angle"}
+MOST_OCTETS = 4096
+
+
+def split_fields(line: bytes, separator: bytes) -> list[bytes]:
+    """The fields of a line; one that begins with a quotation mark is quoted."""
+    fields, rest = [], line
+    while True:
+        begin = b""
+        if quoted := re.match(rb'"((?:[^"]|"")*)(?:"|$)', rest, re.DOTALL):
+            begin, rest = quoted[1].replace(b'""', b'"'), rest[quoted.end() :]
+        end, found, rest = rest.partition(separator)
+        fields.append(begin + end)
+        if not found:
+            return fields
+
+
+def read_number(column: Column, is_sumo: bool, text: bytes) -> int | None:
+    """The number that a field writes, in the own unit; None where it is none in its range."""
+    if is_sumo:
+        digits = re.fullmatch(rb"-?([0-9]+)(?:\.([0-9]*))?", text)
+        if digits is None or len(digits[1] + (digits[2] or b"")) > 18:
+            return None
+        exact = Decimal(text.decode()).scaleb(column.places)
+        number = int(exact.to_integral_value(ROUND_HALF_UP))
+    else:
+        if re.fullmatch(rb"-?[0-9]{1,19}", text) is None:
+            return None
+        number = int(text)
+    return number if column.least <= number <= column.most else None
+
+
+def is_id(octets: bytes) -> bool:
+    try:
+        text = octets.decode()
+    except UnicodeDecodeError:
+        return False
+    plain = all(not (ord(c) < 0x20 or 0x7F <= ord(c) < 0xA0) for c in text)
+    return 1 <= len(octets) <= 64 and plain
+
+
+class Moves:
+    """The rows of a file of moves, read one by one."""
+
+    def __init__(self, octets: bytes, begin: int):
+        self.begin, self.before = begin, 0
+        lines = octets.split(b"\n")
+        self.lines = enumerate(lines if lines[-1] else lines[:-1], 1)
+        first = self.cut(*next(self.lines, (1, b"")))
+        first = first.removeprefix(b"\xef\xbb\xbf")
+        self.separator = b";" if b";" in first else b","
+        names = split_fields(first, self.separator)
+        self.count = len(names)
+        self.is_sumo = any(name in SUMO for name in names)
+        known, others = (SUMO, OWN) if self.is_sumo else (OWN, SUMO)
+        lacks = any(name not in names and name not in MAY_LACK for name in known)
+        if lacks or any(name in names for name in others) or any(names.count(n) > 1 for n in known):
+            raise BadRow(1, "header")
+        self.places = {name: names.index(name) for name in known if name in names}
+
+    def cut(self, number: int, line: bytes) -> bytes:
+        if len(line) > MOST_OCTETS:
+            raise BadRow(number, "length")
+        return line.removesuffix(b"\r")
+
+    def next(self) -> Row | None:
+        """The next row that isn't passed over."""
+        for number, line in self.lines:
+            line = self.cut(number, line)
+            if line and (row := self.read(number, split_fields(line, self.separator))):
+                return row
+        return None
+
+    def read(self, number: int, fields: list[bytes]) -> Row | None:
+        if len(fields) != self.count:
+            raise BadRow(number, "fields")
+        ident = fields[self.places[SUMO[0] if self.is_sumo else OWN[0]]]
+        if self.is_sumo and not ident:
+            return None
+        keys = {"at": self.number(number, "at", fields)}
+        if keys["at"] < self.before:
+            raise BadRow(number, "at")
+        if not is_id(ident):
+            raise BadRow(number, "id")
+        for word in ("lat", "lon", "speed", "heading"):
+            keys[word] = self.number(number, word, fields)
+        self.before = keys["at"]
+        keys["heading"] %= 3600
+        at = keys["at"] - self.begin
+        return Row(number, at, ident.decode(), keys) if at >= 0 else None
+
+    def number(self, line: int, word: str, fields: list[bytes]) -> int:
+        """The number of a column, 0 where the file doesn't have it."""
+        column = NUMBERS[word]
+        place = self.places.get(column.sumo if self.is_sumo else column.own)
+        if place is None:
+            return 0
+        number = read_number(column, self.is_sumo, fields[place])
+        if number is None:
+            raise BadRow(line, word)
+        return number
+
+
+class Done(NamedTuple):
+    """An event that was run, and what came of it."""
+
+    event: dict
+    entry: Entry
+
+
+class Note(NamedTuple):
+    """What happened at a moment beside the events."""
+
+    moment: int
+    station: int | str
+    words: str
+
+
 class World:
     """The stations of a scenario, and all frames that they gave."""
 
-    def __init__(self, scenario: dict):
+    def __init__(self, scenario: dict, moves: bytes | None = None):
         self.stations = [read_station(keys) for keys in scenario.get("station", [])]
         self.frames: list[Frame] = []
         self.events: list[dict] = scenario.get("event", [])
@@ -368,12 +528,17 @@ class World:
             for number, keys in enumerate(scenario.get("station", []))
             if self.air is None or not keys.get("absent", False)
         }
+        self.making: dict = scenario.get("moves", {})
+        # The rows; of each id the station and the moment of its last row.
+        self.moves = None if moves is None else Moves(moves, self.making.get("begin", 0))
+        self.known: dict[str, int] = {}
+        self.last: dict[str, int] = {}
 
-    def run(self) -> Iterator[tuple[dict, Entry]]:
-        """The events of the run, each with its entry, done as they are asked for."""
+    def run(self) -> Iterator[Done | Note]:
+        """The events of the run, each with its entry, and its notes, done as they are asked for."""
         if self.air is None:
-            return ((event, self.do(event)) for event in self.events)
-        return self.run_air(self.air)
+            return (Done(event, self.do(event)) for event in self.events)
+        return AirRun(self, self.air).run()
 
     def do(self, event: dict) -> Entry:
         if event["station"] >= len(self.stations):
@@ -388,83 +553,196 @@ class World:
             self.frames.append(entry.frame)
         return entry
 
-    def run_air(self, air: dict) -> Iterator[tuple[dict, Entry]]:
-        """A run in which each frame is delivered to those who hear it."""
-        draws = Xoshiro256PlusPlus(air.get("seed", 0))
-        until = air.get("until", max((e["at"] for e in self.events), default=0) + 10000)
+    def next_row(self) -> Row | None:
+        """The next row of the file of moves; there has to be room for the station of a new id."""
+        row = None if self.moves is None else self.moves.next()
+        if row is not None and row.id not in self.known:
+            mid, mids = self.next_mid(), [station.vector.mid for station in self.stations]
+            if mid >> 40 & 1 or mid in mids or len(self.stations) >= 65535:
+                raise BadRow(row.line, "too many stations")
+        return row
+
+    def next_mid(self) -> int:
+        return int(self.making.get("mid", "020100000001"), 16) + len(self.known)
+
+    def make(self, row: Row) -> None:
+        """A new station, for a new id."""
+        vector = Vector(
+            0x1400 << 48 | self.next_mid(), 0, Place(row.keys["lat"], row.keys["lon"]), pai=False
+        )
+        table = Table(self.making.get("capacity", 256), self.making.get("remember", 8))
+        self.known[row.id] = len(self.stations)
+        self.stations.append(Station(vector, table))
+
+
+# What comes first of one moment: rows, leaves, the scenario's events, and then the air's own.
+ROWS, LEAVES, EVENTS, OWNS = range(4)
+
+
+class AirRun:
+    """A run in which each frame is delivered to those who hear it."""
+
+    def __init__(self, world: World, air: dict):
+        self.world, self.air = world, air
+        self.draws = Xoshiro256PlusPlus(air.get("seed", 0))
         # Events by their moments, those of one moment in the order in which they were put. Beside an
         # event stands "tick" for a tick of the air's own, and for a send the number of its traffic.
-        waiting: list[tuple[int, int, dict, str | int | None]] = []
-        order = itertools.count()
+        self.waiting: list[tuple[int, int, dict, str | int | None]] = []
+        self.order = itertools.count()
+        self.greatest = max((event["at"] for event in world.events), default=0)
+        self.of_file = len(world.events)
 
-        def put(event: dict, own: str | int | None = None) -> None:
-            heapq.heappush(waiting, (event["at"], next(order), event, own))
+    def put(self, event: dict, own: str | int | None = None) -> None:
+        heapq.heappush(self.waiting, (event["at"], next(self.order), event, own))
 
-        def waits(station: int, own: str | int) -> bool:
-            return any(w[2]["station"] == station and w[3] == own for w in waiting)
+    def waits(self, station: int, own: str | int) -> bool:
+        return any(w[3] == own and w[2]["station"] == station for w in self.waiting)
 
-        def put_tick(station: int, earliest: int, due: int) -> None:
-            jitter = draws.draw(MOST_JITTER + 1)
-            moment = max(earliest, due + jitter)
-            put({"station": station, "at": moment, "do": "tick", "jitter": jitter}, "tick")
+    def put_tick(self, station: int, earliest: int, due: int) -> None:
+        jitter = self.draws.draw(MOST_JITTER + 1)
+        moment = max(earliest, due + jitter)
+        self.put({"station": station, "at": moment, "do": "tick", "jitter": jitter}, "tick")
 
-        def put_send(station: int, moment: int, number: int) -> None:
-            keys = self.every[number]
-            message = {"port": keys["port"], "info": keys["info"], "tc": keys["tc"]}
-            payload = "00" * keys["octets"]
-            send = {"station": station, "at": moment, "do": "shb", "payload": payload, **message}
-            put(send, number)
+    def put_send(self, station: int, moment: int, number: int) -> None:
+        keys = self.world.every[number]
+        message = {"port": keys["port"], "info": keys["info"], "tc": keys["tc"]}
+        payload = "00" * keys["octets"]
+        send = {"station": station, "at": moment, "do": "shb", "payload": payload, **message}
+        self.put(send, number)
 
-        def come(station: int, now: int) -> None:
-            """A station is present from now on: its first tick and sends, where none waits."""
-            self.present.add(station)
-            if air.get("beacons", False) and not waits(station, "tick"):
-                put_tick(station, now, now)
-            for number, keys in enumerate(self.every):
-                if not waits(station, number):
-                    put_send(station, now + draws.draw(keys["period"]), number)
+    def put_first(self) -> None:
+        """What waits before anything is run."""
+        world = self.world
+        for event in world.events:
+            self.put(event)
+        if self.air.get("beacons", False):
+            for station in sorted(world.present):
+                self.put_tick(station, 0, world.stations[station].beacon_from)
+        for number, keys in enumerate(world.every):
+            for station in sorted(world.present):
+                self.put_send(station, self.draws.draw(keys["period"]), number)
 
-        for event in self.events:
-            put(event)
-        if air.get("beacons", False):
-            for station in sorted(self.present):
-                put_tick(station, 0, self.stations[station].beacon_from)
-        for number, keys in enumerate(self.every):
-            for station in sorted(self.present):
-                put_send(station, draws.draw(keys["period"]), number)
-        while waiting and waiting[0][0] <= until:
-            now, _, event, own = heapq.heappop(waiting)
-            station, is_present = event["station"], event["station"] in self.present
-            if event["do"] == "leave":
-                self.present.discard(station)
-                continue
-            if own is not None and not is_present:
-                continue
-            entry = self.do(event)
-            yield event, entry
-            refused = entry.word.startswith("refused")
-            if entry.frame is not None and is_present:
-                at, frame = now + air.get("delay", 1), len(self.frames) - 1
-                for hearer in self.hearers(station, air["range"]):
-                    if draws.draw(100) >= air.get("loss", 0):
-                        put({"station": hearer, "at": at, "do": "deliver", "frame": frame})
-            if own == "tick" and not refused:
-                put_tick(station, now, self.stations[station].beacon_from)
-            if isinstance(own, int):
-                put_send(station, now + self.every[own]["period"], own)
-            if event["do"] == "move" and not refused and not is_present:
-                come(station, now)
+    def until(self, row: Row | None) -> float:
+        """The last moment that is run, as far as it is known while this row waits."""
+        if "until" in self.air:
+            return self.air["until"]
+        return inf if row is not None else self.greatest + 10000
+
+    def next_leave(self) -> tuple[int, int] | None:
+        """The moment and the station of the first leave that is due."""
+        world, gone = self.world, self.world.making.get("gone", 1000)
+        due = [(world.last[i] + gone, s) for i, s in world.known.items() if s in world.present]
+        return min(due, default=None)
+
+    def run(self) -> Iterator[Done | Note]:
+        self.put_first()
+        row = self.world.next_row()
+        while True:
+            leave, first = self.next_leave(), self.waiting[0] if self.waiting else None
+            moments = []
+            if row is not None:
+                moments.append((row.at, ROWS))
+            if leave is not None:
+                moments.append((leave[0], LEAVES))
+            if first is not None:
+                moments.append((first[0], EVENTS if first[1] < self.of_file else OWNS))
+            if not moments or min(moments)[0] > self.until(row):
+                return
+            now, kind = min(moments)
+            if kind == ROWS:
+                yield from self.run_row(row)
+                row = self.world.next_row()
+            elif kind == LEAVES:
+                yield from self.leave(now, leave[1])
+            else:
+                _, _, event, own = heapq.heappop(self.waiting)
+                yield from self.run_event(now, event, own)
+
+    def run_row(self, row: Row) -> Iterator[Done | Note]:
+        world, is_new = self.world, row.id not in self.world.known
+        if is_new:
+            world.make(row)
+        station = world.known[row.id]
+        world.last[row.id] = row.at
+        self.greatest = max(self.greatest, row.at)
+        move = {**row.keys, "at": row.at, "station": station, "do": "move", "pai": True}
+        yield from self.do(move)
+        for port in world.making.get("ports", []) if is_new else []:
+            yield from self.do({"at": row.at, "station": station, "do": "open", "port": port})
+        if station not in world.present:
+            yield from self.come(station, row.at)
+
+    def run_event(self, now: int, event: dict, own: str | int | None) -> Iterator[Done | Note]:
+        """An event of the scenario, or of the air's own."""
+        world = self.world
+        if world.moves is not None and "id" in event:
+            station = world.known.get(event["id"])
+            if station not in world.present:
+                yield Note(now, "-", f"absent {event['id']}")
+                return
+            event = {**event, "station": station}
+        station, is_present = event["station"], event["station"] in world.present
+        if event["do"] == "leave":
+            yield from self.leave(now, station)
+            return
+        if own is not None and not is_present:
+            return
+        refused = yield from self.do(event)
+        if own == "tick" and not refused:
+            self.put_tick(station, now, world.stations[station].beacon_from)
+        if isinstance(own, int):
+            self.put_send(station, now + world.every[own]["period"], own)
+        if event["do"] == "move" and not refused and not is_present:
+            yield from self.come(station, now)
+
+    def do(self, event: dict) -> Iterator[Done | Note]:
+        """An event of the world, and who hears its frame. Returns whether it was refused."""
+        world, station, now = self.world, event["station"], event["at"]
+        is_heard = station in world.present
+        entry = world.do(event)
+        yield Done(event, entry)
+        if entry.frame is not None and is_heard:
+            at, frame = now + self.air.get("delay", 1), len(world.frames) - 1
+            for hearer in self.hearers(station, self.air["range"]):
+                if self.draws.draw(100) < self.air.get("loss", 0):
+                    yield Note(now, hearer, f"lost {frame}")
+                else:
+                    self.put({"station": hearer, "at": at, "do": "deliver", "frame": frame})
+        return entry.word.startswith("refused")
+
+    def come(self, station: int, now: int) -> Iterator[Note]:
+        """A station is present from now on: its first tick and sends, where none waits."""
+        self.world.present.add(station)
+        yield Note(now, station, "came")
+        if self.air.get("beacons", False) and not self.waits(station, "tick"):
+            self.put_tick(station, now, now)
+        for number, keys in enumerate(self.world.every):
+            if not self.waits(station, number):
+                self.put_send(station, now + self.draws.draw(keys["period"]), number)
+
+    def leave(self, now: int, station: int) -> Iterator[Note]:
+        """A station is absent from now on."""
+        if station in self.world.present:
+            self.world.present.remove(station)
+            yield Note(now, station, "left")
 
     def hearers(self, giver: int, metres: int) -> list[int]:
         """The other stations that are present and at most so far from the giver of a frame."""
-        places = [station.vector.place for station in self.stations]
+        places = [station.vector.place for station in self.world.stations]
         near = [squared_distance(places[giver], p) <= (100 * metres) ** 2 for p in places]
-        return [number for number in sorted(self.present) if near[number] and number != giver]
+        return [number for number in sorted(self.world.present) if near[number] and number != giver]
 
 
-def lines(world: World) -> Iterator[str]:
-    for number, (event, entry) in enumerate(world.run()):
+def lines(world: World, notes: bool) -> Iterator[str]:
+    number = 0
+    for told in world.run():
+        if isinstance(told, Note):
+            if notes:
+                yield f"- {told.moment} {told.station} {told.words}"
+            continue
+        event, entry = told
         words = [number, event["at"], event["station"]]
+        number += 1
         if world.air is not None:
             words += ["deliver", event["frame"]] if event["do"] == "deliver" else [event["do"]]
         words.append(entry.word)
@@ -499,41 +777,62 @@ def count_inside(world: World, sender: int, port: int, area: Area) -> int:
     return sum(port in s.ports and area.holds(s.vector.place) for s in others)
 
 
-def summary(world: World) -> list[str]:
+def summary(world: World) -> Iterator[str]:
     sends: list[Send] = []
     # For each frame the send that it is of, None for a beacon or an shb, and its hops so far.
     origins: list[tuple[Send | None, int]] = []
     total: Counter[str] = Counter()
-    for number, (event, entry) in enumerate(world.run()):
-        gave, handed = entry.frame is not None, entry.handed is not None
-        word = "duplicates" if entry.word == "ignored duplicate" else entry.word.split()[0]
-        total.update({"events": 1, "frames": gave, "deliveries": handed, word: 1})
-        send, hops = None, 0
-        if word == "accepted":
-            send, hops = origins[event["frame"]]
-        elif word == "sent" and event["do"] in ("gbc", "gac"):
-            at, station, do, port = (event[key] for key in ("at", "station", "do", "port"))
-            inside = count_inside(world, station, port, read_area(event))
-            send = Send(f"send {number} {at} {station} {do} port {port} inside {inside}", at)
-            sends.append(send)
-        if gave:
-            origins.append((send, hops + 1))
-        if send is not None:
-            send.frames += gave
-            if handed:
-                send.hops = max(send.hops, hops)
-                send.first.setdefault(event["station"], event["at"])
+    bad = None
+    try:
+        events = (told for told in world.run() if isinstance(told, Done))
+        for number, (event, entry) in enumerate(events):
+            gave, handed = entry.frame is not None, entry.handed is not None
+            word = "duplicates" if entry.word == "ignored duplicate" else entry.word.split()[0]
+            total.update({"events": 1, "frames": gave, "deliveries": handed, word: 1})
+            send, hops = None, 0
+            if word == "accepted":
+                send, hops = origins[event["frame"]]
+            elif word == "sent" and event["do"] in ("gbc", "gac"):
+                at, station, do, port = (event[key] for key in ("at", "station", "do", "port"))
+                area = read_area(event, world.stations[station].vector.place)
+                inside = count_inside(world, station, port, area)
+                send = Send(f"send {number} {at} {station} {do} port {port} inside {inside}", at)
+                sends.append(send)
+            if gave:
+                origins.append((send, hops + 1))
+            if send is not None:
+                send.frames += gave
+                if handed:
+                    send.hops = max(send.hops, hops)
+                    send.first.setdefault(event["station"], event["at"])
+    except BadRow as row:
+        bad = row
+    yield from (send.line() for send in sends)
+    if bad is not None:
+        raise bad
     names = ["events", "frames", "deliveries", "duplicates", "ignored", "refused"]
     counts = " ".join(f"{name} {total[name]}" for name in names)
-    return [send.line() for send in sends] + [f"total {counts}"]
+    yield f"total {counts}"
 
 
 def main(arguments: list[str]) -> None:
+    moves = None
+    if "--moves" in arguments:
+        place = arguments.index("--moves")
+        with open(arguments[place + 1], "rb") as file:
+            moves = file.read()
+        del arguments[place : place + 2]
     *options, name = arguments
     with open(name, "rb") as file:
-        world = World(tomllib.load(file))
-    for text in summary(world) if options == ["--summary"] else lines(world):
-        print(text)
+        scenario = tomllib.load(file)
+    try:
+        world = World(scenario, moves)
+        told = summary(world) if "--summary" in options else lines(world, "--notes" in options)
+        for text in told:
+            print(text)
+    except BadRow as row:
+        print(f"geostation: {row}", file=sys.stderr)
+        sys.exit(1)
 
 
 if __name__ == "__main__":

@@ -311,6 +311,11 @@ static RUNNERS: [Form; 3] = [
                 "KEY=VALUE",
                 "Puts a key of the air in place of the scenario's",
             ),
+            Word::Value(
+                "moves",
+                "FILE",
+                "Moves stations as the rows of this file say: CSV, or - for standard input",
+            ),
             Word::Flag(
                 "notes",
                 "Also prints who comes, who leaves and what is lost in an air",

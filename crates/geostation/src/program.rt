@@ -163,18 +163,14 @@ where
         }
         Ok(
             Subcommand::Sim {
-                file,
-                frames,
-                results,
+                files,
                 options,
                 painter,
             },
         ) => {
             let mut out = Screen::plain(rt.alloc(), out).painted(painter);
             let mut err = Meter::new(rt.alloc(), rt, err, options.progress);
-            let status = simulate_file(
-                rt, file, input, frames, results, options, &mut out, &mut err,
-            );
+            let status = simulate_file(rt, files, input, options, &mut out, &mut err);
             let _ = err.flush();
             status
         }

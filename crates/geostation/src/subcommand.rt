@@ -11,7 +11,7 @@ use its_page::Viewing;
 use its_pcap::Format;
 use its_replay::PortList;
 use its_reporting::{OutputFormat, Target, is_standard};
-use its_runs::{ResultFiles, RunOptions};
+use its_runs::{ResultFiles, RunFiles, RunOptions};
 use its_scenario::{AirSettings, SettingFault};
 use its_stats::Counting;
 use its_terminal::{Coloring, Console, Painter};
@@ -55,12 +55,9 @@ pub enum Subcommand<'a> {
         lines: OutputFormat,
         progress: bool,
     },
-    /// To run the scenario in the file, and to write its frames to `frames` and its numbers to
-    /// `results`.
+    /// To run the scenario in a file, with its moves, and to write its frames and its numbers.
     Sim {
-        file: &'a str,
-        frames: Option<Target<'a>>,
-        results: ResultFiles<'a>,
+        files: RunFiles<'a>,
         options: RunOptions,
         painter: Option<Painter>,
     },
@@ -105,6 +102,7 @@ pub(crate) fn subcommand_of<'a>(
         "show" | "check" | "stats" | "convert" => over_capture(name, inner, console),
         "station" => Ok(StationWords::of(inner).map(Subcommand::Station)),
         "replay" => replaying(inner, console),
+        "sim" => simulating(inner, console),
         _ => Ok(other(name, inner, console)),
     }
 }
@@ -270,7 +268,6 @@ fn other<'a>(name: &str, inner: &ArgMatches<'a>, console: Console) -> Option<Sub
     let file = file_of(inner)?;
     match name {
         "import" => importing(file, lines, inner, console),
-        "sim" => Some(simulation_of(inner, file, frames, lines, console)),
         "view" => Some(Subcommand::View(viewing_of(inner, file, lines, console))),
         "mesh" => Some(Subcommand::Mesh {
             file,
@@ -306,41 +303,60 @@ fn viewing_of<'a>(
     }
 }
 
-/// The run of a scenario, or the refusal of the first bad value of its air.
-fn simulation_of<'a>(
+/// `sim`, or the refusal of the first bad value of its air. Of the scenario and the moves one at
+/// most is standard input.
+fn simulating<'a>(
     matches: &ArgMatches<'a>,
-    file: &'a str,
-    frames: Option<Target<'a>>,
-    lines: OutputFormat,
     console: Console,
-) -> Subcommand<'a> {
-    let summary = matches.get_flag("summary");
-    let quiet = matches.get_flag("quiet");
-    match settings_of(matches) {
+) -> Result<Option<Subcommand<'a>>, BadArgument<'a>> {
+    let Some(scenario) = file_of(matches) else {
+        return Ok(None);
+    };
+    let moves = matches.get_str("moves");
+    if is_standard(scenario) && moves.is_some_and(|name| is_standard(name)) {
+        return Err(BadArgument::Value("moves", "-", "a file, as SCENARIO is standard input"));
+    }
+    let lines = lines_of("sim", matches, console);
+    Ok(Some(match settings_of(matches) {
         Ok(settings) => Subcommand::Sim {
-            file,
-            frames,
-            results: ResultFiles {
-                sends: matches.get_str("sends"),
-                stations: matches.get_str("stations"),
-                load: matches.get_str("load"),
+            files: RunFiles {
+                scenario,
+                moves,
+                frames: frames_of(matches),
+                results: ResultFiles {
+                    sends: matches.get_str("sends"),
+                    stations: matches.get_str("stations"),
+                    load: matches.get_str("load"),
+                },
             },
-            options: RunOptions {
-                lines,
-                summary,
-                notes: matches.get_flag("notes"),
-                heads: console.out,
-                progress: !quiet && console.shows_progress(!summary),
-                quiet,
-                strict: matches.get_flag("strict"),
-                settings,
-            },
+            options: options_of(matches, lines, settings, console),
             painter: painter_of(matches, console, Painter::Events),
         },
         Err(fault) => Subcommand::BadSetting {
             fault,
             explain: lines.explain,
         },
+    }))
+}
+
+/// How a scenario is run.
+fn options_of(
+    matches: &ArgMatches<'_>,
+    lines: OutputFormat,
+    settings: AirSettings,
+    console: Console,
+) -> RunOptions {
+    let summary = matches.get_flag("summary");
+    let quiet = matches.get_flag("quiet");
+    RunOptions {
+        lines,
+        summary,
+        notes: matches.get_flag("notes"),
+        heads: console.out,
+        progress: !quiet && console.shows_progress(!summary),
+        quiet,
+        strict: matches.get_flag("strict"),
+        settings,
     }
 }
 
@@ -348,7 +364,7 @@ fn simulation_of<'a>(
 fn settings_of<'a>(matches: &ArgMatches<'a>) -> Result<AirSettings, SettingFault<'a>> {
     let mut settings = AirSettings::default();
     for setting in matches.get_strs("set").unwrap_or(&[]) {
-        settings.put(setting)?;
+        settings.set(setting)?;
     }
     Ok(settings)
 }

@@ -2,11 +2,8 @@
 
 use crate::choosing::BadArgument;
 use its_commands::Field;
+use its_scenario::nearest;
 use std::alloc::{AllocError, Global};
-use strsim::levenshtein;
-
-/// How many changes of a letter there are at most from a word to the one that was meant.
-const MOST_CHANGES: usize = 2;
 
 /// The kinds of packet.
 const KINDS: &[&str] = &["beacon", "shb", "gbc", "gac"];
@@ -27,13 +24,13 @@ pub(crate) fn tip_of(
     match bad {
         BadArgument::Value("kind", list, _) => {
             match list.split(',').find(|word| !KINDS.contains(word)) {
-                Some(word) => nearest(alloc, word, KINDS),
+                Some(word) => tip_among(alloc, word, KINDS),
                 None => Ok(None),
             }
         }
         BadArgument::Value("fields", list, _) => {
             match list.split(',').find(|word| Field::named(word).is_none()) {
-                Some(word) => nearest(alloc, word, FIELDS),
+                Some(word) => tip_among(alloc, word, FIELDS),
                 None => Ok(None),
             }
         }
@@ -41,20 +38,14 @@ pub(crate) fn tip_of(
     }
 }
 
-/// The first of these words that are the fewest changes of a letter away, where that is at most two.
-fn nearest(
+/// The one of these words that may be meant.
+fn tip_among(
     alloc: Global,
     word: &str,
     known: &[&'static str],
 ) -> Result<Option<&'static str>, AllocError> {
-    let mut found = None;
-    let mut fewest = MOST_CHANGES + 1;
-    for meant in known {
-        let changes = levenshtein(alloc, word, meant)?;
-        if changes < fewest {
-            found = Some(*meant);
-            fewest = changes;
-        }
+    match nearest(alloc, word, known)? {
+        Some(place) => Ok(known.get(place).copied()),
+        None => Ok(None),
     }
-    Ok(found)
 }

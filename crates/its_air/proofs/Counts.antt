@@ -476,6 +476,65 @@ pub of_either : (P : List Standing → Type 0) (b : Bool) (k l m : List Standing
 of_either P true k l m e h g = subst P (sym e) h
 of_either P false k l m e h g = subst P (sym e) g
 
+-- one station more stands where it stands
+pub stand_added : (old new : List StationState) (xs : List Standing) (number : ℕ)
+    (place : Position) (to : ℕ) → number ≡ length old → length new ≡ length old + 1
+    → ((n : ℕ) → n < length old → slice_get new n ≡ slice_get old n)
+    → IfSome (slice_get new number) (λ st. st.vector.place ≡ place)
+    → AreStandingsOf old xs
+    → AreStandingsOf new (insert xs to (record { place = place; number = number }))
+stand_added old new xs number place to last longer same at stand kind n =
+    let y : Standing = record { place = place; number = number } in
+    let f : Standing → ℕ = λ s. bit (s.number == n && kind s.place) in
+    by (cases_eq n number) (sum_by-insert f xs to y) (stand kind n)
+  where
+    y : Standing
+    y = record { place = place; number = number }
+
+    f : Standing → ℕ
+    f s = bit (s.number == n && kind s.place)
+
+    there : times_at kind (slice_get new number) ≡ bit (kind place)
+    there = by_place (slice_get_cases new number).1
+      where
+        by_place : ((st : StationState) × (number < length new)
+            × (slice_get new number ≡ Some st) × (get_or new number st ≡ st))
+            ⊎ ((length new ≤ number) × (slice_get new number ≡ None))
+            → times_at kind (slice_get new number) ≡ bit (kind place)
+        by_place (inl (st, within, some, is)) =
+            ap (times_at kind) some
+            ∙ ap (λ p. bit (kind p)) (subst (λ o. IfSome o (λ s. s.vector.place ≡ place)) some at)
+        by_place (inr (past, none)) = absurd (omega (arith, past, last, longer))
+
+    before : (n < length old) ⊎ (length old ≤ n) → n ≢ number
+        → times_at kind (slice_get new n) ≡ times_at kind (slice_get old n)
+    before (inl lt) differ = ap (times_at kind) (same n lt)
+    before (inr ge) differ =
+        ap (times_at kind) (slice_get_past new n (by_order (cases_lt n (length new))))
+        ∙ sym (ap (times_at kind) (slice_get_past old n ge))
+      where
+        by_order : (n < length new) ⊎ (length new ≤ n) → length new ≤ n
+        by_order (inl lt) = absurd (differ (omega (arith, ge, lt, last, longer)))
+        by_order (inr le) = le
+
+    by : (n ≡ number) ⊎ (n ≢ number)
+        → sum_by f (insert xs to y) ≡ sum_by f xs + f y
+        → sum_by f xs ≡ times_at kind (slice_get old n)
+        → sum_by f (insert xs to y) ≡ times_at kind (slice_get new n)
+    by (inl is) more told =
+        let own : f y ≡ bit (kind place) =
+        ap (λ (b : Bool). bit (b && kind place)) (eq-eqb number n (sym is)) in
+        let none : times_at kind (slice_get old n) ≡ 0 =
+        ap (times_at kind) (slice_get_past old n (omega (arith, is, last))) in
+        let seen : times_at kind (slice_get new n) ≡ bit (kind place) =
+        ap (λ k. times_at kind (slice_get new k)) is ∙ there in
+        omega (arith, more, told, own, none, seen)
+    by (inr differ) more told =
+        let none : f y ≡ 0 =
+        ap (λ (b : Bool). bit (b && kind place)) (ne_eqb number n (λ e. differ (sym e))) in
+        let after = before (cases_lt n (length old)) differ in
+        omega (arith, more, told, none, after)
+
 -- a station that stands where it stood
 pub stand_still : (old new : List StationState) (xs : List Standing) (number : ℕ)
     → option_map (λ (st : StationState). st.vector.place) (slice_get old number)

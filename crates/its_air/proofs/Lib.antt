@@ -11,6 +11,7 @@ pub mod Keeping
 pub mod Stepping
 pub mod OneRun
 pub mod Moments
+pub mod MovingOn
 pub mod Lasting
 pub mod Heard
 pub mod Ticks

@@ -11,5 +11,6 @@ pub mod AirTimed
 pub mod Traffics
 pub mod Waits
 pub mod Keeps
+pub mod Moving
 pub mod Heard
 pub mod Carried

@@ -3,6 +3,7 @@
 ghost use Rattle.std.specs.Prelude.{◌≡◌};
 
 use its_gnvalue::NoMemory;
+use its_moves::MovesFault;
 use its_simulation::SimulationFault;
 use std::alloc::{AllocError, AllocFailed};
 use std::io;
@@ -20,6 +21,18 @@ pub enum AirFault {
     /// There are 2^64 events or more.
     #[error("too many events")]
     TooManyEvents,
+    /// The rows by which stations move can't be read on.
+    #[error("moves: {0}")]
+    Moves(MovesFault),
+}
+
+impl From<MovesFault> for AirFault {
+    fn from(fault: MovesFault) -> AirFault {
+        match fault {
+            MovesFault::NoMemory => AirFault::OutOfMemory(AllocError),
+            MovesFault::Line(..) | MovesFault::Read(_) => AirFault::Moves(fault),
+        }
+    }
 }
 
 impl From<NoMemory> for AirFault {

@@ -2,9 +2,12 @@
 //! world in it.
 #![tactic(auto)]
 
+mod copying;
+mod departures;
 mod draws;
 mod fault;
 pub mod laws;
+mod moving;
 mod presence;
 mod reach;
 mod run;
@@ -12,10 +15,12 @@ mod scenario;
 mod standing;
 mod summary;
 mod tally;
+mod vehicles;
 mod waiting;
 
 pub use draws::Draws;
 pub use fault::AirFault;
+pub use moving::run_moves;
 pub use presence::Presence;
 pub use reach::{find_hearers, is_within};
 pub use run::run_air;

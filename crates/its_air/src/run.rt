@@ -12,11 +12,11 @@ ghost use Rattle.its_model.specs.World.{WorldModel, world_run};
 ghost use Rattle.its_station.specs.State.{StationState};
 ghost use Rattle.its_world.specs.State.{RepresentsWorld};
 ghost use Rattle.its_world.specs.Entries.{TellsEntry};
-ghost use Rattle.its_world.specs.Steps.{AreSameBut};
-ghost use Rattle.its_world.specs.Events.{IsConfig, IsInRange, config_of, event_of};
+ghost use Rattle.its_world.specs.Steps.{AreSameBut, IsKept};
+ghost use Rattle.its_world.specs.Events.{IsConfig, IsInRange, config_of, event_of, what_of};
 ghost use Rattle.its_world.specs.Mids.{AreApart};
 ghost use Rattle.its_scenario.specs.Airs.{end_of, moment_of};
-ghost use Rattle.its_simulation.specs.Simulated.{IsSimulated};
+ghost use Rattle.its_simulation.specs.Simulated.{IsSimulated, IsSimulation};
 ghost use Rattle.its_air.specs.AirRun.{AreDue, IsAirRun, events_in};
 ghost use Rattle.its_air.specs.AirTimed.{IsTimedRun, rules_of};
 ghost use Rattle.its_air.specs.Files.{SameFile, filed_due};
@@ -30,7 +30,7 @@ ghost use Rattle.its_air.specs.Timetable.{present_after, is_passed_over};
 ghost use Rattle.its_air.specs.Timetable.{Rules, AirModel, spread, air_opening};
 ghost use Rattle.its_air.specs.Runs.{IsUnderWay, SaysAsBefore};
 ghost use Rattle.its_air.specs.Standings.{AreStandingsOf};
-ghost use Rattle.its_air.specs.Queues.{happening_of, filed_of, IsFiledInRange};
+ghost use Rattle.its_air.specs.Queues.{happening_of, filed_of, own_of, IsFiledInRange};
 ghost use Rattle.its_air.specs.Traffics.{all_traffic, traffic_of};
 ghost use Rattle.its_air.specs.Waits.{pending_of, put_of};
 
@@ -42,7 +42,8 @@ use its_gnvalue::Place;
 use its_model::laws::every_schedule;
 use its_scenario::{Air, FileEvent, Traffic};
 use its_simulation::{EventSink, Note, do_event};
-use its_world::{Config, Entry, Event, World};
+use its_world::laws::late_stations_were_there;
+use its_world::{Config, Entry, Event, What, World};
 use std::alloc::Global;
 
 /// Runs the events and leaves of a file in an air, in which each frame that a station gives is
@@ -108,18 +109,18 @@ pub fn run_air<S: EventSink>(
 
 /// A run that is under way.
 #[derive(Drop)]
-struct Run<'a> {
+pub(crate) struct Run<'a> {
     alloc: Global,
     air: Air,
     /// What each station sends by itself.
     every: &'a [Traffic],
-    world: World,
-    queue: Queue<'a>,
+    pub(crate) world: World,
+    pub(crate) queue: Queue<'a>,
     draws: Draws,
     /// Which stations are present, by their numbers.
     present: Vec<bool>,
     /// Where the stations of the world stand.
-    standings: Standings,
+    pub(crate) standings: Standings,
     /// Who hears the last frame that was given.
     hearers: Vec<usize>,
     /// How many events were done.
@@ -128,7 +129,7 @@ struct Run<'a> {
 
 impl<'a> Run<'a> {
     /// A run of which nothing is done yet.
-    fn begin(
+    pub(crate) fn begin(
         alloc: Global,
         configs: &[Config],
         present: &[bool],
@@ -143,6 +144,7 @@ impl<'a> Run<'a> {
         requires moments { All (λ filed. moment_of filed < 2 ^ 63) file.now }
         ensures world { IfOk result (λ run.
             RepresentsWorld run.world (opening (map config_of configs.now))) }
+        ensures kept { IfOk result (λ run. run.world.released ≡ 0) }
         ensures due { IfOk result (λ run.
             AreDue (map filed_of file.now) (end_of air.now.until file.now)
             (filed_due run.queue)) }
@@ -179,13 +181,79 @@ impl<'a> Run<'a> {
         })
     }
 
+    /// Adds a station of this config, numbered behind all others, that is absent.
+    pub(crate) fn add_station(&mut self, config: &Config) -> Result<(), AirFault>
+        requires config { IsConfig config.now }
+        requires standings { AreStandingsOf self.old.world.stations self.old.standings.order.items }
+        ensures standings { OnOk result
+            (AreStandingsOf self.new.world.stations self.new.standings.order.items) }
+        ensures count { OnOk result
+            (length self.new.world.stations ≡ length self.old.world.stations + 1) }
+        ensures late { (configs : List Beginning) (events : List Happening) →
+            IsSimulation configs events self.old.world →
+            All (λ event. event.station < length configs) events → OnOk result
+            (IsSimulation (configs ++ config_of config.now ∷ []) events self.new.world) }
+    {
+        // Laws, for the proof alone.
+        every_schedule();
+        late_stations_were_there();
+        let number = self.world.stations().len();
+        self.world.add_station(config)?;
+        let Some(station) = self.world.station(number) else {
+            unreachable!()
+        };
+        let place = station.vector().place();
+        self.standings.add_station(number, place)?;
+        self.present.push(false)?;
+        Ok(())
+    }
+
+    /// Whether there is a station of this number.
+    pub(crate) fn has_station(&self, station: usize) -> bool
+        ensures { IsTrue result → station < length self.now.world.stations }
+    {
+        station < self.world.stations().len()
+    }
+
+    /// Whether none of the frames that were let go is delivered by what happens.
+    pub(crate) fn keeps(&self, what: &What) -> bool
+        ensures { IsTrue result → IsKept self.now.world.released (what_of what.now) }
+    {
+        match what {
+            What::Deliver(frame) => self.world.released() <= *frame,
+            _ => true,
+        }
+    }
+
+    /// The same of what the air does by itself.
+    pub(crate) fn keeps_own(&self, own: &Own) -> bool
+        ensures { IsTrue result → IsKept self.now.world.released (own_of own.now) }
+    {
+        match own {
+            Own::Deliver(frame) => self.world.released() <= *frame,
+            _ => true,
+        }
+    }
+
+    /// How long after it was given a frame is delivered, in milliseconds.
+    pub(crate) fn delay(&self) -> u64 {
+        u64::from(self.air.delay)
+    }
+
+    /// Whether the station of this number is present.
+    pub(crate) fn is_present(&self, station: usize) -> bool {
+        is_present(self.present.as_slice(), station)
+    }
+
     /// Takes the first that waits, if one does.
     fn go_on<S: EventSink>(&mut self, sink: &mut S) -> Result<bool, AirFault>
         requires ranges { All (λ filed. IsFiledInRange filed.now) self.old.queue.due.items }
+        requires kept { self.old.world.released ≡ 0 }
         requires standings { AreStandingsOf self.old.world.stations self.old.standings.order.items }
         ensures standings { OnOk result
             (AreStandingsOf self.new.world.stations self.new.standings.order.items) }
         ensures due { self.new.queue.due ≡ self.old.queue.due }
+        ensures kept { self.new.world.released ≡ 0 }
         ensures ended { IfOk result (λ more.
             more ≡ false → length self.new.queue.due.items ≤ self.new.queue.taken) }
         ensures run { (configs : List Beginning) (events : List Happening) →
@@ -209,11 +277,18 @@ impl<'a> Run<'a> {
     }
 
     /// Does what the file has: an event, with which its station may come, or a leave.
-    fn do_filed<S: EventSink>(&mut self, filed: &FileEvent, sink: &mut S) -> Result<(), AirFault>
+    pub(crate) fn do_filed<S: EventSink>(
+        &mut self,
+        filed: &FileEvent,
+        sink: &mut S,
+    ) -> Result<(), AirFault>
         requires range { IsFiledInRange filed.now }
         requires moment { moment_of filed.now ≤ 2 ^ 63 + 10000 }
+        requires kept { All (λ event. IsKept self.old.world.released event.what)
+            (events_in (filed_of filed.now ∷ [])) }
         requires standings { AreStandingsOf self.old.world.stations self.old.standings.order.items }
         ensures file { SameFile self.old.queue self.new.queue }
+        ensures released { self.new.world.released ≡ self.old.world.released }
         ensures standings { OnOk result
             (AreStandingsOf self.new.world.stations self.new.standings.order.items) }
         ensures run { (configs : List Beginning) (events : List Happening) →
@@ -235,7 +310,7 @@ impl<'a> Run<'a> {
     }
 
     /// A station is absent from now on.
-    fn leave<S: EventSink>(
+    pub(crate) fn leave<S: EventSink>(
         &mut self,
         station: usize,
         moment: u64,
@@ -261,16 +336,26 @@ impl<'a> Run<'a> {
 
     /// Does one of the air's own, and puts what follows it. A tick or a send of an absent station
     /// is passed over.
-    fn do_own<S: EventSink>(&mut self, waiting: &Waiting, sink: &mut S) -> Result<(), AirFault>
+    pub(crate) fn do_own<S: EventSink>(
+        &mut self,
+        waiting: &Waiting,
+        sink: &mut S,
+    ) -> Result<(), AirFault>
         requires moment { waiting.now.moment ≤ 2 ^ 63 + 10000 }
+        requires kept { IsKept self.old.world.released (own_of waiting.now.own) }
         requires standings { AreStandingsOf self.old.world.stations self.old.standings.order.items }
         ensures file { SameFile self.old.queue self.new.queue }
+        ensures released { self.new.world.released ≡ self.old.world.released }
         ensures standings { OnOk result
             (AreStandingsOf self.new.world.stations self.new.standings.order.items) }
         ensures run { (configs : List Beginning) (events : List Happening) →
             IsSimulated configs events self.old.world (S.Took sink.old) → OnOk result (
             (more : List Happening) × IsSimulated configs (events ++ more) self.new.world
             (S.Took sink.new)) }
+        ensures own { (configs : List Beginning) (events : List Happening) →
+            IsSimulated configs events self.old.world (S.Took sink.old) → OnOk result (
+            (more : List Happening) × All (λ event. event.station ≡ waiting.now.station) more
+            × IsSimulated configs (events ++ more) self.new.world (S.Took sink.new)) }
         ensures timed { (rules : Rules) (configs : List Beginning) (a : AirModel) →
             IsTimed rules configs a self.old (S.Took sink.old) → OnOk result
             (IsTimed rules configs (take_one rules configs a (pending_of waiting.now) a.timetable)
@@ -294,11 +379,17 @@ impl<'a> Run<'a> {
 
     /// Does an event, hands it to the sink, and puts the deliveries of the frame that it gave.
     /// Where its station has moved, it stands there from now on.
-    fn do_event<S: EventSink>(&mut self, event: &Event, sink: &mut S) -> Result<Entry, AirFault>
+    pub(crate) fn do_event<S: EventSink>(
+        &mut self,
+        event: &Event,
+        sink: &mut S,
+    ) -> Result<Entry, AirFault>
         requires range { IsInRange event.now.what }
         requires moment { event.now.moment ≤ 2 ^ 63 + 10000 }
+        requires kept { IsKept self.old.world.released (what_of event.now.what) }
         requires standings { AreStandingsOf self.old.world.stations self.old.standings.order.items }
         ensures file { SameFile self.old.queue self.new.queue }
+        ensures released { self.new.world.released ≡ self.old.world.released }
         ensures standings { OnOk result
             (AreStandingsOf self.new.world.stations self.new.standings.order.items) }
         ensures run { (configs : List Beginning) (events : List Happening) →
@@ -430,7 +521,7 @@ impl<'a> Run<'a> {
 
     /// Makes a station present that was absent and that an event moved, and puts its first tick and
     /// its first sends, where none of them waits.
-    fn come<S: EventSink>(
+    pub(crate) fn come<S: EventSink>(
         &mut self,
         event: &Event,
         entry: &Entry,
@@ -546,7 +637,7 @@ impl<'a> Run<'a> {
 }
 
 /// Where a station stands, by its number.
-fn place_of(world: &World, number: usize) -> Option<Place>
+pub(crate) fn place_of(world: &World, number: usize) -> Option<Place>
     ensures { result ≡ option_map (λ st. st.vector.place) (slice_get world.now.stations number) }
 {
     match world.station(number) {

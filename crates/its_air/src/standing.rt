@@ -1,7 +1,7 @@
 //! Where the stations of a world stand, in the order of their latitudes: who hears a frame is among
 //! those of a narrow band.
 
-ghost use Rattle.std.specs.Prelude.{◌≡◌, ◌≤◌, OnOk, IfOk, IfSome, List};
+ghost use Rattle.std.specs.Prelude.{◌≡◌, ◌≤◌, ◌<◌, ◌+◌, ℕ, OnOk, IfOk, IfSome, List, length};
 ghost use Rattle.std.specs.Prelude.{◌==◌, filter, map, slice_get};
 ghost use Rattle.std.specs.List.{position};
 ghost use Rattle.std.specs.List.Sorted.{IsNonDecreasingBy};
@@ -86,6 +86,24 @@ impl Standings {
         }
         gather(range, near, giver, place, found)?;
         found.sort_unstable();
+        Ok(())
+    }
+
+    /// One station more, of this number, stands at this place.
+    pub fn add_station(&mut self, number: usize, place: Place) -> Result<(), AllocError>
+        ensures { (stations new : List StationState) →
+            AreStandingsOf stations self.old.order.items →
+            number ≡ length stations → length new ≡ length stations + 1 →
+            ((n : ℕ) → n < length stations → slice_get new n ≡ slice_get stations n) →
+            IfSome (slice_get new number) (λ st. st.vector.place ≡ place) →
+            OnOk result (AreStandingsOf new self.new.order.items) }
+    {
+        let north = northing(place);
+        let to = self
+            .order
+            .partition_point(|other| northing(other.place) <= north);
+        let standing = Standing { place, number };
+        self.order.insert(to, standing)?;
         Ok(())
     }
 

@@ -7,7 +7,7 @@ use its_simulation::{EventRecord, EventSink, Note, SimulationFault};
 use its_station::{OwnedGbcRequest, Why};
 use its_world::{Entry, What, World};
 use std::alloc::Global;
-use std::collections::HashSet;
+use std::collections::{HashSet, VecDeque};
 
 /// The packet for an area that a frame carries.
 #[derive(Clone, Copy, Debug)]
@@ -19,12 +19,14 @@ struct Carried {
 }
 
 /// A sink that counts: what came of each packet for an area, and the totals. It keeps a few octets
-/// for each frame, and for each station at which a packet was delivered.
+/// for each frame that the world keeps, and for each station at which a packet was delivered.
 #[derive(Drop)]
 pub struct Tally {
     sends: Vec<SendSummary>,
-    /// What each frame carries, at its number.
-    carried: Vec<Option<Carried>>,
+    /// What each frame carries that the world hasn't let go, in the order of their numbers.
+    carried: VecDeque<Option<Carried>>,
+    /// How many frames were let go before these.
+    released: usize,
     /// The sends and the stations at which they were delivered.
     delivered: HashSet<(usize, usize)>,
     presence: Presence,
@@ -37,7 +39,8 @@ impl Tally {
     pub fn new(alloc: Global, present: &[bool]) -> Result<Tally, NoMemory> {
         Ok(Tally {
             sends: Vec::new(alloc),
-            carried: Vec::new(alloc),
+            carried: VecDeque::new(alloc),
+            released: 0,
             delivered: HashSet::new(alloc),
             presence: Presence::at_start(alloc, present)?,
             totals: Totals::default(),
@@ -52,6 +55,15 @@ impl Tally {
     /// The counts of all events.
     pub fn totals(&self) -> Totals {
         self.totals
+    }
+
+    /// Forgets what the frames carried that the world has let go: none of them is delivered again.
+    fn forget_released(&mut self, world: &World) {
+        let released = world.released();
+        for _frame in self.released..released {
+            self.carried.pop_front();
+        }
+        self.released = self.released.max(released);
     }
 
     /// Counts an event.
@@ -105,7 +117,7 @@ impl Tally {
 
     /// Counts a frame and what it carries.
     fn count_frame(&mut self, carried: Option<Carried>) -> Result<(), NoMemory> {
-        self.carried.push(carried)?;
+        self.carried.push_back(carried)?;
         count_one(&mut self.totals.frames);
         Ok(())
     }
@@ -134,7 +146,7 @@ impl Tally {
         let What::Deliver(frame) = action else {
             return None;
         };
-        match self.carried.as_slice().get(*frame) {
+        match self.carried.get(frame.checked_sub(self.released)?) {
             Some(carried) => *carried,
             None => None,
         }
@@ -178,6 +190,7 @@ impl EventSink for Tally {
     ghost Took = { λ _ _ _. Unit {0} };
 
     fn put(&mut self, world: &World, done: &EventRecord<'_>) -> Result<(), SimulationFault> {
+        self.forget_released(world);
         Ok(self.count(world, done)?)
     }
 

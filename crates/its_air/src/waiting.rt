@@ -294,7 +294,7 @@ impl<'a> Queue<'a> {
     }
 
     /// Takes the first of the air's own, if its moment lies before this one.
-    fn take_before(&mut self, moment: u64) -> Option<Waiting>
+    pub(crate) fn take_before(&mut self, moment: u64) -> Option<Waiting>
         ensures due { self.new.due ≡ self.old.due }
         ensures taken { self.new.taken ≡ self.old.taken }
         ensures until { self.new.until ≡ self.old.until }

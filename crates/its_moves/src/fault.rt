@@ -26,6 +26,9 @@ pub enum Word {
     Speed,
     /// Its heading is no number in its range.
     Heading,
+    /// Its id is new, and there is no place for one more station. `Rows` doesn't tell this: it is
+    /// for whoever makes stations of ids.
+    TooManyStations,
 }
 
 impl fmt::Display for Word {
@@ -40,6 +43,29 @@ impl fmt::Display for Word {
             Word::Lon => "lon",
             Word::Speed => "speed",
             Word::Heading => "heading",
+            Word::TooManyStations => "too many stations",
+        })
+    }
+}
+
+/// What is wrong with a line, as a sentence for a person.
+#[derive(Clone, Copy, Debug, PartialEq, Eq)]
+pub struct WordReason(pub Word);
+
+impl fmt::Display for WordReason {
+    fn fmt<W: fmt::Write>(&self, f: &mut fmt::Formatter<W>) -> fmt::Result {
+        f.write_str(match self.0 {
+            Word::Length => "more than 4096 octets",
+            Word::Header =>
+                "a name of the columns is missing or stands twice, or names are of both kinds",
+            Word::Fields => "more or fewer fields than the first line has",
+            Word::At => "no moment in its range, or below that of the row before",
+            Word::Id => "not 1 to 64 octets of UTF-8 without control characters",
+            Word::Lat => "no latitude in its range",
+            Word::Lon => "no longitude in its range",
+            Word::Speed => "no speed in its range",
+            Word::Heading => "no heading in its range",
+            Word::TooManyStations => "no place or no address is left for the station of a new id",
         })
     }
 }

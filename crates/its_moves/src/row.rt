@@ -57,8 +57,8 @@ fn moment_of(columns: &Columns, before: u64, octets: &[u8]) -> Option<u64>
     if at < before { None } else { Some(at) }
 }
 
-/// Whether octets are an id: 1 to 64 octets of UTF-8 without control characters.
-fn is_id(octets: &[u8]) -> bool
+/// Whether octets are an id: 1 to 64 octets of UTF-8 without control characters (Unicode's Cc).
+pub fn is_id(octets: &[u8]) -> bool
     ensures { IsTrue result ↔ IsId octets.now }
 {
     if octets.is_empty() || octets.len() > MOST_ID_OCTETS {

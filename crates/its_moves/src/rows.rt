@@ -98,6 +98,13 @@ impl<R: BufRead + Drop> Rows<R> {
         reached
     }
 
+    /// The number of the line that was read last, from 1: that of the row that `next` gave.
+    pub fn line(&self) -> u64
+        ensures { result ≡ self.now.number }
+    {
+        self.number
+    }
+
     /// Reads lines to the next that gives a row.
     fn read_row(&mut self) -> Result<Option<Row>, MovesFault>
         ensures { IfOk result (λ row. IfSome row IsRow) }

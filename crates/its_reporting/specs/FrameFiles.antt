@@ -41,6 +41,14 @@ IsBegun format contents stations f = (begun : RecordFile)
     × AddsInterfaces stations begun f.file
     × (f.frames ≡ 0) × (f.left_out ≡ false) × (f.failed ≡ false)
 
+-- one more interface is written behind what the file has, where the format has any
+pub record HasNewInterface (old new : RunFile) : Type 0 where
+  pub name : List ℕ
+  pub added : AddsInterface old.file.format name old.file new.file (Ok tt)
+  pub frames : new.frames ≡ old.frames
+  pub left_out : new.left_out ≡ old.left_out
+  pub failed : new.failed ≡ old.failed
+
 -- what a file remembers of a frame that was put so, and whether the run may go on: a frame whose
 -- moment has no place is left out, and all other faults are the file's
 abbrev pub Remembers : Result (Unit {0}) PutFault → RunFile → RunFile → Bool → Type 0

@@ -2,7 +2,7 @@
 
 ghost use Rattle.std.specs.Prelude.{◌≡◌, ◌^◌, ◌<◌, IfOk, is_ok};
 ghost use Rattle.its_reporting.specs.Statuses.{IsCommandStatus};
-ghost use Rattle.its_reporting.specs.FrameFiles.{IsBegun, IsNoted, IsEnded};
+ghost use Rattle.its_reporting.specs.FrameFiles.{HasNewInterface, IsBegun, IsNoted, IsEnded};
 
 use crate::fault::Fault;
 use crate::left_out::LeftOut;
@@ -18,6 +18,7 @@ use std::marker::Model;
 /// A file of the frames that stations give, one by one.
 #[derive(Drop)]
 pub struct FrameFile<'a, W: Write + Drop> {
+    alloc: Global,
     sink: AnySink<Counted<W>>,
     target: &'a str,
     /// How many frames were given so far.
@@ -67,12 +68,32 @@ impl<'a, W: Write + Drop> FrameFile<'a, W> {
             }
         }
         Ok(FrameFile {
+            alloc,
             sink,
             target,
             frames: 0,
             left_out: false,
             failed: false,
         })
+    }
+
+    /// Adds the interface of the station of this number, which a run made: one of pcapng has it
+    /// here, behind the packets before. The station's number has to be how many there were before
+    /// it.
+    ///
+    /// An error of the kind `OutOfMemory` says that there was none for its name; any other that the
+    /// file failed, which `end` tells then.
+    pub fn add_station(&mut self, station: usize) -> io::Result<()>
+        ensures { IfOk result (λ _. HasNewInterface self.old self.new) }
+    {
+        let name = format!(in self.alloc; "station {station}")?;
+        match self.sink.add_interface(name.as_str()) {
+            Ok(()) => Ok(()),
+            Err(_) => {
+                self.failed = true;
+                Err(io::Error::from(io::ErrorKind::Other))
+            }
+        }
     }
 
     /// Writes the next frame, which a station gave at this moment, as one of that station's

@@ -9,7 +9,7 @@ use Rattle.its_air.specs.Scenarios.{IsRunOf}
 use Rattle.its_reporting.specs.declared.status.Status.{Status}
 use Rattle.its_reporting.specs.declared.status.Status.TheVariants.{Done, Refused, Failed}
 use Rattle.its_runs.specs.declared.fault.RunFault.{RunFault}
-use Rattle.its_runs.specs.declared.fault.RunFault.TheVariants.{Scenario as NoScenario, Stopped}
+use Rattle.its_runs.specs.declared.fault.RunFault.TheVariants.{Scenario as NoScenario, Row, Stopped}
 
 -- whether the event was done: it was not refused
 abbrev pub was_done : Entry → Bool
@@ -26,7 +26,9 @@ abbrev pub IsRunStatus : Bool → Scenario → Status → Type 0
 IsRunStatus strict scenario status =
     (world : WorldState) × IsRunOf scenario world (λ events log. status ≡ run_status strict log)
 
--- the status of what kept a scenario from being run: a bad scenario is refused, all else failed
+-- the status of what kept a scenario from being run: a bad scenario is refused, and a bad line of
+-- moves, all else failed
 abbrev pub run_fault_status : RunFault → Status
 run_fault_status (NoScenario _) = Refused
+run_fault_status (Row _) = Refused
 run_fault_status (Stopped _) = Failed

@@ -1,8 +1,10 @@
 //! The stations that packets for an area are for, and how far these came there.
 
+use crate::waiting_frames::{Carried, WaitingFrames};
 use its_air::Presence;
 use its_geometry::{Area, contains};
 use its_gnvalue::NoMemory;
+use its_scenario::Scenario;
 use its_simulation::{EventRecord, Note};
 use its_station::{OwnedGbcRequest, Refused};
 use its_world::{Entry, EntryFault, What, World};
@@ -167,31 +169,31 @@ impl Audience {
     }
 }
 
-/// The audiences of the packets for an area of a run.
+/// The audiences of the packets for an area of a run. Of frames it keeps those of which deliveries
+/// wait.
 #[derive(Drop)]
 pub(crate) struct Audiences {
     alloc: Global,
     /// Whether anyone asks for them: else nothing is kept.
     are_wanted: bool,
     sends: Vec<Audience>,
-    /// The packet of each frame, at its number, by its place among the sends.
-    carried: Vec<Option<usize>>,
+    frames: WaitingFrames,
     presence: Presence,
 }
 
 impl Audiences {
-    /// Those of a run that has not begun, of whose stations these are present then.
+    /// Those of a run of a scenario that has not begun.
     pub(crate) fn new(
         alloc: Global,
-        present: &[bool],
+        scenario: &Scenario,
         are_wanted: bool,
     ) -> Result<Audiences, NoMemory> {
         Ok(Audiences {
             alloc,
             are_wanted,
             sends: Vec::new(alloc),
-            carried: Vec::new(alloc),
-            presence: Presence::at_start(alloc, present)?,
+            frames: WaitingFrames::new(alloc, scenario)?,
+            presence: Presence::at_start(alloc, scenario.present.as_slice())?,
         })
     }
 
@@ -205,74 +207,68 @@ impl Audiences {
         if !self.are_wanted {
             return Ok(());
         }
-        match done.what {
+        self.frames.settle();
+        let carried = match done.what {
             What::SendGeobroadcast(request) | What::SendGeoanycast(request) => {
-                self.take_send(world, done, request)
+                self.take_send(world, done, request)?
             }
             What::Deliver(frame) => self.take_delivery(world, done, *frame),
-            _ => self.take_frame(done.entry, None),
+            _ => None,
+        };
+        if let (Some(frame), Some(carried)) = (done.entry.frame(), carried) {
+            self.frames.give(frame, carried)?;
         }
+        Ok(())
     }
 
-    /// Takes a note of a run: who comes and leaves, and that a frame was lost on the way to a station.
+    /// Takes a note of a run: who comes and leaves, and whether a frame is heard by a station or
+    /// lost on the way to it.
     pub(crate) fn take_note(&mut self, moment: u64, note: &Note<'_>) -> Result<(), NoMemory> {
-        if let Note::Lost { station, frame } = *note {
-            if let Some(audience) = self.audience_of(frame) {
-                audience.note(station, moment, Reach::Lost);
+        match *note {
+            Note::Heard { frame, .. } => self.frames.wait(frame),
+            Note::Lost { station, frame } => {
+                if let Some(audience) = self.audience_of(frame) {
+                    audience.note(station, moment, Reach::Lost);
+                }
             }
+            _ => {}
         }
         self.presence.take(note)
     }
 
-    /// Takes the send of a packet for an area, where it was sent.
+    /// Takes the send of a packet for an area, where it was sent: what its frame carries.
     fn take_send(
         &mut self,
         world: &World,
         done: &EventRecord<'_>,
         request: &OwnedGbcRequest,
-    ) -> Result<(), NoMemory> {
+    ) -> Result<Option<Carried>, NoMemory> {
         if !matches!(done.entry, Entry::Sent(_)) {
-            return Ok(());
+            return Ok(None);
         }
         let send = self.sends.len();
         self.sends.push(Audience::new(self.alloc, world, &self.presence, done, request)?)?;
-        self.take_frame(done.entry, Some(send))
+        Ok(Some(Carried { send, depth: 0 }))
     }
 
-    /// Takes the frame that was given, where one was, as one of this packet.
-    fn take_frame(&mut self, entry: &Entry, send: Option<usize>) -> Result<(), NoMemory> {
-        if entry.frame().is_some() {
-            self.carried.push(send)?;
-        }
-        Ok(())
-    }
-
-    /// Takes what came of a frame that was delivered.
+    /// Takes what came of a frame that was delivered: what a relay of it carries.
     fn take_delivery(
         &mut self,
         world: &World,
         done: &EventRecord<'_>,
         frame: usize,
-    ) -> Result<(), NoMemory> {
-        let send = self.packet_of(frame);
-        if let Some(audience) = self.audience_of(frame) {
+    ) -> Option<Carried> {
+        let carried = self.frames.deliver(frame)?;
+        if let Some(audience) = self.sends.as_mut_slice().get_mut(carried.send) {
             audience.take(world, done);
         }
-        self.take_frame(done.entry, send)
+        Some(carried.relayed())
     }
 
-    /// The packet of a frame, by its place among the sends, where it is for an area.
-    fn packet_of(&self, frame: usize) -> Option<usize> {
-        match self.carried.as_slice().get(frame) {
-            Some(send) => *send,
-            None => None,
-        }
-    }
-
-    /// The audience of the packet of a frame.
+    /// The audience of the packet of a frame of which deliveries wait, or that was just given.
     fn audience_of(&mut self, frame: usize) -> Option<&mut Audience> {
-        let send = self.packet_of(frame)?;
-        self.sends.as_mut_slice().get_mut(send)
+        let carried = self.frames.get(frame)?;
+        self.sends.as_mut_slice().get_mut(carried.send)
     }
 }
 

@@ -3,12 +3,13 @@
 use its_airtime::air_time;
 use its_world::World;
 
-/// The air time of a frame of a world, in microseconds; 0 where there is no such frame.
+/// The air time of a frame of a world, in microseconds; 0 where there is no such frame, or it was
+/// let go.
 pub(crate) fn frame_time(world: &World, frame: usize) -> u64 {
-    if frame >= world.frames() {
-        return 0;
+    match world.kept_frame(frame) {
+        Some(octets) => octets_time(octets),
+        None => 0,
     }
-    octets_time(world.frame(frame))
 }
 
 /// The air time of a frame of these octets, in microseconds.

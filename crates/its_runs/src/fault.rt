@@ -3,8 +3,10 @@
 ghost use Rattle.std.specs.Prelude.{◌≡◌};
 ghost use Rattle.its_runs.specs.Runs.{run_fault_status};
 
+use crate::bad_row::BadRow;
 use its_air::AirFault;
 use its_frame_text::Explanation;
+use its_moves::MovesFault;
 use its_reporting::{Fault, OutputFormat, Status};
 use its_scenario::ScenarioFault;
 use std::alloc::AllocError;
@@ -17,25 +19,28 @@ pub enum RunFault<'a> {
     /// The text is no scenario.
     #[error("geostation: {0}")]
     Scenario(ScenarioFault),
+    /// A line of the file of moves is bad.
+    #[error("{0}")]
+    Row(BadRow),
     /// What ends any command.
     #[error("{0}")]
     Stopped(Fault<'a>),
 }
 
 impl RunFault<'_> {
-    /// The exit status: `Refused` for a scenario, else `Failed`.
+    /// The exit status: `Refused` for a scenario and a line of moves, else `Failed`.
     pub fn status(&self) -> Status
         ensures { result ≡ run_fault_status self.now }
     {
         match self {
-            RunFault::Scenario(_) => Status::Refused,
+            RunFault::Scenario(_) | RunFault::Row(_) => Status::Refused,
             RunFault::Stopped(fault) => fault.status(),
         }
     }
 
     /// Writes the line on standard error, and gives the exit status. With `explain` the line of a
-    /// text that is no scenario goes on with its sentence in parentheses, that of a file with the
-    /// system's reason. What fails there is passed over.
+    /// text that is no scenario, and of a bad line of moves, goes on with its sentence in
+    /// parentheses, that of a file with the system's reason. What fails there is passed over.
     pub fn report_as<E: Write>(self, lines: OutputFormat, err: &mut E) -> Status
         ensures { result ≡ run_fault_status self.entry }
     {
@@ -45,6 +50,7 @@ impl RunFault<'_> {
                 let _ = writeln!(err, "geostation: {fault}{}", Explanation(reason));
                 Status::Refused
             }
+            RunFault::Row(row) => row.report_as(lines, err),
             RunFault::Stopped(fault) => fault.report_as(lines, err),
         }
     }
@@ -65,12 +71,32 @@ impl<'a> From<Fault<'a>> for RunFault<'a> {
     }
 }
 
-/// What ends the command where the run of an air was ended by this.
-pub(crate) fn fault_of_air<'a>(fault: AirFault) -> Fault<'a> {
+/// What ends the command where the rows of the file of this name can't be read on.
+pub(crate) fn fault_of_moves<'a>(fault: MovesFault, file: &'a str) -> RunFault<'a> {
     match fault {
-        AirFault::OutOfMemory(error) => Fault::OutOfMemory(error),
-        AirFault::Output(error) => Fault::NoOutput(error),
-        // No memory has the counts of so many.
-        AirFault::TooManyEvents => Fault::OutOfMemory(AllocError),
+        MovesFault::Line(line, word) => RunFault::Row(BadRow { line, word }),
+        MovesFault::Read(error) => RunFault::Stopped(Fault::of_read(&error, file)),
+        MovesFault::NoMemory => RunFault::Stopped(Fault::OutOfMemory(AllocError)),
     }
+}
+
+/// What ends the command where the run of an air was ended by this. `moves` is the name of the file
+/// of moves, where there is one.
+pub(crate) fn fault_of_air<'a>(fault: AirFault, moves: Option<&'a str>) -> RunFault<'a> {
+    match fault {
+        AirFault::OutOfMemory(error) => RunFault::Stopped(Fault::OutOfMemory(error)),
+        AirFault::Output(error) => RunFault::Stopped(Fault::NoOutput(error)),
+        AirFault::Moves(fault) => fault_of_moves(fault, moves.unwrap_or("")),
+        // No memory has the counts of so many.
+        AirFault::TooManyEvents => RunFault::Stopped(Fault::OutOfMemory(AllocError)),
+    }
+}
+
+/// Whether a run was ended by its file of moves, of which a line is bad or a read failed: what was
+/// run till then is told.
+pub(crate) fn is_cut_short(fault: &AirFault) -> bool {
+    matches!(
+        fault,
+        AirFault::Moves(MovesFault::Line(..) | MovesFault::Read(_))
+    )
 }

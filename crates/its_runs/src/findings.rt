@@ -4,9 +4,11 @@ ghost use Rattle.std.specs.Prelude.{◌≡◌, IfOk};
 ghost use Rattle.its_reporting.specs.Statuses.{IsCommandStatus};
 
 use crate::audience::{Audience, Audiences};
+use crate::fault::{RunFault, fault_of_air, is_cut_short};
 use crate::full_tables::FullTables;
 use crate::options::RunOptions;
 use crate::results::Results;
+use its_air::AirFault;
 use its_gnvalue::NoMemory;
 use its_reporting::{Fault, Status};
 use its_scenario::{Expectation, Reached, Scenario};
@@ -22,8 +24,7 @@ pub(crate) struct Findings<'s, 'a, W: Write + Drop> {
     full: FullTables,
     audiences: Audiences,
     results: Results<'a, W>,
-    /// Whether it isn't told of full location tables.
-    quiet: bool,
+    options: RunOptions,
 }
 
 impl<'s, 'a, W: Write + Drop> Findings<'s, 'a, W> {
@@ -38,9 +39,9 @@ impl<'s, 'a, W: Write + Drop> Findings<'s, 'a, W> {
         Ok(Findings {
             scenario,
             full: FullTables::new(),
-            audiences: Audiences::new(alloc, scenario.present.as_slice(), are_wanted)?,
+            audiences: Audiences::new(alloc, scenario, are_wanted)?,
             results,
-            quiet: options.quiet,
+            options,
         })
     }
 
@@ -59,7 +60,7 @@ impl<'s, 'a, W: Write + Drop> Findings<'s, 'a, W> {
 
     /// Takes an event that was done.
     fn take(&mut self, world: &World, done: &EventRecord<'_>) -> Result<(), SimulationFault> {
-        self.full.take(self.scenario.stations.as_slice(), done);
+        self.full.take(self.scenario, done);
         self.audiences.take(world, done)?;
         self.results.take(world, done)
     }
@@ -76,11 +77,13 @@ impl<'s, 'a, W: Write + Drop> Findings<'s, 'a, W> {
     }
 
     /// Ends the files of a run that ended so, and tells on standard error what was found out about
-    /// it. `CannotWrite` where a file failed, `Refused` where something that is expected isn't met,
-    /// of a run that is done.
+    /// it. `moves` is the name of its file of moves, where there is one. `CannotWrite` where a file
+    /// failed, `Refused` where something that is expected isn't met, of a run that is done, and
+    /// where a line of moves ended it.
     pub(crate) fn end<E: Write>(
         self,
-        ran: Result<Status, Fault<'a>>,
+        ran: Result<Status, AirFault>,
+        moves: Option<&'a str>,
         err: &mut E,
     ) -> Result<Status, Fault<'a>>
         requires { IfOk ran IsCommandStatus }
@@ -88,26 +91,50 @@ impl<'s, 'a, W: Write + Drop> Findings<'s, 'a, W> {
     {
         let told = match ran {
             Ok(status) => Ok(self.tell(status, err)),
-            Err(fault) => Err(fault),
+            Err(fault) => self.tell_fault(fault, moves, err),
         };
         self.results.end(told)
     }
 
-    /// Tells on standard error what was found out about a run with this status: that location tables
-    /// were full, in an air and unless it is quiet, and each expectation that isn't met. `Refused`
-    /// where one isn't, of a run that is done.
+    /// Tells on standard error what was found out about a run with this status: that location
+    /// tables were full, and each expectation that isn't met. `Refused` where one isn't, of a run
+    /// that is done.
     fn tell<E: Write>(&self, status: Status, err: &mut E) -> Status
         requires { IsCommandStatus status }
         ensures { IsCommandStatus result }
     {
-        if self.scenario.air.is_some() && !self.quiet {
-            self.full.report(err);
-        }
+        self.tell_full(err);
         let are_met = self.report_unmet(err);
         if are_met || status != Status::Done {
             status
         } else {
             Status::Refused
+        }
+    }
+
+    /// Tells on standard error of a run that this ended what was found out till then, where its
+    /// file of moves did: that location tables were full, and which line is bad.
+    fn tell_fault<E: Write>(
+        &self,
+        fault: AirFault,
+        moves: Option<&'a str>,
+        err: &mut E,
+    ) -> Result<Status, Fault<'a>>
+        ensures { IfOk result IsCommandStatus }
+    {
+        if is_cut_short(&fault) {
+            self.tell_full(err);
+        }
+        match fault_of_air(fault, moves) {
+            RunFault::Stopped(fault) => Err(fault),
+            fault => Ok(fault.report_as(self.options.lines, err)),
+        }
+    }
+
+    /// Tells that location tables were full, in an air and unless it is quiet.
+    fn tell_full<E: Write>(&self, err: &mut E) {
+        if self.scenario.air.is_some() && !self.options.quiet {
+            self.full.report(err);
         }
     }
 

@@ -4,6 +4,7 @@ use crate::progress::Progress;
 use its_reporting::{FrameFile, OutputFormat};
 use its_simulation::{EventRecord, EventSink, Note, SimulationFault};
 use its_world::World;
+use std::alloc::AllocError;
 use std::io;
 use std::io::Write;
 
@@ -30,6 +31,24 @@ impl<W: Write + Drop, E: Write> EventSink for Frames<'_, '_, W, E> {
             .put(done.station, done.moment, frame, self.lines, self.err);
         // The file remembers that it failed.
         put.map_err(|_| SimulationFault::Output(io::Error::from(io::ErrorKind::Other)))
+    }
+
+    fn note(
+        &mut self,
+        _world: &World,
+        _moment: u64,
+        note: &Note<'_>,
+    ) -> Result<(), SimulationFault> {
+        let Note::Made { station, .. } = *note else {
+            return Ok(());
+        };
+        match self.file.add_station(station) {
+            Ok(()) => Ok(()),
+            Err(error) if error.kind() == io::ErrorKind::OutOfMemory => {
+                Err(SimulationFault::OutOfMemory(AllocError))
+            }
+            Err(error) => Err(SimulationFault::Output(error)),
+        }
     }
 }
 

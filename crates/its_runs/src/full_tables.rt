@@ -1,9 +1,19 @@
 //! Receptions that met a full location table.
 
+use its_scenario::Scenario;
 use its_simulation::EventRecord;
 use its_station::Refused;
-use its_world::{Config, Entry, EntryFault};
+use its_world::{Entry, EntryFault};
 use std::io::Write;
+
+/// For how many sources a station has room: one of the scenario's own, or one that a row of moves
+/// made.
+fn capacity_of(scenario: &Scenario, station: usize) -> u16 {
+    match scenario.stations.as_slice().get(station) {
+        Some(config) => config.capacity,
+        None => scenario.moves.capacity,
+    }
+}
 
 /// How many receptions a full location table refused, and of which capacities.
 #[derive(Clone, Copy, Debug)]
@@ -27,8 +37,8 @@ impl FullTables {
         (self.receptions > 0).then_some(self.receptions)
     }
 
-    /// Takes an event that was done by one of the stations that begin so.
-    pub(crate) fn take(&mut self, configs: &[Config], done: &EventRecord<'_>) {
+    /// Takes an event of a run of the scenario.
+    pub(crate) fn take(&mut self, scenario: &Scenario, done: &EventRecord<'_>) {
         if !matches!(
             done.entry,
             Entry::Refused(EntryFault::Station(Refused::TableFull))
@@ -36,9 +46,7 @@ impl FullTables {
             return;
         }
         self.receptions = self.receptions.saturating_add(1);
-        if let Some(config) = configs.get(done.station) {
-            self.least = self.least.min(config.capacity);
-        }
+        self.least = self.least.min(capacity_of(scenario, done.station));
     }
 
     /// Tells of them on standard error, where there are any. What fails there is passed over.

@@ -2,12 +2,15 @@
 #![tactic(auto)]
 
 mod audience;
+mod bad_row;
 mod busy;
+mod course;
 mod fault;
 mod files;
 mod findings;
 mod frames;
 mod full_tables;
+mod input;
 mod load_rows;
 mod open_send;
 mod options;
@@ -23,8 +26,9 @@ mod target;
 mod waiting_frames;
 mod watched;
 
+pub use bad_row::BadRow;
 pub use fault::RunFault;
-pub use files::simulate_file;
+pub use files::{RunFiles, simulate_file};
 pub use options::RunOptions;
 pub use results::ResultFiles;
 pub use simulating::{read_scenario, read_scenario_without_air, simulate, simulate_scenario};

@@ -28,11 +28,13 @@ pub struct RunOptions {
 }
 
 impl RunOptions {
-    /// How the scenario is read. `has_results` says whether files of numbers are written.
-    pub(crate) fn reading(&self, has_results: bool) -> Reading {
+    /// How the scenario is read. `has_results` says whether files of numbers are written, and
+    /// `moves` whether it is run with the moves of a file.
+    pub(crate) fn reading(&self, has_results: bool, moves: bool) -> Reading {
         Reading {
             strict: self.strict,
-            needs_air: has_results || self.notes || !self.settings.is_empty(),
+            needs_air: has_results || moves || self.notes || !self.settings.is_empty(),
+            moves,
             settings: self.settings,
         }
     }

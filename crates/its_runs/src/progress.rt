@@ -1,10 +1,11 @@
 //! How far a run is, on a line of a terminal.
 
+use crate::course::Course;
 use crate::options::RunOptions;
-use its_scenario::Scenario;
 use its_simulation::EventRecord;
 use its_world::What;
-use std::io::Write;
+use std::io;
+use std::io::{BufRead, Write};
 
 /// How many events are done from one time that the line is written to the next.
 const EVENTS: usize = 65536;
@@ -14,23 +15,21 @@ const EVENTS: usize = 65536;
 pub(crate) struct Progress {
     /// Whether the line is shown.
     is_shown: bool,
-    /// The moment at which the run ends.
-    end: u64,
+    /// The moment at which the run ends, where that is known.
+    end: Option<u64>,
     /// How many of the events so far were deliveries.
     deliveries: u64,
 }
 
 impl Progress {
     /// Before the first event of a run. The line is shown where someone looks.
-    pub(crate) fn of(scenario: &Scenario, options: RunOptions) -> Progress {
-        let events = scenario.events.as_slice();
-        let file = scenario.file.as_slice();
+    pub(crate) fn of<M: BufRead + Drop>(
+        course: &Course<'_, '_, M>,
+        options: RunOptions,
+    ) -> Progress {
         Progress {
             is_shown: options.progress,
-            end: match &scenario.air {
-                Some(air) => air.end(file),
-                None => events.last().map_or(0, |event| event.moment),
-            },
+            end: course.end(),
             deliveries: 0,
         }
     }
@@ -45,15 +44,22 @@ impl Progress {
             self.deliveries = self.deliveries.saturating_add(1);
         }
         if done.number % EVENTS == 0 {
-            let _ = write!(
-                err,
-                "{} of {} ms: events {} deliveries {}\x1b[K\r",
-                done.moment,
-                self.end,
-                done.number as u64 + 1,
-                self.deliveries
-            );
+            let _ = self.write(done, err);
         }
+    }
+
+    /// Writes the line after an event.
+    fn write<E: Write>(&self, done: &EventRecord<'_>, err: &mut E) -> io::Result<()> {
+        write!(err, "{}", done.moment)?;
+        if let Some(end) = self.end {
+            write!(err, " of {end}")?;
+        }
+        let events = (done.number as u64).saturating_add(1);
+        write!(
+            err,
+            " ms: events {events} deliveries {}\x1b[K\r",
+            self.deliveries
+        )
     }
 
     /// Takes the line away.

@@ -115,23 +115,20 @@ impl SendRows {
         done: &EventRecord<'_>,
         frame: usize,
     ) -> Result<Option<Carried>, NoMemory> {
-        let Some(Carried { send, depth }) = self.frames.deliver(frame) else {
+        let Some(carried) = self.frames.deliver(frame) else {
             return Ok(None);
         };
         let is_relayed = done.entry.frame().is_some();
-        let Some(packet) = self.packet(send) else {
+        let Some(packet) = self.packet(carried.send) else {
             return Ok(None);
         };
         packet.wait_no_more();
-        packet.take(world, done, depth)?;
+        packet.take(world, done, carried.depth)?;
         if !is_relayed {
             return Ok(None);
         }
         packet.relay();
-        Ok(Some(Carried {
-            send,
-            depth: depth.saturating_add(1),
-        }))
+        Ok(Some(carried.relayed()))
     }
 
     /// Takes a frame that was given, with what it carries.

@@ -4,7 +4,8 @@ ghost use Rattle.std.specs.Prelude.{◌≡◌, ◌≤◌, IfOk, None, true, vec_
 ghost use Rattle.its_reporting.specs.Statuses.{IsCommandStatus};
 ghost use Rattle.its_runs.specs.Runs.{IsRunStatus};
 
-use crate::fault::{RunFault, fault_of_air};
+use crate::course::Course;
+use crate::fault::{RunFault, is_cut_short};
 use crate::findings::{Finding, Findings, Found};
 use crate::frames::{Both, Frames, NoFrames};
 use crate::options::RunOptions;
@@ -13,12 +14,14 @@ use crate::results::Results;
 use crate::summary::print_summary;
 use crate::target::FrameTarget;
 use crate::watched::Watched;
-use its_air::{AirFault, Tally, run_scenario};
+use its_air::{AirFault, Tally, run_moves, run_scenario};
+use its_moves::Rows;
 use its_reporting::{Fault, FrameFile, Status, status_of};
-use its_scenario::{Reading, Scenario};
+use its_scenario::{Air, Reading, Scenario};
 use its_simulation::{EventSink, JsonLines, SimulationFault, TextLines};
 use std::alloc::Global;
-use std::io::{Read, Write};
+use std::io;
+use std::io::{BufRead, BufReader, Read, Write};
 
 /// The most stations of a scenario.
 pub(crate) const MOST_STATIONS: usize = 65535;
@@ -39,7 +42,13 @@ pub fn simulate<R: Read + Drop, W: Write, E: Write>(
 ) -> Status
     ensures { IsCommandStatus result }
 {
-    match read_scenario(alloc, file, reader, MOST_STATIONS, &options.reading(false)) {
+    match read_scenario(
+        alloc,
+        file,
+        reader,
+        MOST_STATIONS,
+        &options.reading(false, false),
+    ) {
         Ok(scenario) => simulate_scenario(alloc, &scenario, options, out, err),
         Err(fault) => fault.report_as(options.lines, err),
     }
@@ -60,31 +69,32 @@ pub fn simulate_scenario<W: Write, E: Write>(
     ensures { IsCommandStatus result }
 {
     let results: Results<'_, Vec<u8>> = Results::none();
-    let ended = run_without_frames(alloc, scenario, results, options, out, err);
+    let mut course: Course<'_, '_, BufReader<io::Empty>> = Course::alone(scenario);
+    let ended = run_without_frames(alloc, &mut course, results, options, out, err);
     status_of(ended, options.lines, err)
 }
 
 /// Runs a scenario, and writes these files of numbers.
-pub(crate) fn run_without_frames<'a, F: Write + Drop, W: Write, E: Write>(
+pub(crate) fn run_without_frames<'a, M: BufRead + Drop, F: Write + Drop, W: Write, E: Write>(
     alloc: Global,
-    scenario: &Scenario,
+    course: &mut Course<'_, 'a, M>,
     results: Results<'a, F>,
     options: RunOptions,
     out: &mut W,
     err: &mut E,
 ) -> Result<Status, Fault<'a>>
-    requires { vec_len scenario.now.stations ≤ 65535 }
+    requires { vec_len course.old.scenario.now.stations ≤ 65535 }
     ensures { IfOk result IsCommandStatus }
 {
-    let mut progress = Progress::of(scenario, options);
-    let mut findings = Findings::new(alloc, scenario, options, results)?;
+    let mut progress = Progress::of(course, options);
+    let mut findings = Findings::new(alloc, course.scenario, options, results)?;
     let frames = NoFrames {
         progress: &mut progress,
         err: &mut *err,
     };
-    let ran = run(alloc, scenario, options, &mut findings, frames, out);
+    let ran = run(alloc, course, options, &mut findings, frames, out);
     progress.end(err);
-    findings.end(ran, err)
+    findings.end(ran, course.name(), err)
 }
 
 /// Runs a scenario, and also writes each frame that a station gives to the file `target`, and these
@@ -92,103 +102,106 @@ pub(crate) fn run_without_frames<'a, F: Write + Drop, W: Write, E: Write>(
 ///
 /// `Refused` where a frame was left out and, with `strict`, where an event was refused; `Failed`
 /// where the file or standard output could not be written or memory ran out.
-pub(crate) fn simulate_with_frames<F: Write + Drop, W: Write, E: Write>(
+pub(crate) fn simulate_with_frames<'a, M: BufRead + Drop, F: Write + Drop, W: Write, E: Write>(
     alloc: Global,
-    scenario: &Scenario,
-    target: FrameTarget<'_>,
+    course: &mut Course<'_, 'a, M>,
+    target: FrameTarget<'a>,
     writer: F,
-    results: Results<'_, F>,
+    results: Results<'a, F>,
     options: RunOptions,
     out: &mut W,
     err: &mut E,
 ) -> Status
-    requires { vec_len scenario.now.stations ≤ 65535 }
+    requires { vec_len course.old.scenario.now.stations ≤ 65535 }
     ensures { IsCommandStatus result }
 {
-    let stations = scenario.stations.len();
+    let stations = course.scenario.stations.len();
     let ended = match FrameFile::start(alloc, writer, target.name, target.format, stations) {
-        Ok(file) => run_with_frames(alloc, scenario, file, results, options, out, err),
+        Ok(file) => run_with_frames(alloc, course, file, results, options, out, err),
         Err(fault) => Err(fault),
     };
     status_of(ended, options.lines, err)
 }
 
-fn run_with_frames<'a, F: Write + Drop, W: Write, E: Write>(
+fn run_with_frames<'a, M: BufRead + Drop, F: Write + Drop, W: Write, E: Write>(
     alloc: Global,
-    scenario: &Scenario,
+    course: &mut Course<'_, 'a, M>,
     file: FrameFile<'a, F>,
     results: Results<'a, F>,
     options: RunOptions,
     out: &mut W,
     err: &mut E,
 ) -> Result<Status, Fault<'a>>
-    requires { vec_len scenario.now.stations ≤ 65535 }
+    requires { vec_len course.old.scenario.now.stations ≤ 65535 }
     ensures { IfOk result IsCommandStatus }
 {
     let mut file = file;
-    let mut progress = Progress::of(scenario, options);
-    let mut findings = Findings::new(alloc, scenario, options, results)?;
+    let mut progress = Progress::of(course, options);
+    let mut findings = Findings::new(alloc, course.scenario, options, results)?;
     let frames = Frames {
         file: &mut file,
         lines: options.lines,
         progress: &mut progress,
         err: &mut *err,
     };
-    let ran = run(alloc, scenario, options, &mut findings, frames, out);
+    let ran = run(alloc, course, options, &mut findings, frames, out);
     progress.end(err);
-    file.end(findings.end(ran, err))
+    file.end(findings.end(ran, course.name(), err))
 }
 
 /// Runs a scenario and prints its lines, or what came of it, with a sink for its frames: how `sim`
 /// ends then, but for what was found out.
-fn run<'a, F: EventSink + Drop, R: Write + Drop, W: Write>(
+fn run<M: BufRead + Drop, F: EventSink + Drop, R: Write + Drop, W: Write>(
     alloc: Global,
-    scenario: &Scenario,
+    course: &mut Course<'_, '_, M>,
     options: RunOptions,
     findings: &mut Findings<'_, '_, R>,
     frames: F,
     out: &mut W,
-) -> Result<Status, Fault<'a>>
-    requires { vec_len scenario.now.stations ≤ 65535 }
-    ensures { IfOk result (IsRunStatus options.strict scenario.now) }
+) -> Result<Status, AirFault>
+    requires { vec_len course.old.scenario.now.stations ≤ 65535 }
+    ensures command { IfOk result IsCommandStatus }
+    ensures run { course.old.moves ≡ None →
+        IfOk result (IsRunStatus options.strict course.old.scenario.now) }
 {
     let besides = Finding {
         findings,
         sink: frames,
     };
-    let ran = if options.summary {
-        run_summed_up(alloc, scenario, options, besides, out)
+    if options.summary {
+        run_summed_up(alloc, course, options, besides, out)
     } else {
-        run_printed(alloc, scenario, options, besides, out)
-    };
-    ran.map_err(|fault| fault_of_air(fault))
+        run_printed(alloc, course, options, besides, out)
+    }
 }
 
 /// Runs a scenario and prints the lines of its events: how `sim` ends then.
-fn run_printed<F: EventSink + Drop, W: Write>(
+fn run_printed<M: BufRead + Drop, F: EventSink + Drop, W: Write>(
     alloc: Global,
-    scenario: &Scenario,
+    course: &mut Course<'_, '_, M>,
     options: RunOptions,
     frames: F,
     out: &mut W,
 ) -> Result<Status, AirFault>
-    requires { vec_len scenario.now.stations ≤ 65535 }
-    ensures { IfOk result (IsRunStatus options.strict scenario.now) }
+    requires { vec_len course.old.scenario.now.stations ≤ 65535 }
+    ensures command { IfOk result IsCommandStatus }
+    ensures run { course.old.moves ≡ None →
+        IfOk result (IsRunStatus options.strict course.old.scenario.now) }
 {
     if options.lines.json {
         let mut objects = JsonLines::new(alloc, out)?.noting(options.notes);
-        print_beginning(&mut objects, scenario)?;
+        print_beginning(&mut objects, course)?;
         let mut watched = Watched::new(Both {
             lines: objects,
             frames,
         });
-        return run_watched(alloc, scenario, &mut watched, options.strict);
+        return run_watched(alloc, course, &mut watched, options.strict);
     }
     if options.heads {
-        print_heads(scenario, out)?;
+        print_heads(course.scenario, out)?;
     }
     let explain = options.lines.explain;
-    let words = match &scenario.air {
+    let words = match &course.scenario.air {
         Some(_) => TextLines::with_actions(out, explain),
         None => TextLines::new(out, explain),
     };
@@ -196,7 +209,7 @@ fn run_printed<F: EventSink + Drop, W: Write>(
         lines: words.noting(options.notes),
         frames,
     });
-    run_watched(alloc, scenario, &mut watched, options.strict)
+    run_watched(alloc, course, &mut watched, options.strict)
 }
 
 /// Prints the heads of the columns of the lines in words.
@@ -209,43 +222,75 @@ fn print_heads<W: Write>(scenario: &Scenario, out: &mut W) -> Result<(), Simulat
 }
 
 /// Prints the object of the stations, and of the air where there is one.
-fn print_beginning<W: Write>(
+fn print_beginning<M: BufRead + Drop, W: Write>(
     objects: &mut JsonLines<'_, W>,
-    scenario: &Scenario,
+    course: &Course<'_, '_, M>,
 ) -> Result<(), SimulationFault> {
-    let stations = scenario.stations.as_slice();
-    match &scenario.air {
-        Some(air) => {
-            let end = air.end(scenario.file.as_slice());
-            objects.stations_in_air(stations, air, Some(end))
-        }
+    let stations = course.scenario.stations.as_slice();
+    match &course.scenario.air {
+        Some(air) => objects.stations_in_air(stations, air, course.end()),
         None => objects.stations(stations),
     }
 }
 
-/// Runs a scenario and prints what came of it: how `sim` ends then.
-fn run_summed_up<F: EventSink + Found + Drop, W: Write>(
+/// Runs a scenario and prints what came of it: how `sim` ends then. Of a run that its file of moves
+/// cut short it is what came of it till then, without the counts.
+fn run_summed_up<M: BufRead + Drop, F: EventSink + Found + Drop, W: Write>(
     alloc: Global,
-    scenario: &Scenario,
+    course: &mut Course<'_, '_, M>,
     options: RunOptions,
     frames: F,
     out: &mut W,
 ) -> Result<Status, AirFault>
-    requires { vec_len scenario.now.stations ≤ 65535 }
-    ensures { IfOk result (IsRunStatus options.strict scenario.now) }
+    requires { vec_len course.old.scenario.now.stations ≤ 65535 }
+    ensures command { IfOk result IsCommandStatus }
+    ensures run { course.old.moves ≡ None →
+        IfOk result (IsRunStatus options.strict course.old.scenario.now) }
 {
     let mut watched = Watched::new(Both {
-        lines: Tally::new(alloc, scenario.present.as_slice())?,
+        lines: Tally::new(alloc, course.scenario.present.as_slice())?,
         frames,
     });
-    let status = run_watched(alloc, scenario, &mut watched, options.strict)?;
+    let ran = run_watched(alloc, course, &mut watched, options.strict);
+    let is_whole = match &ran {
+        Ok(_) => true,
+        Err(fault) if is_cut_short(fault) => false,
+        Err(_) => return ran,
+    };
     let Both { lines, frames } = &watched.sink;
-    print_summary(alloc, lines, frames, options.lines, out)?;
-    Ok(status)
+    print_summary(alloc, lines, frames, options.lines, is_whole, out)?;
+    ran
 }
 
 /// Runs a scenario into a sink in which nothing was refused yet: how `sim` ends then.
-fn run_watched<S: EventSink>(
+fn run_watched<M: BufRead + Drop, S: EventSink>(
+    alloc: Global,
+    course: &mut Course<'_, '_, M>,
+    watched: &mut Watched<S>,
+    strict: bool,
+) -> Result<Status, AirFault>
+    requires stations { vec_len course.old.scenario.now.stations ≤ 65535 }
+    requires fresh { watched.old.all_done ≡ true }
+    ensures command { IfOk result IsCommandStatus }
+    ensures run { course.old.moves ≡ None →
+        IfOk result (IsRunStatus strict course.old.scenario.now) }
+{
+    let scenario = course.scenario;
+    match (&mut course.moves, &scenario.air) {
+        (Some(moves), Some(air)) => run_moved(
+            alloc,
+            scenario,
+            air,
+            &mut moves.rows,
+            watched,
+            strict,
+        ),
+        _ => run_alone(alloc, scenario, watched, strict),
+    }
+}
+
+/// The same of a scenario alone.
+fn run_alone<S: EventSink>(
     alloc: Global,
     scenario: &Scenario,
     watched: &mut Watched<S>,
@@ -253,9 +298,26 @@ fn run_watched<S: EventSink>(
 ) -> Result<Status, AirFault>
     requires stations { vec_len scenario.now.stations ≤ 65535 }
     requires fresh { watched.old.all_done ≡ true }
-    ensures { IfOk result (IsRunStatus strict scenario.now) }
+    ensures command { IfOk result IsCommandStatus }
+    ensures run { IfOk result (IsRunStatus strict scenario.now) }
 {
     run_scenario(alloc, scenario, watched)?;
+    Ok(watched.status(strict))
+}
+
+/// The same of a scenario with the rows of a file of moves.
+fn run_moved<M: BufRead + Drop, S: EventSink>(
+    alloc: Global,
+    scenario: &Scenario,
+    air: &Air,
+    rows: &mut Rows<M>,
+    watched: &mut Watched<S>,
+    strict: bool,
+) -> Result<Status, AirFault>
+    requires { vec_len scenario.now.stations ≤ 65535 }
+    ensures { IfOk result IsCommandStatus }
+{
+    run_moves(alloc, scenario, air, rows, watched)?;
     Ok(watched.status(strict))
 }
 

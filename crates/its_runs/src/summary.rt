@@ -12,25 +12,35 @@ use std::fmt;
 use std::io::Write;
 
 /// Prints a line for each packet for an area that was sent, in order, and one of the counts of all
-/// events. With `explain` each goes on with the stations that it didn't reach.
+/// events, unless the run was cut short. With `explain` each of the first goes on with the stations
+/// that it didn't reach.
 pub(crate) fn print_summary<F: Found, W: Write>(
     alloc: Global,
     tally: &Tally,
     found: &F,
     lines: OutputFormat,
+    is_whole: bool,
     out: &mut W,
 ) -> Result<(), SimulationFault> {
     if lines.json {
-        return print_objects(alloc, tally, found, lines.explain, out);
+        print_objects(alloc, tally, found, lines.explain, out)?;
+        return if is_whole {
+            print_total_object(alloc, tally, found, out)
+        } else {
+            Ok(())
+        };
     }
     for (place, send) in tally.sends().iter().enumerate() {
         let missed = missed_of(alloc, found, place, lines.explain)?;
         writeln!(out, "{send}{}", MissedText(&missed))?;
     }
-    writeln!(out, "{}", tally.totals())?;
+    if is_whole {
+        writeln!(out, "{}", tally.totals())?;
+    }
     Ok(())
 }
 
+/// The same of the packets, as objects.
 fn print_objects<F: Found, W: Write>(
     alloc: Global,
     tally: &Tally,
@@ -43,6 +53,17 @@ fn print_objects<F: Found, W: Write>(
         let missed = missed_of(alloc, found, place, explain)?;
         out.write_all(line.of(&SendLine { send, missed })?)?;
     }
+    Ok(())
+}
+
+/// The same of the counts.
+fn print_total_object<F: Found, W: Write>(
+    alloc: Global,
+    tally: &Tally,
+    found: &F,
+    out: &mut W,
+) -> Result<(), SimulationFault> {
+    let mut line = JsonLine::new(alloc)?;
     let total = CountsLine {
         counts: tally.totals(),
         table_full: found.table_full(),

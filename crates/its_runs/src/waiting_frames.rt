@@ -2,7 +2,7 @@
 
 use its_gnvalue::NoMemory;
 use its_scenario::{FileEvent, Scenario};
-use its_world::What;
+use its_world::{Event, What};
 use std::alloc::Global;
 use std::collections::HashMap;
 
@@ -15,22 +15,21 @@ pub(crate) struct Carried {
     pub(crate) depth: usize,
 }
 
+impl Carried {
+    /// What a relay of the frame carries.
+    pub(crate) fn relayed(self) -> Carried {
+        Carried {
+            send: self.send,
+            depth: self.depth.saturating_add(1),
+        }
+    }
+}
+
 /// A frame of which deliveries wait, or one that was just given.
 #[derive(Clone, Copy, Debug)]
 struct WaitingFrame {
     carried: Carried,
     waiting: usize,
-}
-
-/// The frame that a scenario's own event delivers, if it is a delivery.
-fn delivered_by(filed: &FileEvent) -> Option<usize> {
-    match filed.event() {
-        Some(event) => match &event.what {
-            What::Deliver(frame) => Some(*frame),
-            _ => None,
-        },
-        None => None,
-    }
 }
 
 /// The frames of packets for an area of which deliveries wait, by their numbers. It keeps none that
@@ -46,21 +45,44 @@ pub(crate) struct WaitingFrames {
 }
 
 impl WaitingFrames {
-    /// Those of a run of a scenario with an air that has not begun.
+    /// Those of a run of a scenario that has not begun.
     pub(crate) fn new(alloc: Global, scenario: &Scenario) -> Result<WaitingFrames, NoMemory> {
-        let mut own = HashMap::new(alloc);
-        for filed in &scenario.file {
-            if let Some(frame) = delivered_by(filed) {
-                let before = own.get(&frame).copied().unwrap_or(0usize);
-                own.insert(frame, before.saturating_add(1))?;
-            }
-        }
-        Ok(WaitingFrames {
+        let mut waiting = WaitingFrames {
             frames: HashMap::new(alloc),
-            own,
+            own: HashMap::new(alloc),
             given: None,
             delivered: None,
-        })
+        };
+        waiting.expect_events(scenario.events.as_slice())?;
+        waiting.expect_file(scenario.file.as_slice())?;
+        Ok(waiting)
+    }
+
+    /// Takes events of the scenario's own that are still to be done.
+    fn expect_events(&mut self, events: &[Event]) -> Result<(), NoMemory> {
+        for event in events {
+            self.expect(event)?;
+        }
+        Ok(())
+    }
+
+    /// Takes the events of a file that are still to be done.
+    fn expect_file(&mut self, file: &[FileEvent]) -> Result<(), NoMemory> {
+        for filed in file {
+            if let Some(event) = filed.event() {
+                self.expect(event)?;
+            }
+        }
+        Ok(())
+    }
+
+    /// Takes an event of the scenario's own that is still to be done.
+    fn expect(&mut self, event: &Event) -> Result<(), NoMemory> {
+        if let What::Deliver(frame) = &event.what {
+            let before = self.own.get(frame).copied().unwrap_or(0);
+            self.own.insert(*frame, before.saturating_add(1))?;
+        }
+        Ok(())
     }
 
     /// What the frame of this number carries, where that is a packet for an area of whose frame a

@@ -3,6 +3,7 @@
 ghost use Rattle.std.specs.Prelude.{◌≡◌, List, true};
 ghost use Rattle.std.specs.List.{list_all};
 ghost use Rattle.its_world.specs.declared.entry.Entry.{Entry as Told};
+ghost use Rattle.its_reporting.specs.Statuses.{IsCommandStatus};
 ghost use Rattle.its_runs.specs.Runs.{run_status, was_done};
 
 use its_reporting::Status;
@@ -31,7 +32,8 @@ impl<S: EventSink> Watched<S> {
     /// How a command ends whose run went to its last event: `Refused` where it is strict and an
     /// event was refused.
     pub(crate) fn status(&self, strict: bool) -> Status
-        ensures { (log : List Told) → self.now.all_done ≡ list_all was_done log
+        ensures command { IsCommandStatus result }
+        ensures run { (log : List Told) → self.now.all_done ≡ list_all was_done log
             → result ≡ run_status strict log }
     {
         if strict && !self.all_done {

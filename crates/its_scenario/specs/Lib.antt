@@ -3,3 +3,5 @@ pub mod Documents
 pub mod Faults
 pub mod Keys
 pub mod Airs
+pub mod Nearest
+pub mod Centres

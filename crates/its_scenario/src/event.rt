@@ -1,16 +1,20 @@
 //! The events of a scenario.
 
-ghost use Rattle.std.specs.Prelude.{◌≡◌, IfOk, IfErr};
+ghost use Rattle.std.specs.Prelude.{◌≡◌, ◌<◌, ◌^◌, IfOk, IfErr, IfSome, string_bytes};
+ghost use Rattle.its_moves.specs.Rows.{IsId};
 ghost use Rattle.its_scenario.specs.Airs.{moment_of};
-ghost use Rattle.its_scenario.specs.Events.{FitsEvent, FitsFileEvent, FitsWhat};
+ghost use Rattle.its_scenario.specs.Events.{FitsEvent, FitsFileEvent, FitsWhat, station_in};
 ghost use Rattle.its_scenario.specs.Faults.{IsWhatFault};
 
+use crate::centre::InAir;
 use crate::fault::{KeyFault, Wrong};
 use crate::fields::Fields;
 use crate::geocast::read_geocast;
 use crate::key::Key;
 use crate::keys::{number, octet, octets, place, text, truth, whole};
+use crate::verb::Verbs;
 use its_gnvalue::TrafficClass;
+use its_moves::is_id;
 use its_station::OwnedShbRequest;
 use its_world::{Event, What};
 use std::alloc::Global;
@@ -40,6 +44,16 @@ impl FileEvent {
         }
     }
 
+    /// The station, by its number.
+    pub fn station(&self) -> usize
+        ensures { result ≡ station_in self.now }
+    {
+        match self {
+            FileEvent::Happens(event) => event.station,
+            FileEvent::Leaves { station, .. } => *station,
+        }
+    }
+
     /// The event of the world, where it is one.
     pub fn event(&self) -> Option<&Event> {
         match self {
@@ -49,39 +63,171 @@ impl FileEvent {
     }
 }
 
-/// Reads what waits in an air: a leave, `do = "leave"`, which has no further keys, or an event.
-/// `station`, `at` and `do` are checked in this order.
-pub(crate) fn read_file_event<F: Fields>(alloc: Global, fields: &F) -> Result<FileEvent, KeyFault>
-    ensures { IfOk result FitsFileEvent }
-{
-    match fields.text(Key::Do.word()) {
-        Some("leave") => read_leave(fields),
-        _ => Ok(FileEvent::Happens(read_event(alloc, fields)?)),
-    }
+/// A line of the events of a scenario with an air. Its station is one of the scenario's own or, by
+/// its id, one that a row of a file of moves makes.
+#[derive(Debug, Drop, PartialEq, Eq)]
+pub struct AddressedEvent {
+    /// The id of its station: 1 to 64 octets of UTF-8, without control characters. There may be no
+    /// row of it. `None` for an event of a station of the scenario's own.
+    pub id: Option<String>,
+    /// What waits: an event, which delivers nothing, or a leave. Where there is an id its station
+    /// is 0, which stands for nothing.
+    pub filed: FileEvent,
+    /// Whether it is a geocast whose area lies round where its station stands then. The centre of
+    /// that area is 0, 0 here, which stands for nothing.
+    pub round_station: bool,
 }
 
-/// Reads a leave: `station` and `at`, checked in this order.
-fn read_leave<F: Fields>(fields: &F) -> Result<FileEvent, KeyFault>
-    ensures { IfOk result FitsFileEvent }
+/// What waits in an air.
+#[derive(Debug, Drop)]
+pub(crate) struct Filed {
+    pub(crate) filed: FileEvent,
+    /// Whether it is a geocast whose area lies round where its station stands then. The centre of
+    /// that area is 0, 0 here.
+    pub(crate) round_station: bool,
+}
+
+/// Reads what waits in an air: a leave, `do = "leave"`, which has no further keys, or an event.
+/// `station`, `at` and `do` are checked in this order.
+pub(crate) fn read_file_event<F: Fields>(alloc: Global, fields: &F) -> Result<Filed, KeyFault>
+    ensures { IfOk result (λ read. FitsFileEvent read.filed) }
 {
-    Ok(FileEvent::Leaves {
-        station: number(fields, Key::Station)? as usize,
-        moment: whole(fields, Key::At)? as u64,
+    let station = number(fields, Key::Station)? as usize;
+    let moment = read_moment(fields)?;
+    read_filed(alloc, fields, station, moment, Verbs::InAir)
+}
+
+/// Reads what waits in an air, of this station at this moment: a leave, or what is done, which is
+/// one of these. The centre of an area may be left out.
+fn read_filed<F: Fields>(
+    alloc: Global,
+    fields: &F,
+    station: usize,
+    moment: u64,
+    verbs: Verbs,
+) -> Result<Filed, KeyFault>
+    requires station { station < 2 ^ 16 }
+    requires moment { moment < 2 ^ 63 }
+    ensures { IfOk result (λ read. FitsFileEvent read.filed) }
+{
+    if fields.text(Key::Do.word()) == Some("leave") {
+        return Ok(Filed {
+            filed: FileEvent::Leaves { station, moment },
+            round_station: false,
+        });
+    }
+    let in_air = InAir::of(fields);
+    let what = read_one_of(alloc, &in_air, verbs)?;
+    Ok(Filed {
+        round_station: in_air.is_round_station(&what),
+        filed: FileEvent::Happens(Event {
+            station,
+            moment,
+            what,
+        }),
     })
 }
 
-/// Reads an event: `station`, `at`, in milliseconds below 2^63, and then what is done there, checked
-/// in this order. There may be no such station, and for `deliver` no such frame.
+/// Reads an event of a scenario without an air: `station`, `at`, in milliseconds below 2^63, and
+/// then what is done there, checked in this order. There may be no such station, and for `deliver`
+/// no such frame.
 pub(crate) fn read_event<F: Fields>(alloc: Global, fields: &F) -> Result<Event, KeyFault>
     ensures { IfOk result FitsEvent }
 {
     let station = number(fields, Key::Station)?;
-    let moment = whole(fields, Key::At)? as u64;
+    let moment = read_moment(fields)?;
     Ok(Event {
         station: station as usize,
         moment,
-        what: read_what(alloc, fields)?,
+        what: read_one_of(alloc, fields, Verbs::Alone)?,
     })
+}
+
+/// Reads an event or a leave of a scenario of so many stations that is run with moves: `id`, where
+/// it is there, else `station`, which has to be one of these, then `at`, and then what is done,
+/// checked in this order. Nothing is delivered.
+pub(crate) fn read_addressed<F: Fields>(
+    alloc: Global,
+    fields: &F,
+    stations: usize,
+) -> Result<AddressedEvent, KeyFault>
+    ensures range { IfOk result (λ event. FitsFileEvent event.filed) }
+    ensures id { IfOk result (λ event. IfSome event.id (λ id. IsId (string_bytes id))) }
+{
+    let id = read_id(alloc, fields)?;
+    let station = match &id {
+        Some(_) => 0,
+        None => read_own_station(fields, stations)?,
+    };
+    let moment = read_moment(fields)?;
+    if fields.text(Key::Do.word()) == Some("deliver") {
+        return Err(KeyFault::Refused(Key::Do, Wrong::Value));
+    }
+    let read = read_filed(alloc, fields, station, moment, Verbs::WithMoves)?;
+    Ok(AddressedEvent {
+        id,
+        filed: read.filed,
+        round_station: read.round_station,
+    })
+}
+
+/// The moment of an event or a leave, in milliseconds.
+fn read_moment<F: Fields>(fields: &F) -> Result<u64, KeyFault>
+    ensures { IfOk result (λ moment. moment < 2 ^ 63) }
+{
+    Ok(whole(fields, Key::At)? as u64)
+}
+
+/// The id of a station, where it is there.
+fn read_id<F: Fields>(alloc: Global, fields: &F) -> Result<Option<String>, KeyFault>
+    ensures { IfOk result (λ id. IfSome id (λ id. IsId (string_bytes id))) }
+{
+    if !fields.has(Key::Id.word()) {
+        return Ok(None);
+    }
+    let id = text(fields, Key::Id)?;
+    if !is_id(id.as_bytes()) {
+        return Err(KeyFault::Refused(Key::Id, Wrong::Value));
+    }
+    match String::from_str(alloc, id) {
+        Ok(id) => Ok(Some(id)),
+        Err(_) => Err(KeyFault::OutOfMemory),
+    }
+}
+
+/// The number of a station that is one of so many.
+fn read_own_station<F: Fields>(fields: &F, stations: usize) -> Result<usize, KeyFault>
+    ensures range { IfOk result (λ station. station < 2 ^ 16) }
+    ensures own { IfOk result (λ station. station < stations) }
+{
+    let station = number(fields, Key::Station)? as usize;
+    if station < stations {
+        Ok(station)
+    } else {
+        Err(KeyFault::Refused(Key::Station, Wrong::NoStation))
+    }
+}
+
+/// Reads what a station does, as `read_what` does. Where the word is none that is known, the one of
+/// these is told that may be meant.
+fn read_one_of<F: Fields>(alloc: Global, fields: &F, verbs: Verbs) -> Result<What, KeyFault>
+    ensures { IfOk result FitsWhat }
+{
+    match read_what(alloc, fields) {
+        Ok(what) => Ok(what),
+        Err(KeyFault::Refused(Key::Do, Wrong::Value)) => Err(unknown_verb(alloc, fields, verbs)),
+        Err(fault) => Err(fault),
+    }
+}
+
+/// The fault of a word for what a station does that is none of these.
+fn unknown_verb<F: Fields>(alloc: Global, fields: &F, verbs: Verbs) -> KeyFault {
+    let word = fields.text(Key::Do.word()).unwrap_or("");
+    match verbs.meant_by(alloc, word) {
+        Ok(Some(meant)) => KeyFault::Refused(Key::Do, Wrong::Near(meant)),
+        Ok(None) => KeyFault::Refused(Key::Do, Wrong::Value),
+        Err(_) => KeyFault::OutOfMemory,
+    }
 }
 
 /// Reads what a station does: the word under `do`, and then the keys of that word, checked in this

@@ -9,6 +9,7 @@ use crate::key::Key;
 use crate::position::TomlFault;
 use crate::reason::{Reason, WrongOf};
 use crate::unknown::UnknownKey;
+use crate::verb::Verb;
 use its_world::WorldFault;
 use std::alloc::{AllocError, AllocFailed};
 use thiserror::Error;
@@ -122,6 +123,10 @@ pub enum Wrong {
     Value,
     /// It isn't 0, as it has to be of a circle.
     OfCircle,
+    /// It is a word that the key doesn't take, at most two changes of a letter from this one.
+    Near(Verb),
+    /// It is the number of no station of the scenario's own.
+    NoStation,
 }
 
 /// Why the value of a key was not taken.

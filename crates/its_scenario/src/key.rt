@@ -298,6 +298,7 @@ impl Key {
             Key::Payload => Some("an even number of hexadecimal digits"),
             Key::Shape => Some("circle, rectangle or ellipse"),
             Key::Mid => Some("12 hexadecimal digits of a MID that is no group's"),
+            Key::Id => Some("1 to 64 octets without control characters"),
             Key::Ports => Some("at most 64 different ports"),
             _ => None,
         }

@@ -3,6 +3,7 @@
 #![tactic(auto)]
 
 mod air;
+mod centre;
 mod event;
 mod expectation;
 mod fault;
@@ -10,6 +11,7 @@ mod fields;
 mod geocast;
 mod key;
 mod keys;
+mod meant;
 mod moves;
 mod position;
 mod reason;
@@ -18,13 +20,15 @@ mod settings;
 mod station;
 mod traffic;
 mod unknown;
+mod verb;
 
 pub use air::Air;
-pub use event::{FileEvent, read_what};
+pub use event::{AddressedEvent, FileEvent, read_what};
 pub use expectation::{Expectation, Reached};
 pub use fault::{KeyFault, ScenarioFault, Wrong};
 pub use fields::Fields;
 pub use key::Key;
+pub use meant::nearest;
 pub use moves::Moves;
 pub use position::TomlFault;
 pub use reason::{Reason, WrongOf};
@@ -33,3 +37,4 @@ pub use settings::{AirSettings, SettingFault};
 pub use station::read_station;
 pub use traffic::Traffic;
 pub use unknown::{Owner, UnknownKey};
+pub use verb::Verb;

@@ -30,6 +30,10 @@ pub struct Moves {
     pub ports: Vec<u16>,
     ghost begins: { begin ≤ 2 ^ 62 },
     ghost lasts: { 1 ≤ gone },
+    ghost room: { 1 ≤ capacity },
+    ghost most_room: { capacity ≤ 4096 },
+    ghost remembers: { 1 ≤ remember },
+    ghost most_remembered: { remember ≤ 64 },
 }
 
 /// After how many milliseconds a station leaves where nothing is given.
@@ -77,8 +81,8 @@ fn read_moves(alloc: Global, table: &Table) -> Result<Moves, KeyFault> {
         begin: read_begin(table)?,
         gone: read_time(table)?,
         mid: read_mid(table)?,
-        capacity: whole_or(table, Key::Capacity, USUAL_ENTRIES)? as u16,
-        remember: whole_or(table, Key::Remember, USUAL_NUMBERS)? as u8,
+        capacity: read_capacity(table)?,
+        remember: read_remember(table)?,
         ports: read_ports(alloc, table)?,
     })
 }
@@ -95,6 +99,22 @@ fn read_time<F: Fields>(fields: &F) -> Result<u32, KeyFault>
     ensures { IfOk result (λ gone. 1 ≤ gone) }
 {
     Ok(whole_or(fields, Key::Gone, USUAL_TIME)? as u32)
+}
+
+/// For how many sources there is room.
+fn read_capacity<F: Fields>(fields: &F) -> Result<u16, KeyFault>
+    ensures least { IfOk result (λ capacity. 1 ≤ capacity) }
+    ensures most { IfOk result (λ capacity. capacity ≤ 4096) }
+{
+    Ok(whole_or(fields, Key::Capacity, USUAL_ENTRIES)? as u16)
+}
+
+/// How many numbers are remembered.
+fn read_remember<F: Fields>(fields: &F) -> Result<u8, KeyFault>
+    ensures least { IfOk result (λ remember. 1 ≤ remember) }
+    ensures most { IfOk result (λ remember. remember ≤ 64) }
+{
+    Ok(whole_or(fields, Key::Remember, USUAL_NUMBERS)? as u8)
 }
 
 /// The first MID, of 12 hexadecimal digits.

@@ -53,6 +53,8 @@ fn explain<W: fmt::Write>(f: &mut fmt::Formatter<W>, key: Key, wrong: Wrong) -> 
         Wrong::Missing => f.write_str("missing"),
         Wrong::Kind => write!(f, "not {}", key.kind()),
         Wrong::OfCircle => f.write_str("not 0, as it is of a circle"),
+        Wrong::Near(verb) => write!(f, "did you mean '{verb}'?"),
+        Wrong::NoStation => f.write_str("the scenario has no such station"),
         Wrong::Range(number) => { write!(f, "{number} is not in {}..={}", key.least(), key.most()) }
         Wrong::Value => match key.form() {
             Some(form) => write!(f, "not {form}"),

@@ -7,7 +7,8 @@ ghost use Rattle.its_world.specs.Events.{IsConfig};
 ghost use Rattle.its_world.specs.Mids.{AreApart};
 
 use crate::air::{Air, read_air};
-use crate::event::{FileEvent, read_event, read_file_event};
+use crate::centre::centre_areas;
+use crate::event::{AddressedEvent, FileEvent, Filed, read_addressed, read_event, read_file_event};
 use crate::expectation::{Expectation, read_expectation};
 use crate::fault::{ScenarioFault, Wrong};
 use crate::key::{AIR_KEYS, EXPECTATION_KEYS};
@@ -29,12 +30,15 @@ pub struct Scenario {
     /// Whether each of them is present at the start. Without an air all are.
     pub present: Vec<bool>,
     /// The events of a scenario without an air, each with a station of 0 to 65535, a moment of 0 to
-    /// 2^63 - 1, a speed in its range and a frame of 0 to 4294967295. There may be no such station or
-    /// frame. With an air there is none here.
+    /// 2^63 - 1, a speed in its range and a frame of 0 to 4294967295. There may be no such station
+    /// or frame. With an air there is none here.
     pub events: Vec<Event>,
     /// The events and leaves of a scenario with an air, with numbers in the same ranges. Without an
-    /// air there is none here.
+    /// air there is none here, nor where it is run with the moves of a file.
     pub file: Vec<FileEvent>,
+    /// Those of a scenario that is run with the moves of a file, with numbers in the same ranges,
+    /// each of a station of the scenario's own or of an id. Else there is none here.
+    pub addressed: Vec<AddressedEvent>,
     /// How frames go from station to station by themselves. Without it they go by events alone.
     pub air: Option<Air>,
     /// What each station of the air sends by itself. Without an air there is none.
@@ -48,6 +52,7 @@ pub struct Scenario {
     ghost present_or_not: { vec_len present ≡ vec_len stations },
     ghost in_range: { All FitsEvent events.items },
     ghost file_in_range: { All FitsFileEvent file.items },
+    ghost addressed_in_range: { All (λ a. FitsFileEvent a.filed) addressed.items },
 }
 
 /// How a document is read as a scenario. `default` is how `from_toml` reads it.
@@ -57,20 +62,25 @@ pub struct Reading {
     pub strict: bool,
     /// Whether a document without the table `air` is refused.
     pub needs_air: bool,
+    /// Whether it is run with the moves of a file, in its air: an event may have `id` in place of
+    /// `station`, which is then passed over; else `station` is one of the scenario's own; and
+    /// `deliver` is none of the words for what a station does.
+    pub moves: bool,
     /// Values that stand in place of those of the air.
     pub settings: AirSettings,
 }
 
 impl Scenario {
     /// Reads a TOML document with the arrays of tables `station`, `event` and `expect`, the table
-    /// `air` and, where there is one, the array of tables `every` and the table `moves`, each of which
-    /// may be missing. A key of the air, of traffic, of moves or of what is expected that is none of
-    /// its words is refused; other keys are passed over. At most so many stations are taken.
+    /// `air` and, where there is one, the array of tables `every` and the table `moves`, each of
+    /// which may be missing. A key of the air, of traffic, of moves or of what is expected that is
+    /// none of its words is refused; other keys are passed over. At most so many stations are
+    /// taken.
     ///
     /// The first fault is given: that of the document, of its arrays `station` and `event`, of the
     /// kind of `air`, of `every`, of `moves` and of `expect`, of the number of stations, of each
-    /// station in turn, of the air, of each traffic in turn, of moves, of each event in turn, of each
-    /// table of what is expected, of two stations with the same MID.
+    /// station in turn, of the air, of each traffic in turn, of moves, of each event in turn, of
+    /// each table of what is expected, of two stations with the same MID.
     pub fn from_toml(
         alloc: Global,
         text: &[u8],
@@ -83,7 +93,8 @@ impl Scenario {
         Scenario::read(alloc, text, most_stations, &Reading::default())
     }
 
-    /// The same, but that `air`, `every`, `moves` and `expect` are among the keys that are passed over.
+    /// The same, but that `air`, `every`, `moves` and `expect` are among the keys that are passed
+    /// over.
     pub fn from_toml_without_air(
         alloc: Global,
         text: &[u8],
@@ -97,10 +108,10 @@ impl Scenario {
         Scenario::read_without_air(alloc, text, most_stations, false)
     }
 
-    /// Reads a document as `from_toml` does, in this way: with values in place of the air's own; one
-    /// without an air is refused where it is needed, where the air's kind is checked; and where the
-    /// reading is strict, each key of the document, of its stations and of its events that is none
-    /// of their words is refused, last of all, in this order.
+    /// Reads a document as `from_toml` does, in this way: with values in place of the air's own;
+    /// one without an air is refused where it is needed, where the air's kind is checked; and where
+    /// the reading is strict, each key of the document, of its stations and of its events that is
+    /// none of their words is refused, last of all, in this order.
     pub fn read(
         alloc: Global,
         text: &[u8],
@@ -144,6 +155,8 @@ impl Scenario {
 struct Tables<'a> {
     stations: &'a [Value],
     events: &'a [Value],
+    /// Whether it is run with the moves of a file.
+    has_moves: bool,
     air: Option<SetAir<'a>>,
     every: &'a [Value],
     moves: Option<&'a Table>,
@@ -159,6 +172,7 @@ impl<'a> Tables<'a> {
         Ok(Tables {
             stations: array_of_tables(document, "station").ok_or(ScenarioFault::Stations)?,
             events: array_of_tables(document, "event").ok_or(ScenarioFault::Events)?,
+            has_moves: false,
             air: None,
             every: &[],
             moves: None,
@@ -176,6 +190,7 @@ impl<'a> Tables<'a> {
         let moves = moves_of(document, air.is_some())?;
         let expectations = array_of_tables(document, "expect").ok_or(ScenarioFault::Expectations)?;
         Ok(Tables {
+            has_moves: reading.moves,
             air,
             every,
             moves,
@@ -203,14 +218,10 @@ impl<'a> Tables<'a> {
             Some(table) => read_known_moves(alloc, table)?,
             None => Moves::usual(alloc),
         };
-        let none: &[Value] = &[];
-        let (alone, waiting) = if self.air.is_some() {
-            (none, self.events)
-        } else {
-            (self.events, none)
-        };
-        let events = read_events(alloc, alone)?;
-        let file = read_file(alloc, waiting)?;
+        let parts = self.event_parts();
+        let events = read_events(alloc, parts.alone)?;
+        let file = read_file(alloc, parts.filed, stations.as_slice())?;
+        let addressed = read_all_addressed(alloc, parts.addressed, stations.len())?;
         let expectations = read_expectations(alloc, self.expectations)?;
         refuse_shared(alloc, stations.as_slice())?;
         Ok(Scenario {
@@ -218,11 +229,35 @@ impl<'a> Tables<'a> {
             present,
             events,
             file,
+            addressed,
             air,
             every,
             moves,
             expectations,
         })
+    }
+
+    /// The tables of events, of one part alone.
+    fn event_parts(self) -> EventParts<'a> {
+        let none = EventParts {
+            alone: &[],
+            filed: &[],
+            addressed: &[],
+        };
+        match self.air {
+            None => EventParts {
+                alone: self.events,
+                ..none
+            },
+            Some(_) if self.has_moves => EventParts {
+                addressed: self.events,
+                ..none
+            },
+            Some(_) => EventParts {
+                filed: self.events,
+                ..none
+            },
+        }
     }
 
     /// Refuses each key that is unknown, where the reading is strict.
@@ -240,6 +275,17 @@ impl<'a> Tables<'a> {
             Ok(())
         }
     }
+}
+
+/// The tables of events, by how they are read.
+#[derive(Clone, Copy)]
+struct EventParts<'a> {
+    /// Without an air.
+    alone: &'a [Value],
+    /// In an air.
+    filed: &'a [Value],
+    /// In an air with moves.
+    addressed: &'a [Value],
 }
 
 /// The table of the air with what is set of it, where there is one. `Air` where it is no table, and
@@ -364,21 +410,67 @@ fn read_events(alloc: Global, items: &[Value]) -> Result<Vec<Event>, ScenarioFau
     Ok(events)
 }
 
-/// Reads what waits in an air.
-fn read_file(alloc: Global, items: &[Value]) -> Result<Vec<FileEvent>, ScenarioFault>
+/// Reads what waits in an air of these stations. An area whose centre is left out lies round where
+/// its station stands then.
+fn read_file(
+    alloc: Global,
+    items: &[Value],
+    stations: &[Config],
+) -> Result<Vec<FileEvent>, ScenarioFault>
     ensures all { IfOk result (λ file. vec_len file ≡ length items.now) }
     ensures ranges { IfOk result (λ file. All FitsFileEvent file.items) }
     ensures refused { IfErr result IsPastToml }
 {
     let mut file = Vec::with_capacity(alloc, items.len())?;
+    let mut round_station = Vec::new(alloc);
     for (number, item) in items.iter().enumerate() {
         // `array_of_tables` has seen that each item is one.
         let Value::Table(table) = item else {
             return Err(ScenarioFault::Events);
         };
-        file.push(read_file_event(alloc, table).map_err(|fault| fault.of_event(number))?)?;
+        let event = read_filed(alloc, table, number)?;
+        if event.round_station {
+            round_station.push(number)?;
+        }
+        file.push(event.filed)?;
     }
+    centre_areas(
+        alloc,
+        stations,
+        file.as_mut_slice(),
+        round_station.as_slice(),
+    )?;
     Ok(file)
+}
+
+/// Reads the event or leave of this number.
+fn read_filed(alloc: Global, table: &Table, number: usize) -> Result<Filed, ScenarioFault>
+    ensures ranges { IfOk result (λ event. FitsFileEvent event.filed) }
+    ensures refused { IfErr result IsPastToml }
+{
+    read_file_event(alloc, table).map_err(|fault| fault.of_event(number))
+}
+
+/// Reads what waits in an air with moves, of a scenario of so many stations.
+fn read_all_addressed(
+    alloc: Global,
+    items: &[Value],
+    stations: usize,
+) -> Result<Vec<AddressedEvent>, ScenarioFault>
+    ensures all { IfOk result (λ addressed. vec_len addressed ≡ length items.now) }
+    ensures ranges { IfOk result (λ addressed. All (λ a. FitsFileEvent a.filed) addressed.items) }
+    ensures refused { IfErr result IsPastToml }
+{
+    let mut addressed = Vec::with_capacity(alloc, items.len())?;
+    for (number, item) in items.iter().enumerate() {
+        // `array_of_tables` has seen that each item is one.
+        let Value::Table(table) = item else {
+            return Err(ScenarioFault::Events);
+        };
+        let event = read_addressed(alloc, table, stations);
+        addressed.push(event.map_err(|fault| fault.of_event(number))?)?;
+    }
+    Ok(addressed)
 }
 
 fn read_expectations(alloc: Global, items: &[Value]) -> Result<Vec<Expectation>, ScenarioFault>

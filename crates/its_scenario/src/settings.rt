@@ -32,23 +32,23 @@ pub struct SettingFault<'a> {
 }
 
 impl AirSettings {
-    /// Adds the value of `KEY=VALUE`, in place of one that was given before: decimal digits or, of
+    /// Takes the value of `KEY=VALUE`, in place of one that was given before: decimal digits or, of
     /// `beacons`, `true` or `false`. The key goes to the first `=`, to the end where there is none.
     ///
     /// A key that is none of the air's, that has no value, or one out of its range, is refused.
-    pub fn put<'a>(&mut self, setting: &'a str) -> Result<(), SettingFault<'a>> {
-        let given = Given::of(setting);
-        let word = given.word;
-        let put = match word {
-            "range" => put_whole(&mut self.range, &given, Key::Range),
-            "delay" => put_whole(&mut self.delay, &given, Key::Delay),
-            "loss" => put_whole(&mut self.loss, &given, Key::Loss),
-            "seed" => put_whole(&mut self.seed, &given, Key::Seed),
-            "beacons" => put_truth(&mut self.beacons, &given),
-            "until" => put_whole(&mut self.until, &given, Key::Until),
+    pub fn set<'a>(&mut self, text: &'a str) -> Result<(), SettingFault<'a>> {
+        let setting = Setting::of(text);
+        let word = setting.word;
+        let set = match word {
+            "range" => set_whole(&mut self.range, &setting, Key::Range),
+            "delay" => set_whole(&mut self.delay, &setting, Key::Delay),
+            "loss" => set_whole(&mut self.loss, &setting, Key::Loss),
+            "seed" => set_whole(&mut self.seed, &setting, Key::Seed),
+            "beacons" => set_truth(&mut self.beacons, &setting),
+            "until" => set_whole(&mut self.until, &setting, Key::Until),
             _ => return Err(SettingFault { word, wrong: None }),
         };
-        put.map_err(|fault| SettingFault {
+        set.map_err(|fault| SettingFault {
             word,
             wrong: fault.wrong(),
         })
@@ -81,41 +81,41 @@ impl AirSettings {
 }
 
 /// Keeps the whole number of a key, in its range.
-fn put_whole(kept: &mut Option<i64>, given: &Given<'_>, key: Key) -> Result<(), KeyFault> {
-    *kept = Some(whole(given, key)?);
+fn set_whole(kept: &mut Option<i64>, setting: &Setting<'_>, key: Key) -> Result<(), KeyFault> {
+    *kept = Some(whole(setting, key)?);
     Ok(())
 }
 
 /// Keeps whether stations tick by themselves.
-fn put_truth(kept: &mut Option<bool>, given: &Given<'_>) -> Result<(), KeyFault> {
-    *kept = Some(truth(given, Key::Beacons)?);
+fn set_truth(kept: &mut Option<bool>, setting: &Setting<'_>) -> Result<(), KeyFault> {
+    *kept = Some(truth(setting, Key::Beacons)?);
     Ok(())
 }
 
 /// A key and its value, as they were given.
 #[derive(Clone, Copy)]
-struct Given<'a> {
+struct Setting<'a> {
     word: &'a str,
     value: Option<&'a str>,
 }
 
-impl<'a> Given<'a> {
+impl<'a> Setting<'a> {
     /// Those of `KEY=VALUE`.
-    fn of(setting: &'a str) -> Given<'a> {
-        match setting.split_once('=') {
-            Some((word, value)) => Given {
+    fn of(text: &'a str) -> Setting<'a> {
+        match text.split_once('=') {
+            Some((word, value)) => Setting {
                 word,
                 value: Some(value),
             },
-            None => Given {
-                word: setting,
+            None => Setting {
+                word: text,
                 value: None,
             },
         }
     }
 }
 
-impl Fields for Given<'_> {
+impl Fields for Setting<'_> {
     fn has(&self, word: &str) -> bool {
         word == self.word && self.value.is_some()
     }

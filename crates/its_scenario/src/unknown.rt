@@ -5,13 +5,10 @@ ghost use Rattle.std.specs.Prelude.{◌≡◌, IfErr};
 
 use crate::fault::ScenarioFault;
 use crate::key::{EVENT_KEYS, Key, SCENARIO_KEYS, STATION_KEYS};
+use crate::meant::nearest;
 use std::alloc::{AllocError, Global};
 use std::fmt;
-use strsim::levenshtein;
 use toml::{Table, Value};
-
-/// How many changes of a letter there are at most from a key to the word that was meant.
-const MOST_CHANGES: usize = 2;
 
 /// The table that a key stands in: the scenario's own, or one of those in it, counted from 0.
 #[derive(Clone, Copy, Debug, PartialEq, Eq)]
@@ -52,7 +49,7 @@ impl UnknownKey {
         Ok(UnknownKey {
             owner,
             name: String::from_str(alloc, name)?,
-            nearest: nearest(alloc, name, known)?,
+            nearest: nearest_key(alloc, name, known)?,
         })
     }
 
@@ -80,18 +77,22 @@ impl fmt::Display for UnknownKey {
     }
 }
 
-/// The first of these words that are the fewest changes of a letter away, where that is at most two.
-pub(crate) fn nearest(alloc: Global, name: &str, known: &[Key]) -> Result<Option<Key>, AllocError> {
-    let mut found = None;
-    let mut fewest = MOST_CHANGES + 1;
-    for key in known {
-        let changes = levenshtein(alloc, name, key.word())?;
-        if changes < fewest {
-            found = Some(*key);
-            fewest = changes;
-        }
+/// The key that may be meant by a name that is none of these.
+fn nearest_key(alloc: Global, name: &str, known: &[Key]) -> Result<Option<Key>, AllocError> {
+    let words = words_of(alloc, known)?;
+    match nearest(alloc, name, words.as_slice())? {
+        Some(place) => Ok(known.get(place).copied()),
+        None => Ok(None),
     }
-    Ok(found)
+}
+
+/// The words of these keys.
+fn words_of(alloc: Global, keys: &[Key]) -> Result<Vec<&'static str>, AllocError> {
+    let mut words = Vec::with_capacity(alloc, keys.len())?;
+    for key in keys {
+        words.push(key.word())?;
+    }
+    Ok(words)
 }
 
 /// Whether a name is one of these words.

@@ -1,9 +1,11 @@
 -- What is told of an event.
-use Rattle.std.specs.Prelude.{ℕ, List, Vec, Option, Some, None, slice_get}
+use Rattle.std.specs.Prelude.{ℕ, List, Vec, Option, Some, None}
 use Rattle.std.specs.Option.{option_map}
 use Rattle.std.specs.declared.alloc.Global.{Global}
 use Rattle.its_model.specs.World.{Event}
 use Rattle.its_world.specs.Events.{what_of}
+use Rattle.its_world.specs.Frames.{frame_in}
+use Rattle.its_world.specs.State.{WorldState}
 use Rattle.its_world.specs.declared.event.What.{What}
 use Rattle.its_world.specs.declared.event.What.TheVariants as whats
 use Rattle.its_simulation.specs.declared.action.Action.{Action}
@@ -26,7 +28,8 @@ action_of (whats.Deliver k) = actions.Deliver k
 abbrev pub happening_in : EventRecord → Event
 happening_in r = record { station = r.station; moment = r.moment; what = what_of r.what.now }
 
--- the octets of a frame, if one is named and there is such a one
-abbrev pub octets_of : List (Vec ℕ Global) → Option ℕ → Option (List ℕ)
-octets_of frames None = None
-octets_of frames (Some k) = option_map (λ (w : Vec ℕ Global). w.items) (slice_get frames k)
+-- the octets of a frame of a world, if one is named and there is such a one that is kept
+abbrev pub octets_of : WorldState → Option ℕ → Option (List ℕ)
+octets_of world None = None
+octets_of world (Some k) =
+    option_map (λ (w : Vec ℕ Global). w.items) (frame_in world.released world.frames k)

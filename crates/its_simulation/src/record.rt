@@ -44,7 +44,7 @@ impl<'a> EventRecord<'a> {
         ensures entry { result.entry.now ≡ entry.now }
         ensures octets { (answer : Answer ℕ) → TellsEntry entry.now answer →
             option_map (λ octets. octets.now) result.octets
-            ≡ octets_of world.now.frames (frame_of answer) }
+            ≡ octets_of world.now (frame_of answer) }
     {
         EventRecord {
             number,
@@ -53,8 +53,8 @@ impl<'a> EventRecord<'a> {
             what: &event.what,
             entry,
             octets: match entry.frame() {
-                Some(frame) if frame < world.frames() => Some(world.frame(frame)),
-                _ => None,
+                Some(frame) => world.kept_frame(frame),
+                None => None,
             },
         }
     }

@@ -1,8 +1,8 @@
 -- One event of a world, and its line in the log.
 use Rattle.std.proofs.Common.{◌≡◌, ℕ, zero, suc, ◌<◌, ◌≤◌, get_or, append_assoc, List, [], ◌∷◌}
-use Rattle.std.proofs.Common.{◌++◌, length, map, reverse, set, Option, Some, None, refl, sym, ap}
-use Rattle.std.proofs.Common.{subst, ◌∙◌}
-use Rattle.std.specs.Prelude.{slice_get, slice_set, Vec, IsSome}
+use Rattle.std.proofs.Common.{◌++◌, length, map, set, Option, Some, None, refl, sym, ap}
+use Rattle.std.proofs.Common.{subst, ◌∙◌, arith, drop, length-append}
+use Rattle.std.specs.Prelude.{slice_get, Vec}
 use Rattle.std.specs.Option.{option_map}
 use Rattle.std.specs.declared.alloc.Global.{Global}
 use Rattle.std.proofs.lemmas.List.{append-nil, reverse-append}
@@ -11,7 +11,7 @@ use Rattle.its_faults.specs.declared.frame.FrameFault.{FrameFault}
 use Rattle.its_model.specs.Packet.{Transmission}
 use Rattle.its_model.specs.Calls as model
 use Rattle.its_model.specs.Calls.{Answer, Call, Refusal}
-use Rattle.its_model.specs.Station.{StationModel, Step, station_step}
+use Rattle.its_model.specs.Station.{StationModel, station_step}
 use Rattle.its_model.specs.World.{What, Event, LogLine, WorldModel, answered, asked, at_station}
 use Rattle.its_model.specs.World.{delivery, passed_over, entries, entry_of, frame_of, with_one_more}
 use Rattle.its_model.specs.World.{world_run, world_step}
@@ -21,13 +21,13 @@ use Rattle.its_linkframe.specs.FrameFaults.{IsFrameFault}
 use Rattle.its_station.specs.State.{StationState, RepresentsStation}
 use Rattle.its_station.specs.Receiving.{IsFrameCall}
 use Rattle.its_world.specs.State.{WorldState, RepresentsWorld, RepresentStations}
-use Rattle.its_world.specs.Frames.{AreFrames}
-use Rattle.its_world.specs.Steps.{IsAskedBy, IsDelivered}
+use Rattle.its_world.specs.Frames.{AreFrames, frame_in}
+use Rattle.its_world.specs.Steps.{IsAskedBy, IsDelivered, IsKept}
 use Rattle.its_world.specs.declared.entry.Entry.{Entry}
 use Rattle.its_world.specs.Entries.{AreEntries, TellsEntry}
 use Rattle.its_world.specs.Runs.{IsRunOf}
 use Rattle.its_world.proofs.Worlds.{length_stations, get_station, no_station, set_station}
-use Rattle.its_world.proofs.Worlds.{get_frame, no_frame}
+use Rattle.its_world.proofs.Worlds.{get_kept, no_kept}
 
 -- a log with one more line has one more entry
 pub entries_more : (line : LogLine) (log : List LogLine)
@@ -45,7 +45,7 @@ pub passed : (st : WorldState) (w : WorldModel) (e : Event) (r : Refusal) → Re
     → IsStepTo w (passed_over w e r) st (model.Answer.Refused r)
 passed st w e r h =
     record {
-      stands = record { stations = h.stations; frames = h.frames };
+      stands = record { stations = h.stations; released = h.released; frames = h.frames };
       last = entries_more (record {
         event = e;
         delivered = None;
@@ -67,24 +67,25 @@ nowhere st w e h le =
 -- there is no such frame
 pub undelivered : (st : WorldState) (w : WorldModel) (e : Event) (s : StationModel)
     → RepresentsWorld st w → slice_get w.stations e.station ≡ Some s
-    → IsDelivered st.frames e.what None
+    → IsKept st.released e.what → IsDelivered st.released st.frames e.what None
     → IsStepTo w (world_step w e) st (model.Answer.Refused model.Refusal.NoSuchFrame)
-undelivered st w e s h at none =
+undelivered st w e s h at kept none =
     subst (λ o. IsStepTo w (at_station w e o) st (model.Answer.Refused model.Refusal.NoSuchFrame))
-    (sym at) (by e.what none)
+    (sym at) (by e.what kept none)
   where
     unmapped : (o : Option (Vec ℕ Global)) → None ≡ option_map (λ (w : Vec ℕ Global). w.items) o
         → o ≡ None
     unmapped None i = refl
     unmapped (Some v) i = cc
 
-    by : (what : What) → IsDelivered st.frames what None
+    by : (what : What) → IsKept st.released what → IsDelivered st.released st.frames what None
         → IsStepTo w (asked w e s what) st (model.Answer.Refused model.Refusal.NoSuchFrame)
-    by (Calls call) i = cc
-    by (Deliver k) i =
+    by (Calls call) kept i = cc
+    by (Deliver k) kept i =
         subst (λ o.
         IsStepTo w (delivery w e s o) st (model.Answer.Refused model.Refusal.NoSuchFrame))
-        (sym (no_frame st.frames w.air k h.frames (unmapped (slice_get st.frames k) i)))
+        (sym (no_kept st.released st.frames w.air k h.frames kept
+        (unmapped (frame_in st.released st.frames k) i)))
         (passed st w e model.Refusal.NoSuchFrame h)
 
 -- octets that are a frame are asked as this frame
@@ -97,27 +98,35 @@ asked_frame t octets (model.Call.Receive u) one none enc is =
     ap model.Call.Receive (one u t octets is enc)
 asked_frame t octets (model.Call.Junk fault) one none enc is = absurd (none t fault enc is)
 
+-- with perhaps one more
+no_shorter : {X : Type 0} (n : ℕ) (xs : List X) (more : Option X) → n ≤ length xs
+    → n ≤ length (with_one_more xs more)
+no_shorter n xs None le = le
+no_shorter n xs (Some x) le = omega (arith, le, length-append xs (x ∷ []))
+
 -- an event that its station answered
 pub answered_step : (st new : WorldState) (w : WorldModel) (e : Event) (s : StationModel)
     (octets : List ℕ) (call : Call)
     → ((a b : Transmission) (w : List ℕ) → EncodesFrame a w → EncodesFrame b w → a ≡ b)
     → ((a : Transmission) (f : FrameFault) → EncodesFrame a octets → IsFrameFault octets f → ⊥)
     → RepresentsWorld st w → slice_get w.stations e.station ≡ Some s
-    → IsDelivered st.frames e.what (Some octets) → IsAskedBy e.what octets call
+    → IsKept st.released e.what → IsDelivered st.released st.frames e.what (Some octets)
+    → IsAskedBy e.what octets call
     → let step = station_step s e.moment call in
     (after : StationState) → RepresentsStation after step.station
-    → new.stations ≡ set st.stations e.station after
-    → AreFrames new.frames (with_one_more w.air (frame_of step.answer))
+    → new.stations ≡ set st.stations e.station after → new.released ≡ st.released
+    → AreFrames new.frames (drop st.released (with_one_more w.air (frame_of step.answer)))
     → IsStepTo w (world_step w e) new (entry_of (length w.air) step.answer)
-answered_step st new w e s octets call one none h at delivered asked_by after rep stations frames =
+answered_step st new w e s octets call one none h at kept delivered asked_by after rep stations
+    released frames =
     let step = station_step s e.moment call in
     subst (λ o. IsStepTo w (at_station w e o) new (entry_of (length w.air) step.answer)) (sym at)
-    (by e.what delivered asked_by)
+    (by e.what kept delivered asked_by)
   where
     told : (o : Option Transmission) (call : Call) (octets : List ℕ)
         → RepresentsStation after (station_step s e.moment call).station
         → AreFrames new.frames
-        (with_one_more w.air (frame_of (station_step s e.moment call).answer))
+        (drop st.released (with_one_more w.air (frame_of (station_step s e.moment call).answer)))
         → IsStepTo w (answered w e o (station_step s e.moment call)) new
         (entry_of (length w.air) (station_step s e.moment call).answer)
     told o call octets rep frames =
@@ -128,7 +137,13 @@ answered_step st new w e s octets call one none h at delivered asked_by after re
                 (λ (xs : List StationState).
                 RepresentStations xs (set w.stations e.station step.station)) (sym stations)
                 (set_station st.stations w.stations e.station after step.station h.stations rep);
-            frames = frames;
+            released =
+                subst (λ n. n ≤ length (with_one_more w.air (frame_of step.answer))) (sym released)
+                (no_shorter st.released w.air (frame_of step.answer) h.released);
+            frames =
+                subst (λ n.
+                AreFrames new.frames (drop n (with_one_more w.air (frame_of step.answer))))
+                (sym released) frames;
           };
           last = entries_more (record {
             event = e;
@@ -137,13 +152,14 @@ answered_step st new w e s octets call one none h at delivered asked_by after re
           }) w.log;
         }
 
-    framed : (k : ℕ) (o : Option (Vec ℕ Global)) → slice_get st.frames k ≡ o
+    framed : (k : ℕ) (o : Option (Vec ℕ Global)) → st.released ≤ k
+        → frame_in st.released st.frames k ≡ o
         → Some octets ≡ option_map (λ (w : Vec ℕ Global). w.items) o → IsFrameCall octets call
         → IsStepTo w (delivery w e s (slice_get w.air k)) new
         (entry_of (length w.air) (station_step s e.moment call).answer)
-    framed k None is i c = cc
-    framed k (Some v) is i c =
-        let f = get_frame st.frames w.air k v h.frames is in
+    framed k None le is i c = cc
+    framed k (Some v) le is i c =
+        let f = get_kept st.released st.frames w.air k v h.frames le is in
         let same : v.items ≡ octets = cc in
         let is_call : call ≡ model.Call.Receive f.0 =
         asked_frame f.0 octets call one none (subst (EncodesFrame f.0) same f.2) c in
@@ -155,15 +171,16 @@ answered_step st new w e s octets call one none h at delivered asked_by after re
         (entry_of (length w.air) (station_step s e.moment call).answer)) is_call
         (told (Some f.0) call octets rep frames))
 
-    by : (what : What) → IsDelivered st.frames what (Some octets) → IsAskedBy what octets call
+    by : (what : What) → IsKept st.released what
+        → IsDelivered st.released st.frames what (Some octets) → IsAskedBy what octets call
         → IsStepTo w (asked w e s what) new
         (entry_of (length w.air) (station_step s e.moment call).answer)
-    by (Calls own) i is =
+    by (Calls own) kept i is =
         subst (λ (x : Call).
         IsStepTo w (answered w e None (station_step s e.moment x)) new
         (entry_of (length w.air) (station_step s e.moment call).answer)) is
         (told None call octets rep frames)
-    by (Deliver k) i is = framed k (slice_get st.frames k) refl i is
+    by (Deliver k) kept i is = framed k (frame_in st.released st.frames k) kept refl i is
 
 -- where a station is within the list, it stands for one
 pub station_at : (st : WorldState) (w : WorldModel) (j : ℕ) → RepresentsWorld st w

@@ -1,15 +1,19 @@
 -- A world and the world of the model that it represents, one for one.
-use Rattle.std.proofs.Common.{◌≡◌, ℕ, zero, suc, ◌<◌, ◌≤◌, List, [], ◌∷◌, ◌++◌, length, set, Option}
-use Rattle.std.proofs.Common.{Some, None, refl, sym, ap, subst, ◌∙◌, arith}
-use Rattle.std.specs.Prelude.{slice_get, Vec}
+use Rattle.std.proofs.Common.{◌≡◌, ℕ, zero, suc, ◌+◌, ◌-◌, ◌≤◌, List, [], ◌∷◌, ◌++◌, length}
+use Rattle.std.proofs.Common.{set, drop, Some, None, Bool, true, cond, refl, sym, ap}
+use Rattle.std.proofs.Common.{subst, ◌∙◌, arith, tests, length-drop}
+use Rattle.std.proofs.lemmas.List.{drop-append-le, drop-drop}
+use Rattle.std.specs.Prelude.{slice_get, nat_le, Vec}
 use Rattle.std.specs.declared.alloc.Global.{Global}
 use Rattle.its_model.specs.Packet.{Transmission}
 use Rattle.its_model.specs.Station.{StationModel}
-use Rattle.its_model.specs.World.{with_one_more}
+use Rattle.its_model.specs.World.{What}
+use Rattle.its_model.specs.World.What.{Calls, Deliver}
 use Rattle.its_linkframe.specs.Frames.{EncodesFrame}
 use Rattle.its_station.specs.State.{StationState, RepresentsStation}
-use Rattle.its_world.specs.Frames.{AreFrames}
+use Rattle.its_world.specs.Frames.{AreFrames, frame_in}
 use Rattle.its_world.specs.State.{RepresentStations}
+use Rattle.its_world.specs.Steps.{IsKept}
 
 -- the stations are as many
 pub length_stations : (states : List StationState) (models : List StationModel)
@@ -94,3 +98,78 @@ frame_last [] [] w t h e = (e, tt)
 frame_last [] (u ∷ air) w t h e = absurd h
 frame_last (v ∷ frames) [] w t h e = absurd h
 frame_last (v ∷ frames) (u ∷ air) w t h e = (h.0, frame_last frames air w t h.1 e)
+
+-- what is at a place behind a prefix is there in the whole
+at_dropped : {X : Type 0} (xs : List X) (r j k : ℕ) → r + j ≡ k
+    → slice_get (drop r xs) j ≡ slice_get xs k
+at_dropped xs zero j k e = let same : j ≡ k = omega (arith, e) in ap (slice_get xs) same
+at_dropped [] (suc r) j k e = refl
+at_dropped (x ∷ xs) (suc r) j zero e = absurd (omega (arith, e))
+at_dropped (x ∷ xs) (suc r) j (suc k) e = at_dropped xs r j k (omega (arith, e))
+
+-- a frame that is kept is at its number without those that were let go
+kept_in : (released : ℕ) (frames : List (Vec ℕ Global)) (k : ℕ) → released ≤ k
+    → frame_in released frames k ≡ slice_get frames (k - released)
+kept_in released frames k le =
+    let is_kept : nat_le released k ≡ true = grind (arith, tests, le) in
+    ap (λ (b : Bool). cond b (slice_get frames (k - released)) None) is_kept
+
+-- a frame that is kept encodes the one of its number
+pub get_kept : (released : ℕ) (frames : List (Vec ℕ Global)) (air : List Transmission) (k : ℕ)
+    (w : Vec ℕ Global) → AreFrames frames (drop released air) → released ≤ k
+    → frame_in released frames k ≡ Some w
+    → (t : Transmission) × (slice_get air k ≡ Some t) × EncodesFrame t w.items
+get_kept released frames air k w h le e =
+    let place = k - released in
+    let f = get_frame frames (drop released air) place w h
+    (sym (kept_in released frames k le) ∙ e) in
+    (f.0, sym (at_dropped air released place k (omega (arith, le))) ∙ f.1, f.2)
+
+-- where none of them is kept there is none
+pub no_kept : (released : ℕ) (frames : List (Vec ℕ Global)) (air : List Transmission) (k : ℕ)
+    → AreFrames frames (drop released air) → released ≤ k → frame_in released frames k ≡ None
+    → slice_get air k ≡ None
+no_kept released frames air k h le e =
+    let place = k - released in
+    sym (at_dropped air released place k (omega (arith, le)))
+    ∙ no_frame frames (drop released air) place h (sym (kept_in released frames k le) ∙ e)
+
+-- those that were let go and those that are kept are all
+pub count_kept : (released : ℕ) (frames : List (Vec ℕ Global)) (air : List Transmission)
+    → released ≤ length air → AreFrames frames (drop released air)
+    → released + length frames ≡ length air
+count_kept released frames air le h =
+    omega (arith, le, length_frames frames (drop released air) h, length-drop released air)
+
+-- one more frame behind those that are kept
+pub kept_last : (released : ℕ) (frames : List (Vec ℕ Global)) (air : List Transmission)
+    (w : Vec ℕ Global) (t : Transmission) → released ≤ length air
+    → AreFrames frames (drop released air) → EncodesFrame t w.items
+    → AreFrames (frames ++ w ∷ []) (drop released (air ++ t ∷ []))
+kept_last released frames air w t le h e =
+    subst (AreFrames (frames ++ w ∷ [])) (sym (drop-append-le released air (t ∷ []) le))
+    (frame_last frames (drop released air) w t h e)
+
+-- the frames without the first ones
+frames_left : (n : ℕ) (frames : List (Vec ℕ Global)) (air : List Transmission)
+    → AreFrames frames air → AreFrames (drop n frames) (drop n air)
+frames_left zero frames air h = h
+frames_left (suc n) [] [] h = tt
+frames_left (suc n) [] (t ∷ air) h = absurd h
+frames_left (suc n) (w ∷ frames) [] h = absurd h
+frames_left (suc n) (w ∷ frames) (t ∷ air) h = frames_left n frames air h.1
+
+-- more frames were let go
+pub kept_left : (released now : ℕ) (frames : List (Vec ℕ Global)) (air : List Transmission)
+    → released ≤ now → AreFrames frames (drop released air)
+    → AreFrames (drop (now - released) frames) (drop now air)
+kept_left released now frames air le h =
+    let n = now - released in
+    let all : released + n ≡ now = omega (arith, le) in
+    subst (AreFrames (drop n frames)) (drop-drop n released air ∙ ap (λ k. drop k air) all)
+    (frames_left n frames (drop released air) h)
+
+-- where nothing was let go, all is kept
+pub none_gone : (released : ℕ) (what : What) → released ≡ 0 → IsKept released what
+none_gone released (Calls call) e = tt
+none_gone released (Deliver k) e = omega (arith, e)

@@ -1,5 +1,5 @@
 -- The frames of a world, in octets.
-use Rattle.std.specs.Prelude.{ℕ, List, [], ◌∷◌, Vec}
+use Rattle.std.specs.Prelude.{ℕ, ◌-◌, List, [], ◌∷◌, Vec, Option, None, cond, nat_le, slice_get}
 use Rattle.std.specs.declared.alloc.Global.{Global}
 use Rattle.its_model.specs.Packet.{Transmission}
 use Rattle.its_linkframe.specs.Frames.{EncodesFrame}
@@ -10,3 +10,8 @@ AreFrames [] [] = Unit {0}
 AreFrames [] (t ∷ air) = ⊥
 AreFrames (w ∷ frames) [] = ⊥
 AreFrames (w ∷ frames) (t ∷ air) = EncodesFrame t w.items × AreFrames frames air
+
+-- the frame of a number, where these are kept and so many before them were let go; none where it
+-- was let go, or there is no such frame
+abbrev pub frame_in : ℕ → List (Vec ℕ Global) → ℕ → Option (Vec ℕ Global)
+frame_in released frames k = cond (nat_le released k) (slice_get frames (k - released)) None

@@ -1,5 +1,5 @@
 -- What an event asks of its station.
-use Rattle.std.specs.Prelude.{◌≡◌, ◌≢◌, ℕ, List, Option, IsSome, Vec, slice_get, length}
+use Rattle.std.specs.Prelude.{◌≡◌, ◌≢◌, ℕ, ◌<◌, ◌≤◌, List, Option, IsSome, Vec, slice_get, length}
 use Rattle.std.specs.Option.{option_map}
 use Rattle.std.specs.declared.alloc.Global.{Global}
 use Rattle.its_model.specs.Calls as model
@@ -8,17 +8,28 @@ use Rattle.its_model.specs.World.{What}
 use Rattle.its_model.specs.World.What.{Calls, Deliver}
 use Rattle.its_station.specs.State.{StationState}
 use Rattle.its_station.specs.Receiving.{IsFrameCall}
+use Rattle.its_world.specs.Frames.{frame_in}
 
 -- a call of its own, or the frame that these octets are
 abbrev pub IsAskedBy : What → List ℕ → Call → Type 0
 IsAskedBy (Calls call) w asked = asked ≡ model.Call.Own call
 IsAskedBy (Deliver k) w asked = IsFrameCall w asked
 
+-- where so many frames were let go, none of them is delivered by what happens
+abbrev pub IsKept : ℕ → What → Type 0
+IsKept released (Calls call) = Unit {0}
+IsKept released (Deliver k) = released ≤ k
+
+-- one of them is
+abbrev pub IsGone : ℕ → What → Type 0
+IsGone released (Calls call) = ⊥
+IsGone released (Deliver k) = k < released
+
 -- the octets that an event delivers, if there are such ones; those of an own call are of no account
-abbrev pub IsDelivered : List (Vec ℕ Global) → What → Option (List ℕ) → Type 0
-IsDelivered frames (Calls call) octets = IsSome octets
-IsDelivered frames (Deliver k) octets =
-    octets ≡ option_map (λ (w : Vec ℕ Global). w.items) (slice_get frames k)
+abbrev pub IsDelivered : ℕ → List (Vec ℕ Global) → What → Option (List ℕ) → Type 0
+IsDelivered released frames (Calls call) octets = IsSome octets
+IsDelivered released frames (Deliver k) octets =
+    octets ≡ option_map (λ (w : Vec ℕ Global). w.items) (frame_in released frames k)
 
 -- the same stations, but perhaps that of this number
 abbrev pub AreSameBut : ℕ → List StationState → List StationState → Type 0

@@ -1,7 +1,9 @@
 //! What a station of a world gives for an event, before its frame has a number.
 
-ghost use Rattle.std.specs.Prelude.{◌≡◌, ◌<◌, ◌≤◌, ◌++◌, ◌∷◌, [], List, Option, Some, Err, IfOk};
-ghost use Rattle.std.specs.Prelude.{OnErr, MatchResult, IsSome, length, vec_len, vec_capacity};
+ghost use Rattle.std.specs.Prelude.{◌≡◌, ◌<◌, ◌≤◌, ◌+◌, ◌-◌, ◌^◌, [], List, Option, Err, IfOk};
+ghost use Rattle.std.specs.Prelude.{OnErr, MatchResult, IsSome, length, drop, vec_len};
+ghost use Rattle.std.specs.Prelude.{vec_capacity};
+ghost use Rattle.std.specs.VecDeque.{deque_len, deque_capacity};
 ghost use Rattle.its_model.specs.Packet.{Transmission};
 ghost use Rattle.its_model.specs.Calls.{Answer};
 ghost use Rattle.its_model.specs.Station.{Step};
@@ -14,6 +16,7 @@ ghost use Rattle.its_station.specs.Runs.{Fits};
 ghost use Rattle.its_world.specs.Frames.{AreFrames};
 ghost use Rattle.its_world.specs.Entries.{TellsEntry, TellsGiven, IsToldBy, IsGivenBy};
 
+use crate::air::Air;
 use crate::entry::{Entry, EntryFault};
 use its_gnvalue::NoMemory;
 use its_station::{Delivery, Outcome, Refused};
@@ -101,16 +104,20 @@ impl Given {
     }
 
     /// The entry. A frame becomes the next of the world's, for which there has to be room.
-    pub(crate) fn enter(self, air: &mut Vec<Vec<u8>>) -> Entry
-        requires { vec_len air.old < vec_capacity air.old }
-        ensures { (answer : Answer Transmission) (frames : List Transmission) →
-            AreFrames air.old.items frames → TellsGiven self answer →
+    pub(crate) fn enter(self, air: &mut Air) -> Entry
+        requires room { deque_len air.old.kept < deque_capacity air.old.kept }
+        requires number { air.old.released + deque_len air.old.kept < 2 ^ 64 - 1 }
+        ensures released { air.new.released ≡ air.old.released }
+        ensures entry { (answer : Answer Transmission) (frames : List Transmission) →
+            air.old.released ≤ length frames →
+            AreFrames air.old.kept.items (drop air.old.released frames) → TellsGiven self answer →
             TellsEntry result (entry_of (length frames) answer)
-            × AreFrames air.new.items (with_one_more frames (frame_of answer)) }
+            × AreFrames air.new.kept.items
+            (drop air.old.released (with_one_more frames (frame_of answer))) }
     {
         match self {
             Given::Told(entry) => entry,
-            Given::Sent(frame) => Entry::Sent(give(air, frame)),
+            Given::Sent(frame) => Entry::Sent(air.give(frame)),
             Given::Accepted { handed, sent } => Entry::Accepted {
                 handed,
                 sent: give_relay(air, sent),
@@ -119,29 +126,19 @@ impl Given {
     }
 }
 
-/// Gives a frame the next number.
-fn give(air: &mut Vec<Vec<u8>>, frame: Vec<u8>) -> usize
-    requires { vec_len air.old < vec_capacity air.old }
-    ensures number { result ≡ length air.old.items }
-    ensures given { air.new.items ≡ air.old.items ++ frame ∷ [] }
-{
-    let number = air.len();
-    let Ok(()) = air.push(frame) else {
-        unreachable!()
-    };
-    number
-}
-
 /// Gives a relayed frame the next number, if there is one.
-fn give_relay(air: &mut Vec<Vec<u8>>, sent: Option<Vec<u8>>) -> Option<usize>
-    requires { vec_len air.old < vec_capacity air.old }
-    ensures { (relayed : Option Transmission) (frames : List Transmission) →
-        AreFrames air.old.items frames → IsRelay sent relayed →
+fn give_relay(air: &mut Air, sent: Option<Vec<u8>>) -> Option<usize>
+    requires room { deque_len air.old.kept < deque_capacity air.old.kept }
+    requires number { air.old.released + deque_len air.old.kept < 2 ^ 64 - 1 }
+    ensures released { air.new.released ≡ air.old.released }
+    ensures relayed { (relayed : Option Transmission) (frames : List Transmission) →
+        air.old.released ≤ length frames →
+        AreFrames air.old.kept.items (drop air.old.released frames) → IsRelay sent relayed →
         (result ≡ numbered (length frames) relayed)
-        × AreFrames air.new.items (with_one_more frames relayed) }
+        × AreFrames air.new.kept.items (drop air.old.released (with_one_more frames relayed)) }
 {
     match sent {
-        Some(frame) => Some(give(air, frame)),
+        Some(frame) => Some(air.give(frame)),
         None => None,
     }
 }

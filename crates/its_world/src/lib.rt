@@ -2,6 +2,7 @@
 //! that hold after every one of them.
 #![tactic(auto)]
 
+mod air;
 mod config;
 mod entry;
 mod event;

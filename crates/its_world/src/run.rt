@@ -3,7 +3,8 @@
 ghost use Rattle.std.specs.Prelude.{◌≡◌, ◌<◌, ◌≤◌, List, All, map, take, length, IsTrue, IsFalse};
 ghost use Rattle.its_model.specs.World.{WorldModel, Config, Event as Happening, opening, world_run};
 ghost use Rattle.its_world.specs.State.{RepresentsWorld};
-ghost use Rattle.its_world.specs.Events.{IsInRange, event_of};
+ghost use Rattle.its_world.specs.Events.{IsInRange, event_of, what_of};
+ghost use Rattle.its_world.specs.Steps.{IsKept};
 ghost use Rattle.its_world.specs.Runs.{IsRunOf, IsLawfulRunOf};
 
 use crate::entry::Entry;
@@ -28,23 +29,25 @@ impl World {
     /// after it is done, the world stands as after those before it, and `run` may be called again.
     /// The speed of each `MoveTo` has to be in its range.
     ///
-    /// For every run at whose end the world stood, these events continue it as the written rules
-    /// say, and of the longer run hold the laws over every schedule of losses, repeats and
-    /// reorderings: what is delivered of a packet for an area was sent earlier to that port for an
-    /// area that holds the receiver then; a relay is the received packet, one hop fewer; no station
-    /// delivers a send twice unless, between, as many other packets of the source came as it
-    /// remembers, nothing new of the source came for 20 s, or the station restarted. And where the
-    /// deliveries come, a geobroadcast reaches: each station of a way on which what one gave came
-    /// to the next accepts it, n links away n delays after the send at the latest, where its hops
-    /// suffice (`what_is_delivered_reaches` of `its_model`).
+    /// For every run at whose end the world stood, these events, where they deliver no frame that
+    /// was let go, continue it as the written rules say, and of the longer run hold the laws over
+    /// every schedule of losses, repeats and reorderings: what is delivered of a packet for an area
+    /// was sent earlier to that port for an area that holds the receiver then; a relay is the
+    /// received packet, one hop fewer; no station delivers a send twice unless, between, as many
+    /// other packets of the source came as it remembers, nothing new of the source came for 20 s,
+    /// or the station restarted. And where the deliveries come, a geobroadcast reaches: each station
+    /// of a way on which what one gave came to the next accepts it, n links away n delays after the
+    /// send at the latest, where its hops suffice (`what_is_delivered_reaches` of `its_model`).
     pub fn run(&mut self, events: &[Event]) -> Run
         requires { All (λ event. IsInRange event.what) events.now }
         ensures log { length result.log.items ≡ result.done }
         ensures done { result.done ≤ length events.now }
         ensures all { IsFalse result.out_of_memory → result.done ≡ length events.now }
         ensures some { IsTrue result.out_of_memory → result.done < length events.now }
+        ensures released { self.new.released ≡ self.old.released }
         ensures run { (configs : List Config) (past : List Happening) →
             RepresentsWorld self.old (world_run (opening configs) past) →
+            All (λ event. IsKept self.old.released (what_of event.what)) events.now →
             IsLawfulRunOf configs past (map event_of (take result.done events.now))
             result.log.items self.new }
     {
@@ -61,7 +64,9 @@ impl World {
         ensures done { result.done ≤ length events.now }
         ensures all { IsFalse result.out_of_memory → result.done ≡ length events.now }
         ensures some { IsTrue result.out_of_memory → result.done < length events.now }
+        ensures released { self.new.released ≡ self.old.released }
         ensures run { (w : WorldModel) → RepresentsWorld self.old w →
+            All (λ event. IsKept self.old.released (what_of event.what)) events.now →
             IsRunOf w (map event_of (take result.done events.now)) result.log.items self.new }
     {
         // Laws, for the proof alone.

@@ -1,7 +1,7 @@
 //! A world, and one event in it.
 
-ghost use Rattle.std.specs.Prelude.{◌≡◌, ◌<◌, ◌≤◌, ◌+◌, ◌++◌, ◌∷◌, [], ℕ, List, All, map, length};
-ghost use Rattle.std.specs.Prelude.{IfOk, IfErr, OnOk, OnErr, Some, slice_get};
+ghost use Rattle.std.specs.Prelude.{◌≡◌, ◌<◌, ◌≤◌, ◌+◌, ◌-◌, ◌++◌, ◌∷◌, [], ℕ, List, All, map, length};
+ghost use Rattle.std.specs.Prelude.{IfOk, IfErr, OnOk, OnErr, Some, slice_get, drop, min, max};
 ghost use Rattle.std.specs.Option.{option_map};
 ghost use Rattle.its_model.specs.Calls.{Answer, Call};
 ghost use Rattle.its_model.specs.Station.{StationModel, station_step};
@@ -9,13 +9,15 @@ ghost use Rattle.its_model.specs.World.{WorldModel, opening, world_step, entries
 ghost use Rattle.its_model.specs.Reach.{HasOwnAddress};
 ghost use Rattle.its_headers.specs.Encoding.{IsBytes};
 ghost use Rattle.its_station.specs.State.{StationState, RepresentsStation};
+ghost use Rattle.its_world.specs.Frames.{frame_in};
 ghost use Rattle.its_world.specs.State.{RepresentsWorld};
 ghost use Rattle.its_world.specs.Events.{IsConfig, IsInRange, config_of, event_of, what_of};
 ghost use Rattle.its_world.specs.Entries.{TellsEntry, IsGivenBy};
 ghost use Rattle.its_world.specs.Mids.{AreApart, IsMidFault};
-ghost use Rattle.its_world.specs.Steps.{IsAskedBy, IsDelivered, AreSameBut};
+ghost use Rattle.its_world.specs.Steps.{IsAskedBy, IsDelivered, IsKept, IsGone, AreSameBut};
 ghost use Rattle.its_world.specs.Late.{with_station};
 
+use crate::air::Air;
 use crate::config::{Config, WorldFault};
 use crate::entry::{Entry, EntryFault};
 use crate::event::{Event, What};
@@ -32,12 +34,12 @@ use std::marker::Model;
 
 /// Stations, and all frames that they gave, numbered from 0 in the order in which they were given.
 /// A frame that is delivered to nobody is lost; one may be delivered often, late, and to any
-/// station.
+/// station. The first frames may be let go (`release`): those after them keep their numbers.
 #[derive(Drop)]
 pub struct World {
     pub(crate) alloc: Global,
     stations: Vec<Station<SortedTable>>,
-    air: Vec<Vec<u8>>,
+    air: Air,
     /// Room for the payload of the next delivery: that of the last one, where nothing was delivered.
     room: Vec<u8>,
 }
@@ -47,7 +49,11 @@ impl Model for World {
 
     ghost Value = { WorldState };
 
-    ghost view = { λ w. record { stations = w.stations.items; frames = w.air.items } };
+    ghost view = { λ w. record {
+      stations = w.stations.items;
+      released = w.air.released;
+      frames = w.air.kept.items;
+    } };
 }
 
 impl World {
@@ -63,6 +69,7 @@ impl World {
         ensures own { OnOk result ((station : ℕ) →
             HasOwnAddress (map config_of configs.now) station) }
         ensures refused { IfErr result (λ fault. IsMidFault fault configs.now) }
+        ensures kept { IfOk result (λ w. w.released ≡ 0) }
     {
         // A law, for the proof alone.
         addresses_are_own();
@@ -76,12 +83,13 @@ impl World {
         requires ranges { All IsConfig configs.now }
         requires count { length configs.now ≤ 65535 }
         requires apart { AreApart configs.now }
-        ensures { IfOk result (λ w. RepresentsWorld w (opening (map config_of configs.now))) }
+        ensures opens { IfOk result (λ w. RepresentsWorld w (opening (map config_of configs.now))) }
+        ensures kept { IfOk result (λ w. w.released ≡ 0) }
     {
         Ok(World {
             alloc,
             stations: stations_of(alloc, configs)?,
-            air: Vec::new(alloc),
+            air: Air::new(alloc),
             room: Vec::new(alloc),
         })
     }
@@ -98,6 +106,7 @@ impl World {
         ensures others { (number : ℕ) → number < length self.old.stations →
             slice_get self.new.stations number ≡ slice_get self.old.stations number }
         ensures frames { self.new.frames ≡ self.old.frames }
+        ensures released { self.new.released ≡ self.old.released }
         ensures unchanged { OnErr result (self.new ≡ self.old) }
     {
         let station = begin_station(self.alloc, config)?;
@@ -119,38 +128,82 @@ impl World {
         self.stations.as_slice()
     }
 
-    /// How many frames there are.
+    /// How many frames were given, those that were let go among them: the number of the next one.
     pub fn frames(&self) -> usize
-        ensures { result ≡ length self.now.frames }
+        ensures { result ≡ self.now.released + length self.now.frames }
     {
-        self.air.len()
+        self.air.count()
     }
 
-    /// The octets of a frame, by its number, which has to be below `frames()`.
-    pub fn frame(&self, number: usize) -> &[u8]
-        requires { number < length self.now.frames }
-        ensures { option_map (λ w. w.items) (slice_get self.now.frames number) ≡ Some result.now }
+    /// How many frames were let go: those of the numbers below. 0 as long as `release` isn't
+    /// called.
+    pub fn released(&self) -> usize
+        ensures { result ≡ self.now.released }
     {
-        self.air[number].as_slice()
+        self.air.released()
+    }
+
+    /// Lets the frames before this number go, so that their memory can hold others: their octets
+    /// are no longer there, and they can't be delivered any more. The numbers of the others stay.
+    /// Nothing else changes: the world stands as before, at the end of the same run. Those before
+    /// may be gone already, and there may be no frame of this number yet.
+    pub fn release(&mut self, before: usize)
+        ensures stands { (w : WorldModel) → RepresentsWorld self.old w → RepresentsWorld self.new w }
+        ensures stations { self.new.stations ≡ self.old.stations }
+        ensures released { self.new.released
+            ≡ max self.old.released (min before (self.old.released + length self.old.frames)) }
+        ensures frames { self.new.frames
+            ≡ drop (self.new.released - self.old.released) self.old.frames }
+        ensures count { self.new.released + length self.new.frames
+            ≡ self.old.released + length self.old.frames }
+    {
+        self.air.release(before);
+    }
+
+    /// The octets of a frame, by its number, which has to be below `frames()`, and no lower than
+    /// `released()`.
+    pub fn frame(&self, number: usize) -> &[u8]
+        requires kept { self.now.released ≤ number }
+        requires given { number < self.now.released + length self.now.frames }
+        ensures { option_map (λ w. w.items) (frame_in self.now.released self.now.frames number)
+            ≡ Some result.now }
+    {
+        self.air.frame(number)
+    }
+
+    /// The same; `None` where it was let go, or there is no such frame.
+    pub fn kept_frame(&self, number: usize) -> Option<&[u8]>
+        ensures { option_map (λ octets. octets.now) result ≡ option_map (λ w. w.items)
+            (frame_in self.now.released self.now.frames number) }
+    {
+        self.air.get(number)
     }
 
     /// Does one event, whose speed has to be in its range where it is a `MoveTo`: the world goes one
     /// step of the written rules, and the entry is what they log of it. No other station is touched.
     /// Where an allocation failed nothing changed, and the event may be done again. `run` does many,
     /// and says what holds then.
+    ///
+    /// The written rules know of no frame that was let go, so nothing is said by them of its
+    /// delivery: it is refused as `NoSuchFrame` then, and changes nothing.
     pub fn step(&mut self, event: &Event) -> Result<Entry, NoMemory>
         requires { IsInRange event.now.what }
         ensures step { IfOk result (λ entry. (w : WorldModel) → RepresentsWorld self.old w →
+            IsKept self.old.released (what_of event.now.what) →
             RepresentsWorld self.new (world_step w (event_of event.now))
             × (answer : Answer ℕ) × TellsEntry entry answer
             × (entries (world_step w (event_of event.now)).log ≡ entries w.log ++ answer ∷ [])) }
+        ensures gone { IsGone self.old.released (what_of event.now.what) →
+            event.now.station < length self.old.stations → IfOk result (λ entry.
+            (entry ≡ Entry.Refused EntryFault.NoSuchFrame) × (self.new ≡ self.old)) }
         ensures others { AreSameBut event.now.station self.old.stations self.new.stations }
+        ensures released { self.new.released ≡ self.old.released }
         ensures unchanged { OnErr result (self.new ≡ self.old) }
     {
         if event.station >= self.stations.len() {
             return Ok(Entry::Refused(EntryFault::NoSuchStation));
         }
-        self.air.reserve(1)?;
+        self.air.make_room()?;
         let Some(frame) = delivered(&self.air, &event.what) else {
             return Ok(Entry::Refused(EntryFault::NoSuchFrame));
         };
@@ -164,16 +217,14 @@ impl World {
     }
 }
 
-/// The frame that an event delivers, or no octets where it delivers none; `None` where there is no
-/// frame of its number.
-fn delivered<'a>(air: &'a [Vec<u8>], what: &What) -> Option<&'a [u8]>
-    ensures { IsDelivered air.now (what_of what.now) (option_map (λ frame. frame.now) result) }
+/// The frame that an event delivers, or no octets where it delivers none; `None` where no frame of
+/// its number is kept.
+fn delivered<'a>(air: &'a Air, what: &What) -> Option<&'a [u8]>
+    ensures { IsDelivered air.now.released air.now.kept.items (what_of what.now)
+        (option_map (λ frame. frame.now) result) }
 {
     match what {
-        What::Deliver(number) => match air.get(*number) {
-            Some(frame) => Some(frame.as_slice()),
-            None => None,
-        },
+        What::Deliver(number) => air.get(*number),
         What::MoveTo { .. }
         | What::Open(_)
         | What::Close(_)

@@ -1,4 +1,4 @@
-//! Worlds of stations: schedules, refusals, and memory that runs out.
+//! Worlds of stations: schedules, refusals, frames that are let go, and memory that runs out.
 
 ghost use Rattle.std.specs.Prelude.{◌≤◌, All, IfOk, length};
 ghost use Rattle.its_world.specs.Events.{IsConfig, IsInRange};
@@ -6,6 +6,7 @@ ghost use Rattle.its_world.specs.Events.{IsConfig, IsInRange};
 mod memory;
 mod numbers;
 mod refusals;
+mod released;
 mod schedules;
 
 use its_geometry::Area;

@@ -16,9 +16,9 @@ use std::test::Fail;
 static FATES: [Fate; 3] = [Fate::Opened, Fate::Sent(0), Fate::Relayed(1)];
 
 /// How many budgets are tried at most, and how far they lie apart, in octets.
-const BUDGETS: usize = 800;
+const BUDGETS: usize = 400;
 
-const APART: usize = 16;
+const APART: usize = 32;
 
 /// A station with the smallest location table.
 fn small(address: u64, lat: i32) -> Result<Config, Fail>
@@ -115,7 +115,7 @@ fn does_the_rest(rt: &impl Abort, world: &mut World, rest: &[Event], done: usize
 }
 
 fn has_frames(rt: &impl Abort, world: &World, frames: &Frames) {
-    assert_eq!(rt; world.frames(), 2);
+    assert!(rt; world.released() == 0 && world.frames() == 2);
     assert_eq!(rt; world.frame(0), frames.sent.as_slice());
     assert_eq!(rt; world.frame(1), frames.relayed.as_slice());
 }

@@ -99,7 +99,7 @@ fn has_frames(
     first: &[u8],
 ) -> Result<(), Fail> {
     assert_eq!(rt; first.len(), 76);
-    assert_eq!(rt; world.frames(), flood.frames.len());
+    assert!(rt; world.released() == 0 && world.frames() == flood.frames.len());
     for number in 0..world.frames() {
         let copied = *flood.frames.get(number).ok_or("no such frame")?;
         let want = given(alloc, first, copied)?;

@@ -21,6 +21,7 @@ loop-init g c =
     let configs = map config_of c.args.configs.now in
     record {
       due = c.in_ok-run.ensures.due;
+      kept = c.in_ok-run.ensures.kept;
       standings = c.in_ok-run.ensures.standings;
       ranges = c.in_ok-run.ensures.ranges;
       run = λ took. (
@@ -50,6 +51,7 @@ loop-preserved g c =
           subst (λ (d : Vec (Bor FileEvent) Global).
           AreDue (map filed_of c.args.file.now) (end_of c.args.air.now.until c.args.file.now) (filed_in d.items))
           (sym due) c.loop.invariant.due;
+      kept = c.go_on.ensures.kept;
       standings = c.in_ok-go_on.ensures.standings;
       ranges =
           subst (λ (d : Vec (Bor FileEvent) Global).

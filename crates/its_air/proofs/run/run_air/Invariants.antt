@@ -1,4 +1,4 @@
-use Rattle.std.proofs.Common.{ℕ, List, [], map}
+use Rattle.std.proofs.Common.{◌≡◌, ℕ, List, [], map}
 use Rattle.std.specs.Prelude.{All}
 use Rattle.its_model.specs.World.{Event}
 use Rattle.its_world.specs.Events.{config_of}
@@ -19,6 +19,7 @@ abbrev pub invariant-loop : goal.invariant-loop
 invariant-loop g l =
     record {
       due : AreDue (map filed_of l.file) (end_of l.air.until l.file) (filed_due l.run.queue);
+      kept : l.run.world.released ≡ 0;
       standings : AreStandingsOf l.run.world.stations l.run.standings.order.items;
       ranges : All (λ e. IsFiledInRange e.now) l.run.queue.due.items;
       run : g.S.EventSink.Took l.fn.sink [] [] → (past : List Event)

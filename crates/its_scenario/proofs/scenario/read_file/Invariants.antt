@@ -6,6 +6,6 @@ use Rattle.its_scenario.proofs.scenario.read_file.Given as goal
 abbrev pub invariant-loop-number : goal.invariant-loop-number
 invariant-loop-number l =
     record {
-      count : vec_len l.file ≡ l.number-counter;
+      count : vec_len l.file ≡ l.number;
       ranges : All FitsFileEvent l.file.items;
     }

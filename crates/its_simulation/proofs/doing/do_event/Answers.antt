@@ -12,7 +12,7 @@ returns-clause-run g c = λ configs events before.
     let entry = c.in_ok-entry.entry in
     told_more configs events e c.args.world.now c.step.new.self entry
     (g.S.EventSink.Took c.args.sink.now) (g.S.EventSink.Took c.put.new.self)
-    c.in_ok-entry.ensures.step c.runs_go_on.ensures
+    (λ w h. c.in_ok-entry.ensures.step w h c.requires.kept) c.runs_go_on.ensures
     (c.every_schedule.ensures configs (events ++ e ∷ []))
     (λ log took.
     subst (λ (x : Event). g.S.EventSink.Took c.put.new.self (events ++ x ∷ []) (log ++ entry ∷ []))
@@ -25,7 +25,8 @@ returns-clause-run g c = λ configs events before.
 pub returns-clause-entry : goal.returns-clause-entry
 returns-clause-entry g c = λ configs events before.
     let e = event_of c.args.event.now in
-    let done = c.in_ok-entry.ensures.step (world_run (opening configs) events) before.stands in
+    let done = c.in_ok-entry.ensures.step (world_run (opening configs) events) before.stands
+    c.requires.kept in
     record {
       answer = done.1;
       tells = done.2;

@@ -16,6 +16,8 @@ use Rattle.its_air.specs.declared.waiting.Queue.{Queue}
 use Rattle.its_air.proofs.Keeping.{on_ok, on_ok_both, goes_on, same_file}
 use Rattle.its_air.proofs.Stepping.{filed_event}
 use Rattle.its_air.proofs.Under.{told_on}
+use Rattle.std.proofs.Common.{All, arith}
+use Rattle.its_world.specs.Steps.{IsKept}
 use Rattle.its_air.proofs.run.Run.do_filed.Goals as goal
 
 pub returns-in_ok-entry-in-Happens-clause-run : goal.returns-in_ok-entry-in-Happens-clause-run
@@ -114,3 +116,12 @@ pub returns-in_ok-entry-in-Happens-clause-file : goal.returns-in_ok-entry-in-Hap
 returns-in_ok-entry-in-Happens-clause-file g c =
     same_file c.args.self.now.queue c.do_event.new.self.queue c.come.new.self.queue
     c.do_event.ensures.file c.come.ensures.file
+
+pub do_event-requires-clause-kept : goal.do_event-requires-clause-kept
+do_event-requires-clause-kept g c =
+    let released = c.args.self.now.world.released in
+    let all : All (λ (e : Event). IsKept released e.what)
+    (event_of c.in-Happens.event ∷ []) =
+    subst (λ (f : FileEvent). All (λ (e : Event). IsKept released e.what)
+    (events_in (filed_of f ∷ []))) c.in-Happens.is c.requires.kept in
+    all 0 (event_of c.in-Happens.event) (omega arith)

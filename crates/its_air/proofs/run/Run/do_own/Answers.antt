@@ -1,7 +1,9 @@
 use Rattle.std.proofs.Common.{◌≡◌, ◌∙◌, [], ◌∷◌, ◌++◌, ap, sym, subst, List, Bool, cond, false}
 use Rattle.std.specs.Prelude.{Vec}
 use Rattle.std.specs.declared.alloc.Global.{Global}
+use Rattle.std.proofs.Common.{arith}
 use Rattle.std.proofs.lemmas.List.{append-nil}
+use Rattle.std.proofs.lemmas.List.Elements.{All-cons, All-nil}
 use Rattle.its_model.specs.World.{Event, opening, world_run}
 use Rattle.its_simulation.specs.Simulated.{IsSimulated}
 use Rattle.its_world.specs.Events.{event_of}
@@ -116,3 +118,29 @@ returns-clause-file g c =
     same_file c.args.self.now.queue c.schedule_next.new.self.queue c.come.new.self.queue
     (same_file c.args.self.now.queue c.do_event.new.self.queue c.schedule_next.new.self.queue
     c.do_event.ensures.file c.schedule_next.ensures.file) c.come.ensures.file
+
+pub returns-then-is_passed_over-clause-own : goal.returns-then-is_passed_over-clause-own
+returns-then-is_passed_over-clause-own g c = λ configs events before. (
+  [],
+  λ k d lt. absurd (omega (arith, lt)),
+  subst (λ (l : List Event). IsSimulated configs l c.args.self.now.world
+      (g.S.EventSink.Took c.args.sink.now)) (sym (append-nil events)) before,
+)
+
+pub returns-clause-own : goal.returns-clause-own
+returns-clause-own g c = λ configs events before.
+    let e = event_of c.in_ok-event.event in
+    let done = c.do_event.new.self in
+    let After = g.S.EventSink.Took c.come.new.sink in
+    on_ok c.come.result _ _
+    (λ says. (
+      e ∷ [],
+      All-cons (λ (x : Event). x.station ≡ c.args.waiting.now.station) e []
+          (ap (λ (x : Event). x.station) c.in_ok-event.ensures.event)
+          (All-nil (λ (x : Event). x.station ≡ c.args.waiting.now.station)),
+      subst (λ (x : WorldState). IsSimulated configs (events ++ e ∷ []) x After)
+          (sym (c.come.ensures.world ∙ c.schedule_next.ensures.world))
+          (told_on configs (events ++ e ∷ []) done.world (g.S.EventSink.Took c.do_event.new.sink)
+          After says (c.in_ok-entry.ensures.run configs events before)),
+    ))
+    c.come.ensures.told

@@ -9,6 +9,8 @@ use Rattle.its_air.proofs.Keeping.{goes_on}
 use Rattle.its_air.proofs.Stepping.{takes_file, takes_own, takes_none, timed_one, without_first}
 use Rattle.its_air.proofs.Under.{under_file, under_own}
 use Rattle.std.proofs.Common.{refl}
+use Rattle.std.proofs.Common.{get_or}
+use Rattle.its_world.proofs.Worlds.{none_gone}
 use Rattle.its_air.proofs.run.Run.go_on.Goals as goal
 
 pub returns-in_ok-do_filed-in-Some-OfFile-clause-run :
@@ -101,3 +103,12 @@ returns-in_ok-do_own-in-Some-Own-clause-timed g c = λ rules configs a h.
       keeps = got.2;
       present = h.present;
     }))
+
+pub do_filed-requires-clause-kept : goal.do_filed-requires-clause-kept
+do_filed-requires-clause-kept g c = λ k d lt.
+    none_gone c.args.self.now.world.released
+    (get_or (events_in (filed_of c.in-Some-OfFile.filed.now ∷ [])) k d).what c.requires.kept
+
+pub do_own-requires-clause-kept : goal.do_own-requires-clause-kept
+do_own-requires-clause-kept g c =
+    none_gone c.args.self.now.world.released _ c.requires.kept

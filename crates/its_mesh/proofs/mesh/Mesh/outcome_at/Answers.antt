@@ -1,9 +1,9 @@
 use Rattle.std.proofs.Common.{rules, ◌≡◌, ◌<◌, ◌≤◌, length, set, refl, sym, ap, subst, ◌∙◌}
-use Rattle.std.proofs.Common.{[], Option}
+use Rattle.std.proofs.Common.{[], Option, arith}
 use Rattle.its_model.specs.Station.{StationModel}
 use Rattle.its_station.specs.State.{StationState, RepresentsStation}
 use Rattle.its_model.specs.World.{WorldModel}
-use Rattle.its_world.specs.State.{WorldState}
+use Rattle.its_world.specs.State.{WorldState, RepresentsWorld}
 use Rattle.its_world.proofs.Logs.{get_or_is, station_at}
 use Rattle.its_world.proofs.Worlds.{length_stations, no_station}
 use Rattle.its_mesh.specs.Stations.{IsCalled}
@@ -26,8 +26,10 @@ returns-clause-called g c = λ models represent. (
     let own = c.index_mut.result.now in
     let within : j < length old = search rules in
     let w : WorldModel = record { stations = models; air = []; log = [] } in
-    let st : WorldState = record { stations = old; frames = [] } in
-    let at = station_at st w j (record { stations = represent; frames = tt }) within in
+    let st : WorldState = record { stations = old; released = 0; frames = [] } in
+    let stood : RepresentsWorld st w =
+    record { stations = represent; released = omega arith; frames = tt } in
+    let at = station_at st w j stood within in
     let is : own ≡ at.0 = c.index_mut.ensures.value ∙ get_or_is old j at.0 own at.1 in
     let stands = subst (λ (x : StationState). RepresentsStation x at.2) (sym is) at.4 in
     subst (λ (found : Option StationModel).

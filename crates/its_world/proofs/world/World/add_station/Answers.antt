@@ -1,4 +1,4 @@
-use Rattle.std.proofs.Common.{◌≡◌, ℕ, ◌<◌, List, [], ◌∷◌, ◌++◌, length, slice_get}
+use Rattle.std.proofs.Common.{◌≡◌, ◌<◌, List, [], ◌∷◌, ◌++◌, length, slice_get}
 use Rattle.std.proofs.Common.{sym, ap, subst, ◌∙◌}
 use Rattle.its_model.specs.World.{station_of}
 use Rattle.its_station.specs.State.{StationState}
@@ -17,6 +17,7 @@ returns-clause-added c = λ w h. (
           (sym c.in_ok-push.ensures.items)
           (station_last c.self.inside.stations.items w.stations c.in_ok-station.station late
           here.stations c.in_ok-station.ensures);
+      released = here.released;
       frames = here.frames;
     })
 

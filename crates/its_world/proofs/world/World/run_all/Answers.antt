@@ -4,7 +4,8 @@ use Rattle.std.proofs.lemmas.List.{take_more, map-append}
 use Rattle.its_model.specs.World.{Event as Happening}
 use Rattle.its_world.specs.declared.event.Event.{Event}
 use Rattle.its_world.specs.declared.entry.Entry.{Entry}
-use Rattle.its_world.specs.Events.{event_of}
+use Rattle.its_world.specs.Events.{event_of, what_of}
+use Rattle.its_world.specs.Steps.{IsKept}
 use Rattle.its_world.specs.Runs.{IsRunOf}
 use Rattle.its_world.proofs.Logs.{run_more}
 use Rattle.its_world.proofs.world.World.run_all.Goals as goal
@@ -26,7 +27,8 @@ loop-event-preserved c =
     record {
       count = ap length items
           ∙ omega (arith, length-append old (c.in-Ok.entry ∷ []), c.loop-event.invariant.count);
-      run = λ w rep.
+      released = c.step.ensures.released ∙ c.loop-event.invariant.released;
+      run = λ w rep kept.
           subst (λ (l : List Happening). IsRunOf w l c.push.new.self.items c.step.new.self)
           (sym front)
           (subst (λ (l : List Entry).
@@ -34,5 +36,9 @@ loop-event-preserved c =
           (sym items)
           (run_more w (map event_of (take i events))
           (event_of x) old c.in-Ok.entry c.loop-event.self c.step.new.self c.runs_go_on.ensures
-          (c.loop-event.invariant.run w rep) c.in-Ok.ensures.step));
+          (c.loop-event.invariant.run w rep kept)
+          (λ v h. c.in-Ok.ensures.step v h
+          (subst (λ n. IsKept n (what_of x.what)) (sym c.loop-event.invariant.released)
+          (subst (λ (y : Event). IsKept c.args.self.now.released (what_of y.what))
+          (sym c.event-item.is) (kept i x c.loop-event-test.true))))));
     }

@@ -1,5 +1,5 @@
 use Rattle.std.proofs.Common.{◌≡◌, ℕ, ◌<◌, ◌≤◌, List, length, set, Option, Some, None, rules, refl}
-use Rattle.std.proofs.Common.{sym, ap, subst, ◌∙◌}
+use Rattle.std.proofs.Common.{sym, ap, subst, ◌∙◌, drop}
 use Rattle.std.specs.Prelude.{Vec}
 use Rattle.std.specs.Option.{option_map}
 use Rattle.std.specs.declared.alloc.Global.{Global}
@@ -9,49 +9,72 @@ use Rattle.its_model.specs.World.{WorldModel, entry_of}
 use Rattle.its_station.specs.State.{StationState, RepresentsStation}
 use Rattle.its_world.specs.State.{WorldState, RepresentsWorld}
 use Rattle.its_world.specs.Frames.{AreFrames}
-use Rattle.its_world.specs.Events.{event_of, what_of}
-use Rattle.its_world.specs.Steps.{IsDelivered}
+use Rattle.its_world.specs.Events.{event_of}
+use Rattle.its_world.specs.Steps.{IsDelivered, IsKept}
 use Rattle.its_world.proofs.Logs.{nowhere, undelivered, answered_step, station_at, get_or_is}
 use Rattle.its_world.proofs.world.World.step.Goals as goal
 
 -- the world with the room that was made for a frame
-with_room : (inside now : WorldState) (w : WorldModel) (frames : List (Vec ℕ Global)) → inside ≡ now
-    → RepresentsWorld now w → frames ≡ inside.frames
-    → RepresentsWorld (record { stations = inside.stations; frames = frames }) w
-with_room inside now w frames view h same =
+with_room : (inside now : WorldState) (w : WorldModel) (released : ℕ) (frames : List (Vec ℕ Global))
+    → inside ≡ now → RepresentsWorld now w → released ≡ inside.released → frames ≡ inside.frames
+    → RepresentsWorld (record { stations = inside.stations; released = released; frames = frames }) w
+with_room inside now w released frames view h as_many same =
     let here = subst (λ (x : WorldState). RepresentsWorld x w) (sym view) h in
     record {
       stations = here.stations;
-      frames = subst (λ (xs : List (Vec ℕ Global)). AreFrames xs w.air) (sym same) here.frames;
+      released = subst (λ n. n ≤ length w.air) (sym as_many) here.released;
+      frames =
+          subst (λ n. AreFrames frames (drop n w.air)) (sym as_many)
+          (subst (λ (xs : List (Vec ℕ Global)). AreFrames xs (drop inside.released w.air))
+          (sym same) here.frames);
     }
 
 pub returns-then-event-len-clause-step : goal.returns-then-event-len-clause-step
-returns-then-event-len-clause-step c = λ w h. (
+returns-then-event-len-clause-step c = λ w h kept. (
     let le : length c.args.self.now.stations ≤ c.args.event.now.station = search rules in
     let told = nowhere c.args.self.now w (event_of c.args.event.now) h le in
     (told.stands, model.Answer.Refused model.Refusal.NoSuchStation, refl, told.last))
 
 pub returns-in_default-clause-step : goal.returns-in_default-clause-step
-returns-in_default-clause-step c = λ w h. (
+returns-in_default-clause-step c = λ w h kept. (
     let e = event_of c.args.event.now in
+    let room = c.make_room.new.self in
     let st : WorldState =
-    record { stations = c.self.inside.stations.items; frames = c.reserve.new.self.items } in
-    let here = with_room _ c.args.self.now w st.frames c.self.view_is h c.reserve.ensures.items in
+    record {
+      stations = c.self.inside.stations.items;
+      released = room.released;
+      frames = room.kept.items;
+    } in
+    let here = with_room _ c.args.self.now w st.released st.frames c.self.view_is h
+    c.make_room.ensures.released c.make_room.ensures.kept in
+    let kept_here : IsKept st.released e.what =
+    subst (λ n. IsKept n e.what)
+    (sym (c.make_room.ensures.released ∙ ap (λ (x : WorldState). x.released) c.self.view_is)) kept
+    in
     let within : e.station < length st.stations = search rules in
     let at = station_at st w e.station here within in
-    let none : IsDelivered st.frames e.what None =
-    subst (λ (xs : List (Vec ℕ Global)). IsDelivered xs e.what None) c.deref.ensures.value
-    (subst (λ (o : Option (List ℕ)). IsDelivered c.deref.result.now e.what o)
-    (ap (option_map (λ frame. frame.now)) c.in_default.is) c.delivered.ensures) in
-    let told = undelivered st w e at.2 here at.3 none in
+    let none : IsDelivered st.released st.frames e.what None =
+    subst (λ (o : Option (List ℕ)). IsDelivered st.released st.frames e.what o)
+    (ap (option_map (λ frame. frame.now)) c.in_default.is) c.delivered.ensures in
+    let told = undelivered st w e at.2 here at.3 kept_here none in
     (told.stands, model.Answer.Refused model.Refusal.NoSuchFrame, refl, told.last))
 
 pub returns-clause-step : goal.returns-clause-step
-returns-clause-step c = λ w h. (
+returns-clause-step c = λ w h kept. (
     let e = event_of c.args.event.now in
+    let room = c.make_room.new.self in
     let st : WorldState =
-    record { stations = c.self.inside.stations.items; frames = c.reserve.new.self.items } in
-    let here = with_room _ c.args.self.now w st.frames c.self.view_is h c.reserve.ensures.items in
+    record {
+      stations = c.self.inside.stations.items;
+      released = room.released;
+      frames = room.kept.items;
+    } in
+    let here = with_room _ c.args.self.now w st.released st.frames c.self.view_is h
+    c.make_room.ensures.released c.make_room.ensures.kept in
+    let kept_here : IsKept st.released e.what =
+    subst (λ n. IsKept n e.what)
+    (sym (c.make_room.ensures.released ∙ ap (λ (x : WorldState). x.released) c.self.view_is)) kept
+    in
     let within : e.station < length st.stations = search rules in
     let at = station_at st w e.station here within in
     let own = c.index_mut-station.result.now in
@@ -61,19 +84,20 @@ returns-clause-step c = λ w h. (
     let given =
     asked.2 at.2 (subst (λ (x : StationState). RepresentsStation x at.2) (sym is) at.4) in
     let answer = (station_step at.2 e.moment asked.0).answer in
-    let entered = c.enter.ensures answer w.air here.frames given.0 in
+    let entered = c.enter.ensures.entry answer w.air here.released here.frames given.0 in
     let octets = c.in-Some.frame.now in
-    let delivered : IsDelivered st.frames e.what (Some octets) =
-    subst (λ (xs : List (Vec ℕ Global)). IsDelivered xs e.what (Some octets)) c.deref.ensures.value
-    (subst (λ (o : Option (List ℕ)). IsDelivered c.deref.result.now e.what o)
-    (ap (option_map (λ frame. frame.now)) c.in-Some.is) c.delivered.ensures) in
+    let delivered : IsDelivered st.released st.frames e.what (Some octets) =
+    subst (λ (o : Option (List ℕ)). IsDelivered st.released st.frames e.what o)
+    (ap (option_map (λ frame. frame.now)) c.in-Some.is) c.delivered.ensures in
     let new : WorldState =
     record {
       stations = set st.stations e.station c.ask.new.station;
-      frames = c.enter.new.air.items;
+      released = c.enter.new.air.released;
+      frames = c.enter.new.air.kept.items;
     } in
     let told = answered_step st new w e at.2 octets asked.0 c.one_frame.ensures
     (λ t f enc fault.
     c.one_frame_fault.ensures.none t octets f c.in_ok-given.ensures.bytes enc fault)
-    here at.3 delivered asked.1 c.ask.new.station given.1 refl entered.1 in
+    here at.3 kept_here delivered asked.1 c.ask.new.station given.1 refl c.enter.ensures.released
+    entered.1 in
     (told.stands, entry_of (length w.air) answer, entered.0, told.last))

@@ -1,0 +1,39 @@
+use Rattle.std.proofs.Common.{◌≡◌, ◌∙◌, ℕ, List, true, false, leb, subst}
+use Rattle.std.proofs.Common.{sym, ap, rules}
+use Rattle.std.specs.List.{insert}
+use Rattle.std.specs.Prelude.{is_ok}
+use Rattle.std.specs.List.Sorted.{IsNonDecreasingBy, IsPartitionPoint, IsPartitionedBy}
+use Rattle.std.proofs.lemmas.List.Sorted.{IsPartitionPoint-from_clause, IsPartitionedBy-leb}
+use Rattle.its_air.specs.declared.standing.Standing.{Standing}
+use Rattle.its_air.specs.Standings.{northing, AreStandingsOf}
+use Rattle.its_air.proofs.Counts.{stand_added, rising_with, of_either}
+use Rattle.its_air.proofs.standing.Standings.add_station.Goals as goal
+
+pub invariant_of-self : goal.invariant_of-self
+invariant_of-self c =
+    let key : Standing → ℕ = λ s. northing s.place in
+    let xs = c.args.self.now.order.items in
+    let to = c.partition_point-to.result in
+    let north = c.northing-north.result in
+    let y : Standing = record { place = c.args.place; number = c.args.number } in
+    let up : IsNonDecreasingBy key xs = c.args.self.now.rising in
+    let point = IsPartitionPoint-from_clause (λ (s : Standing). leb (northing s.place) north)
+    c.deref.result.now to c.partition_point-to.ensures.partitioned
+    (subst (IsPartitionedBy (λ (s : Standing). leb (northing s.place) north))
+    (sym c.deref.ensures.value) (IsPartitionedBy-leb key xs north up))
+    (λ a r q k. search rules) in
+    let placed = rising_with xs to north y (search rules) (sym c.northing-north.ensures.value) up
+    (subst (λ (l : List Standing). IsPartitionPoint (λ s. leb (northing s.place) north ≡ true)
+    (λ s. leb (northing s.place) north ≡ false) l to) c.deref.ensures.value point) in
+    record {
+      rising = of_either (IsNonDecreasingBy key) (is_ok c.insert.result) c.insert.new.self.items
+          (insert xs to y) xs c.insert.ensures.items placed up;
+    }
+
+pub returns : goal.returns
+returns c = λ old new stand last longer same at.
+    let xs = c.args.self.now.order.items in
+    let to = c.partition_point-to.result in
+    let y : Standing = record { place = c.args.place; number = c.args.number } in
+    subst (AreStandingsOf new) (sym c.in_ok-insert.ensures.items)
+    (stand_added old new xs c.args.number c.args.place to last longer same at stand)

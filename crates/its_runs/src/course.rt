@@ -1,0 +1,95 @@
+//! What a run goes by: a scenario and, where they are given, the moves of a file.
+
+ghost use Rattle.std.specs.Prelude.{◌≡◌, IfErr, None};
+ghost use Rattle.its_reporting.specs.Statuses.{IsCommandStatus};
+
+use crate::fault::fault_of_moves;
+use its_moves::Rows;
+use its_reporting::{OutputFormat, Status};
+use its_scenario::Scenario;
+use its_world::Event;
+use std::alloc::Global;
+use std::io::{BufRead, Write};
+
+/// A file of moves whose first line was read.
+#[derive(Drop)]
+pub(crate) struct MovesFile<'a, M: BufRead + Drop> {
+    pub(crate) name: &'a str,
+    pub(crate) rows: Rows<M>,
+}
+
+impl<'a, M: BufRead + Drop> MovesFile<'a, M> {
+    /// Reads the first line of the file of this name, for a run of the scenario.
+    ///
+    /// `Refused` where that line is bad, `Failed` where it can't be read or memory ran out; it is
+    /// told on standard error.
+    pub(crate) fn open<E: Write>(
+        alloc: Global,
+        name: &'a str,
+        reader: M,
+        scenario: &Scenario,
+        lines: OutputFormat,
+        err: &mut E,
+    ) -> Result<MovesFile<'a, M>, Status>
+        ensures { IfErr result IsCommandStatus }
+    {
+        match Rows::open(alloc, scenario.moves.begin, reader) {
+            Ok(rows) => Ok(MovesFile { name, rows }),
+            Err(fault) => Err(fault_of_moves(fault, name).report_as(lines, err)),
+        }
+    }
+}
+
+/// What a run goes by.
+#[derive(Drop)]
+pub(crate) struct Course<'s, 'a, M: BufRead + Drop> {
+    pub(crate) scenario: &'s Scenario,
+    /// The moves, where they are given. The scenario has an air then, and was read for moves.
+    pub(crate) moves: Option<MovesFile<'a, M>>,
+}
+
+impl<'s, 'a, M: BufRead + Drop> Course<'s, 'a, M> {
+    /// A scenario alone.
+    pub(crate) fn alone(scenario: &'s Scenario) -> Course<'s, 'a, M>
+        ensures scenario { result.scenario.now ≡ scenario.now }
+        ensures moves { result.moves ≡ None }
+    {
+        Course {
+            scenario,
+            moves: None,
+        }
+    }
+
+    /// The name of the file of moves, where there are any.
+    pub(crate) fn name(&self) -> Option<&'a str> {
+        match &self.moves {
+            Some(moves) => Some(moves.name),
+            None => None,
+        }
+    }
+
+    /// Whether there are moves.
+    pub(crate) fn has_moves(&self) -> bool {
+        self.moves.is_some()
+    }
+
+    /// The last moment that is run, where it is known before the run: with moves that is one that
+    /// the scenario gives.
+    pub(crate) fn end(&self) -> Option<u64> {
+        let Some(air) = &self.scenario.air else {
+            return Some(last_moment(self.scenario.events.as_slice()));
+        };
+        if self.has_moves() {
+            return air.until;
+        }
+        Some(air.end(self.scenario.file.as_slice()))
+    }
+}
+
+/// The moment of the last of these, 0 where there is none.
+fn last_moment(events: &[Event]) -> u64 {
+    match events.last() {
+        Some(event) => event.moment,
+        None => 0,
+    }
+}

@@ -1,0 +1,33 @@
+//! Standard input, which is one of the files that a command reads at most.
+
+use its_reporting::is_standard;
+use std::io;
+use std::io::Read;
+
+/// What is at hand for a file whose name is that of standard input.
+#[derive(Drop)]
+pub(crate) enum Input<I> {
+    /// Standard input.
+    Standard(I),
+    /// Nothing: it is another file's.
+    Nothing,
+}
+
+impl<I: Drop> Input<I> {
+    /// What is at hand for the scenario, and for the moves of this name, where there are any.
+    pub(crate) fn parted(input: I, moves: Option<&str>) -> (Input<I>, Input<I>) {
+        match moves {
+            Some(name) if is_standard(name) => (Input::Nothing, Input::Standard(input)),
+            _ => (Input::Standard(input), Input::Nothing),
+        }
+    }
+}
+
+impl<I: Read> Read for Input<I> {
+    fn read(&mut self, buf: &mut [u8]) -> io::Result<usize> {
+        match self {
+            Input::Standard(input) => input.read(buf),
+            Input::Nothing => Ok(0),
+        }
+    }
+}

@@ -1,0 +1,46 @@
+-- Areas of an air that lie round a station.
+use Rattle.its_geometry.specs.Area.{GeoArea}
+use Rattle.its_gnvalue.specs.Values.{Position}
+use Rattle.its_scenario.specs.declared.event.FileEvent.{FileEvent}
+use Rattle.its_scenario.specs.declared.event.FileEvent.TheVariants as files
+use Rattle.its_station.specs.declared.requests.OwnedGbcRequest.{OwnedGbcRequest}
+use Rattle.its_world.specs.declared.event.What.{What}
+use Rattle.its_world.specs.declared.event.What.TheVariants as whats
+
+-- an area of the same shape and measures round this place
+abbrev pub centred_area : GeoArea → Position → GeoArea
+centred_area area place =
+    record {
+      shape = area.shape;
+      centre = place;
+      a = area.a;
+      b = area.b;
+      angle = area.angle;
+    }
+
+-- a request for it
+abbrev pub centred_request : OwnedGbcRequest → Position → OwnedGbcRequest
+centred_request r place =
+    record {
+      port = r.port;
+      info = r.info;
+      class = r.class;
+      lifetime = r.lifetime;
+      max_hops = r.max_hops;
+      area = centred_area r.area place;
+      payload = r.payload;
+    }
+
+-- a geocast that is sent for it; anything else as it is
+abbrev pub centred_what : What → Position → What
+centred_what (whats.SendGeobroadcast r) place =
+    whats.SendGeobroadcast (centred_request r place)
+centred_what (whats.SendGeoanycast r) place = whats.SendGeoanycast (centred_request r place)
+centred_what what place = what
+
+-- the same of what a file has
+abbrev pub centred : FileEvent → Position → FileEvent
+centred (files.Happens e) place =
+    files.Happens
+    (record { station = e.station; moment = e.moment; what = centred_what e.what place })
+centred (files.Leaves station moment) place = files.Leaves station moment

@@ -1,0 +1,39 @@
+-- Words that are a few changes of a letter apart.
+use Rattle.std.specs.Prelude.{◌≡◌, ◌≤◌, ◌<◌, ℕ, List, Some, length, map, nat_eq, slice_get}
+use Rattle.std.specs.Str.{chars}
+use Rattle.strsim.specs.Edits.{levenshtein_row}
+use denote.Ref.{Bor}
+
+-- how many changes of a letter lead from one word to another
+abbrev pub changes : List ℕ → List ℕ → ℕ
+changes from to = levenshtein_row nat_eq (chars from) (chars to) (length (chars to))
+
+-- the words of a list of references
+abbrev pub words : List (Bor (List ℕ)) → List (List ℕ)
+words known = map (λ (w : Bor (List ℕ)). w.now) known
+
+-- The word at this place is one of the first so many that are known, at most two changes away, and
+-- none of these is fewer; none before it is as few.
+pub record IsNearestBelow (count : ℕ) (word : List ℕ) (known : List (List ℕ)) (place : ℕ)
+    : Type 0 where
+  pub near : List ℕ
+  pub stands : slice_get known place ≡ Some near
+  pub within : place < count
+  pub close : changes word near ≤ 2
+  pub fewest : (other : ℕ) (w : List ℕ) → other < count → slice_get known other ≡ Some w →
+      changes word near ≤ changes word w
+  pub first : (other : ℕ) (w : List ℕ) → other < place → slice_get known other ≡ Some w →
+      changes word near < changes word w
+
+-- the same of all that are known
+abbrev pub IsNearest : List ℕ → List (List ℕ) → ℕ → Type 0
+IsNearest word known place = IsNearestBelow (length known) word known place
+
+-- each of the first so many that are known is more than two changes away
+abbrev pub IsFarBelow : ℕ → List ℕ → List (List ℕ) → Type 0
+IsFarBelow count word known = (other : ℕ) (w : List ℕ) → other < count →
+    slice_get known other ≡ Some w → 2 < changes word w
+
+-- the same of all that are known
+abbrev pub IsFar : List ℕ → List (List ℕ) → Type 0
+IsFar word known = IsFarBelow (length known) word known

@@ -1,0 +1,117 @@
+//! The frames of a world: those that are kept, by their numbers.
+
+ghost use Rattle.std.specs.Prelude.{◌≡◌, ◌<◌, ◌≤◌, ◌+◌, ◌-◌, ◌^◌, ◌++◌, ◌∷◌, [], Some, OnOk};
+ghost use Rattle.std.specs.Prelude.{length, drop, min, max};
+ghost use Rattle.std.specs.Option.{option_map};
+ghost use Rattle.std.specs.VecDeque.{deque_len, deque_capacity};
+ghost use Rattle.its_world.specs.Frames.{frame_in};
+
+use its_gnvalue::NoMemory;
+use std::alloc::Global;
+use std::collections::VecDeque;
+
+/// Frames, numbered from 0 in the order in which they were given. The first ones may have been let
+/// go: they have no octets any more, and the others keep their numbers.
+#[derive(Drop)]
+pub(crate) struct Air {
+    /// The octets of those that are kept, in order.
+    kept: VecDeque<Vec<u8>>,
+    /// How many were let go.
+    released: usize,
+    ghost numbered: { released + deque_len kept < 2 ^ 64 },
+}
+
+impl Air {
+    /// No frames.
+    pub(crate) fn new(alloc: Global) -> Air
+        ensures kept { result.kept.items ≡ [] }
+        ensures released { result.released ≡ 0 }
+    {
+        Air {
+            kept: VecDeque::new(alloc),
+            released: 0,
+        }
+    }
+
+    /// How many were let go: of these numbers there are no octets.
+    pub(crate) fn released(&self) -> usize
+        ensures { result ≡ self.now.released }
+    {
+        self.released
+    }
+
+    /// How many were given: the number of the next one.
+    pub(crate) fn count(&self) -> usize
+        ensures { result ≡ self.now.released + length self.now.kept.items }
+    {
+        self.released + self.kept.len()
+    }
+
+    /// The octets of the frame of a number; `None` where it was let go, or none has it.
+    pub(crate) fn get(&self, number: usize) -> Option<&[u8]>
+        ensures { option_map (λ octets. octets.now) result ≡ option_map (λ w. w.items)
+            (frame_in self.now.released self.now.kept.items number) }
+    {
+        if number < self.released {
+            return None;
+        }
+        match self.kept.get(number - self.released) {
+            Some(frame) => Some(frame.as_slice()),
+            None => None,
+        }
+    }
+
+    /// The octets of the frame of a number that is kept.
+    pub(crate) fn frame(&self, number: usize) -> &[u8]
+        requires kept { self.now.released ≤ number }
+        requires given { number < self.now.released + length self.now.kept.items }
+        ensures { option_map (λ w. w.items)
+            (frame_in self.now.released self.now.kept.items number) ≡ Some result.now }
+    {
+        self.kept[number - self.released].as_slice()
+    }
+
+    /// Makes room for one more. `NoMemory` where an allocation failed, or there is no number left.
+    pub(crate) fn make_room(&mut self) -> Result<(), NoMemory>
+        ensures kept { self.new.kept.items ≡ self.old.kept.items }
+        ensures released { self.new.released ≡ self.old.released }
+        ensures room { OnOk result (deque_len self.new.kept < deque_capacity self.new.kept) }
+        ensures number { OnOk result
+            (self.new.released + deque_len self.new.kept < 2 ^ 64 - 1) }
+    {
+        if self.count() == usize::MAX {
+            return Err(NoMemory);
+        }
+        self.kept.reserve(1)?;
+        Ok(())
+    }
+
+    /// Gives a frame the next number, for which there has to be room.
+    pub(crate) fn give(&mut self, frame: Vec<u8>) -> usize
+        requires room { deque_len self.old.kept < deque_capacity self.old.kept }
+        requires number { self.old.released + deque_len self.old.kept < 2 ^ 64 - 1 }
+        ensures number { result ≡ self.old.released + length self.old.kept.items }
+        ensures released { self.new.released ≡ self.old.released }
+        ensures given { self.new.kept.items ≡ self.old.kept.items ++ frame ∷ [] }
+    {
+        let number = self.count();
+        self.kept.push_back_reserved(frame);
+        number
+    }
+
+    /// Lets those before this number go, of which none may be left.
+    pub(crate) fn release(&mut self, before: usize)
+        ensures released { self.new.released ≡ max self.old.released
+            (min before (self.old.released + length self.old.kept.items)) }
+        ensures kept { self.new.kept.items
+            ≡ drop (self.new.released - self.old.released) self.old.kept.items }
+    {
+        let end = before.min(self.count());
+        for _gone in 0..end.saturating_sub(self.released) {
+            let Some(_) = self.kept.pop_front() else {
+                unreachable!()
+            };
+            self.released += 1;
+        }
+    }
+}
