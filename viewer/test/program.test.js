@@ -54,11 +54,11 @@ function filesOf(folder, end) {
   return names.map((name) => ({name, text: fs.readFileSync(path.join(folder, name), 'utf8')}));
 }
 
-/** The scenarios in the cases of the program that send for an area. */
+/** The scenarios in the cases of the program that send for an area, and need no file of moves. */
 const INSIDE = filesOf(CASES, '.md').flatMap(({name, text}) =>
   [...text.matchAll(/^```toml (\S+)\n([^]*?)^```/gm)].map(([, block, scenario]) =>
     ({name: `${block} of ${name}`, text: scenario})))
-  .filter(({text}) => /"g[ab]c"/.test(text) && /address = /.test(text));
+  .filter(({text}) => /"g[ab]c"/.test(text) && /address = /.test(text) && !/\bid = /.test(text));
 const SAMPLES = [...filesOf(path.join(CASES, 'data'), '.toml'), ...filesOf(samples.DATA, '.toml')];
 
 const skip = missing();
