@@ -4,7 +4,7 @@ use Rattle.std.proofs.Common.{◌≡◌, ℕ, zero, suc, ◌+◌, ◌<◌, ◌�
 use Rattle.std.proofs.Common.{not, cond, ◌&&◌, map, filter, refl, sym, ap, ◌∙◌, arith, length, ◌⊎◌}
 use Rattle.std.proofs.Common.{Option, Some, None, inl, inr, subst, ◌++◌, get_or, take, remove, insert}
 use Rattle.std.proofs.Common.{◌≢◌, is_some, true≢false, leb}
-use Rattle.std.specs.Prelude.{count_by, sum_by, slice_get, ◌==◌, IfSome}
+use Rattle.std.specs.Prelude.{count_by, sum_by, slice_get, ◌==◌, IfSome, HoldsAt}
 use Rattle.std.specs.List.{position, position_or_len}
 use Rattle.std.specs.Bool.{if◌then◌else◌}
 use Rattle.std.specs.Option.{option_map}
@@ -305,25 +305,39 @@ fewer true true = omega arith
 fewer true false = omega arith
 fewer false b = omega arith
 
+-- the number that was looked for stands where it was found
+pub found_at : (xs : List Standing) (number : ℕ) (i : ℕ)
+    → position (λ (s : Standing). s.number == number) xs ≡ Some i → (d : Standing)
+    → (get_or xs i d).number ≡ number
+found_at xs number i found d =
+    eqb-true (get_or xs i d).number number
+    (position-Some (λ (s : Standing). s.number == number) xs i d found).1
+
+pub found_anywhere : (xs : List Standing) (number : ℕ) (o : Option ℕ)
+    → position (λ (s : Standing). s.number == number) xs ≡ o
+    → IfSome o (HoldsAt (λ (s : Standing). s.number ≡ number) xs)
+found_anywhere xs number None found = tt
+found_anywhere xs number (Some i) found = found_at xs number i found
+
 -- a station that has moved stands at its new place instead
 pub stand_new : (old new : List StationState) (xs : List Standing) (number : ℕ) (place : Position)
-    (i to : ℕ) → position (λ (s : Standing). s.number == number) xs ≡ Some i
+    (i to : ℕ) → i < length xs → ((d : Standing) → (get_or xs i d).number ≡ number)
     → AreStandingsOf old xs → AreSameBut number old new
     → IfSome (slice_get new number) (λ st. st.vector.place ≡ place)
     → AreStandingsOf new (insert (remove xs i) to (record { place = place; number = number }))
-stand_new old new xs number place i to found stand same at kind n =
+stand_new old new xs number place i to within found stand same at kind n =
     let y : Standing = record { place = place; number = number } in
     let x = get_or xs i y in
-    let here = position-Some (λ (s : Standing). s.number == number) xs i y found in
     let any : Standing → ℕ = λ s. bit (s.number == number && true) in
-    let all = sum_by-remove any xs i y here.0 in
-    let one : any x ≡ 1 = ap (λ (b : Bool). bit (b && true)) here.1 in
+    let all = sum_by-remove any xs i y within in
+    let one : any x ≡ 1 =
+    ap (λ (b : Bool). bit (b && true)) (eq-eqb x.number number (found y)) in
     let f : Standing → ℕ = λ s. bit (s.number == n && kind s.place) in
-    let less = sum_by-remove f xs i y here.0 in
+    let less = sum_by-remove f xs i y within in
     let more = sum_by-insert f (remove xs i) to y in
     by (cases_eq n number) all one less more
     (at_most_once (λ p. true) (slice_get old number)) (stand (λ p. true) number)
-    (eqb-true x.number number here.1)
+    (found y)
     (sum_by-le-sum_by (λ (s : Standing). bit (s.number == number && kind s.place)) any (remove xs i)
     (λ s. fewer (s.number == number) (kind s.place)))
   where
@@ -440,7 +454,7 @@ stand_same old new xs number none stand same kind n = stand kind n ∙ by (cases
     by (inr differ) = ap (times_at kind) (sym (same.1 n differ))
 
 -- without one of them, the others still stand in their order
-pub rising_without : (key : Standing → ℕ) (xs : List Standing) (i : ℕ) → i < length xs
+rising_without : (key : Standing → ℕ) (xs : List Standing) (i : ℕ) → i < length xs
     → IsNonDecreasingBy key xs → IsNonDecreasingBy key (remove xs i)
 rising_without key xs i lt up a b d le within =
     let length-is = length-remove xs i lt in
@@ -469,6 +483,55 @@ rising_with xs to north y le is up point =
     IsNonDecreasingBy-insert (λ (s : Standing). northing s.place) xs to y up le
     (λ k d lt. let a = leb-true _ _ (point.0 k d (omega arith) lt) in omega (arith, a, is))
     (λ k d ge lt. let a = leb-false _ _ (point.1 k d ge lt) in omega (arith, a, is))
+
+-- a place that parts a list parts it without one of its elements too, nearer by one where that
+-- stood before it
+point_without : (P Q : Standing → Type 0) (xs : List Standing) (i to end : ℕ) → i < length xs
+    → IsPartitionPoint P Q xs end → ((i < end) × (to + 1 ≡ end)) ⊎ ((end ≤ i) × (to ≡ end))
+    → IsPartitionPoint P Q (remove xs i) to
+point_without P Q xs i to end lt point side =
+    let less = length-remove xs i lt in (
+      λ k d ge below. before side k d below (cases_lt k i),
+      λ k d ge within. behind side k d ge (omega (arith, less, within)) (cases_lt k i),
+    )
+  where
+    before : ((i < end) × (to + 1 ≡ end)) ⊎ ((end ≤ i) × (to ≡ end)) → (k : ℕ) (d : Standing)
+        → k < to → (k < i) ⊎ (i ≤ k) → P (get_or (remove xs i) k d)
+    before (inl (gt, is)) k d below (inl lt') =
+        rw (get_or-remove_below xs i d k lt' lt) (point.0 k d (omega arith) (omega (arith, below, is)))
+    before (inl (gt, is)) k d below (inr ge) =
+        rw (get_or-remove_above xs i d k ge lt)
+        (point.0 (k + 1) d (omega arith) (omega (arith, below, is)))
+    before (inr (le, is)) k d below (inl lt') =
+        rw (get_or-remove_below xs i d k lt' lt) (point.0 k d (omega arith) (omega (arith, below, is)))
+    before (inr (le, is)) k d below (inr ge) = absurd (omega (arith, below, is, le, ge))
+
+    behind : ((i < end) × (to + 1 ≡ end)) ⊎ ((end ≤ i) × (to ≡ end)) → (k : ℕ) (d : Standing)
+        → to ≤ k → k + 1 < length xs → (k < i) ⊎ (i ≤ k) → Q (get_or (remove xs i) k d)
+    behind (inl (gt, is)) k d ge within (inl lt') = absurd (omega (arith, gt, is, ge, lt'))
+    behind (inl (gt, is)) k d ge within (inr ge') =
+        rw (get_or-remove_above xs i d k ge' lt)
+        (point.1 (k + 1) d (omega (arith, is, ge)) (omega (arith, within)))
+    behind (inr (le, is)) k d ge within (inl lt') =
+        rw (get_or-remove_below xs i d k lt' lt)
+        (point.1 k d (omega (arith, is, ge)) (omega (arith, within)))
+    behind (inr (le, is)) k d ge within (inr ge') =
+        rw (get_or-remove_above xs i d k ge' lt)
+        (point.1 (k + 1) d (omega (arith, is, ge)) (omega (arith, within)))
+
+-- with one of them put elsewhere, they stand in their order: `end` is its place among all of them
+pub rising_moved : (xs : List Standing) (i to end north : ℕ) (y : Standing) → i < length xs
+    → end ≤ length xs → northing y.place ≡ north → IsNonDecreasingBy (λ s. northing s.place) xs
+    → IsPartitionPoint (λ s. leb (northing s.place) north ≡ true)
+    (λ s. leb (northing s.place) north ≡ false) xs end
+    → ((i < end) × (to + 1 ≡ end)) ⊎ ((end ≤ i) × (to ≡ end))
+    → IsNonDecreasingBy (λ s. northing s.place) (insert (remove xs i) to y)
+rising_moved xs i to end north y within room is up point side =
+    let less = length-remove xs i within in
+    rising_with (remove xs i) to north y (omega (arith, less, within, room, side)) is
+    (rising_without (λ s. northing s.place) xs i within up)
+    (point_without (λ s. leb (northing s.place) north ≡ true)
+    (λ s. leb (northing s.place) north ≡ false) xs i to end within point side)
 
 -- of a list that is one of two, what is true of both
 pub of_either : (P : List Standing → Type 0) (b : Bool) (k l m : List Standing)

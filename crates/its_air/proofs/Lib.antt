@@ -23,3 +23,4 @@ pub mod Counting
 pub mod Sends
 pub mod Following
 pub mod Ranges
+pub mod Shifts

@@ -417,7 +417,7 @@ impl<'a> Run<'a> {
         let stood = place_of(&self.world, event.station);
         let entry = do_event(&mut self.world, self.done, event, sink)?;
         self.done = next;
-        self.follow(event.station, stood)?;
+        self.follow(event.station, stood);
         if let Some(frame) = entry.frame() {
             self.spread(event, frame, sink)?;
         }
@@ -425,7 +425,7 @@ impl<'a> Run<'a> {
     }
 
     /// A station may have moved from where it stood: it stands where the world has it.
-    fn follow(&mut self, number: usize, stood: Option<Place>) -> Result<(), AirFault>
+    fn follow(&mut self, number: usize, stood: Option<Place>)
         ensures air { self.new.air ≡ self.old.air }
         ensures every { self.new.every ≡ self.old.every }
         ensures present { self.new.present ≡ self.old.present }
@@ -436,15 +436,14 @@ impl<'a> Run<'a> {
             AreStandingsOf before self.old.standings.order.items →
             AreSameBut number before self.old.world.stations →
             stood ≡ option_map (λ st. st.vector.place) (slice_get before number) →
-            OnOk result (AreStandingsOf self.new.world.stations self.new.standings.order.items) }
+            AreStandingsOf self.new.world.stations self.new.standings.order.items }
     {
         let Some(place) = place_of(&self.world, number) else {
-            return Ok(());
+            return;
         };
-        if !stood_at(stood, place) {
-            self.standings.move_station(number, place)?;
+        if !stood_at(&stood, place) {
+            self.standings.move_station(number, stood, place);
         }
-        Ok(())
     }
 
     /// Puts a delivery of a frame to each station that hears it and doesn't lose it, and notes
@@ -647,11 +646,11 @@ pub(crate) fn place_of(world: &World, number: usize) -> Option<Place>
 }
 
 /// Whether a station stood at this place.
-fn stood_at(stood: Option<Place>, place: Place) -> bool
-    ensures { IsTrue result → stood ≡ Some place }
+fn stood_at(stood: &Option<Place>, place: Place) -> bool
+    ensures { IsTrue result → stood.now ≡ Some place }
 {
     match stood {
-        Some(stood) => stood == place,
+        Some(stood) => *stood == place,
         None => false,
     }
 }

@@ -2,8 +2,8 @@
 //! those of a narrow band.
 
 ghost use Rattle.std.specs.Prelude.{◌≡◌, ◌≤◌, ◌<◌, ◌+◌, ℕ, OnOk, IfOk, IfSome, List, length};
-ghost use Rattle.std.specs.Prelude.{◌==◌, filter, map, slice_get};
-ghost use Rattle.std.specs.List.{position};
+ghost use Rattle.std.specs.Prelude.{◌==◌, IfNone, HoldsAt, filter, map, slice_get};
+ghost use Rattle.std.specs.List.{position, insert, remove};
 ghost use Rattle.std.specs.List.Sorted.{IsNonDecreasingBy};
 ghost use Rattle.its_station.specs.State.{StationState};
 ghost use Rattle.its_world.specs.Steps.{AreSameBut};
@@ -107,25 +107,70 @@ impl Standings {
         Ok(())
     }
 
-    /// The station of this number, which there is, stands at a new place from now on.
-    pub fn move_station(&mut self, number: usize, place: Place) -> Result<(), AllocError>
+    /// The station of this number, which there is, stands at a new place from now on. Where it is
+    /// known at which place it stood, it is looked for there first.
+    pub fn move_station(&mut self, number: usize, stood: Option<Place>, place: Place)
         ensures { (stations new : List StationState) →
             AreStandingsOf stations self.old.order.items →
             AreSameBut number stations new →
             IfSome (slice_get new number) (λ st. st.vector.place ≡ place) →
-            OnOk result (AreStandingsOf new self.new.order.items) }
+            AreStandingsOf new self.new.order.items }
     {
-        let Some(from) = place_in(&self.order, number) else {
-            return Ok(());
+        let Some(from) = find_station(&self.order, number, stood) else {
+            return;
         };
-        self.order.remove(from);
         let north = northing(place);
-        let to = self
+        let end = self
             .order
             .partition_point(|standing| northing(standing.place) <= north);
-        self.order.insert(to, Standing { place, number })?;
-        Ok(())
+        // Where it stood before this end, the end is nearer by one without it.
+        let to = if from < end { end - 1 } else { end };
+        replace_at(&mut self.order, from, to, Standing { place, number });
     }
+}
+
+/// Takes the standing at one index out, and puts this one in at an index of those that are left:
+/// only those between the two move, by one, and no memory is taken.
+fn replace_at(order: &mut Vec<Standing>, from: usize, to: usize, standing: Standing)
+    requires from { from < length order.old.items }
+    requires to { to < length order.old.items }
+    ensures { order.new.items ≡ insert (remove order.old.items from) to standing }
+{
+    if from < to {
+        order.copy_within(from + 1..to + 1, from);
+    } else {
+        order.copy_within(to..from, to + 1);
+    }
+    order[to] = standing;
+}
+
+/// An index at which the station of a number stands in these. Where its place is known, those that
+/// aren't south of it are looked at first: it is the first of them, or near.
+fn find_station(order: &[Standing], number: usize, stood: Option<Place>) -> Option<usize>
+    ensures bound { IfSome result (λ at. at < length order.now) }
+    ensures found { IfSome result (HoldsAt (λ s. s.number ≡ number) order.now) }
+    ensures none { IfNone result (position (λ s. s.number == number) order.now ≡ None) }
+{
+    if let Some(place) = stood {
+        let found = find_from(order, number, place);
+        if found.is_some() {
+            return found;
+        }
+    }
+    place_in(order, number)
+}
+
+/// An index at which the station of a number stands, looked for from the first on that isn't south
+/// of a place.
+fn find_from(order: &[Standing], number: usize, place: Place) -> Option<usize>
+    ensures bound { IfSome result (λ at. at < length order.now) }
+    ensures found { IfSome result (HoldsAt (λ s. s.number ≡ number) order.now) }
+{
+    let north = northing(place);
+    let south = order.partition_point(|standing| northing(standing.place) < north);
+    let (_, rest) = order.split_at(south);
+    let at = place_in(rest, number)?;
+    Some(south + at)
 }
 
 /// Where the station of a number stands in these.
