@@ -38,7 +38,7 @@ pub(crate) enum Try<'a> {
 
 /// Whether a command was done, or ran out of memory; `None` where it left anything else. `whole` is
 /// what it prints, `prefix` the most that it may have printed where memory ran out.
-fn judged(left: &Left, whole: &[u8], prefix: &[u8]) -> Option<bool> {
+fn was_done(left: &Left, whole: &[u8], prefix: &[u8]) -> Option<bool> {
     if left.is(Status::Done, whole, b"") {
         return Some(true);
     }
@@ -50,7 +50,7 @@ fn judged(left: &Left, whole: &[u8], prefix: &[u8]) -> Option<bool> {
 }
 
 /// The same of a call that prints nothing.
-fn judged_status(status: Status, said: &[u8]) -> Option<bool> {
+fn was_done_silently(status: Status, said: &[u8]) -> Option<bool> {
     match status {
         Status::Done if said == NOTHING => Some(true),
         Status::Failed if said == NO_MEMORY => Some(false),
@@ -61,8 +61,8 @@ fn judged_status(status: Status, said: &[u8]) -> Option<bool> {
 fn over(alloc: Global, command: Command, input: &[u8], whole: &[u8]) -> Option<bool> {
     let left = left_of(alloc, command, input);
     match command {
-        Command::Check => judged(&left, whole, b""),
-        _ => judged(&left, whole, whole),
+        Command::Check => was_done(&left, whole, b""),
+        _ => was_done(&left, whole, whole),
     }
 }
 
@@ -82,7 +82,7 @@ fn import(alloc: Global) -> Option<bool> {
         Err(status) => (status, 2),
     };
     if count == 2 {
-        judged_status(status, written(&said))
+        was_done_silently(status, written(&said))
     } else {
         None
     }
@@ -107,7 +107,7 @@ fn show_a_file(rt: &HostRuntime, file: &str, whole: &str) -> Option<bool> {
         out: printed,
         err: said,
     };
-    judged(&left, whole.as_bytes(), b"")
+    was_done(&left, whole.as_bytes(), b"")
 }
 
 fn check_a_file(rt: &HostRuntime, file: &str, whole: &str) -> Option<bool> {
@@ -127,7 +127,7 @@ fn check_a_file(rt: &HostRuntime, file: &str, whole: &str) -> Option<bool> {
         out: printed,
         err: said,
     };
-    judged(&left, whole.as_bytes(), b"")
+    was_done(&left, whole.as_bytes(), b"")
 }
 
 /// How large a file is, where there is one.
@@ -160,7 +160,7 @@ fn import_anew(rt: &HostRuntime, from: &str, to: &str) -> Option<bool> {
         None
     };
     if size_of(rt, to) == size {
-        judged_status(status, written(&said))
+        was_done_silently(status, written(&said))
     } else {
         None
     }
@@ -170,7 +170,7 @@ fn create_a_file(rt: &HostRuntime, file: &str) -> Option<bool> {
     let mut said = [0; 64];
     let mut err = said.as_mut_slice();
     let created = create(rt, file, OutputFormat::default(), &mut err);
-    judged_status(created.err().unwrap_or(Status::Done), written(&said))
+    was_done_silently(created.err().unwrap_or(Status::Done), written(&said))
 }
 
 /// Whether it is done, or memory runs out; `None` where it ends otherwise.

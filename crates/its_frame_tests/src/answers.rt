@@ -62,7 +62,7 @@ pub(crate) fn next_of<S: Source>(
 }
 
 /// Whether a capture takes a frame at a moment.
-pub(crate) fn put_into<S: Sink>(
+pub(crate) fn write_record<S: Sink>(
     writer: &mut CaptureWriter<S>,
     moment: u64,
     frame: &[u8],

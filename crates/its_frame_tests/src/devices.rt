@@ -1,7 +1,7 @@
 //! Captures over devices that are slow or fail: records one after the other, each fault, and C5 at
 //! the call after it.
 
-use crate::answers::{next_of, put_into};
+use crate::answers::{next_of, write_record};
 use crate::vectors::{BEACON, GEOBROADCAST, TWO_RECORDS};
 use its_linkframe::{
     CaptureFault, CaptureReader, CaptureWriter, Counted, LONGEST_FRAME, Record, Sink, Source,
@@ -183,12 +183,12 @@ fn one_buffer_for_all_records(rt: HostRuntime) -> Result<(), Fail> {
 
 /// What a writer answers to the geobroadcast, twice, whose device takes so many octets; and whether
 /// it took these.
-fn put_failing(front: &[u8], errs: bool) -> ([Result<(), CaptureFault>; 2], bool) {
+fn write_to_failing(front: &[u8], errs: bool) -> ([Result<(), CaptureFault>; 2], bool) {
     let slot = Slot::new(front.len() as u64, errs);
     let mut writer = CaptureWriter::new(Counted::new(slot));
     let mut answers = [Ok(()); 2];
     for answer in &mut answers {
-        *answer = put_into(&mut writer, 1000, &GEOBROADCAST);
+        *answer = write_record(&mut writer, 1000, &GEOBROADCAST);
     }
     (answers, writer.into_inner().into_inner().octets() == front)
 }
@@ -198,7 +198,10 @@ fn a_failing_sink_keeps_a_front(rt: HostRuntime) {
     let want = ([Err(CaptureFault::Io), Err(CaptureFault::Failed)], true);
     for n in 0..86 {
         for errs in [false, true] {
-            assert!(rt; put_failing(&TWO_RECORDS[..n], errs) == want, "{n} octets");
+            assert!(rt;
+                write_to_failing(&TWO_RECORDS[..n], errs) == want,
+                "{n} octets"
+            );
         }
     }
 }
@@ -212,10 +215,10 @@ fn writes_a_capture(rt: HostRuntime) {
     let mut written = [0; 146];
     let mut writer = CaptureWriter::new(Counted::new(written.as_mut_slice()));
     let found = [
-        put_into(&mut writer, 7, &[]),
-        put_into(&mut writer, 7, &LONG),
-        put_into(&mut writer, 1000, &GEOBROADCAST),
-        put_into(&mut writer, 0, &BEACON),
+        write_record(&mut writer, 7, &[]),
+        write_record(&mut writer, 7, &LONG),
+        write_record(&mut writer, 1000, &GEOBROADCAST),
+        write_record(&mut writer, 0, &BEACON),
     ];
     let wrong = Err(CaptureFault::Length);
     assert_eq!(rt; LONGEST_FRAME, 1468);

@@ -1,7 +1,7 @@
 //! Each call that takes memory, at the greatest size that there is: the longest payload. Frames are
 //! tested beside others.
 
-use crate::answers::{next_of, put_into};
+use crate::answers::{next_of, write_record};
 use crate::vectors::GEOBROADCAST;
 use its_headers::{LONGEST_PAYLOAD, Packet, PacketView, decode, encode_into};
 use its_linkframe::{CaptureReader, CaptureWriter, Counted};
@@ -51,6 +51,6 @@ fn the_longest_record_is_read_and_written(rt: HostRuntime) {
     assert!(rt; is_read);
     let mut written = [0; 1478];
     let mut writer = CaptureWriter::new(Counted::new(written.as_mut_slice()));
-    assert!(rt; put_into(&mut writer, 7, &frame) == Ok(()));
+    assert!(rt; write_record(&mut writer, 7, &frame) == Ok(()));
     assert!(rt; written == octets);
 }

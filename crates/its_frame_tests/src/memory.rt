@@ -1,6 +1,6 @@
 //! Failed allocations: which call has one, and what it answers then.
 
-use crate::answers::{next_of, put_into};
+use crate::answers::{next_of, write_record};
 use crate::vectors::{GEOBROADCAST, TWO_RECORDS};
 use its_headers::{Packet, decode};
 use its_linkframe::{
@@ -44,7 +44,7 @@ fn is_done(alloc: Global, call: Call, packet: &Packet) -> Option<bool> {
 fn is_read_and_written() -> bool {
     let mut room = [0; 86];
     let mut writer = CaptureWriter::new(Counted::new(room.as_mut_slice()));
-    read_frame(&GEOBROADCAST).is_ok() && put_into(&mut writer, 1000, &GEOBROADCAST) == Ok(())
+    read_frame(&GEOBROADCAST).is_ok() && write_record(&mut writer, 1000, &GEOBROADCAST) == Ok(())
 }
 
 /// Each budget has room for a frame that is relayed, written or read exactly where it has room for

@@ -103,7 +103,7 @@ fn the_longest_frame_is_written(rt: HostRuntime) {
 }
 
 /// What a sink answers to a start, an interface and a frame, up to the first fault.
-fn put_all<S: RecordSink>(sink: &mut S) -> Result<(), PutFault> {
+fn write_frame_file<S: RecordSink>(sink: &mut S) -> Result<(), PutFault> {
     sink.start()?;
     sink.add_interface("station 0")?;
     sink.put_frame(0, 5, b"xyz")
@@ -113,7 +113,7 @@ fn put_all<S: RecordSink>(sink: &mut S) -> Result<(), PutFault> {
 /// octets; and the device.
 fn filled(format: Format, room: u64) -> ([Result<(), PutFault>; 2], Slot) {
     let mut sink = AnySink::new(Counted::new(Slot::new(room, true)), format);
-    let answers = [put_all(&mut sink), sink.put_frame(0, 5, b"xyz")];
+    let answers = [write_frame_file(&mut sink), sink.put_frame(0, 5, b"xyz")];
     (answers, sink.into_inner().into_inner())
 }
 
