@@ -15,12 +15,12 @@ abbrev pub IsAskedBy : What → List ℕ → Call → Type 0
 IsAskedBy (Calls call) w asked = asked ≡ model.Call.Own call
 IsAskedBy (Deliver k) w asked = IsFrameCall w asked
 
--- where so many frames were let go, none of them is delivered by what happens
+-- what happens delivers none of the frames that were let go, so many of them
 abbrev pub IsKept : ℕ → What → Type 0
 IsKept released (Calls call) = Unit {0}
 IsKept released (Deliver k) = released ≤ k
 
--- one of them is
+-- what happens delivers one of the frames that were let go, so many of them
 abbrev pub IsGone : ℕ → What → Type 0
 IsGone released (Calls call) = ⊥
 IsGone released (Deliver k) = k < released

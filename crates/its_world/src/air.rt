@@ -99,7 +99,7 @@ impl Air {
         number
     }
 
-    /// Lets those before this number go, of which none may be left.
+    /// Lets those before this number go, as far as there are such and they aren't gone already.
     pub(crate) fn release(&mut self, before: usize)
         ensures released { self.new.released ≡ max self.old.released
             (min before (self.old.released + length self.old.kept.items)) }

@@ -171,7 +171,7 @@ impl World {
         self.air.frame(number)
     }
 
-    /// The same; `None` where it was let go, or there is no such frame.
+    /// The octets of a frame, by its number; `None` where it was let go, or there is no such frame.
     pub fn kept_frame(&self, number: usize) -> Option<&[u8]>
         ensures { option_map (λ octets. octets.now) result ≡ option_map (λ w. w.items)
             (frame_in self.now.released self.now.frames number) }
