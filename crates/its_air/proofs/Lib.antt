@@ -24,3 +24,4 @@ pub mod Sends
 pub mod Following
 pub mod Ranges
 pub mod Shifts
+pub mod Counted

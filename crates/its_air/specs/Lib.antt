@@ -14,3 +14,4 @@ pub mod Keeps
 pub mod Moving
 pub mod Heard
 pub mod Carried
+pub mod Counted

@@ -161,7 +161,7 @@ impl<'a> Run<'a> {
             All (λ filed. IsFiledInRange filed.now) run.queue.due.items) }
     {
         let mut draws = Draws::of_seed(air.seed);
-        let mut queue = Queue::of_file(alloc, file, air.end(file))?;
+        let mut queue = Queue::of_file(alloc, file, air.end(file), every.len())?;
         let ticking = if air.beacons { configs.len() } else { 0 };
         schedule_first_ticks(&mut queue, &mut draws, present, ticking)?;
         schedule_traffic(&mut queue, &mut draws, present, every, configs.len())?;

@@ -1,5 +1,7 @@
 //! Counting what came of the packets for an area, beside the world.
 
+ghost use Rattle.std.specs.Prelude.{◌≡◌, ◌<◌, ◌+◌, ◌-◌, ◌^◌};
+
 use crate::presence::Presence;
 use crate::summary::{SendKind, SendSummary, Totals};
 use its_gnvalue::NoMemory;
@@ -10,12 +12,25 @@ use std::alloc::Global;
 use std::collections::{HashSet, VecDeque};
 
 /// The packet for an area that a frame carries.
-#[derive(Clone, Copy, Debug)]
-struct Carried {
-    /// The send, by its place among the sends.
-    send: usize,
+#[derive(Clone, Copy, Debug, PartialEq, Eq)]
+pub struct CarriedPacket {
+    /// The packet, by its place among all that were sent.
+    pub send: usize,
     /// How many relays came before this frame.
-    depth: usize,
+    pub depth: usize,
+}
+
+impl CarriedPacket {
+    /// What a relay of the frame carries.
+    pub fn relayed(self) -> CarriedPacket
+        ensures send { result.send ≡ self.send }
+        ensures depth { self.depth < 2 ^ 64 - 1 → result.depth ≡ self.depth + 1 }
+    {
+        CarriedPacket {
+            send: self.send,
+            depth: self.depth.saturating_add(1),
+        }
+    }
 }
 
 /// A sink that counts: what came of each packet for an area, and the totals. It keeps a few octets
@@ -24,7 +39,7 @@ struct Carried {
 pub struct Tally {
     sends: Vec<SendSummary>,
     /// What each frame carries that the world hasn't let go, in the order of their numbers.
-    carried: VecDeque<Option<Carried>>,
+    carried: VecDeque<Option<CarriedPacket>>,
     /// How many frames were let go before these.
     released: usize,
     /// The sends and the stations at which they were delivered.
@@ -112,11 +127,11 @@ impl Tally {
             hops: 0,
             last: 0,
         })?;
-        self.count_frame(Some(Carried { send, depth: 0 }))
+        self.count_frame(Some(CarriedPacket { send, depth: 0 }))
     }
 
     /// Counts a frame and what it carries.
-    fn count_frame(&mut self, carried: Option<Carried>) -> Result<(), NoMemory> {
+    fn count_frame(&mut self, carried: Option<CarriedPacket>) -> Result<(), NoMemory> {
         self.carried.push_back(carried)?;
         count_one(&mut self.totals.frames);
         Ok(())
@@ -142,7 +157,7 @@ impl Tally {
     }
 
     /// What the frame carries that an action delivers.
-    fn carried_by(&self, action: &What) -> Option<Carried> {
+    fn carried_by(&self, action: &What) -> Option<CarriedPacket> {
         let What::Deliver(frame) = action else {
             return None;
         };
@@ -156,7 +171,7 @@ impl Tally {
     fn count_delivery(
         &mut self,
         done: &EventRecord<'_>,
-        carried: Option<Carried>,
+        carried: Option<CarriedPacket>,
     ) -> Result<(), NoMemory> {
         let Some(carried) = carried else {
             return Ok(());
@@ -173,15 +188,12 @@ impl Tally {
     }
 
     /// What a relay of this carries. It is a frame more of the send.
-    fn relayed(&mut self, carried: Option<Carried>) -> Option<Carried> {
+    fn relayed(&mut self, carried: Option<CarriedPacket>) -> Option<CarriedPacket> {
         let carried = carried?;
         if let Some(send) = self.sends.as_mut_slice().get_mut(carried.send) {
             count_one(&mut send.frames);
         }
-        Some(Carried {
-            send: carried.send,
-            depth: carried.depth.saturating_add(1),
-        })
+        Some(carried.relayed())
     }
 }
 

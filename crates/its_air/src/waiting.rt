@@ -2,7 +2,7 @@
 //! the air's own.
 
 ghost use Rattle.std.specs.Prelude.{◌≡◌, ◌≤◌, ◌<◌, ◌+◌, ◌^◌, ◌∷◌, [], All, map, length, slice_get};
-ghost use Rattle.std.specs.Prelude.{Some, IfOk, IfSome, IfNone, OnOk, nat_eq, ◌==◌, count_by};
+ghost use Rattle.std.specs.Prelude.{ℕ, Some, IfOk, IfSome, IfNone, OnOk, nat_eq, ◌==◌, count_by};
 ghost use Rattle.std.specs.BinaryHeap.{IsHeap, IsUpperBound, HeapUnchanged, heap_items};
 ghost use Rattle.std.specs.Cmp.{partial_order_from_own_ties};
 ghost use Rattle.std.specs.Cmp.Rules.{comparing};
@@ -21,8 +21,10 @@ ghost use Rattle.its_air.specs.Queues.{is_tick_at, is_send_at, IsFiledInRange};
 ghost use Rattle.its_air.specs.Timetable.{is_delivery, is_tick, is_numbered};
 ghost use Rattle.its_air.specs.Traffics.{traffic_in};
 ghost use Rattle.its_air.specs.Waits.{IsLeft};
+ghost use Rattle.its_air.specs.Counted.{AreCounted, kind_in};
 
 use crate::fault::AirFault;
+use crate::kinds::Counts;
 use its_scenario::{FileEvent, Traffic};
 use its_station::OwnedShbRequest;
 use its_world::{Event, What};
@@ -63,6 +65,19 @@ impl Own {
         match self {
             Own::Send(of, _) => *of == number,
             _ => false,
+        }
+    }
+
+    /// Of what kind it is, by number, if it is of one that is counted: a tick is of the first, a
+    /// send of the one behind the number of its traffic.
+    pub(crate) fn kind(&self) -> Option<usize>
+        ensures kind { IfSome result (λ kind. kind_in self.now ≡ Some kind) }
+        ensures none { IfNone result ((kind : ℕ) → kind_in self.now ≡ Some kind → 2 ^ 64 ≤ kind) }
+    {
+        match self {
+            Own::Tick(_) => Some(0),
+            Own::Deliver(_) => None,
+            Own::Send(number, _) => number.checked_add(1),
         }
     }
 
@@ -173,6 +188,8 @@ pub(crate) struct Queue<'a> {
     /// How many of these were taken.
     taken: usize,
     own: BinaryHeap<Waiting>,
+    /// How many of these there are of each kind, at each station.
+    counts: Counts,
     /// How many of the air's own were put.
     put: u64,
     until: u64,
@@ -180,14 +197,16 @@ pub(crate) struct Queue<'a> {
     ghost last: { until ≤ 2 ^ 63 + 10000 },
     ghost ordered: { IsHeap (then_cmp (flip_args (on (λ w. w.moment) nat_cmp))
         (flip_args (on (λ w. w.place) nat_cmp))) (heap_items own) } by { Prim.hlevel props },
+    ghost counted: { AreCounted counts.kinds counts.each.items (heap_items own) },
 }
 
 impl<'a> Queue<'a> {
-    /// The events and leaves of a file up to a moment.
+    /// The events and leaves of a file up to a moment, in an air with so many traffics.
     pub(crate) fn of_file(
         alloc: Global,
         file: &'a [FileEvent],
         until: u64,
+        traffics: usize,
     ) -> Result<Queue<'a>, AllocError>
         requires last { until ≤ 2 ^ 63 + 10000 }
         requires ranges { All IsFiledInRange file.now }
@@ -210,6 +229,7 @@ impl<'a> Queue<'a> {
             due,
             taken: 0,
             own: BinaryHeap::new(alloc),
+            counts: Counts::new(alloc, traffics.saturating_add(1)),
             put: 0,
             until,
         })
@@ -231,12 +251,16 @@ impl<'a> Queue<'a> {
         let Some(put) = self.put.checked_add(1) else {
             return Err(AirFault::TooManyEvents);
         };
-        self.own.push(Waiting {
+        let waiting = Waiting {
             moment,
             place: self.put,
             station,
             own,
-        })?;
+        };
+        // It is counted only where there is room for it, so that each that is counted waits.
+        self.own.reserve(1)?;
+        self.counts.add(&waiting)?;
+        self.own.push(waiting)?;
         self.put = put;
         Ok(())
     }
@@ -283,14 +307,28 @@ impl<'a> Queue<'a> {
     pub(crate) fn has_no_tick(&self, station: usize) -> bool
         ensures { result ≡ (count_by (is_tick_at station) (heap_items self.now.own) == 0) }
     {
-        count_ticks(self.own.as_slice(), station) == 0
+        match self.counts.get(0, station) {
+            Some(count) => count == 0,
+            None => count_ticks(self.own.as_slice(), station) == 0,
+        }
     }
 
     /// Whether no send of the traffic of a number waits at a station.
     pub(crate) fn has_no_send(&self, number: usize, station: usize) -> bool
         ensures { result ≡ (count_by (is_send_at number station) (heap_items self.now.own) == 0) }
     {
-        count_sends(self.own.as_slice(), number, station) == 0
+        match self.count_of_sends(number, station) {
+            Some(count) => count == 0,
+            None => count_sends(self.own.as_slice(), number, station) == 0,
+        }
+    }
+
+    /// How many sends of the traffic of a number wait at a station, if these are counted.
+    fn count_of_sends(&self, number: usize, station: usize) -> Option<usize>
+        ensures { IfSome result (λ count.
+            count ≡ count_by (is_send_at number station) (heap_items self.now.own)) }
+    {
+        self.counts.get(number.checked_add(1)?, station)
     }
 
     /// Takes the first of the air's own, if its moment lies before this one.
@@ -309,7 +347,11 @@ impl<'a> Queue<'a> {
             (heap_items self.old.own)) }
     {
         match self.own.peek() {
-            Some(first) if first.moment < moment => self.own.pop(),
+            Some(first) if first.moment < moment => {
+                let waiting = self.own.pop()?;
+                self.counts.remove(&waiting);
+                Some(waiting)
+            }
             _ => None,
         }
     }

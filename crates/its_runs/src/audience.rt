@@ -1,7 +1,7 @@
 //! The stations that packets for an area are for, and how far these came there.
 
-use crate::waiting_frames::{Carried, WaitingFrames};
-use its_air::Presence;
+use crate::waiting_frames::WaitingFrames;
+use its_air::{CarriedPacket, Presence};
 use its_geometry::{Area, contains};
 use its_gnvalue::NoMemory;
 use its_scenario::Scenario;
@@ -242,13 +242,13 @@ impl Audiences {
         world: &World,
         done: &EventRecord<'_>,
         request: &OwnedGbcRequest,
-    ) -> Result<Option<Carried>, NoMemory> {
+    ) -> Result<Option<CarriedPacket>, NoMemory> {
         if !matches!(done.entry, Entry::Sent(_)) {
             return Ok(None);
         }
         let send = self.sends.len();
         self.sends.push(Audience::new(self.alloc, world, &self.presence, done, request)?)?;
-        Ok(Some(Carried { send, depth: 0 }))
+        Ok(Some(CarriedPacket { send, depth: 0 }))
     }
 
     /// Takes what came of a frame that was delivered: what a relay of it carries.
@@ -257,7 +257,7 @@ impl Audiences {
         world: &World,
         done: &EventRecord<'_>,
         frame: usize,
-    ) -> Option<Carried> {
+    ) -> Option<CarriedPacket> {
         let carried = self.frames.deliver(frame)?;
         if let Some(audience) = self.sends.as_mut_slice().get_mut(carried.send) {
             audience.take(world, done);

@@ -3,8 +3,8 @@
 
 use crate::open_send::OpenSend;
 use crate::rows::Rows;
-use crate::waiting_frames::{Carried, WaitingFrames};
-use its_air::{Presence, SendKind};
+use crate::waiting_frames::WaitingFrames;
+use its_air::{CarriedPacket, Presence, SendKind};
 use its_gnvalue::NoMemory;
 use its_scenario::Scenario;
 use its_simulation::{EventRecord, Note, SimulationFault};
@@ -74,7 +74,7 @@ impl SendRows {
         &mut self,
         world: &World,
         done: &EventRecord<'_>,
-    ) -> Result<Option<Carried>, NoMemory> {
+    ) -> Result<Option<CarriedPacket>, NoMemory> {
         match done.what {
             What::SendGeobroadcast(request) => {
                 self.count_send(world, done, SendKind::Gbc, request)
@@ -92,7 +92,7 @@ impl SendRows {
         done: &EventRecord<'_>,
         kind: SendKind,
         request: &OwnedGbcRequest,
-    ) -> Result<Option<Carried>, NoMemory> {
+    ) -> Result<Option<CarriedPacket>, NoMemory> {
         if done.entry.frame().is_none() {
             return Ok(None);
         }
@@ -105,7 +105,7 @@ impl SendRows {
             kind,
             request,
         )?)?;
-        Ok(Some(Carried { send, depth: 0 }))
+        Ok(Some(CarriedPacket { send, depth: 0 }))
     }
 
     /// Takes the delivery of a frame.
@@ -114,7 +114,7 @@ impl SendRows {
         world: &World,
         done: &EventRecord<'_>,
         frame: usize,
-    ) -> Result<Option<Carried>, NoMemory> {
+    ) -> Result<Option<CarriedPacket>, NoMemory> {
         let Some(carried) = self.frames.deliver(frame) else {
             return Ok(None);
         };
@@ -132,7 +132,7 @@ impl SendRows {
     }
 
     /// Takes a frame that was given, with what it carries.
-    fn give(&mut self, frame: usize, carried: Carried) -> Result<(), NoMemory> {
+    fn give(&mut self, frame: usize, carried: CarriedPacket) -> Result<(), NoMemory> {
         let waiting = self.frames.give(frame, carried)?;
         if let Some(packet) = self.packet(carried.send) {
             packet.wait(waiting);
@@ -173,7 +173,7 @@ impl Rows for SendRows {
             Note::Lost { frame, .. } => (frame, false),
             _ => return Ok(()),
         };
-        let Some(Carried { send, .. }) = self.frames.get(frame) else {
+        let Some(CarriedPacket { send, .. }) = self.frames.get(frame) else {
             return Ok(());
         };
         if is_heard {

@@ -1,34 +1,16 @@
 //! The frames of packets for an area of which deliveries wait.
 
+use its_air::CarriedPacket;
 use its_gnvalue::NoMemory;
 use its_scenario::{FileEvent, Scenario};
 use its_world::{Event, What};
 use std::alloc::Global;
 use std::collections::HashMap;
 
-/// What a frame carries.
-#[derive(Clone, Copy, Debug, PartialEq, Eq)]
-pub(crate) struct Carried {
-    /// The packet, by its place among all that were sent.
-    pub(crate) send: usize,
-    /// How many relays came before the frame.
-    pub(crate) depth: usize,
-}
-
-impl Carried {
-    /// What a relay of the frame carries.
-    pub(crate) fn relayed(self) -> Carried {
-        Carried {
-            send: self.send,
-            depth: self.depth.saturating_add(1),
-        }
-    }
-}
-
 /// A frame of which deliveries wait, or one that was just given.
 #[derive(Clone, Copy, Debug)]
 struct WaitingFrame {
-    carried: Carried,
+    carried: CarriedPacket,
     waiting: usize,
 }
 
@@ -87,7 +69,7 @@ impl WaitingFrames {
 
     /// What the frame of this number carries, where that is a packet for an area of whose frame a
     /// delivery waits.
-    pub(crate) fn get(&self, frame: usize) -> Option<Carried> {
+    pub(crate) fn get(&self, frame: usize) -> Option<CarriedPacket> {
         match self.frames.get(&frame) {
             Some(frame) => Some(frame.carried),
             None => None,
@@ -96,7 +78,7 @@ impl WaitingFrames {
 
     /// Takes a frame that was given with what it carries. Gives how many of the scenario's own
     /// deliveries of it wait.
-    pub(crate) fn give(&mut self, frame: usize, carried: Carried) -> Result<usize, NoMemory> {
+    pub(crate) fn give(&mut self, frame: usize, carried: CarriedPacket) -> Result<usize, NoMemory> {
         let waiting = self.own.remove(&frame).unwrap_or(0);
         self.frames
             .insert(frame, WaitingFrame { carried, waiting })?;
@@ -112,7 +94,7 @@ impl WaitingFrames {
     }
 
     /// Takes the delivery of a frame. Gives what that carries.
-    pub(crate) fn deliver(&mut self, frame: usize) -> Option<Carried> {
+    pub(crate) fn deliver(&mut self, frame: usize) -> Option<CarriedPacket> {
         let Some(found) = self.frames.get_mut(&frame) else {
             self.pass_over(frame);
             return None;

@@ -5,6 +5,7 @@ use Rattle.std.proofs.lemmas.Fn.{always_returns_same}
 use Rattle.its_scenario.specs.Airs.{moment_of}
 use Rattle.its_scenario.specs.declared.event.FileEvent.{FileEvent}
 use Rattle.its_air.specs.Queues.{IsFiledInRange}
+use Rattle.its_air.specs.Counted.{AreCounted}
 use Rattle.its_air.proofs.Files.{Kept, kept_push, kept_skip, due_in_order}
 use Rattle.its_air.proofs.waiting.Queue.of_file.Goals.{then-moment-until+in_ok-push, else-moment-until}
 use Rattle.its_air.proofs.waiting.Queue.of_file.Goals as goal
@@ -37,6 +38,8 @@ invariant_of-result c =
           c.loop-filed.invariant.within;
       last = c.requires.last;
       ordered = c.new.ensures.heap_order;
+      counted = subst (AreCounted c.new-2.result.kinds c.new-2.result.each.items)
+          (sym c.new.ensures.items) c.new-2.ensures;
     }
 
 pub returns : goal.returns
