@@ -117,6 +117,12 @@ pub record IsRow (row : Row) : Type 0 where
   pub speed : IsSpeed row.speed
   pub heading : row.heading < 3600
 
+-- Of a file's clock, a row comes when the clock shows no less than before and no more than after; a
+-- row's moment is that clock less the begin.
+pub record IsRowBetween (begin before after : ℕ) (row : Row) : Type 0 where
+  pub no_earlier : before ≤ row.moment + begin
+  pub no_later : row.moment + begin ≤ after
+
 -- ---- words of private functions
 
 -- the word is the first that refuses a place
@@ -132,3 +138,8 @@ IsWordOfPlace notation lat lon word = ⊥
 abbrev pub ReachesRow : Reached → Type 0
 ReachesRow (reaches.Row row) = IsRow row
 ReachesRow reached = Unit {0}
+
+-- what a line gives is a row between, if it gives one
+abbrev pub ReachesBetween : ℕ → ℕ → ℕ → Reached → Type 0
+ReachesBetween begin before after (reaches.Row row) = IsRowBetween begin before after row
+ReachesBetween begin before after reached = Unit {0}

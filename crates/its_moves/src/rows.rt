@@ -1,8 +1,9 @@
 //! The rows of a file, one after the other.
 
-ghost use Rattle.std.specs.Prelude.{◌≡◌, IfOk, IfSome, string_bytes};
+ghost use Rattle.std.specs.Prelude.{◌≡◌, ◌≤◌, IfOk, IfSome, string_bytes};
 ghost use Rattle.its_moves.specs.Columns.{texts};
-ghost use Rattle.its_moves.specs.Rows.{IsId, IsRow, ReachesRow, field_at};
+ghost use Rattle.its_moves.specs.Rows.{IsId, IsRow, IsRowBetween, ReachesBetween, ReachesRow};
+ghost use Rattle.its_moves.specs.Rows.{field_at};
 
 use crate::columns::{Columns, Notation, columns_of};
 use crate::fault::{LineFault, MovesFault, Word};
@@ -79,10 +80,14 @@ impl<R: BufRead + Drop> Rows<R> {
         }
     }
 
-    /// The next row, `None` at the end, and from then on. Lines that are empty, and rows of SUMO's
-    /// without an id, are passed over. After a fault each call answers the same.
+    /// The next row, `None` at the end, and from then on: of a moment that is no earlier than that
+    /// of the row before. Lines that are empty, and rows of SUMO's without an id, are passed over.
+    /// After a fault each call answers the same.
     pub fn next(&mut self) -> Result<Option<Row>, MovesFault>
-        ensures { IfOk result (λ row. IfSome row IsRow) }
+        ensures begin { self.new.begin ≡ self.old.begin }
+        ensures row { IfOk result (λ row. IfSome row IsRow) }
+        ensures order { IfOk result (λ row.
+            IfSome row (IsRowBetween self.old.begin self.old.before self.new.before)) }
     {
         match self.state {
             State::Reading => {}
@@ -107,7 +112,10 @@ impl<R: BufRead + Drop> Rows<R> {
 
     /// Reads lines to the next that gives a row.
     fn read_row(&mut self) -> Result<Option<Row>, MovesFault>
-        ensures { IfOk result (λ row. IfSome row IsRow) }
+        ensures begin { self.new.begin ≡ self.old.begin }
+        ensures row { IfOk result (λ row. IfSome row IsRow) }
+        ensures order { IfOk result (λ row.
+            IfSome row (IsRowBetween self.old.begin self.old.before self.new.before)) }
     {
         for _ in 0..u64::MAX {
             match self.read_one()? {
@@ -121,7 +129,11 @@ impl<R: BufRead + Drop> Rows<R> {
 
     /// Reads a line.
     fn read_one(&mut self) -> Result<Reached, MovesFault>
-        ensures { IfOk result ReachesRow }
+        ensures begin { self.new.begin ≡ self.old.begin }
+        ensures row { IfOk result ReachesRow }
+        ensures before { self.old.before ≤ self.new.before }
+        ensures order { IfOk result
+            (ReachesBetween self.old.begin self.old.before self.new.before) }
     {
         if !read_line(&mut self.reader, &mut self.line)? {
             return Ok(Reached::End);
@@ -135,7 +147,11 @@ impl<R: BufRead + Drop> Rows<R> {
 
     /// The row of the line that was read.
     fn row_of_line(&mut self) -> Result<Reached, LineFault>
-        ensures { IfOk result ReachesRow }
+        ensures begin { self.new.begin ≡ self.old.begin }
+        ensures row { IfOk result ReachesRow }
+        ensures before { self.old.before ≤ self.new.before }
+        ensures order { IfOk result
+            (ReachesBetween self.old.begin self.old.before self.new.before) }
     {
         let octets = trimmed(&self.line)?;
         if octets.is_empty() {
