@@ -39,7 +39,7 @@ count_put kind p (q ∷ ws) = by (nat_le (at q) (at p)) (count_put kind p ws)
         let b = count_more kind q ws in omega (arith, a, b, more)
     by false more = count_more kind p (q ∷ ws)
 
-count_put_all : (kind : Pending → Bool) (ps ws : List Pending)
+pub count_put_all : (kind : Pending → Bool) (ps ws : List Pending)
     → count_by kind (put_all ps ws) ≡ count_by kind ps + count_by kind ws
 count_put_all kind [] ws = let none : count_by kind [] ≡ 0 = refl in omega (arith, none)
 count_put_all kind (p ∷ ps) ws =
@@ -48,7 +48,7 @@ count_put_all kind (p ∷ ps) ws =
     let c = count_more kind p ps in omega (arith, a, b, c)
 
 -- none of the file is of the kind
-count_file : (kind : Pending → Bool) → ((e : Filed) → kind (of_file e) ≡ false)
+pub count_file : (kind : Pending → Bool) → ((e : Filed) → kind (of_file e) ≡ false)
     → (es : List Filed) → count_by kind (map of_file es) ≡ 0
 count_file kind none [] = refl
 count_file kind none (e ∷ es) =
@@ -81,11 +81,11 @@ counted kind one same none due heap count until ws h =
     let d : count_by one h.own ≡ count_by one heap = h.same (λ w. cond (one w) 1 0) in
     ap (count_by kind) h.is ∙ omega (arith, a, b, c, d)
 
-no_tick : (station : ℕ) (e : Filed) → is_tick_of station (of_file e) ≡ false
+pub no_tick : (station : ℕ) (e : Filed) → is_tick_of station (of_file e) ≡ false
 no_tick station (Happens e) = refl
 no_tick station (Leaves other moment) = refl
 
-no_send : (number station : ℕ) (e : Filed) → is_send_of number station (of_file e) ≡ false
+pub no_send : (number station : ℕ) (e : Filed) → is_send_of number station (of_file e) ≡ false
 no_send number station (Happens e) = refl
 no_send number station (Leaves other moment) = refl
 

@@ -5,13 +5,20 @@ pub mod Under
 pub mod Bands
 pub mod Counts
 pub mod Putting
+pub mod BesideOrder
+pub mod BesideLater
+pub mod BesideMade
+pub mod BesideTaken
+pub mod BesideSteps
+pub mod BesideOpening
+pub mod BesideReached
+pub mod BesideFrames
 pub mod Waits
 pub mod Opening
 pub mod Keeping
 pub mod Stepping
 pub mod OneRun
 pub mod Moments
-pub mod MovingOn
 pub mod Lasting
 pub mod Heard
 pub mod Ticks
@@ -25,3 +32,5 @@ pub mod Following
 pub mod Ranges
 pub mod Shifts
 pub mod Counted
+pub mod Moved
+pub mod UnderRows

@@ -11,7 +11,10 @@ pub mod AirTimed
 pub mod Traffics
 pub mod Waits
 pub mod Keeps
+pub mod FitsRun
 pub mod Moving
+pub mod UnderRows
+pub mod Beside
 pub mod Heard
 pub mod Carried
 pub mod Counted

@@ -1,40 +1,117 @@
--- A run in which stations move by the rows of a file.
-use Rattle.std.specs.Prelude.{◌≤◌, ◌<◌, ◌^◌, ◌++◌, ℕ, List, All, length}
-use Rattle.its_gnvalue.specs.Values.{IsSpeed}
-use Rattle.its_model.specs.World.{Config, Event}
-use Rattle.its_moves.specs.declared.row.Row.{Row}
-use Rattle.its_simulation.specs.Simulated.{IsSimulated}
+-- A run in which stations move by the rows of a file: it is the run of an air, to which comes what
+-- the rows and the scenario have, one after the other.
+use Rattle.std.specs.Prelude.{◌≡◌, ◌≤◌, ◌<◌, ◌+◌, ◌++◌, ◌∷◌, ℕ, List, length}
+use Rattle.std.specs.Prelude.{Option, IfSome}
+use Rattle.std.specs.List.{AllByRecursion}
+use Rattle.its_model.specs.World.{Config, Event, What, opening, world_run}
+use Rattle.its_model.specs.World.What.{Calls, Deliver}
 use Rattle.its_world.specs.declared.entry.Entry.{Entry}
 use Rattle.its_world.specs.State.{WorldState}
+use Rattle.its_air.specs.AirTimed.{IsTimedRun}
+use Rattle.its_air.specs.Beside.{IsReached, Rises, rules_beside}
+use Rattle.its_air.specs.Keeps.{IsTimed}
+use Rattle.its_air.specs.Timetable.{AirModel, Filed, Pending, Rules, at}
+use Rattle.its_air.specs.Timetable.Pending.{Does, Departs}
+use Rattle.its_air.specs.Waits.{pending_of}
+use Rattle.its_air.specs.declared.run.Run.{Run}
+use Rattle.its_air.specs.declared.waiting.Waiting.{Waiting}
 
--- a row can be run: its moment and its speed are in their ranges
-abbrev pub FitsRun : Row → Type 0
-FitsRun row = (row.moment ≤ 2 ^ 62) × IsSpeed row.speed
-
--- Of these configs these events were done, each of a station that is there.
-pub record IsMoving (configs : List Config) (events : List Event) (world : WorldState)
-    (Took : List Event → List Entry → Type 0) : Type 0 where
-  pub told : IsSimulated configs events world Took
-  pub there : All (λ e. e.station < length configs) events
-
--- Stations were made beside these, and events were done of these and of those.
-pub record IsMovedRun (configs : List Config) (world : WorldState)
-    (Took : List Event → List Entry → Type 0) : Type 0 where
+-- Stations were made beside these, which were absent at the start. Of all of them it is the run of
+-- an air by these rules, up to a last moment, which is the given one, if one is given. Its file is
+-- what came from outside, in the order of moments.
+pub record IsMovedRun (rules : Rules) (configs : List Config) (given : Option ℕ)
+    (world : WorldState) (Took : List Event → List Entry → Type 0) : Type 0 where
   pub made : List Config
-  pub events : List Event
-  pub run : IsMoving (configs ++ made) events world Took
+  pub file : List Filed
+  pub until : ℕ
+  pub rises : Rises file
+  pub last : IfSome given (λ moment. until ≡ moment)
+  pub run : IsTimedRun (rules_beside made until rules) (configs ++ made) file world Took
 
--- whatever was done before, more was done then, of perhaps more stations
-abbrev pub MovesOn : WorldState → (List Event → List Entry → Type 0) → WorldState
-    → (List Event → List Entry → Type 0) → Type 0
-MovesOn old Before new After =
-    (configs : List Config) (events : List Event) → IsMoving configs events old Before →
-    (made : List Config) × (more : List Event) × IsMoving (configs ++ made) (events ++ more) new After
+-- ---- words of private functions
 
--- the same, where a station of this number is there
-abbrev pub MovesOnAt : ℕ → WorldState → (List Event → List Entry → Type 0) → WorldState
+-- A delivery that waits is of a frame that is kept. Those of the frames that were counted come by a
+-- moment, all of them by a later one.
+abbrev pub AwaitsFrame : (released counted by latest moment : ℕ) → What → Type 0
+AwaitsFrame released counted by latest moment (Calls call) = Unit {0}
+AwaitsFrame released counted by latest moment (Deliver k) =
+    (released ≤ k) × (k < counted → moment ≤ by) × (moment ≤ latest)
+
+abbrev pub Awaits : (released counted by latest : ℕ) → Pending → Type 0
+Awaits released counted by latest (Does p) =
+    AwaitsFrame released counted by latest p.event.moment p.event.what
+Awaits released counted by latest (Departs station moment) = Unit {0}
+
+-- A run is under way: it stands as the air of the model does to which so many steps lead, whatever
+-- comes from a moment on. The last event was done by another moment; nothing waits for an earlier
+-- one.
+pub record IsMoving (rules : Rules) (configs : List Config) (last from end counted by : ℕ)
+    (run : Run) (Took : List Event → List Entry → Type 0) : Type 0 where
+  pub made : List Config
+  pub all : List Config
+  pub now : Rules
+  pub are_all : all ≡ configs ++ made
+  pub are_now : now ≡ rules_beside made rules.until rules
+  pub steps : ℕ
+  pub past : List Filed
+  pub air : AirModel
+  pub timed : IsTimed now all air run Took
+  pub reached : IsReached now all steps past from end air
+  pub recent : last ≤ from
+  pub near : from ≤ last + 1
+  pub since : AllByRecursion (λ p. last ≤ at p) air.timetable.waiting
+  pub frames : AllByRecursion (Awaits run.world.released counted by (last + now.delay))
+      air.timetable.waiting
+  pub few : counted ≤ length (world_run (opening all) air.done).air
+
+-- the air of the model with its first taken
+abbrev pub without_first : AirModel → List Pending → AirModel
+without_first a rest =
+    record {
+      done = a.done;
+      timetable = record { waiting = rest; draws = a.timetable.draws };
+      present = a.present;
+    }
+
+-- The same, where the first that waits was taken and isn't done yet.
+pub record IsTaken (rules : Rules) (configs : List Config) (from end counted by : ℕ)
+    (taken : Waiting) (run : Run) (Took : List Event → List Entry → Type 0) : Type 0 where
+  pub made : List Config
+  pub all : List Config
+  pub now : Rules
+  pub are_all : all ≡ configs ++ made
+  pub are_now : now ≡ rules_beside made rules.until rules
+  pub steps : ℕ
+  pub past : List Filed
+  pub air : AirModel
+  pub rest : List Pending
+  pub first : air.timetable.waiting ≡ pending_of taken ∷ rest
+  pub timed : IsTimed now all (without_first air rest) run Took
+  pub reached : IsReached now all steps past from end air
+  pub recent : from ≤ taken.moment + 1
+  pub within : taken.moment ≤ end
+  pub frames : AllByRecursion (Awaits run.world.released counted by (taken.moment + now.delay))
+      (pending_of taken ∷ rest)
+  pub few : counted ≤ length (world_run (opening all) air.done).air
+
+-- what comes at a moment is done
+abbrev pub DoesAt : ℕ → Run → (List Event → List Entry → Type 0) → Run
     → (List Event → List Entry → Type 0) → Type 0
-MovesOnAt station old Before new After =
-    (configs : List Config) (events : List Event) → IsMoving configs events old Before →
-    station < length configs →
-    (made : List Config) × (more : List Event) × IsMoving (configs ++ made) (events ++ more) new After
+DoesAt moment old Before new After =
+    (rules : Rules) (configs : List Config) (end counted by : ℕ) → moment ≤ end →
+    IsMoving rules configs moment moment end counted by old Before →
+    IsMoving rules configs moment moment end counted by new After
+
+-- the same of an event of this station, where it is there
+abbrev pub DoesThere : ℕ → ℕ → Run → (List Event → List Entry → Type 0) → Run
+    → (List Event → List Entry → Type 0) → Type 0
+DoesThere station moment old Before new After =
+    station < length old.world.stations → DoesAt moment old Before new After
+
+-- what was taken is done
+abbrev pub DoesTaken : Waiting → Run → (List Event → List Entry → Type 0) → Run
+    → (List Event → List Entry → Type 0) → Type 0
+DoesTaken taken old Before new After =
+    (rules : Rules) (configs : List Config) (from end counted by : ℕ) →
+    IsTaken rules configs from end counted by taken old Before →
+    IsMoving rules configs taken.moment (taken.moment + 1) end counted by new After

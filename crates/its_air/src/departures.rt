@@ -1,14 +1,69 @@
 //! When stations leave that move by rows: some time after the last row of each.
 
+ghost use Rattle.std.specs.Prelude.{◌≡◌, ◌≤◌, ℕ, [], All, nat_eq};
+ghost use Rattle.std.specs.Prelude.{IfNone, IfOk, IfSome, OnOk};
+ghost use Rattle.std.specs.BinaryHeap.{IsHeap, heap_items};
+ghost use Rattle.std.specs.Cmp.{partial_order_from_own_ties};
+ghost use Rattle.std.specs.Cmp.Rules.{comparing};
+ghost use Rattle.std.specs.Ordering.{nat_cmp, on, flip_args, then_cmp, as_partial_cmp, eq_of_both};
+ghost use Rattle.std.proofs.Common.{rules};
+ghost use Rattle.std.proofs.Props.{props};
+
 use std::alloc::{AllocError, Global};
-use std::cmp::Reverse;
+use std::cmp::Ordering;
 use std::collections::BinaryHeap;
 
 /// When a station leaves. The greatest is the first; of one moment, the one of the lesser number.
-#[derive(Clone, Copy, Debug, PartialEq, Eq, PartialOrd, Ord)]
-struct Departure {
-    moment: Reverse<u64>,
-    station: Reverse<usize>,
+#[derive(Clone, Copy, Debug)]
+pub(crate) struct Departure {
+    /// The moment, in milliseconds.
+    pub(crate) moment: u64,
+    /// The number of the station.
+    pub(crate) station: usize,
+}
+
+impl PartialEq for Departure {
+    ghost eq = { eq_of_both (on (λ d. d.moment) nat_eq) (on (λ d. d.station) nat_eq) };
+
+    ghost laws = { Prim.search (comparing, rules) };
+
+    fn eq(&self, other: &Departure) -> bool {
+        self.moment == other.moment && self.station == other.station
+    }
+}
+
+impl Eq for Departure {
+    ghost laws = { Prim.search (comparing, rules) };
+}
+
+impl Ord for Departure {
+    ghost cmp = { then_cmp (flip_args (on (λ d. d.moment) nat_cmp))
+        (flip_args (on (λ d. d.station) nat_cmp)) };
+
+    ghost total = { Prim.search (comparing, rules) };
+
+    ghost matches_partial_cmp = { Prim.search (comparing, rules) };
+
+    ghost matches_eq = { Prim.search (comparing, rules) };
+
+    fn cmp(&self, other: &Departure) -> Ordering {
+        other
+            .moment
+            .cmp(&self.moment)
+            .then(other.station.cmp(&self.station))
+    }
+}
+
+impl PartialOrd for Departure {
+    ghost partial_cmp = { as_partial_cmp (then_cmp (flip_args (on (λ d. d.moment) nat_cmp))
+        (flip_args (on (λ d. d.station) nat_cmp))) };
+
+    ghost laws = { partial_order_from_own_ties (Prim.search (comparing, rules))
+        (Prim.search (comparing, rules)) };
+
+    fn partial_cmp(&self, other: &Departure) -> Option<Ordering> {
+        Some(self.cmp(other))
+    }
 }
 
 /// What is known of a station.
@@ -30,11 +85,15 @@ pub(crate) struct Departures {
     /// One of each station that waits, at a moment that isn't past the one when it leaves: so a row
     /// needs no look at the others.
     waiting: BinaryHeap<Departure>,
+    ghost ordered: { IsHeap (then_cmp (flip_args (on (λ d. d.moment) nat_cmp))
+        (flip_args (on (λ d. d.station) nat_cmp))) (heap_items waiting) } by { Prim.hlevel props },
 }
 
 impl Departures {
     /// Of so many stations, of which no row was seen.
-    pub(crate) fn of(alloc: Global, stations: usize, gone: u32) -> Result<Departures, AllocError> {
+    pub(crate) fn of(alloc: Global, stations: usize, gone: u32) -> Result<Departures, AllocError>
+        ensures none { IfOk result (λ departures. heap_items departures.waiting ≡ []) }
+    {
         Ok(Departures {
             gone,
             seen: Vec::from_elem(alloc, Seen::default(), stations)?,
@@ -43,65 +102,69 @@ impl Departures {
     }
 
     /// One station more.
-    pub(crate) fn add_station(&mut self) -> Result<(), AllocError> {
+    pub(crate) fn add_station(&mut self) -> Result<(), AllocError>
+        ensures waiting { self.new.waiting ≡ self.old.waiting }
+    {
         self.seen.push(Seen::default())?;
         Ok(())
     }
 
     /// A row of a station was seen at this moment.
-    pub(crate) fn note_row(&mut self, station: usize, moment: u64) -> Result<(), AllocError> {
+    pub(crate) fn note_row(&mut self, station: usize, moment: u64) -> Result<(), AllocError>
+        ensures from { (from : ℕ) → from ≤ moment →
+            All (λ d. from ≤ d.moment) (heap_items self.old.waiting) → OnOk result
+            (All (λ d. from ≤ d.moment) (heap_items self.new.waiting)) }
+    {
         let due = moment.saturating_add(u64::from(self.gone));
         let Some(seen) = self.seen.get_mut(station) else {
             return Ok(());
         };
         let waits = seen.waits;
         *seen = Seen { due, waits: true };
-        if !waits {
-            self.push(station, due)?;
+        if waits {
+            return Ok(());
         }
-        Ok(())
+        self.push(station, due)
     }
 
-    /// The first that leaves: the moment and the station.
-    pub(crate) fn first(&mut self) -> Result<Option<(u64, usize)>, AllocError> {
-        for _ in 0..=self.waiting.len() {
-            let Some(first) = self.waiting.peek() else {
-                return Ok(None);
-            };
-            let (moment, station) = (first.moment.0, first.station.0);
-            let due = self.due(station);
-            if due <= moment {
-                return Ok(Some((moment, station)));
-            }
-            // A row of it came since.
-            self.waiting.pop();
-            self.push(station, due)?;
-        }
-        Ok(None)
+    /// The first that may leave.
+    pub(crate) fn first(&self) -> Option<Departure>
+        ensures first { IfSome result (λ first.
+            All (λ d. first.moment ≤ d.moment) (heap_items self.now.waiting)) }
+        ensures after { IfSome result (λ first. (from : ℕ) →
+            All (λ d. from ≤ d.moment) (heap_items self.now.waiting) → from ≤ first.moment) }
+        ensures none { IfNone result (heap_items self.now.waiting ≡ []) }
+    {
+        self.waiting.peek().copied()
     }
 
-    /// The first that leaves waits no longer.
-    pub(crate) fn take_first(&mut self) {
-        if let Some(first) = self.waiting.pop() {
-            if let Some(seen) = self.seen.get_mut(first.station.0) {
-                seen.waits = false;
-            }
+    /// The first that may leave waits no longer at its moment. Gives whether it leaves: where a row
+    /// of it came since, it waits until it leaves by that.
+    pub(crate) fn take_first(&mut self) -> Result<bool, AllocError>
+        ensures from { (from : ℕ) → All (λ d. from ≤ d.moment) (heap_items self.old.waiting) →
+            OnOk result (All (λ d. from ≤ d.moment) (heap_items self.new.waiting)) }
+    {
+        let Some(first) = self.waiting.pop() else {
+            return Ok(false);
+        };
+        let Some(seen) = self.seen.get_mut(first.station) else {
+            return Ok(false);
+        };
+        let due = seen.due;
+        if due <= first.moment {
+            seen.waits = false;
+            return Ok(true);
         }
+        self.push(first.station, due)?;
+        Ok(false)
     }
 
-    /// When a station leaves.
-    fn due(&self, station: usize) -> u64 {
-        match self.seen.get(station) {
-            Some(seen) => seen.due,
-            None => 0,
-        }
-    }
-
-    fn push(&mut self, station: usize, moment: u64) -> Result<(), AllocError> {
-        self.waiting.push(Departure {
-            moment: Reverse(moment),
-            station: Reverse(station),
-        })?;
+    fn push(&mut self, station: usize, moment: u64) -> Result<(), AllocError>
+        ensures from { (from : ℕ) → from ≤ moment →
+            All (λ d. from ≤ d.moment) (heap_items self.old.waiting) → OnOk result
+            (All (λ d. from ≤ d.moment) (heap_items self.new.waiting)) }
+    {
+        self.waiting.push(Departure { moment, station })?;
         Ok(())
     }
 }

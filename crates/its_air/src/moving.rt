@@ -1,27 +1,39 @@
 //! The run of an air in which stations move by the rows of a file, come with their first row and
 //! leave some time after their last one.
 
-ghost use Rattle.std.specs.Prelude.{◌∷◌, [], ℕ, map, length, IsTrue, ◌≡◌, ◌≤◌, ◌<◌, ◌+◌, ◌^◌, All};
-ghost use Rattle.std.specs.Prelude.{IfOk, IfSome, OnOk, vec_len};
+ghost use Rattle.std.specs.Prelude.{[], ℕ, List, Some, None, map, ◌≡◌, ◌≤◌, ◌<◌, ◌+◌, ◌^◌, All};
+ghost use Rattle.std.specs.Prelude.{length, slice_get, true, false, vec_len, ◌⊎◌};
+ghost use Rattle.std.specs.Prelude.{IfNone, IfOk, IfSome, OnOk};
+ghost use Rattle.std.specs.BinaryHeap.{heap_items};
+ghost use Rattle.std.specs.List.{AllByRecursion};
+ghost use Rattle.std.specs.List.Sorted.{IsNonDecreasingBy};
 ghost use Rattle.std.specs.Option.{ForSome};
-ghost use Rattle.std.proofs.Props.{props};
-ghost use Rattle.its_scenario.specs.Airs.{moment_of};
+ghost use denote.Ref.{Bor};
+ghost use Rattle.its_scenario.specs.Airs.{end_of, moment_of};
 ghost use Rattle.its_scenario.specs.Events.{FitsFileEvent};
-ghost use Rattle.its_model.specs.World.{WorldModel, opening};
+ghost use Rattle.its_scenario.specs.declared.event.AddressedEvent.{AddressedEvent as Addressed};
+ghost use Rattle.its_model.specs.World.{Config as Beginning, WorldModel, opening};
+ghost use Rattle.its_moves.specs.Rows.{IsRowBetween};
 ghost use Rattle.its_world.specs.Events.{IsConfig, IsInRange, config_of, what_of};
 ghost use Rattle.its_world.specs.Steps.{IsKept};
 ghost use Rattle.its_world.specs.State.{RepresentsWorld};
-ghost use Rattle.its_air.specs.AirRun.{events_in};
-ghost use Rattle.its_air.specs.Moving.{FitsRun, IsMovedRun, MovesOn, MovesOnAt};
-ghost use Rattle.its_air.specs.Queues.{IsFiledInRange, filed_of, own_of};
+ghost use Rattle.its_air.specs.AirTimed.{rules_of};
+ghost use Rattle.its_air.specs.FitsRun.{FitsRun};
+ghost use Rattle.its_air.specs.Keeps.{GoesBy, Keeps};
+ghost use Rattle.its_air.specs.Moving.{Awaits, IsMovedRun};
+ghost use Rattle.its_air.specs.Queues.{IsFiledInRange};
 ghost use Rattle.its_air.specs.Standings.{AreStandingsOf};
+ghost use Rattle.its_air.specs.Timetable.{Pending, Rules, air_opening, at};
+ghost use Rattle.its_air.specs.Traffics.{all_traffic};
+ghost use Rattle.its_air.specs.UnderRows.{ComesFrom, IsComing, IsNext, IsUnder, IsUnderSome};
+ghost use Rattle.its_air.specs.UnderRows.{StaysAt, StaysUnder, end_in};
 
-use crate::copying::copy_of;
 use crate::departures::Departures;
 use crate::fault::AirFault;
-use crate::run::{Run, place_of};
+use crate::moving_run::{Coming, MovingRun, Outside};
+use crate::run::Run;
+use crate::step::{do_at, do_filed, do_own, move_in};
 use crate::vehicles::Vehicles;
-use crate::waiting::Waiting;
 use its_gnvalue::Place;
 use its_model::laws::every_schedule;
 use its_moves::{MovesFault, Row, Rows, Word};
@@ -49,6 +61,10 @@ use std::io::BufRead;
 /// row, 0 where there is neither. A row is read once the one before it was run, and none once nothing
 /// that waits has its moment up to the last.
 ///
+/// It is the run of an air, as `run_air` does one, of the scenario's stations and those that rows
+/// made, these absent at the start, whose file is what came from outside, in the order of moments:
+/// so the laws of airs hold of it. Which rows, leaves and events these are is not said.
+///
 /// `Moves` where a row can't be read, or one that was read would need a station too many, or one of
 /// a MID that another has: the sink has the events before, as where an allocation or the sink failed.
 pub fn run_moves<R: BufRead + Drop, S: EventSink>(
@@ -60,7 +76,9 @@ pub fn run_moves<R: BufRead + Drop, S: EventSink>(
 ) -> Result<World, AirFault>
     requires { vec_len scenario.now.stations ≤ 65535 }
     ensures { S.Took sink.old [] [] → IfOk result (λ world.
-        IsMovedRun (map config_of scenario.now.stations.items) world (S.Took sink.new)) }
+        IsMovedRun (rules_of air.now (all_traffic scenario.now.every.items)
+        (end_of air.now.until []) scenario.now.present.items)
+        (map config_of scenario.now.stations.items) air.now.until world (S.Took sink.new)) }
 {
     // A law, for the proof alone.
     every_schedule();
@@ -80,24 +98,6 @@ const AFTER_EVENTS: u64 = 10_000;
 /// The most stations of a run.
 const MOST_STATIONS: usize = 65535;
 
-/// What comes to an air from outside.
-#[derive(Clone, Copy, Debug)]
-enum Outside {
-    /// The next row.
-    Row,
-    /// A station leaves, by its number.
-    Departure(usize),
-    /// The next event of the scenario.
-    Event,
-}
-
-/// What comes to an air from outside, and when.
-#[derive(Clone, Copy, Debug)]
-struct Coming {
-    moment: u64,
-    outside: Outside,
-}
-
 /// The station of a row.
 #[derive(Clone, Copy, Debug)]
 struct RowStation<'a> {
@@ -105,35 +105,6 @@ struct RowStation<'a> {
     station: usize,
     /// The ports that it opens.
     ports: &'a [u16],
-}
-
-/// A run that is under way.
-#[derive(Drop)]
-struct MovingRun<'a> {
-    alloc: Global,
-    run: Run<'a>,
-    /// What stations the rows make.
-    moves: &'a Moves,
-    vehicles: Vehicles<'a>,
-    departures: Departures,
-    /// The events and leaves of the scenario, in the order in which they are taken.
-    events: Vec<&'a AddressedEvent>,
-    /// How many of these were taken.
-    taken: usize,
-    /// The next row, where there is one.
-    row: Option<Row>,
-    /// The last moment that is run, where one is given.
-    until: Option<u64>,
-    /// The greatest moment of an event, and of a row that was read; 0 where there is neither.
-    greatest: u64,
-    /// How many frames had been given when they were last counted.
-    frames_before: usize,
-    /// The moment of the last delivery of one of these, at the latest.
-    delivered_by: u64,
-    ghost ranges: { All (λ a. FitsFileEvent a.now.filed) events.items },
-    ghost next: { ForSome row FitsRun },
-    ghost last: { IfSome until (λ moment. moment ≤ 2 ^ 62) } by { Prim.hlevel props },
-    ghost bound: { greatest < 2 ^ 63 },
 }
 
 impl<'a> MovingRun<'a> {
@@ -144,6 +115,21 @@ impl<'a> MovingRun<'a> {
             (opening (map config_of scenario.now.stations.items))) }
         ensures standings { IfOk result (λ moving. AreStandingsOf moving.run.world.stations
             moving.run.standings.order.items) }
+        ensures rules { IfOk result (λ moving. GoesBy (rules_of air.now
+            (all_traffic scenario.now.every.items) (end_of air.now.until [])
+            scenario.now.present.items) moving.run) }
+        ensures present { IfOk result (λ moving.
+            moving.run.present.items ≡ scenario.now.present.items) }
+        ensures keeps { IfOk result (λ moving. Keeps moving.run.queue moving.run.draws
+            (air_opening (rules_of air.now (all_traffic scenario.now.every.items)
+            (end_of air.now.until []) scenario.now.present.items)
+            (map config_of scenario.now.stations.items) []).timetable) }
+        ensures departures { IfOk result (λ moving.
+            heap_items moving.departures.waiting ≡ []) }
+        ensures row { IfOk result (λ moving. moving.row ≡ None) }
+        ensures until { IfOk result (λ moving. moving.until ≡ air.now.until) }
+        ensures frames { IfOk result (λ moving. (moving.run.world.released ≡ 0)
+            × (moving.frames_before ≡ 0) × (moving.delivered_by ≡ 0)) }
     {
         let stations = scenario.stations.as_slice();
         let present = scenario.present.as_slice();
@@ -171,6 +157,15 @@ impl<'a> MovingRun<'a> {
     /// Reads the next row.
     fn read_row<R: BufRead + Drop>(&mut self, rows: &mut Rows<R>) -> Result<(), AirFault>
         ensures run { self.new.run ≡ self.old.run }
+        ensures departures { self.new.departures ≡ self.old.departures }
+        ensures events { (self.new.events ≡ self.old.events) × (self.new.taken ≡ self.old.taken) }
+        ensures frames { (self.new.frames_before ≡ self.old.frames_before)
+            × (self.new.delivered_by ≡ self.old.delivered_by) }
+        ensures until { self.new.until ≡ self.old.until }
+        ensures end { self.old.greatest ≤ self.new.greatest }
+        ensures begin { rows.new.begin ≡ rows.old.begin }
+        ensures row { OnOk result (ForSome self.new.row
+            (IsRowBetween rows.old.begin rows.old.before rows.new.before)) }
     {
         let row = rows.next()?;
         if let Some(row) = &row {
@@ -209,15 +204,19 @@ impl<'a> MovingRun<'a> {
             self.old.run.standings.order.items }
         ensures standings { OnOk result (AreStandingsOf self.new.run.world.stations
             self.new.run.standings.order.items) }
-        ensures moving { OnOk result (MovesOn self.old.run.world (S.Took sink.old)
-            self.new.run.world (S.Took sink.new)) }
+        ensures until { self.new.until ≡ self.old.until }
+        ensures moving { IfOk result (λ more. more ≡ true →
+            (rules : Rules) (configs : List Beginning) →
+            IsUnderSome rules configs rows.old.begin rows.old.before self.old (S.Took sink.old) →
+            IsUnderSome rules configs rows.new.begin rows.new.before self.new (S.Took sink.new)) }
+        ensures ended { IfOk result (λ more. more ≡ false →
+            (rules : Rules) (configs : List Beginning) →
+            IsUnderSome rules configs rows.old.begin rows.old.before self.old (S.Took sink.old) →
+            IsMovedRun rules configs self.old.until self.new.run.world (S.Took sink.new)) }
     {
         let end = self.end();
-        let coming = self.next_until(end)?;
-        let limit = match coming {
-            Some(coming) => coming.moment,
-            None => end + 1,
-        };
+        let coming = self.next_until(end);
+        let limit = limit_of(coming, end);
         if let Some(waiting) = self.run.queue.take_before(limit) {
             self.release_delivered(waiting.moment);
             do_own(&mut self.run, &waiting, sink)?;
@@ -235,7 +234,8 @@ impl<'a> MovingRun<'a> {
     /// The last moment that is run, as far as rows were read: with a row ahead it is no less than
     /// that one's.
     fn end(&self) -> u64
-        ensures { result ≤ 2 ^ 63 + 10000 }
+        ensures end { result ≡ end_in self.now }
+        ensures bound { result ≤ 2 ^ 63 + 10000 }
     {
         match self.until {
             Some(until) => until,
@@ -248,38 +248,97 @@ impl<'a> MovingRun<'a> {
     /// moment: so those that had been given when they were last counted have all been delivered once
     /// the delay after that is over, to whomever heard them. Then they are counted again.
     fn release_delivered(&mut self, moment: u64)
+        requires moment { moment ≤ 2 ^ 63 + 10000 }
         ensures stands { (w : WorldModel) → RepresentsWorld self.old.run.world w →
             RepresentsWorld self.new.run.world w }
         ensures stations { self.new.run.world.stations ≡ self.old.run.world.stations }
         ensures standings { self.new.run.standings ≡ self.old.run.standings }
+        ensures air { self.new.run.air ≡ self.old.run.air }
+        ensures every { self.new.run.every ≡ self.old.run.every }
+        ensures queue { self.new.run.queue ≡ self.old.run.queue }
+        ensures draws { self.new.run.draws ≡ self.old.run.draws }
+        ensures present { self.new.run.present ≡ self.old.run.present }
+        ensures row { self.new.row ≡ self.old.row }
+        ensures departures { self.new.departures ≡ self.old.departures }
+        ensures events { (self.new.events ≡ self.old.events) × (self.new.taken ≡ self.old.taken) }
+        ensures end { (self.new.until ≡ self.old.until)
+            × (self.new.greatest ≡ self.old.greatest) }
+        ensures counted { (count : ℕ) → self.old.frames_before ≤ count →
+            count ≡ self.old.run.world.released + length self.old.run.world.frames →
+            self.new.frames_before ≤ count }
+        ensures frames { (waiting : List Pending) →
+            AllByRecursion (λ p. moment ≤ at p) waiting →
+            AllByRecursion (Awaits self.old.run.world.released self.old.frames_before
+            self.old.delivered_by (moment + self.old.run.air.delay)) waiting →
+            AllByRecursion (Awaits self.new.run.world.released self.new.frames_before
+            self.new.delivered_by (moment + self.old.run.air.delay)) waiting }
     {
         if moment > self.delivered_by {
             self.run.world.release(self.frames_before);
             self.frames_before = self.run.world.frames();
-            self.delivered_by = moment.saturating_add(self.run.delay());
+            self.delivered_by = moment + self.run.delay();
         }
     }
 
     /// What comes next from outside, up to a moment: of one moment first a row, then a station
-    /// that leaves, then an event.
-    fn next_until(&mut self, end: u64) -> Result<Option<Coming>, AllocError>
-        ensures run { self.new.run ≡ self.old.run }
-        ensures until { IfOk result (λ coming. IfSome coming (λ c. c.moment ≤ end)) }
+    /// that may leave, then an event.
+    fn next_until(&self, end: u64) -> Option<Coming>
+        requires end { end ≤ 2 ^ 63 + 10000 }
+        ensures until { IfSome result (λ coming. coming.moment ≤ end) }
+        ensures next { IfSome result (IsNext self.now) }
+        ensures none { IfNone result (ComesFrom (end + 1) self.now) }
     {
-        let row = self.row.as_ref().map(|row| Coming {
-            moment: row.moment,
-            outside: Outside::Row,
-        });
-        let departure = self.departures.first()?.map(|(moment, station)| Coming {
-            moment,
-            outside: Outside::Departure(station),
-        });
-        let event = self.events.get(self.taken).map(|event| Coming {
-            moment: event.filed.moment(),
-            outside: Outside::Event,
-        });
-        let next = first_of(first_of(row, departure), event);
-        Ok(next.filter(|coming| coming.moment <= end))
+        let next = first_of(
+            first_of(self.next_row(), self.next_departure()),
+            self.next_event(),
+        )?;
+        if next.moment <= end { Some(next) } else { None }
+    }
+
+    /// The next row, as what comes.
+    fn next_row(&self) -> Option<Coming>
+        ensures some { IfSome result (λ coming. IsComing self.now coming.moment coming.outside
+            × ForSome self.now.row (λ row. coming.moment ≤ row.moment)) }
+        ensures none { IfNone result (self.now.row ≡ None) }
+    {
+        match &self.row {
+            Some(row) => Some(Coming {
+                moment: row.moment,
+                outside: Outside::Row,
+            }),
+            None => None,
+        }
+    }
+
+    /// The first that may leave, as what comes.
+    fn next_departure(&self) -> Option<Coming>
+        ensures some { IfSome result (λ coming. IsComing self.now coming.moment coming.outside
+            × All (λ d. coming.moment ≤ d.moment) (heap_items self.now.departures.waiting)) }
+        ensures none { IfNone result (heap_items self.now.departures.waiting ≡ []) }
+    {
+        match self.departures.first() {
+            Some(first) => Some(Coming {
+                moment: first.moment,
+                outside: Outside::Departure(first.station),
+            }),
+            None => None,
+        }
+    }
+
+    /// The next event of the scenario, as what comes.
+    fn next_event(&self) -> Option<Coming>
+        ensures some { IfSome result (λ coming. IsComing self.now coming.moment coming.outside
+            × ((e : Bor Addressed) → slice_get self.now.events.items self.now.taken ≡ Some e →
+            coming.moment ≤ moment_of e.now.filed)) }
+        ensures none { IfNone result (slice_get self.now.events.items self.now.taken ≡ None) }
+    {
+        match self.events.get(self.taken) {
+            Some(event) => Some(Coming {
+                moment: event.filed.moment(),
+                outside: Outside::Event,
+            }),
+            None => None,
+        }
     }
 
     /// Does what comes from outside.
@@ -289,35 +348,72 @@ impl<'a> MovingRun<'a> {
         rows: &mut Rows<R>,
         sink: &mut S,
     ) -> Result<(), AirFault>
+        requires next { IsNext self.old coming }
+        requires until { coming.moment ≤ end_in self.old }
+        requires bound { coming.moment ≤ 2 ^ 63 + 10000 }
         requires standings { AreStandingsOf self.old.run.world.stations
             self.old.run.standings.order.items }
         ensures standings { OnOk result (AreStandingsOf self.new.run.world.stations
             self.new.run.standings.order.items) }
-        ensures moving { OnOk result (MovesOn self.old.run.world (S.Took sink.old)
-            self.new.run.world (S.Took sink.new)) }
+        ensures until { self.new.until ≡ self.old.until }
+        ensures moving { OnOk result ((rules : Rules) (configs : List Beginning) →
+            IsUnder rules configs coming.moment coming.moment rows.old.begin rows.old.before
+            self.old (S.Took sink.old) →
+            IsUnderSome rules configs rows.new.begin rows.new.before self.new (S.Took sink.new)) }
     {
         match coming.outside {
-            Outside::Row => {
-                let Some(row) = self.take_row() else {
-                    return Ok(());
-                };
-                self.do_row(&row, rows.line(), sink)?;
-                self.read_row(rows)
-            }
-            Outside::Departure(station) => {
-                self.departures.take_first();
-                self.run.leave(station, coming.moment, sink)
-            }
+            Outside::Row => self.take_row(rows, sink),
+            Outside::Departure(station) => self.do_departure(station, coming.moment, sink),
             Outside::Event => self.do_next_event(sink),
         }
     }
 
-    /// Takes the next row.
-    fn take_row(&mut self) -> Option<Row>
-        ensures row { IfSome result FitsRun }
-        ensures run { self.new.run ≡ self.old.run }
+    /// Does the next row, and reads the one after it.
+    fn take_row<R: BufRead + Drop, S: EventSink>(
+        &mut self,
+        rows: &mut Rows<R>,
+        sink: &mut S,
+    ) -> Result<(), AirFault>
+        requires standings { AreStandingsOf self.old.run.world.stations
+            self.old.run.standings.order.items }
+        ensures standings { OnOk result (AreStandingsOf self.new.run.world.stations
+            self.new.run.standings.order.items) }
+        ensures until { self.new.until ≡ self.old.until }
+        ensures moving { OnOk result ((rules : Rules) (configs : List Beginning) (moment : ℕ) →
+            IsComing self.old moment Outside.Row → moment ≤ end_in self.old →
+            IsUnder rules configs moment moment rows.old.begin rows.old.before
+            self.old (S.Took sink.old) →
+            IsUnderSome rules configs rows.new.begin rows.new.before self.new (S.Took sink.new)) }
     {
-        self.row.take()
+        let Some(row) = self.row.take() else {
+            return Ok(());
+        };
+        self.do_row(&row, rows.line(), sink)?;
+        self.read_row(rows)
+    }
+
+    /// A station leaves, by its number, if no row of it came since.
+    fn do_departure<S: EventSink>(
+        &mut self,
+        station: usize,
+        moment: u64,
+        sink: &mut S,
+    ) -> Result<(), AirFault>
+        requires moment { moment ≤ 2 ^ 63 + 10000 }
+        requires standings { AreStandingsOf self.old.run.world.stations
+            self.old.run.standings.order.items }
+        ensures standings { OnOk result (AreStandingsOf self.new.run.world.stations
+            self.new.run.standings.order.items) }
+        ensures until { self.new.until ≡ self.old.until }
+        ensures moving { OnOk result (StaysAt moment self.old (S.Took sink.old) self.new
+            (S.Took sink.new)) }
+    {
+        if self.departures.take_first()? {
+            let leaves = FileEvent::Leaves { station, moment };
+            do_filed(&mut self.run, &leaves, sink)
+        } else {
+            Ok(())
+        }
     }
 
     /// Moves the station of a row, of this line; one that the row makes opens its ports then. One
@@ -328,8 +424,10 @@ impl<'a> MovingRun<'a> {
             self.old.run.standings.order.items }
         ensures standings { OnOk result (AreStandingsOf self.new.run.world.stations
             self.new.run.standings.order.items) }
-        ensures moving { OnOk result (MovesOn self.old.run.world (S.Took sink.old)
-            self.new.run.world (S.Took sink.new)) }
+        ensures until { self.new.until ≡ self.old.until }
+        ensures end { self.new.greatest ≡ self.old.greatest }
+        ensures moving { OnOk result (StaysAt row.now.moment self.old (S.Took sink.old) self.new
+            (S.Took sink.new)) }
     {
         let found = self.station_of(row, line, sink)?;
         self.departures.note_row(found.station, row.moment)?;
@@ -348,10 +446,12 @@ impl<'a> MovingRun<'a> {
             self.old.run.standings.order.items }
         ensures standings { OnOk result (AreStandingsOf self.new.run.world.stations
             self.new.run.standings.order.items) }
+        ensures until { self.new.until ≡ self.old.until }
+        ensures end { self.new.greatest ≡ self.old.greatest }
         ensures there { IfOk result (λ found.
             found.station < length self.new.run.world.stations) }
-        ensures moving { OnOk result (MovesOn self.old.run.world (S.Took sink.old)
-            self.new.run.world (S.Took sink.new)) }
+        ensures moving { OnOk result (StaysUnder self.old (S.Took sink.old) self.new
+            (S.Took sink.new)) }
     {
         if let Some(station) = self.number_of(row.id.as_str()) {
             return Ok(RowStation {
@@ -388,9 +488,10 @@ impl<'a> MovingRun<'a> {
             self.old.run.standings.order.items }
         ensures standings { OnOk result (AreStandingsOf self.new.run.world.stations
             self.new.run.standings.order.items) }
-        ensures row { self.new.row ≡ self.old.row }
-        ensures moving { OnOk result (MovesOn self.old.run.world (S.Took sink.old)
-            self.new.run.world (S.Took sink.new)) }
+        ensures until { self.new.until ≡ self.old.until }
+        ensures end { self.new.greatest ≡ self.old.greatest }
+        ensures moving { OnOk result (StaysUnder self.old (S.Took sink.old) self.new
+            (S.Took sink.new)) }
         ensures there { IfOk result (λ station.
             station < length self.new.run.world.stations) }
     {
@@ -415,8 +516,11 @@ impl<'a> MovingRun<'a> {
             self.old.run.standings.order.items }
         ensures standings { OnOk result (AreStandingsOf self.new.run.world.stations
             self.new.run.standings.order.items) }
-        ensures moving { OnOk result (MovesOn self.old.run.world (S.Took sink.old)
-            self.new.run.world (S.Took sink.new)) }
+        ensures until { self.new.until ≡ self.old.until }
+        ensures moving { (e : Bor Addressed) →
+            slice_get self.old.events.items self.old.taken ≡ Some e → OnOk result
+            (StaysAt (moment_of e.now.filed) self.old (S.Took sink.old) self.new
+            (S.Took sink.new)) }
     {
         let Some(event) = self.events.get(self.taken) else {
             return Ok(());
@@ -425,9 +529,15 @@ impl<'a> MovingRun<'a> {
         self.taken += 1;
         match &event.id {
             None if !event.round_station => do_filed(&mut self.run, &event.filed, sink),
-            None => self.do_at(event, event.filed.station(), sink),
+            None => do_at(
+                self.alloc,
+                &mut self.run,
+                event,
+                event.filed.station(),
+                sink,
+            ),
             Some(id) => match self.present_station(id.as_str()) {
-                Some(station) => self.do_at(event, station, sink),
+                Some(station) => do_at(self.alloc, &mut self.run, event, station, sink),
                 None => {
                     let absent = Note::Absent { id: id.as_str() };
                     sink.note(&self.run.world, event.filed.moment(), &absent)?;
@@ -435,31 +545,6 @@ impl<'a> MovingRun<'a> {
                 }
             },
         }
-    }
-
-    /// Does an event or leave of the scenario at the station of this number. An area whose centre is
-    /// left out lies round where that station stands.
-    fn do_at<S: EventSink>(
-        &mut self,
-        event: &AddressedEvent,
-        station: usize,
-        sink: &mut S,
-    ) -> Result<(), AirFault>
-        requires fits { FitsFileEvent event.now.filed }
-        requires standings { AreStandingsOf self.old.run.world.stations
-            self.old.run.standings.order.items }
-        ensures standings { OnOk result (AreStandingsOf self.new.run.world.stations
-            self.new.run.standings.order.items) }
-        ensures moving { OnOk result (MovesOn self.old.run.world (S.Took sink.old)
-            self.new.run.world (S.Took sink.new)) }
-    {
-        let mut filed = filed_at(self.alloc, &event.filed, station)?;
-        if event.round_station {
-            if let Some(place) = place_of(&self.run.world, station) {
-                filed.centre_at(place);
-            }
-        }
-        do_filed(&mut self.run, &filed, sink)
     }
 
     /// The number of the station of an id, where it is present.
@@ -473,118 +558,12 @@ impl<'a> MovingRun<'a> {
     }
 }
 
-/// Does what the scenario has, of a station that is there.
-fn do_filed<S: EventSink>(
-    run: &mut Run<'_>,
-    filed: &FileEvent,
-    sink: &mut S,
-) -> Result<(), AirFault>
-    requires range { IsFiledInRange filed.now }
-    requires moment { moment_of filed.now ≤ 2 ^ 63 + 10000 }
-    requires standings { AreStandingsOf run.old.world.stations run.old.standings.order.items }
-    ensures standings { OnOk result
-        (AreStandingsOf run.new.world.stations run.new.standings.order.items) }
-    ensures moving { OnOk result (MovesOn run.old.world (S.Took sink.old) run.new.world
-        (S.Took sink.new)) }
-{
-    if is_there(run, filed) {
-        run.do_filed(filed, sink)
-    } else {
-        Ok(())
-    }
-}
-
-/// Whether the station is there of what the scenario has, and the frame that it delivers, if it does,
-/// is kept. Where stations move by rows a scenario delivers none.
-fn is_there(run: &Run<'_>, filed: &FileEvent) -> bool
-    ensures there { IsTrue result → All (λ event. event.station < length run.now.world.stations)
-        (events_in (filed_of filed.now ∷ [])) }
-    ensures kept { IsTrue result → All (λ event. IsKept run.now.world.released event.what)
-        (events_in (filed_of filed.now ∷ [])) }
-{
-    match filed {
-        FileEvent::Happens(event) => run.has_station(event.station) && run.keeps(&event.what),
-        FileEvent::Leaves { .. } => true,
-    }
-}
-
-/// Does one of the air's own, where its station is there, and the frame that it delivers, if it
-/// does, is kept. Both always are so.
-fn do_own<S: EventSink>(run: &mut Run<'_>, waiting: &Waiting, sink: &mut S) -> Result<(), AirFault>
-    requires moment { waiting.now.moment ≤ 2 ^ 63 + 10000 }
-    requires standings { AreStandingsOf run.old.world.stations run.old.standings.order.items }
-    ensures standings { OnOk result
-        (AreStandingsOf run.new.world.stations run.new.standings.order.items) }
-    ensures moving { OnOk result (MovesOn run.old.world (S.Took sink.old) run.new.world
-        (S.Took sink.new)) }
-{
-    if can_do(run, waiting) {
-        run.do_own(waiting, sink)
-    } else {
-        Ok(())
-    }
-}
-
-/// Whether the station is there of one of the air's own, and the frame is kept that it delivers, if
-/// it does.
-fn can_do(run: &Run<'_>, waiting: &Waiting) -> bool
-    ensures there { IsTrue result → waiting.now.station < length run.now.world.stations }
-    ensures kept { IsTrue result →
-        IsKept run.now.world.released (own_of waiting.now.own) }
-{
-    run.has_station(waiting.station) && run.keeps_own(&waiting.own)
-}
-
-/// Does a move, opens these ports at its station, and has the station come where it was absent.
-fn move_in<S: EventSink>(
-    run: &mut Run<'_>,
-    event: &Event,
-    ports: &[u16],
-    sink: &mut S,
-) -> Result<(), AirFault>
-    requires range { IsInRange event.now.what }
-    requires moment { event.now.moment ≤ 2 ^ 63 + 10000 }
-    requires kept { (released : ℕ) → IsKept released (what_of event.now.what) }
-    requires standings { AreStandingsOf run.old.world.stations run.old.standings.order.items }
-    ensures standings { OnOk result
-        (AreStandingsOf run.new.world.stations run.new.standings.order.items) }
-    ensures moving { OnOk result (MovesOnAt event.now.station run.old.world (S.Took sink.old)
-        run.new.world (S.Took sink.new)) }
-{
-    let entry = run.do_event(event, sink)?;
-    open_ports(run, event, ports, sink)?;
-    run.come(event, &entry, sink)
-}
-
-/// Opens these ports at the station of an event, at its moment.
-fn open_ports<S: EventSink>(
-    run: &mut Run<'_>,
-    event: &Event,
-    ports: &[u16],
-    sink: &mut S,
-) -> Result<(), AirFault>
-    requires moment { event.now.moment ≤ 2 ^ 63 + 10000 }
-    requires standings { AreStandingsOf run.old.world.stations run.old.standings.order.items }
-    ensures standings { OnOk result
-        (AreStandingsOf run.new.world.stations run.new.standings.order.items) }
-    ensures moving { OnOk result (MovesOnAt event.now.station run.old.world (S.Took sink.old)
-        run.new.world (S.Took sink.new)) }
-{
-    for port in ports {
-        let open = Event {
-            station: event.station,
-            moment: event.moment,
-            what: What::Open(*port),
-        };
-        run.do_event(&open, sink)?;
-    }
-    Ok(())
-}
-
 /// Events and leaves in the order in which they are taken: those of one moment as they stand.
 fn in_order(alloc: Global, addressed: &[AddressedEvent]) -> Result<Vec<&AddressedEvent>, AllocError>
     requires ranges { All (λ a. FitsFileEvent a.filed) addressed.now }
     ensures ranges { IfOk result (λ events. All (λ a. FitsFileEvent a.now.filed) events.items) }
+    ensures sorted { IfOk result (λ events.
+        IsNonDecreasingBy (λ a. moment_of a.now.filed) events.items) }
 {
     let mut events = Vec::with_capacity(alloc, addressed.len())?;
     for event in addressed {
@@ -606,11 +585,31 @@ fn last_moment(events: &[&AddressedEvent]) -> u64
 }
 
 /// The first of two, the former where they are of one moment.
-fn first_of(former: Option<Coming>, latter: Option<Coming>) -> Option<Coming> {
+fn first_of(former: Option<Coming>, latter: Option<Coming>) -> Option<Coming>
+    ensures one { IfSome result (λ first. (former ≡ Some first) ⊎ (latter ≡ Some first)) }
+    ensures former { IfSome former (λ other. IfSome result (λ first.
+        first.moment ≤ other.moment)) }
+    ensures latter { IfSome latter (λ other. IfSome result (λ first.
+        first.moment ≤ other.moment)) }
+    ensures none { IfNone result ((former ≡ None) × (latter ≡ None)) }
+{
     match (former, latter) {
         (Some(former), Some(latter)) if latter.moment < former.moment => Some(latter),
         (Some(former), _) => Some(former),
         (None, latter) => latter,
+    }
+}
+
+/// The moment before which the air's own come first: that of what comes from outside, up to the last
+/// moment.
+fn limit_of(coming: Option<Coming>, end: u64) -> u64
+    requires { end ≤ 2 ^ 63 + 10000 }
+    ensures some { IfSome coming (λ coming. result ≡ coming.moment) }
+    ensures none { IfNone coming (result ≡ end + 1) }
+{
+    match coming {
+        Some(coming) => coming.moment,
+        None => end + 1,
     }
 }
 
@@ -632,23 +631,4 @@ fn move_of(station: usize, row: &Row) -> Event
             heading: row.heading,
         },
     }
-}
-
-/// The same event or leave of a station of this number.
-fn filed_at(alloc: Global, filed: &FileEvent, station: usize) -> Result<FileEvent, AllocError>
-    requires range { IsFiledInRange filed.now }
-    ensures range { IfOk result IsFiledInRange }
-    ensures moment { IfOk result (λ same. moment_of same ≡ moment_of filed.now) }
-{
-    Ok(match filed {
-        FileEvent::Happens(event) => FileEvent::Happens(Event {
-            station,
-            moment: event.moment,
-            what: copy_of(alloc, &event.what)?,
-        }),
-        FileEvent::Leaves { moment, .. } => FileEvent::Leaves {
-            station,
-            moment: *moment,
-        },
-    })
 }

@@ -1,7 +1,7 @@
 //! The run of an air.
 
 ghost use Rattle.std.specs.Prelude.{◌≡◌, ◌≤◌, ◌<◌, ◌^◌, ◌++◌, ◌∷◌, [], List, All, map, length};
-ghost use Rattle.std.specs.Prelude.{ℕ, ◌+◌, cond, slice_set};
+ghost use Rattle.std.specs.Prelude.{ℕ, ◌+◌, ◌↔◌, cond, slice_set};
 ghost use Rattle.std.specs.Prelude.{false, Some, IfOk, OnOk, IsTrue, slice_get};
 ghost use Rattle.std.specs.List.{filter};
 ghost use Rattle.std.specs.Option.{option_map};
@@ -28,6 +28,7 @@ ghost use Rattle.its_air.specs.Timetable.{spread_frame, tick_again, take_one, of
 ghost use Rattle.its_air.specs.Timetable.{come, come_ticking, come_sending, come_sending_all, comes};
 ghost use Rattle.its_air.specs.Timetable.{present_after, is_passed_over};
 ghost use Rattle.its_air.specs.Timetable.{Rules, AirModel, spread, air_opening};
+ghost use Rattle.its_air.specs.Timetable.Filed.{Happens};
 ghost use Rattle.its_air.specs.Runs.{IsUnderWay, SaysAsBefore};
 ghost use Rattle.its_air.specs.Standings.{AreStandingsOf};
 ghost use Rattle.its_air.specs.Queues.{happening_of, filed_of, own_of, IsFiledInRange};
@@ -189,6 +190,14 @@ impl<'a> Run<'a> {
             (AreStandingsOf self.new.world.stations self.new.standings.order.items) }
         ensures count { OnOk result
             (length self.new.world.stations ≡ length self.old.world.stations + 1) }
+        ensures air { self.new.air ≡ self.old.air }
+        ensures every { self.new.every ≡ self.old.every }
+        ensures queue { self.new.queue ≡ self.old.queue }
+        ensures draws { self.new.draws ≡ self.old.draws }
+        ensures present { OnOk result
+            (self.new.present.items ≡ self.old.present.items ++ false ∷ []) }
+        ensures frames { OnOk result ((self.new.world.released ≡ self.old.world.released)
+            × (length self.new.world.frames ≡ length self.old.world.frames)) }
         ensures late { (configs : List Beginning) (events : List Happening) →
             IsSimulation configs events self.old.world →
             All (λ event. event.station < length configs) events → OnOk result
@@ -210,7 +219,7 @@ impl<'a> Run<'a> {
 
     /// Whether there is a station of this number.
     pub(crate) fn has_station(&self, station: usize) -> bool
-        ensures { IsTrue result → station < length self.now.world.stations }
+        ensures { IsTrue result ↔ station < length self.now.world.stations }
     {
         station < self.world.stations().len()
     }
@@ -227,7 +236,7 @@ impl<'a> Run<'a> {
 
     /// The same of what the air does by itself.
     pub(crate) fn keeps_own(&self, own: &Own) -> bool
-        ensures { IsTrue result → IsKept self.now.world.released (own_of own.now) }
+        ensures { IsTrue result ↔ IsKept self.now.world.released (own_of own.now) }
     {
         match own {
             Own::Deliver(frame) => self.world.released() <= *frame,
@@ -236,7 +245,10 @@ impl<'a> Run<'a> {
     }
 
     /// How long after it was given a frame is delivered, in milliseconds.
-    pub(crate) fn delay(&self) -> u64 {
+    pub(crate) fn delay(&self) -> u64
+        ensures delay { result ≡ self.now.air.delay }
+        ensures bound { result < 2 ^ 32 }
+    {
         u64::from(self.air.delay)
     }
 
@@ -302,11 +314,42 @@ impl<'a> Run<'a> {
     {
         match filed {
             FileEvent::Happens(event) => {
-                let entry = self.do_event(event, sink)?;
-                self.come(event, &entry, sink)
+                if self.do_outer(event, sink)? {
+                    self.note_coming(event, sink)?;
+                }
+                Ok(())
             }
             FileEvent::Leaves { station, moment } => self.leave(*station, *moment, sink),
         }
+    }
+
+    /// Does an event that isn't the air's own, with which its station may come. Gives whether it
+    /// does, of which the sink has no note yet.
+    pub(crate) fn do_outer<S: EventSink>(
+        &mut self,
+        event: &Event,
+        sink: &mut S,
+    ) -> Result<bool, AirFault>
+        requires range { IsInRange event.now.what }
+        requires moment { event.now.moment ≤ 2 ^ 63 + 10000 }
+        requires kept { IsKept self.old.world.released (what_of event.now.what) }
+        requires standings { AreStandingsOf self.old.world.stations self.old.standings.order.items }
+        ensures file { SameFile self.old.queue self.new.queue }
+        ensures released { self.new.world.released ≡ self.old.world.released }
+        ensures count { length self.new.world.stations ≡ length self.old.world.stations }
+        ensures standings { OnOk result
+            (AreStandingsOf self.new.world.stations self.new.standings.order.items) }
+        ensures run { (configs : List Beginning) (events : List Happening) →
+            IsSimulated configs events self.old.world (S.Took sink.old) → OnOk result (
+            IsSimulated configs (events ++ event_of event.now ∷ []) self.new.world
+            (S.Took sink.new)) }
+        ensures timed { (rules : Rules) (configs : List Beginning) (a : AirModel) →
+            IsTimed rules configs a self.old (S.Took sink.old) → OnOk result
+            (IsTimed rules configs (take_one rules configs a
+            (of_file (Happens (event_of event.now))) a.timetable) self.new (S.Took sink.new)) }
+    {
+        let entry = self.do_event(event, sink)?;
+        self.admit(event, &entry)
     }
 
     /// A station is absent from now on.
@@ -390,6 +433,7 @@ impl<'a> Run<'a> {
         requires standings { AreStandingsOf self.old.world.stations self.old.standings.order.items }
         ensures file { SameFile self.old.queue self.new.queue }
         ensures released { self.new.world.released ≡ self.old.world.released }
+        ensures count { length self.new.world.stations ≡ length self.old.world.stations }
         ensures standings { OnOk result
             (AreStandingsOf self.new.world.stations self.new.standings.order.items) }
         ensures run { (configs : List Beginning) (events : List Happening) →
@@ -518,9 +562,8 @@ impl<'a> Run<'a> {
         Ok(())
     }
 
-    /// Makes a station present that was absent and that an event moved, and puts its first tick and
-    /// its first sends, where none of them waits.
-    pub(crate) fn come<S: EventSink>(
+    /// After one of the air's own its station may come, of which the sink has a note then.
+    fn come<S: EventSink>(
         &mut self,
         event: &Event,
         entry: &Entry,
@@ -543,13 +586,52 @@ impl<'a> Run<'a> {
             (cond (comes self.old.present.items (event_of event.now) after)
             (come rules event.now.station event.now.moment t) t)) }
     {
-        if !self.is_coming(event, entry) {
-            return Ok(());
+        if self.admit(event, entry)? {
+            self.note_coming(event, sink)
+        } else {
+            Ok(())
         }
+    }
+
+    /// Makes a station present that was absent and that an event moved, and puts its first tick and
+    /// its first sends, where none of them waits. Gives whether it did, of which the sink has no
+    /// note yet.
+    fn admit(&mut self, event: &Event, entry: &Entry) -> Result<bool, AirFault>
+        requires moment { event.now.moment ≤ 2 ^ 63 + 10000 }
+        ensures air { self.new.air ≡ self.old.air }
+        ensures every { self.new.every ≡ self.old.every }
+        ensures world { self.new.world ≡ self.old.world }
+        ensures standings { self.new.standings ≡ self.old.standings }
+        ensures file { SameFile self.old.queue self.new.queue }
+        ensures present { (after : WorldModel) → IsAnswered entry.now after → OnOk result
+            (self.new.present.items
+            ≡ present_after self.old.present.items (event_of event.now) after) }
+        ensures come { (rules : Rules) (after : WorldModel) (t : Timetable) →
+            GoesBy rules self.old → IsAnswered entry.now after →
+            Keeps self.old.queue self.old.draws t → OnOk result
+            (Keeps self.new.queue self.new.draws
+            (cond (comes self.old.present.items (event_of event.now) after)
+            (come rules event.now.station event.now.moment t) t)) }
+    {
+        if !self.is_coming(event, entry) {
+            return Ok(false);
+        }
+        set_present(&mut self.present, event.station, true);
+        self.schedule_coming(event.station, event.moment)?;
+        Ok(true)
+    }
+
+    /// Hands a sink the note that the station of an event came with it.
+    pub(crate) fn note_coming<S: EventSink>(
+        &self,
+        event: &Event,
+        sink: &mut S,
+    ) -> Result<(), AirFault>
+        ensures told { OnOk result (SaysAsBefore (S.Took sink.old) (S.Took sink.new)) }
+    {
         let station = event.station;
-        set_present(&mut self.present, station, true);
         sink.note(&self.world, event.moment, &Note::Came { station })?;
-        self.schedule_coming(station, event.moment)
+        Ok(())
     }
 
     /// Whether the station of an event comes with it: it is absent, and the event moved it.

@@ -1,41 +1,75 @@
-use Rattle.std.proofs.Common.{[], map, sym, subst}
-use Rattle.its_model.specs.World.{opening}
+use Rattle.std.proofs.Common.{◌≡◌, ◌∙◌, ℕ, [], List, map, length, sym, subst, arith, Option}
+use Rattle.std.proofs.lemmas.List.{length-map}
+use Rattle.its_model.specs.World.{Config}
+use Rattle.its_scenario.specs.Airs.{end_of}
 use Rattle.its_world.specs.Events.{config_of}
-use Rattle.its_world.specs.State.{RepresentsWorld}
+use Rattle.its_air.specs.AirTimed.{rules_of}
+use Rattle.its_air.specs.Moving.{IsMovedRun}
 use Rattle.its_air.specs.Standings.{AreStandingsOf}
+use Rattle.its_air.specs.Timetable.{Rules}
+use Rattle.its_air.specs.Traffics.{all_traffic}
+use Rattle.its_air.specs.UnderRows.{IsUnderSome, end_in}
 use Rattle.its_air.specs.declared.run.Run.{Run}
-use Rattle.its_air.proofs.MovingOn.{begun, moved_on}
+use Rattle.its_air.proofs.Moved.{begun}
+use Rattle.its_air.proofs.UnderRows.{begun_under, row_read}
 use Rattle.its_air.proofs.moving.run_moves.Goals as goal
 
 pub loop-init : goal.loop-init
 loop-init g c =
-    let configs = map config_of c.args.scenario.now.stations.items in
-    let run = c.read_row.new.self.run in
+    let s = c.args.scenario.now in
+    let air = c.args.air.now in
+    let configs : List Config = map config_of s.stations.items in
+    let by : Rules = rules_of air (all_traffic s.every.items) (end_of air.until []) s.present.items in
+    let m = c.in_ok-moving.moving in
+    let b = c.in_ok-moving.ensures in
+    let read = c.read_row.ensures in
+    let next = c.read_row.new.self in
+    let begin = c.args.rows.now.begin in
+    let clock = c.args.rows.now.before in
+    let Took = g.S.EventSink.Took c.args.sink.now in
+    let long : length by.present ≡ length configs =
+    let present = s.present.ok.0 in
+    let stations = s.stations.ok.0 in
+    let same = s.present_or_not in
+    let mapped = length-map s.stations.items config_of in
+    omega (arith, present, stations, same, mapped) in
     record {
       standings =
           subst (λ (r : Run). AreStandingsOf r.world.stations r.standings.order.items)
-          (sym c.read_row.ensures.run) c.in_ok-moving.ensures.standings;
-      moved = λ took.
-          begun configs run.world (g.S.EventSink.Took c.args.sink.now)
-          (subst (λ (r : Run). RepresentsWorld r.world (opening configs))
-          (sym c.read_row.ensures.run) c.in_ok-moving.ensures.world)
-          (c.every_schedule.ensures configs []) took;
+          (sym read.run) b.standings;
+      until = read.until ∙ b.until;
+      under = λ took.
+          let moving = begun by configs (end_in m) m.run Took long b.rules b.present b.world
+          (c.every_schedule.ensures configs []) b.keeps b.frames.0 took in
+          subst (λ (n : ℕ). IsUnderSome by configs n c.read_row.new.rows.before next Took)
+          (sym read.begin)
+          (record {
+            last = 0;
+            from = 0;
+            under =
+                row_read by configs 0 0 begin clock c.read_row.new.rows.before m next Took read.run
+                read.departures read.events.0 read.events.1 read.frames.0 read.frames.1 read.until
+                read.end c.in_ok-read_row.ensures.row (λ n le. omega arith)
+                (begun_under by configs begin clock m Took moving b.row b.departures b.frames.1
+                b.frames.2);
+          });
     }
 
 pub loop-preserved : goal.loop-preserved
 loop-preserved g c =
-    let configs = map config_of c.args.scenario.now.stations.items in
     record {
       standings = c.in_ok-go_on.ensures.standings;
-      moved = λ took.
-          moved_on configs c.loop.moving.run.world c.go_on.new.self.run.world
-          (g.S.EventSink.Took c.loop.sink) (g.S.EventSink.Took c.go_on.new.sink)
-          (c.loop.invariant.moved took) c.in_ok-go_on.ensures.moving;
+      until = c.go_on.ensures.until ∙ c.loop.invariant.until;
+      under = λ took.
+          c.in_ok-go_on.ensures.moving c.if-not-branch.false _ _ (c.loop.invariant.under took);
     }
 
 pub returns-then-not-branch : goal.returns-then-not-branch
 returns-then-not-branch g c = λ took.
-    let configs = map config_of c.args.scenario.now.stations.items in
-    moved_on configs c.loop.moving.run.world c.go_on.new.self.run.world
-    (g.S.EventSink.Took c.loop.sink) (g.S.EventSink.Took c.go_on.new.sink)
-    (c.loop.invariant.moved took) c.in_ok-go_on.ensures.moving
+    let s = c.args.scenario.now in
+    let air = c.args.air.now in
+    let by : Rules = rules_of air (all_traffic s.every.items) (end_of air.until []) s.present.items in
+    let configs : List Config = map config_of s.stations.items in
+    subst (λ (u : Option ℕ). IsMovedRun by configs u c.go_on.new.self.run.world
+    (g.S.EventSink.Took c.go_on.new.sink)) c.loop.invariant.until
+    (c.in_ok-go_on.ensures.ended c.if-not-branch.true by configs (c.loop.invariant.under took))

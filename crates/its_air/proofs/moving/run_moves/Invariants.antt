@@ -1,15 +1,21 @@
-use Rattle.std.specs.Prelude.{[], map}
+use Rattle.std.specs.Prelude.{◌≡◌, [], map}
+use Rattle.its_scenario.specs.Airs.{end_of}
 use Rattle.its_world.specs.Events.{config_of}
-use Rattle.its_air.specs.Moving.{IsMovedRun}
+use Rattle.its_air.specs.AirTimed.{rules_of}
 use Rattle.its_air.specs.Standings.{AreStandingsOf}
+use Rattle.its_air.specs.Traffics.{all_traffic}
+use Rattle.its_air.specs.UnderRows.{IsUnderSome}
 use Rattle.its_air.proofs.moving.run_moves.Given as goal
 
--- stations stand where the world has them, and a run with moves was done so far
+-- stations stand where the world has them, and a run with rows is under way
 abbrev pub invariant-loop : goal.invariant-loop
 invariant-loop g l =
     record {
       standings : AreStandingsOf l.moving.run.world.stations l.moving.run.standings.order.items;
-      moved : g.S.EventSink.Took l.fn.sink [] []
-          → IsMovedRun (map config_of l.scenario.stations.items) l.moving.run.world
+      until : l.moving.until ≡ l.air.until;
+      under : g.S.EventSink.Took l.fn.sink [] []
+          → IsUnderSome (rules_of l.air (all_traffic l.scenario.every.items)
+          (end_of l.air.until []) l.scenario.present.items)
+          (map config_of l.scenario.stations.items) l.rows.begin l.rows.before l.moving
           (g.S.EventSink.Took l.sink);
     }

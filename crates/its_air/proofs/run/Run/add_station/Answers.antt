@@ -1,5 +1,5 @@
-use Rattle.std.proofs.Common.{◌≡◌, [], ◌∷◌, ◌++◌, sym, subst}
-use Rattle.its_model.specs.World.{WorldModel, opening, world_run}
+use Rattle.std.proofs.Common.{[], ◌∷◌, ◌++◌, sym, subst}
+use Rattle.its_model.specs.World.{opening, world_run}
 use Rattle.its_world.specs.Events.{config_of}
 use Rattle.its_world.specs.State.{RepresentsWorld}
 use Rattle.its_air.proofs.run.Run.add_station.Goals as goal

@@ -1,5 +1,5 @@
-use Rattle.std.proofs.Common.{◌≡◌, ◌∙◌, ℕ, List, true, false, leb, subst}
-use Rattle.std.proofs.Common.{sym, ap, rules}
+use Rattle.std.proofs.Common.{◌≡◌, ℕ, List, true, false, leb, subst}
+use Rattle.std.proofs.Common.{sym, rules}
 use Rattle.std.specs.List.{insert}
 use Rattle.std.specs.Prelude.{is_ok}
 use Rattle.std.specs.List.Sorted.{IsNonDecreasingBy, IsPartitionPoint, IsPartitionedBy}

@@ -1,0 +1,402 @@
+-- A run with rows that is under way, from one step to the next.
+use Rattle.std.proofs.Common.{◌≡◌, ℕ, ◌+◌, ◌≤◌, ◌<◌, List, [], refl, sym, ap, subst, ◌∙◌, arith, All}
+use Rattle.std.proofs.Common.{Option, Some, None, Result, Ok, Err, length, slice_index_or}
+use Rattle.std.specs.Prelude.{Vec, IfNone, IfSome, OnOk, slice_get}
+use Rattle.std.specs.declared.alloc.Global.{Global}
+use Rattle.std.specs.BinaryHeap.{heap_items}
+use Rattle.std.specs.declared.collections.binary_heap.BinaryHeap.{BinaryHeap}
+use Rattle.std.specs.List.Sorted.{IsNonDecreasingBy}
+use Rattle.std.specs.Option.{ForSome}
+use Rattle.std.proofs.lemmas.Option.{get_or_from_slice_get, slice_get_read, slice_get_within}
+use denote.Ref.{Bor}
+use Rattle.its_model.specs.World.{Config, Event}
+use Rattle.its_moves.specs.Rows.{IsRowBetween}
+use Rattle.its_moves.specs.declared.row.Row.{Row}
+use Rattle.its_scenario.specs.Airs.{moment_of}
+use Rattle.its_scenario.specs.declared.event.AddressedEvent.{AddressedEvent}
+use Rattle.its_world.specs.declared.entry.Entry.{Entry}
+use Rattle.its_air.specs.Moving.{DoesAt, IsMoving}
+use Rattle.its_air.specs.Timetable.{Rules}
+use Rattle.its_air.specs.UnderRows.{ComesFrom, IsComing, IsNext, IsUnder, IsUnderSome, StaysAt}
+use Rattle.its_air.specs.UnderRows.{end_after, end_in}
+use Rattle.its_air.specs.declared.moving_run.Coming.{Coming}
+use Rattle.its_air.specs.declared.departures.Departure.{Departure}
+use Rattle.its_air.specs.declared.departures.Departures.{Departures}
+use Rattle.its_air.specs.declared.moving_run.MovingRun.{MovingRun}
+use Rattle.its_air.specs.declared.moving_run.Outside.{Outside}
+use Rattle.its_air.specs.declared.moving_run.Outside.TheVariants as outsides
+use Rattle.its_air.specs.declared.run.Run.{Run}
+use Rattle.its_air.specs.Runs.{SaysAsBefore}
+use Rattle.its_air.proofs.Moved.{ends_later, says_moving}
+
+-- ---- what comes
+
+-- what comes, comes no earlier than all that comes
+pub from_coming : (m : MovingRun) (from moment : ℕ) (o : Outside) → IsComing m moment o
+    → ComesFrom from m → from ≤ moment
+from_coming m from moment outsides.Row c h =
+    let le = h.row c.0 c.1 in
+    let is = c.2 in omega (arith, le, is)
+from_coming m from moment (outsides.Departure station) c h = c from h.departures
+from_coming m from moment outsides.Event c h =
+    let le = h.events c.0 c.1 in
+    let is = c.2 in omega (arith, le, is)
+
+pub comes_later : (m : MovingRun) (from from' : ℕ) → from' ≤ from → ComesFrom from m
+    → ComesFrom from' m
+comes_later m from from' le h =
+    record {
+      row = λ row is. let on = h.row row is in omega (arith, le, on);
+      departures = λ k d lt. let on = h.departures k d lt in omega (arith, le, on);
+      events = λ e is. let on = h.events e is in omega (arith, le, on);
+    }
+
+same_event : (old new : MovingRun) → new.events ≡ old.events → new.taken ≡ old.taken
+    → slice_get new.events.items new.taken ≡ slice_get old.events.items old.taken
+same_event old new events taken =
+    ap (λ (v : Vec (Bor AddressedEvent) Global). slice_get v.items new.taken) events
+    ∙ ap (λ n. slice_get old.events.items n) taken
+
+-- the same comes
+pub same_comes : (from : ℕ) (old new : MovingRun) → new.row ≡ old.row
+    → All (λ d. from ≤ d.moment) (heap_items new.departures.waiting)
+    → new.events ≡ old.events → new.taken ≡ old.taken → ComesFrom from old → ComesFrom from new
+same_comes from old new row departures events taken h =
+    record {
+      row = λ r is. h.row r (sym row ∙ is);
+      departures = departures;
+      events = λ e is. h.events e (sym (same_event old new events taken) ∙ is);
+    }
+
+-- the same stations may leave
+pub same_heap : (from : ℕ) (old new : Departures) → new.waiting ≡ old.waiting
+    → All (λ d. from ≤ d.moment) (heap_items old.waiting)
+    → All (λ d. from ≤ d.moment) (heap_items new.waiting)
+same_heap from old new is h =
+    subst (λ (x : BinaryHeap Departure Global). All (λ (d : Departure). from ≤ d.moment)
+    (heap_items x)) (sym is) h
+
+-- the next event comes no earlier than the one before it
+pub next_event : (events : List (Bor AddressedEvent)) (n : ℕ) (e next : Bor AddressedEvent)
+    → IsNonDecreasingBy (λ a. moment_of a.now.filed) events → slice_get events n ≡ Some e
+    → slice_get events (n + 1) ≡ Some next → moment_of e.now.filed ≤ moment_of next.now.filed
+next_event events n e next sorted is after =
+    let le = sorted n (n + 1) e (omega arith) (slice_get_within events (n + 1) next after) in
+    subst (λ (x : Bor AddressedEvent). moment_of e.now.filed ≤ moment_of x.now.filed)
+    (get_or_from_slice_get events (n + 1) next e after)
+    (subst (λ (x : Bor AddressedEvent). moment_of x.now.filed
+    ≤ moment_of (slice_index_or events (n + 1) e).now.filed)
+    (get_or_from_slice_get events n e e is) le)
+
+-- ---- steps of the run inside
+
+-- the run went on, and nothing else of what comes changed
+pub under_moving : (rules : Rules) (configs : List Config) (last from begin clock : ℕ)
+    (old new : MovingRun) (A B : List Event → List Entry → Type 0) → new.row ≡ old.row
+    → All (λ d. from ≤ d.moment) (heap_items new.departures.waiting)
+    → new.events ≡ old.events → new.taken ≡ old.taken → end_in new ≡ end_in old
+    → new.frames_before ≡ old.frames_before → new.delivered_by ≡ old.delivered_by
+    → IsMoving rules configs last from (end_in old) old.frames_before old.delivered_by new.run B
+    → IsUnder rules configs last from begin clock old A
+    → IsUnder rules configs last from begin clock new B
+under_moving rules configs last from begin clock old new A B row departures events taken end counted
+    by moving h =
+    record {
+      moving =
+          subst (λ n. IsMoving rules configs last from n new.frames_before new.delivered_by new.run B)
+          (sym end)
+          (subst (λ n. IsMoving rules configs last from (end_in old) n new.delivered_by new.run B)
+          (sym counted)
+          (subst (λ n. IsMoving rules configs last from (end_in old) old.frames_before n new.run B)
+          (sym by) moving));
+      comings = same_comes from old new row departures events taken h.comings;
+      ahead = λ r is. h.ahead r (sym row ∙ is);
+    }
+
+-- what comes at a moment is done, and nothing else changed
+pub under_does : (moment : ℕ) (old new : MovingRun) (A B : List Event → List Entry → Type 0)
+    → new.row ≡ old.row → new.departures ≡ old.departures → new.events ≡ old.events
+    → new.taken ≡ old.taken → end_in new ≡ end_in old → new.frames_before ≡ old.frames_before
+    → new.delivered_by ≡ old.delivered_by → DoesAt moment old.run A new.run B
+    → StaysAt moment old A new B
+under_does moment old new A B row departures events taken end counted by does =
+    λ rules configs begin clock within h.
+    under_moving rules configs moment moment begin clock old new A B row
+    (subst (λ (d : Departures). All (λ (x : Departure). moment ≤ x.moment) (heap_items d.waiting))
+    (sym departures) h.comings.departures) events taken end counted by
+    (does rules configs (end_in old) old.frames_before old.delivered_by within h.moving) h
+
+-- where it was done well
+pub does_well : {X E : Type 0} (result : Result X E) (moment : ℕ) (old new : MovingRun)
+    (A B : List Event → List Entry → Type 0) → new.row ≡ old.row
+    → new.departures ≡ old.departures → new.events ≡ old.events → new.taken ≡ old.taken
+    → end_in new ≡ end_in old → new.frames_before ≡ old.frames_before
+    → new.delivered_by ≡ old.delivered_by → OnOk result (DoesAt moment old.run A new.run B)
+    → OnOk result (StaysAt moment old A new B)
+does_well (Ok x) moment old new A B row departures events taken end counted by does =
+    under_does moment old new A B row departures events taken end counted by does
+does_well (Err e) moment old new A B row departures events taken end counted by does = tt
+
+-- ---- events of the scenario
+
+-- it is the one at this place
+pub event_at : (events read : List (Bor AddressedEvent)) (n : ℕ) (e : Bor AddressedEvent)
+    → read ≡ events → n < length read → e ≡ slice_index_or read n e
+    → slice_get events n ≡ Some e
+event_at events read n e same lt is =
+    subst (λ (xs : List (Bor AddressedEvent)). slice_get xs n ≡ Some e) same
+    (slice_get_read read (length read) n e refl lt is)
+
+-- what comes once the next event was taken
+event_comes : (e : Bor AddressedEvent) (old new : MovingRun)
+    → slice_get old.events.items old.taken ≡ Some e → new.row ≡ old.row
+    → new.departures ≡ old.departures → new.events ≡ old.events → new.taken ≡ old.taken + 1
+    → ComesFrom (moment_of e.now.filed) old → ComesFrom (moment_of e.now.filed) new
+event_comes e old new is row departures events taken h =
+    record {
+      row = λ r here. h.row r (sym row ∙ here);
+      departures =
+          subst (λ (d : Departures). All (λ (x : Departure). moment_of e.now.filed ≤ x.moment)
+          (heap_items d.waiting)) (sym departures) h.departures;
+      events = λ next here.
+          next_event old.events.items old.taken e next old.sorted is
+          (ap (λ n. slice_get old.events.items n) (sym taken)
+          ∙ ap (λ (v : Vec (Bor AddressedEvent) Global). slice_get v.items new.taken)
+          (sym events) ∙ here);
+    }
+
+-- the next event was taken, and isn't done yet
+pub event_taken : (rules : Rules) (configs : List Config) (begin clock : ℕ)
+    (e : Bor AddressedEvent) (old new : MovingRun) (A : List Event → List Entry → Type 0)
+    → slice_get old.events.items old.taken ≡ Some e → new.run ≡ old.run → new.row ≡ old.row
+    → new.departures ≡ old.departures → new.events ≡ old.events → new.taken ≡ old.taken + 1
+    → end_in new ≡ end_in old → new.frames_before ≡ old.frames_before
+    → new.delivered_by ≡ old.delivered_by
+    → IsUnder rules configs (moment_of e.now.filed) (moment_of e.now.filed) begin clock old A
+    → IsUnder rules configs (moment_of e.now.filed) (moment_of e.now.filed) begin clock new A
+event_taken rules configs begin clock e old new A is run row departures events taken end counted by
+    h =
+    let m = moment_of e.now.filed in
+    record {
+      moving =
+          subst (λ (r : Run). IsMoving rules configs m m (end_in new) new.frames_before
+          new.delivered_by r A) (sym run)
+          (subst (λ n. IsMoving rules configs m m n new.frames_before new.delivered_by old.run A)
+          (sym end)
+          (subst (λ n. IsMoving rules configs m m (end_in old) n new.delivered_by old.run A)
+          (sym counted)
+          (subst (λ n. IsMoving rules configs m m (end_in old) old.frames_before n old.run A)
+          (sym by) h.moving)));
+      comings = event_comes e old new is row departures events taken h.comings;
+      ahead = λ r here. h.ahead r (sym row ∙ here);
+    }
+
+-- the next event was taken and done
+pub event_done : {X E : Type 0} (result : Result X E) (e : Bor AddressedEvent)
+    (old new : MovingRun) (A B : List Event → List Entry → Type 0)
+    → slice_get old.events.items old.taken ≡ Some e → new.row ≡ old.row
+    → new.departures ≡ old.departures → new.events ≡ old.events → new.taken ≡ old.taken + 1
+    → end_in new ≡ end_in old → new.frames_before ≡ old.frames_before
+    → new.delivered_by ≡ old.delivered_by
+    → OnOk result (DoesAt (moment_of e.now.filed) old.run A new.run B)
+    → OnOk result (StaysAt (moment_of e.now.filed) old A new B)
+event_done (Ok x) e old new A B is row departures events taken end counted by does =
+    λ rules configs begin clock within h.
+    let m = moment_of e.now.filed in
+    record {
+      moving =
+          subst (λ n. IsMoving rules configs m m n new.frames_before new.delivered_by new.run B)
+          (sym end)
+          (subst (λ n. IsMoving rules configs m m (end_in old) n new.delivered_by new.run B)
+          (sym counted)
+          (subst (λ n. IsMoving rules configs m m (end_in old) old.frames_before n new.run B)
+          (sym by)
+          (does rules configs (end_in old) old.frames_before old.delivered_by within h.moving)));
+      comings = event_comes e old new is row departures events taken h.comings;
+      ahead = λ r here. h.ahead r (sym row ∙ here);
+    }
+event_done (Err e') e old new A B is row departures events taken end counted by does = tt
+
+-- the sink was told more, of which it says nothing
+pub says_under : (moment : ℕ) (m : MovingRun) (A B : List Event → List Entry → Type 0)
+    → SaysAsBefore A B → StaysAt moment m A m B
+says_under moment m A B says = λ rules configs begin clock within h.
+    record {
+      moving =
+          says_moving rules configs moment moment (end_in m) m.frames_before m.delivered_by m.run A
+          B says h.moving;
+      comings = h.comings;
+      ahead = h.ahead;
+    }
+
+-- ---- rows
+
+-- the last moment is the same
+pub same_end : (old new : MovingRun) → new.until ≡ old.until → new.greatest ≡ old.greatest
+    → end_in new ≡ end_in old
+same_end old new until greatest =
+    ap (λ (u : Option ℕ). end_after u new.greatest) until
+    ∙ ap (λ n. end_after old.until n) greatest
+
+ends_no_sooner : (until : Option ℕ) (greatest greatest' : ℕ) → greatest ≤ greatest'
+    → end_after until greatest ≤ end_after until greatest'
+ends_no_sooner (Some until) greatest greatest' le = omega arith
+ends_no_sooner None greatest greatest' le = omega (arith, le)
+
+-- the next row was read
+pub row_read : (rules : Rules) (configs : List Config) (last from begin clock clock' : ℕ)
+    (old new : MovingRun) (A : List Event → List Entry → Type 0) → new.run ≡ old.run
+    → new.departures ≡ old.departures → new.events ≡ old.events → new.taken ≡ old.taken
+    → new.frames_before ≡ old.frames_before → new.delivered_by ≡ old.delivered_by
+    → new.until ≡ old.until → old.greatest ≤ new.greatest
+    → ForSome new.row (IsRowBetween begin clock clock')
+    → ((n : ℕ) → clock ≤ n + begin → from ≤ n)
+    → IsUnder rules configs last from begin clock old A
+    → IsUnder rules configs last from begin clock' new A
+row_read rules configs last from begin clock clock' old new A run departures events taken counted by
+    until greatest row behind h =
+    let later : end_in old ≤ end_in new =
+    subst (λ (u : Option ℕ). end_in old ≤ end_after u new.greatest) (sym until)
+    (ends_no_sooner old.until old.greatest new.greatest greatest) in
+    record {
+      moving =
+          subst (λ (r : Run). IsMoving rules configs last from (end_in new) new.frames_before
+          new.delivered_by r A) (sym run)
+          (subst (λ n. IsMoving rules configs last from (end_in new) n new.delivered_by old.run A)
+          (sym counted)
+          (subst (λ n. IsMoving rules configs last from (end_in new) old.frames_before n old.run A)
+          (sym by)
+          (ends_later rules configs last from (end_in old) (end_in new) old.frames_before
+          old.delivered_by old.run A later h.moving)));
+      comings =
+          record {
+            row = λ r is. behind r.moment (row r is).no_earlier;
+            departures =
+                subst (λ (d : Departures). All (λ (x : Departure). from ≤ x.moment)
+                (heap_items d.waiting)) (sym departures) h.comings.departures;
+            events = λ e is. h.comings.events e (sym (same_event old new events taken) ∙ is);
+          };
+      ahead = λ r is. (row r is).no_later;
+    }
+
+-- the next row was taken, and isn't done yet
+pub row_taken : (rules : Rules) (configs : List Config) (last from begin clock : ℕ)
+    (old new : MovingRun) (A : List Event → List Entry → Type 0) → new.row ≡ None
+    → new.run ≡ old.run → new.departures ≡ old.departures → new.events ≡ old.events
+    → new.taken ≡ old.taken → end_in new ≡ end_in old → new.frames_before ≡ old.frames_before
+    → new.delivered_by ≡ old.delivered_by → IsUnder rules configs last from begin clock old A
+    → IsUnder rules configs last from begin clock new A
+row_taken rules configs last from begin clock old new A row run departures events taken end counted
+    by h =
+    record {
+      moving =
+          subst (λ (r : Run). IsMoving rules configs last from (end_in new) new.frames_before
+          new.delivered_by r A) (sym run)
+          (subst (λ n. IsMoving rules configs last from n new.frames_before new.delivered_by
+          old.run A) (sym end)
+          (subst (λ n. IsMoving rules configs last from (end_in old) n new.delivered_by old.run A)
+          (sym counted)
+          (subst (λ n. IsMoving rules configs last from (end_in old) old.frames_before n old.run A)
+          (sym by) h.moving)));
+      comings =
+          record {
+            row = λ r is. let no : None ≡ Some r = sym row ∙ is in no_row r no;
+            departures =
+                subst (λ (d : Departures). All (λ (x : Departure). from ≤ x.moment)
+                (heap_items d.waiting)) (sym departures) h.comings.departures;
+            events = λ e is. h.comings.events e (sym (same_event old new events taken) ∙ is);
+          };
+      ahead = λ r is. let no : None ≡ Some r = sym row ∙ is in no_row r no;
+    }
+  where
+    no_row : {P : Type 0} (r : Row) → None ≡ Some r → P
+    no_row r is = let no : ⊥ = cc in absurd no
+
+-- nothing is done yet
+pub begun_under : (rules : Rules) (configs : List Config) (begin clock : ℕ) (m : MovingRun)
+    (Took : List Event → List Entry → Type 0)
+    → IsMoving rules configs 0 0 (end_in m) 0 0 m.run Took → m.row ≡ None
+    → heap_items m.departures.waiting ≡ [] → m.frames_before ≡ 0 → m.delivered_by ≡ 0
+    → IsUnder rules configs 0 0 begin clock m Took
+begun_under rules configs begin clock m Took moving row none counted by =
+    record {
+      moving =
+          subst (λ n. IsMoving rules configs 0 0 (end_in m) n m.delivered_by m.run Took)
+          (sym counted)
+          (subst (λ n. IsMoving rules configs 0 0 (end_in m) 0 n m.run Took) (sym by) moving);
+      comings =
+          record {
+            row = λ r is. omega arith;
+            departures = λ k d lt. omega arith;
+            events = λ e is. omega arith;
+          };
+      ahead = λ r is. let no : None ≡ Some r = sym row ∙ is in no_row r no;
+    }
+  where
+    no_row : {P : Type 0} (r : Row) → None ≡ Some r → P
+    no_row r is = let no : ⊥ = cc in absurd no
+
+-- ---- the next step
+
+some_is : {X : Type 0} (o : Option X) (P : X → Type 0) (x : X) → o ≡ Some x → IfSome o P → P x
+some_is o P x is h = subst (λ (y : Option _). IfSome y P) is h
+
+none_is : {X : Type 0} (o : Option X) (P : Type 0) → o ≡ None → IfNone o P → P
+none_is o P is h = subst (λ (y : Option _). IfNone y P) is h
+
+-- the air's own come first up to what comes next, and none of it comes before that
+pub limits : (o : Option Coming) (m : MovingRun) (limit end : ℕ)
+    → IfSome o (λ c. c.moment ≤ end) → IfSome o (IsNext m) → IfNone o (ComesFrom (end + 1) m)
+    → IfSome o (λ c. limit ≡ c.moment) → IfNone o (limit ≡ end + 1)
+    → (limit ≤ end + 1) × ComesFrom limit m
+limits (Some c) m limit end until next none some last = (
+  omega (arith, until, some),
+  subst (λ n. ComesFrom n m) (sym some) next.first,
+)
+limits None m limit end until next none some last =
+    (omega (arith, last), subst (λ n. ComesFrom n m) (sym last) none)
+
+pub is_next_of : (o : Option Coming) (m : MovingRun) (limit : ℕ) (c : Coming) → o ≡ Some c
+    → IfSome o (IsNext m) → IfSome o (λ c. limit ≡ c.moment)
+    → IsNext m c × (limit ≡ c.moment)
+is_next_of o m limit c is next some = (
+  some_is o (IsNext m) c is next,
+  some_is o (λ x. limit ≡ x.moment) c is some,
+)
+
+pub is_last_of : (o : Option Coming) (limit end : ℕ) → o ≡ None → IfNone o (limit ≡ end + 1)
+    → limit ≡ end + 1
+is_last_of o limit end is last = none_is o (limit ≡ end + 1) is last
+
+-- the last moment is the given one, if one is given
+pub end_given : (until : Option ℕ) (greatest : ℕ)
+    → IfSome until (λ moment. end_after until greatest ≡ moment)
+end_given (Some until) greatest = refl
+end_given None greatest = tt
+
+-- one of the air's own was done
+pub own_under : (rules : Rules) (configs : List Config) (moment begin clock : ℕ)
+    (old new : MovingRun) (A B : List Event → List Entry → Type 0) → new.row ≡ old.row
+    → new.departures ≡ old.departures → new.events ≡ old.events → new.taken ≡ old.taken
+    → end_in new ≡ end_in old → ComesFrom (moment + 1) old
+    → ForSome old.row (λ row. row.moment + begin ≤ clock)
+    → IsMoving rules configs moment (moment + 1) (end_in old) new.frames_before new.delivered_by
+    new.run B
+    → IsUnderSome rules configs begin clock new B
+own_under rules configs moment begin clock old new A B row departures events taken end comes ahead
+    moving =
+    record {
+      last = moment;
+      from = moment + 1;
+      under =
+          record {
+            moving =
+                subst (λ n. IsMoving rules configs moment (moment + 1) n new.frames_before
+                new.delivered_by new.run B) (sym end) moving;
+            comings =
+                same_comes (moment + 1) old new row
+                (subst (λ (d : Departures). All (λ (x : Departure). moment + 1 ≤ x.moment)
+                (heap_items d.waiting)) (sym departures) comes.departures) events taken comes;
+            ahead = λ r is. ahead r (sym row ∙ is);
+          };
+    }
