@@ -1,12 +1,16 @@
 -- What becomes of a block that was read.
 use Rattle.std.proofs.Common.{◌≡◌, List, ℕ, Option, None, Some, Result, Ok, Err, refl, sym, subst}
-use Rattle.std.proofs.Common.{inl, inr}
+use Rattle.std.proofs.Common.{inl, inr, ap, ◌∙◌, true≢false}
+use Rattle.std.specs.Prelude.{is_ok}
 use Rattle.std.specs.Prelude.{◌⊎◌}
 use Rattle.its_pcap.specs.Layouts.{Reads}
+use Rattle.its_linkframe.specs.declared.record.CaptureFault.TheVariants as captures
 use Rattle.its_pcap.specs.Pcapng.{PcapngReading, IsTaken, IsNext, IsAnswerAt, next_block}
+use Rattle.its_pcap.specs.Pcapng.{ReadsInterface, ReadsInterfaceAt}
 use Rattle.its_pcap.specs.declared.blocks.Block.{Block}
 use Rattle.its_pcap.specs.declared.blocks.Block.TheVariants as blocks
 use Rattle.its_pcap.specs.declared.fault.SourceFault.{SourceFault}
+use Rattle.its_pcap.specs.declared.fault.SourceFault.TheVariants as faults
 use Rattle.its_pcap.specs.declared.octets.Order.{Order}
 use Rattle.its_pcap.specs.declared.pcapng.Stage.{Stage}
 use Rattle.its_pcap.specs.declared.pcapng.Stage.TheVariants as stages
@@ -44,3 +48,27 @@ at_stage stage o was now frame answer (inl p) next =
 at_stage stage o was now frame answer (inr p) next =
     subst (λ (s : Stage). IsAnswerAt s was now frame answer) (sym p.1)
     (subst (λ (x : Option Order). IsNext x was now frame answer) p.2 next)
+
+-- where memory was wanting for what was read, that is an interface
+pub taken_memory : (o : Option Order) (was now : PcapngReading) (frame : List ℕ) (b : Block)
+    (answer : Result Step SourceFault)
+    → Reads ((next_block o was.interfaces was.keep frame).Is b) was.rest now.rest
+    → IsTaken b was.stage now.stage was.interfaces now.interfaces answer
+    → answer ≡ Err (faults.Capture captures.NoMemory) → ReadsInterface o was now
+taken_memory o was now frame (blocks.Section s) answer reads t e = absurd (true≢false (sym (ap is_ok t.0) ∙ ap is_ok e))
+taken_memory o was now frame (blocks.Interface i) (Ok step) reads t e = absurd (true≢false (ap is_ok e))
+taken_memory o was now frame (blocks.Interface i) (Err f) reads t e = (frame, i, reads)
+taken_memory o was now frame (blocks.Record h) answer reads t e = absurd (true≢false (sym (ap is_ok t.0) ∙ ap is_ok e))
+taken_memory o was now frame blocks.Other answer reads t e = absurd (true≢false (sym (ap is_ok t.0) ∙ ap is_ok e))
+
+-- such an interface, by the stage
+pub interface_at : (stage : Stage) (o : Option Order) (was now : PcapngReading)
+    → ((stage ≡ stages.Start) × (o ≡ None))
+    ⊎ ((order : Order) × (stage ≡ stages.Blocks order) × (o ≡ Some order))
+    → ReadsInterface o was now → ReadsInterfaceAt stage was now
+interface_at stage o was now (inl p) reads =
+    subst (λ (s : Stage). ReadsInterfaceAt s was now) (sym p.0)
+    (subst (λ (x : Option Order). ReadsInterface x was now) p.1 reads)
+interface_at stage o was now (inr p) reads =
+    subst (λ (s : Stage). ReadsInterfaceAt s was now) (sym p.1)
+    (subst (λ (x : Option Order). ReadsInterface x was now) p.2 reads)

@@ -110,3 +110,16 @@ IsAnswerAt stages.Failed was now frame answer =
 
 abbrev pub IsAnswer : PcapngReading → PcapngReading → List ℕ → Result Step SourceFault → Type 0
 IsAnswer was now frame answer = IsAnswerAt was.stage was now frame answer
+
+-- An interface block was read, and nothing behind it: the list of interfaces is to grow by this one.
+abbrev pub ReadsInterface : Option Order → PcapngReading → PcapngReading → Type 0
+ReadsInterface o was now =
+    (frame : List ℕ) × (i : Interface)
+    × Reads ((next_block o was.interfaces was.keep frame).Is (blocks.Interface i)) was.rest now.rest
+
+-- The same by the stage: after the end and after a fault nothing is read.
+abbrev pub ReadsInterfaceAt : Stage → PcapngReading → PcapngReading → Type 0
+ReadsInterfaceAt stages.Start was now = ReadsInterface None was now
+ReadsInterfaceAt (stages.Blocks o) was now = ReadsInterface (Some o) was now
+ReadsInterfaceAt stages.Ended was now = ⊥
+ReadsInterfaceAt stages.Failed was now = ⊥

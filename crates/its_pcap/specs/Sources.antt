@@ -1,12 +1,13 @@
 -- Files of records of any format, as they are read: what one call for the next step gives, and what
 -- it leaves of the source.
-use Rattle.std.specs.Prelude.{◌≡◌, ℕ, ◌+◌, true, false, IsTrue, List, [], length, take}
+use Rattle.std.specs.Prelude.{◌≡◌, ℕ, ◌+◌, ◌<◌, ◌≤◌, ◌↔◌, is_err, true, false, IsTrue, List, [], length, take}
 use Rattle.std.specs.Prelude.{Option, Some, None, IfSome, MatchOption, Result, Ok, Err, if◌then◌else◌}
 use Rattle.std.specs.Io.KnownBytes.{Consumes, Keeps}
 use Rattle.std.specs.declared.io.traits.Read as reads
 use Rattle.its_linkframe.specs.Captures.{IsCaptured, captured_at, record_octets}
 use Rattle.its_linkframe.specs.Reading as captures
 use Rattle.its_linkframe.specs.declared.record.CaptureFault.TheVariants as capture_faults
+use Rattle.its_linkframe.specs.declared.record.TheConstants.{LONGEST_FRAME}
 use Rattle.its_linkframe.specs.declared.source.Source as sources_of
 use Rattle.its_pcap.specs.Formats.{IsFormat}
 use Rattle.its_pcap.specs.Pcap as classic
@@ -44,13 +45,16 @@ StepsCapture was now frame (Err faults.CutFile) = ⊥
 StepsCapture was now frame (Err faults.Malformed) = ⊥
 StepsCapture was now frame (Err faults.LinkType) = ⊥
 
--- Such a step; but after the end the end is answered, and after a fault C5, and nothing is read.
+-- Such a step; but after the end the end is answered, and after a fault C5, and nothing is read. C5
+-- comes only then, and the end is met, or a fault, exactly where it is answered.
 abbrev pub GivesCaptured : captures.Reading → captures.Reading → List ℕ → Result Step SourceFault
     → Type 0
 GivesCaptured was now frame r =
     StepsCapture was now frame r
     × (IsTrue was.ended → (r ≡ Ok steps.End) × (now ≡ was))
     × (IsTrue was.failed → (r ≡ Err (faults.Capture capture_faults.Failed)) × (now ≡ was))
+    × (r ≡ Err (faults.Capture capture_faults.Failed) → IsTrue was.failed)
+    × (now.failed ≡ is_err r) × ((r ≡ Ok steps.End) ↔ IsTrue now.ended)
     × (now.failures ≡ was.failures + (if is_io r then 1 else 0))
 
 abbrev pub GivesClassic : classic.Reading → classic.Reading → List ℕ → Result Step SourceFault
@@ -64,6 +68,22 @@ abbrev pub GivesBlock : blocks.PcapngReading → blocks.PcapngReading → List �
 GivesBlock was now frame r =
     blocks.IsAnswer was now frame r
     × (now.keep ≡ was.keep) × (now.failures ≡ was.failures + (if is_io r then 1 else 0))
+
+-- ---- where a step takes memory
+
+-- What a call that answers C4 says of a capture, where the buffer had room for so many octets: that
+-- was too little for the longest frame.
+abbrev pub LacksCaptured : captures.Reading → captures.Reading → ℕ → Type 0
+LacksCaptured was now room = room < LONGEST_FRAME
+
+-- The same of classic pcap: it was too little for what is kept of a frame.
+abbrev pub LacksClassic : classic.Reading → classic.Reading → ℕ → Type 0
+LacksClassic was now room = room < was.keep
+
+-- The same of pcapng: it was, or the block that was read is an interface, which the list of them
+-- can't take.
+abbrev pub LacksBlock : blocks.PcapngReading → blocks.PcapngReading → ℕ → Type 0
+LacksBlock was now room = was.keep ≤ room → blocks.ReadsInterfaceAt was.stage was now
 
 -- ---- a file of any format
 
@@ -95,6 +115,20 @@ Gives (sources.Pcap was) (sources.Capture now) frame r = ⊥
 Gives (sources.Pcap was) (sources.Pcapng now) frame r = ⊥
 Gives (sources.Pcapng was) (sources.Capture now) frame r = ⊥
 Gives (sources.Pcapng was) (sources.Pcap now) frame r = ⊥
+
+-- where one call takes memory
+abbrev pub Lacks :
+    {S : Type 0} {s : sources_of.Ghosts S} {r : reads.Ghosts S} → AnySource S s r → AnySource S s r
+    → ℕ → Type 0
+Lacks (sources.Capture was) (sources.Capture now) room = LacksCaptured was now room
+Lacks (sources.Pcap was) (sources.Pcap now) room = LacksClassic was now room
+Lacks (sources.Pcapng was) (sources.Pcapng now) room = LacksBlock was now room
+Lacks (sources.Capture was) (sources.Pcap now) room = ⊥
+Lacks (sources.Capture was) (sources.Pcapng now) room = ⊥
+Lacks (sources.Pcap was) (sources.Capture now) room = ⊥
+Lacks (sources.Pcap was) (sources.Pcapng now) room = ⊥
+Lacks (sources.Pcapng was) (sources.Capture now) room = ⊥
+Lacks (sources.Pcapng was) (sources.Pcap now) room = ⊥
 
 -- A file of which nothing was read: so many octets of a frame are kept (of a capture, all), these
 -- its source has, and so many calls of the source failed.

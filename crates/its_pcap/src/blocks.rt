@@ -1,7 +1,7 @@
 //! The blocks of a pcapng file, each read behind its type.
 
 ghost use Rattle.std.specs.Prelude.{◌≡◌, ◌≢◌, ◌-◌, ◌+◌, ◌*◌, ◌^◌, ◌<◌, ◌≤◌, ◌↔◌, IsTrue};
-ghost use Rattle.std.specs.Prelude.{IfOk, if◌then◌else◌, MatchOption, MatchResult};
+ghost use Rattle.std.specs.Prelude.{IfOk, if◌then◌else◌, MatchOption, MatchResult, Err, vec_capacity};
 ghost use Rattle.std.specs.List.{slice_get};
 ghost use Rattle.its_pcap.specs.Blocks.{section_head, section, interface, named, moment};
 ghost use Rattle.its_pcap.specs.Interfaces.{plain};
@@ -10,6 +10,7 @@ ghost use Rattle.its_pcap.specs.Blocks.{simple, other, kind_of_block, block_of, 
 ghost use Rattle.its_pcap.specs.Layouts.{IsAnswerOf, number_that};
 ghost use Rattle.its_pcap.specs.Reading.{is_io};
 ghost use Rattle.its_pcap.specs.declared.fault.SourceFault.TheVariants as faults;
+ghost use Rattle.its_linkframe.specs.declared.record.CaptureFault.TheVariants as captures;
 
 use crate::fault::SourceFault;
 use crate::field::{block_length, end_block, half, is_block_length, word};
@@ -117,6 +118,8 @@ pub(crate) fn read_block<S: Source>(
     ensures answer { IsAnswerOf (block_of order interfaces.now keep frame.new.items kind)
         (S.remaining source.old) (S.remaining source.new) result }
     ensures counts { S.failed source.new ≡ S.failed source.old + (if is_io result then 1 else 0) }
+    ensures memory { keep ≤ vec_capacity frame.old
+        → result ≢ Err (faults.Capture captures.NoMemory) }
 {
     match kind {
         Kind::Section => section_block(source),
@@ -146,6 +149,7 @@ fn read_section_head<S: Source>(source: &mut S) -> Result<(Order, u32), SourceFa
         result }
     ensures fits { IfOk result (λ head. LEAST_SECTION ≤ head.1) }
     ensures counts { S.failed source.new ≡ S.failed source.old + (if is_io result then 1 else 0) }
+    ensures memory { result ≢ Err (faults.Capture captures.NoMemory) }
 {
     let mut head = [0; 8];
     fill_whole(source, &mut head)?;
@@ -165,6 +169,7 @@ fn read_version<S: Source>(source: &mut S, order: Order) -> Result<u16, SourceFa
     ensures answer { IsAnswerOf (number_that order 2 (λ version. version ≡ 1))
         (S.remaining source.old) (S.remaining source.new) result }
     ensures counts { S.failed source.new ≡ S.failed source.old + (if is_io result then 1 else 0) }
+    ensures memory { result ≢ Err (faults.Capture captures.NoMemory) }
 {
     let version = half(source, order)?;
     if version != MAJOR_VERSION {
@@ -178,6 +183,7 @@ fn section_block<S: Source>(source: &mut S) -> Result<Block, SourceFault>
     requires { S.failed source.old < 2 ^ 64 - 1 }
     ensures answer { IsAnswerOf section (S.remaining source.old) (S.remaining source.new) result }
     ensures counts { S.failed source.new ≡ S.failed source.old + (if is_io result then 1 else 0) }
+    ensures memory { result ≢ Err (faults.Capture captures.NoMemory) }
 {
     let (order, length) = read_section_head(source)?;
     read_version(source, order)?;
@@ -191,6 +197,7 @@ fn read_plain<S: Source>(source: &mut S, order: Order) -> Result<Interface, Sour
     ensures answer { IsAnswerOf (plain order) (S.remaining source.old) (S.remaining source.new)
         result }
     ensures counts { S.failed source.new ≡ S.failed source.old + (if is_io result then 1 else 0) }
+    ensures memory { result ≢ Err (faults.Capture captures.NoMemory) }
 {
     let mut head = [0; 8];
     fill_whole(source, &mut head)?;
@@ -209,6 +216,7 @@ fn interface_block<S: Source>(source: &mut S, order: Order) -> Result<Block, Sou
     ensures answer { IsAnswerOf (interface order) (S.remaining source.old) (S.remaining source.new)
         result }
     ensures counts { S.failed source.new ≡ S.failed source.old + (if is_io result then 1 else 0) }
+    ensures memory { result ≢ Err (faults.Capture captures.NoMemory) }
 {
     let length = block_length(source, order, LEAST_INTERFACE)?;
     let plain = read_plain(source, order)?;
@@ -232,6 +240,7 @@ fn read_interface<S: Source>(
     ensures answer { IsAnswerOf (named order interfaces.now) (S.remaining source.old)
         (S.remaining source.new) result }
     ensures counts { S.failed source.new ≡ S.failed source.old + (if is_io result then 1 else 0) }
+    ensures memory { result ≢ Err (faults.Capture captures.NoMemory) }
 {
     let number = word(source, order)?;
     match interfaces.get(number as usize) {
@@ -250,6 +259,7 @@ fn read_moment<S: Source>(
     ensures answer { IsAnswerOf (moment order interface.now) (S.remaining source.old)
         (S.remaining source.new) result }
     ensures counts { S.failed source.new ≡ S.failed source.old + (if is_io result then 1 else 0) }
+    ensures memory { result ≢ Err (faults.Capture captures.NoMemory) }
 {
     let mut octets = [0; 8];
     fill_whole(source, &mut octets)?;
@@ -282,6 +292,7 @@ fn read_captured<S: Source>(source: &mut S, order: Order, room: u32) -> Result<u
         (S.remaining source.new) result }
     ensures fits { IfOk result (FitsRecord room) }
     ensures counts { S.failed source.new ≡ S.failed source.old + (if is_io result then 1 else 0) }
+    ensures memory { result ≢ Err (faults.Capture captures.NoMemory) }
 {
     let captured = word(source, order)?;
     if !fits_record(captured, room) {
@@ -302,6 +313,8 @@ fn packet_block<S: Source>(
     ensures answer { IsAnswerOf (packet order interfaces.now keep frame.new.items)
         (S.remaining source.old) (S.remaining source.new) result }
     ensures counts { S.failed source.new ≡ S.failed source.old + (if is_io result then 1 else 0) }
+    ensures memory { keep ≤ vec_capacity frame.old
+        → result ≢ Err (faults.Capture captures.NoMemory) }
 {
     let length = block_length(source, order, LEAST_PACKET)?;
     let room = length - LEAST_PACKET;
@@ -343,6 +356,7 @@ fn read_lengths<S: Source>(
         (S.remaining source.new) result }
     ensures fits { IfOk result (λ lengths. FitsRecord room lengths.1) }
     ensures counts { S.failed source.new ≡ S.failed source.old + (if is_io result then 1 else 0) }
+    ensures memory { result ≢ Err (faults.Capture captures.NoMemory) }
 {
     let wire = word(source, order)?;
     let captured = captured_in(wire, interface.snap);
@@ -364,6 +378,8 @@ fn simple_block<S: Source>(
     ensures answer { IsAnswerOf (simple order interfaces.now keep frame.new.items)
         (S.remaining source.old) (S.remaining source.new) result }
     ensures counts { S.failed source.new ≡ S.failed source.old + (if is_io result then 1 else 0) }
+    ensures memory { keep ≤ vec_capacity frame.old
+        → result ≢ Err (faults.Capture captures.NoMemory) }
 {
     let length = block_length(source, order, LEAST_SIMPLE)?;
     let room = length - LEAST_SIMPLE;
@@ -392,6 +408,7 @@ fn other_block<S: Source>(source: &mut S, order: Order) -> Result<Block, SourceF
     ensures answer { IsAnswerOf (other order) (S.remaining source.old) (S.remaining source.new)
         result }
     ensures counts { S.failed source.new ≡ S.failed source.old + (if is_io result then 1 else 0) }
+    ensures memory { result ≢ Err (faults.Capture captures.NoMemory) }
 {
     let length = block_length(source, order, LEAST)?;
     end_block(source, order, (length - LEAST) as usize, length)?;

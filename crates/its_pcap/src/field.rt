@@ -1,10 +1,12 @@
 //! Fields of a file that is read: each is checked before any octet behind it is read.
 
 ghost use Rattle.std.specs.Prelude.{◌≡◌, ◌≢◌, ◌-◌, ◌+◌, ◌*◌, ◌^◌, ◌<◌, ◌≤◌, ◌↔◌, IsTrue, IfOk};
-ghost use Rattle.std.specs.Prelude.{if◌then◌else◌};
+ghost use Rattle.std.specs.Prelude.{if◌then◌else◌, Err};
 ghost use Rattle.its_pcap.specs.Blocks.{IsBlockLength, block_length, closing};
 ghost use Rattle.its_pcap.specs.Layouts.{IsAnswerOf, number};
 ghost use Rattle.its_pcap.specs.Reading.{is_io};
+ghost use Rattle.its_linkframe.specs.declared.record.CaptureFault.TheVariants as captures;
+ghost use Rattle.its_pcap.specs.declared.fault.SourceFault.TheVariants as faults;
 
 use crate::fault::SourceFault;
 use crate::octets::{Order, half_at, word_at};
@@ -20,6 +22,7 @@ pub(crate) fn word<S: Source>(source: &mut S, order: Order) -> Result<u32, Sourc
     ensures answer { IsAnswerOf (number order 4) (S.remaining source.old) (S.remaining source.new)
         result }
     ensures counts { S.failed source.new ≡ S.failed source.old + (if is_io result then 1 else 0) }
+    ensures memory { result ≢ Err (faults.Capture captures.NoMemory) }
 {
     let mut octets = [0; 4];
     fill_whole(source, &mut octets)?;
@@ -32,6 +35,7 @@ pub(crate) fn half<S: Source>(source: &mut S, order: Order) -> Result<u16, Sourc
     ensures answer { IsAnswerOf (number order 2) (S.remaining source.old) (S.remaining source.new)
         result }
     ensures counts { S.failed source.new ≡ S.failed source.old + (if is_io result then 1 else 0) }
+    ensures memory { result ≢ Err (faults.Capture captures.NoMemory) }
 {
     let mut octets = [0; 2];
     fill_whole(source, &mut octets)?;
@@ -56,6 +60,7 @@ pub(crate) fn block_length<S: Source>(
         (S.remaining source.new) result }
     ensures fits { IfOk result (λ n. (least ≤ n) × (n ≤ LONGEST_BLOCK)) }
     ensures counts { S.failed source.new ≡ S.failed source.old + (if is_io result then 1 else 0) }
+    ensures memory { result ≢ Err (faults.Capture captures.NoMemory) }
 {
     let length = word(source, order)?;
     if !is_block_length(length, least) {
@@ -76,6 +81,7 @@ pub(crate) fn end_block<S: Source>(
     ensures answer { IsAnswerOf (closing order rest length) (S.remaining source.old)
         (S.remaining source.new) result }
     ensures counts { S.failed source.new ≡ S.failed source.old + (if is_io result then 1 else 0) }
+    ensures memory { result ≢ Err (faults.Capture captures.NoMemory) }
 {
     pass_over(source, rest)?;
     let last = word(source, order)?;

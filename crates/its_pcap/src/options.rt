@@ -1,7 +1,7 @@
 //! The options of an interface block.
 
 ghost use Rattle.std.specs.Prelude.{◌≡◌, ◌-◌, ◌+◌, ◌^◌, ◌<◌, ◌≤◌, IfOk, MatchResult, false};
-ghost use Rattle.std.specs.Prelude.{if◌then◌else◌};
+ghost use Rattle.std.specs.Prelude.{if◌then◌else◌, Err, ◌≢◌};
 ghost use Rattle.its_pcap.specs.Moments.{ticks_of, IsTooFine};
 ghost use Rattle.its_pcap.specs.declared.fault.SourceFault.TheVariants as faults;
 ghost use Rattle.its_pcap.specs.Interfaces.{kind_of_option, option_room, option_head, one_option};
@@ -9,6 +9,7 @@ ghost use Rattle.its_pcap.specs.Interfaces.{options, resolution, offset, passed,
 ghost use Rattle.its_pcap.specs.Interfaces.{option_value};
 ghost use Rattle.its_pcap.specs.Layouts.{IsAnswerOf};
 ghost use Rattle.its_pcap.specs.Reading.{is_io};
+ghost use Rattle.its_linkframe.specs.declared.record.CaptureFault.TheVariants as captures;
 
 use crate::fault::SourceFault;
 use crate::interface::{Interface, seconds_of, ticks_in};
@@ -64,6 +65,7 @@ pub(crate) fn read_options<S: Source>(
     ensures answer { IsAnswerOf (options order room interface) (S.remaining source.old)
         (S.remaining source.new) result }
     ensures counts { S.failed source.new ≡ S.failed source.old + (if is_io result then 1 else 0) }
+    ensures memory { result ≢ Err (faults.Capture captures.NoMemory) }
 {
     let mut left = room;
     let mut known = interface;
@@ -91,6 +93,7 @@ fn read_option<S: Source>(
         (S.remaining source.new) result }
     ensures less { IfOk result (λ t. t.left < left) }
     ensures counts { S.failed source.new ≡ S.failed source.old + (if is_io result then 1 else 0) }
+    ensures memory { result ≢ Err (faults.Capture captures.NoMemory) }
 {
     let (kind, room) = read_head(source, order, left - HEAD)?;
     let known = read_value(source, order, kind, room, interface)?;
@@ -123,6 +126,7 @@ fn read_value<S: Source>(
     ensures answer { IsAnswerOf (option_value order interface kind room)
         (S.remaining source.old) (S.remaining source.new) result }
     ensures counts { S.failed source.new ≡ S.failed source.old + (if is_io result then 1 else 0) }
+    ensures memory { result ≢ Err (faults.Capture captures.NoMemory) }
 {
     match kind {
         OptionKind::End => Ok(interface),
@@ -142,6 +146,7 @@ fn pass_value<S: Source>(
     ensures answer { IsAnswerOf (passed room interface) (S.remaining source.old)
         (S.remaining source.new) result }
     ensures counts { S.failed source.new ≡ S.failed source.old + (if is_io result then 1 else 0) }
+    ensures memory { result ≢ Err (faults.Capture captures.NoMemory) }
 {
     pass_over(source, room)?;
     Ok(interface)
@@ -159,6 +164,7 @@ fn read_head<S: Source>(
         (S.remaining source.new) result }
     ensures fits { IfOk result (λ head. head.1 ≤ left) }
     ensures counts { S.failed source.new ≡ S.failed source.old + (if is_io result then 1 else 0) }
+    ensures memory { result ≢ Err (faults.Capture captures.NoMemory) }
 {
     let mut head = [0; HEAD];
     fill_whole(source, &mut head)?;
@@ -202,6 +208,7 @@ fn ticks_said(octet: u8) -> Result<u64, SourceFault>
         (λ f. (f ≡ faults.Malformed) × IsTooFine octet) }
     ensures some { IfOk result (λ n. 0 < n) }
     ensures counts { is_io result ≡ false }
+    ensures memory { result ≢ Err (faults.Capture captures.NoMemory) }
 {
     match ticks_in(octet) {
         Some(ticks) => Ok(ticks),
@@ -218,6 +225,7 @@ fn read_resolution<S: Source>(
     ensures answer { IsAnswerOf (resolution interface) (S.remaining source.old)
         (S.remaining source.new) result }
     ensures counts { S.failed source.new ≡ S.failed source.old + (if is_io result then 1 else 0) }
+    ensures memory { result ≢ Err (faults.Capture captures.NoMemory) }
 {
     let mut octet = [0; 1];
     fill_whole(source, &mut octet)?;
@@ -242,6 +250,7 @@ fn read_offset<S: Source>(
     ensures answer { IsAnswerOf (offset order interface) (S.remaining source.old)
         (S.remaining source.new) result }
     ensures counts { S.failed source.new ≡ S.failed source.old + (if is_io result then 1 else 0) }
+    ensures memory { result ≢ Err (faults.Capture captures.NoMemory) }
 {
     let mut octets = [0; 8];
     fill_whole(source, &mut octets)?;

@@ -1,10 +1,14 @@
 //! Reading a pcapng file.
 
-ghost use Rattle.std.specs.Prelude.{◌≡◌, ◌-◌, ◌+◌, ◌^◌, ◌<◌, [], if◌then◌else◌};
+ghost use Rattle.std.specs.Prelude.{◌≡◌, ◌≢◌, ◌-◌, ◌+◌, ◌^◌, ◌<◌, ◌≤◌, [], if◌then◌else◌};
+ghost use Rattle.std.specs.Prelude.{Err, vec_capacity};
 ghost use Rattle.its_pcap.specs.Layouts.{IsAnswerOrEnd};
 ghost use Rattle.its_pcap.specs.Pcapng.{kind_of_next, next_block, IsAnswer, IsTaken};
+ghost use Rattle.its_pcap.specs.Pcapng.{ReadsInterfaceAt};
 ghost use Rattle.its_pcap.specs.Reading.{is_io};
 ghost use Rattle.its_pcap.specs.declared.pcapng.Stage.TheVariants as stages;
+ghost use Rattle.its_linkframe.specs.declared.record.CaptureFault.TheVariants as captures;
+ghost use Rattle.its_pcap.specs.declared.fault.SourceFault.TheVariants as faults;
 
 use crate::blocks::{Block, Kind, kind_of, read_block};
 use crate::fault::SourceFault;
@@ -82,11 +86,15 @@ impl<R: Source> PcapngReader<R> {
     /// The next step: each call reads a block, and gives its record, whose octets are put into the
     /// buffer in place of what is there, or `Passed` where it has none; or the end.
     ///
-    /// A field is checked before any octet behind it is read. After a fault each call answers C5.
+    /// A field is checked before any octet behind it is read. After a fault each call answers C5. In
+    /// a buffer with room for all that is kept of a frame C4 comes of an interface block alone.
     pub fn next_into(&mut self, frame: &mut Vec<u8>) -> Result<Step, SourceFault>
         ensures answer { IsAnswer self.old self.new frame.new.items result }
         ensures counts { self.new.failures ≡ self.old.failures + (if is_io result then 1 else 0) }
         ensures keep { self.new.keep ≡ self.old.keep }
+        ensures memory { self.old.keep ≤ vec_capacity frame.old
+            → result ≡ Err (faults.Capture captures.NoMemory)
+            → ReadsInterfaceAt self.old.stage self.old self.new }
     {
         let order = match self.stage {
             Stage::Start => None,
@@ -135,6 +143,8 @@ fn read_next<S: Source>(
     ensures answer { IsAnswerOrEnd (next_block order interfaces.now keep frame.new.items)
         (S.remaining source.old) (S.remaining source.new) result }
     ensures counts { S.failed source.new ≡ S.failed source.old + (if is_io result then 1 else 0) }
+    ensures memory { keep ≤ vec_capacity frame.old
+        → result ≢ Err (faults.Capture captures.NoMemory) }
 {
     let Some(kind) = read_kind(source, order)? else {
         return Ok(None);
@@ -151,6 +161,7 @@ fn read_kind<S: Source>(source: &mut S, order: Option<Order>) -> Result<Option<K
     ensures answer { IsAnswerOrEnd (kind_of_next order) (S.remaining source.old)
         (S.remaining source.new) result }
     ensures counts { S.failed source.new ≡ S.failed source.old + (if is_io result then 1 else 0) }
+    ensures memory { result ≢ Err (faults.Capture captures.NoMemory) }
 {
     let mut octets = [0; TYPE];
     match fill(source, &mut octets) {

@@ -1,10 +1,11 @@
 //! Files with records of any format, read through one call.
 
 ghost use Rattle.std.specs.Prelude.{◌≡◌, ℕ, ◌-◌, ◌^◌, ◌<◌, false, List, Result, IfOk, IfErr};
-ghost use Rattle.std.specs.Prelude.{None};
+ghost use Rattle.std.specs.Prelude.{None, Err, vec_capacity};
 ghost use Rattle.its_linkframe.specs.declared.record.CaptureFault.TheVariants as captures;
 ghost use Rattle.its_pcap.specs.Begun.{left_of};
 ghost use Rattle.its_pcap.specs.Sources.{GivesCaptured, GivesClassic, GivesBlock, Gives};
+ghost use Rattle.its_pcap.specs.Sources.{LacksCaptured, LacksClassic, LacksBlock, Lacks};
 ghost use Rattle.its_pcap.specs.Sources.{format_of_source, layer_of_source, IsAtStart, IsOpened};
 ghost use Rattle.its_pcap.specs.declared.fault.SourceFault.TheVariants as faults;
 
@@ -29,15 +30,23 @@ pub trait RecordSource {
     /// format says it.
     ghost GivesStep: { Self → Self → List ℕ → Result Step SourceFault → Type 0 };
 
+    /// What a call that answers C4 says of the file, where the buffer had room for so many octets,
+    /// and of what it leaves: memory is taken nowhere else.
+    ghost LacksMemory: { Self → Self → ℕ → Type 0 };
+
     /// The next step: a record, whose octets are put into the buffer in place of what is there, or
     /// a part of the file that has none, or the end, which is answered from then on. After a fault
     /// each call answers C5.
     fn next_into(&mut self, frame: &mut Vec<u8>) -> Result<Step, SourceFault>
-        ensures { GivesStep self.old self.new frame.new.items result };
+        ensures step { GivesStep self.old self.new frame.new.items result }
+        ensures memory { result ≡ Err (faults.Capture captures.NoMemory)
+            → LacksMemory self.old self.new (vec_capacity frame.old) };
 }
 
 impl<R: Source> RecordSource for PcapReader<R> {
     ghost GivesStep = { GivesClassic };
+
+    ghost LacksMemory = { LacksClassic };
 
     fn next_into(&mut self, frame: &mut Vec<u8>) -> Result<Step, SourceFault> {
         self.next_into(frame)
@@ -46,6 +55,8 @@ impl<R: Source> RecordSource for PcapReader<R> {
 
 impl<R: Source> RecordSource for PcapngReader<R> {
     ghost GivesStep = { GivesBlock };
+
+    ghost LacksMemory = { LacksBlock };
 
     fn next_into(&mut self, frame: &mut Vec<u8>) -> Result<Step, SourceFault> {
         self.next_into(frame)
@@ -85,6 +96,8 @@ impl<R: Source> CaptureSource<R> {
 
 impl<R: Source> RecordSource for CaptureSource<R> {
     ghost GivesStep = { GivesCaptured };
+
+    ghost LacksMemory = { LacksCaptured };
 
     fn next_into(&mut self, frame: &mut Vec<u8>) -> Result<Step, SourceFault> {
         match self.reader.next_into(frame)? {
@@ -180,6 +193,8 @@ impl<S: Source + Drop> AnySource<S> {
 
 impl<S: Source> RecordSource for AnySource<S> {
     ghost GivesStep = { Gives };
+
+    ghost LacksMemory = { Lacks };
 
     fn next_into(&mut self, frame: &mut Vec<u8>) -> Result<Step, SourceFault> {
         match self {

@@ -23,6 +23,7 @@ pub(crate) fn fill_whole<S: Source>(source: &mut S, buf: &mut [u8]) -> Result<()
     ensures fault { IfErr result
         (IsCutShort (length buf.old) (S.remaining source.old) (S.remaining source.new)) }
     ensures counts { S.failed source.new ≡ S.failed source.old + (if is_io result then 1 else 0) }
+    ensures memory { result ≢ Err (faults.Capture captures.NoMemory) }
 {
     match fill(source, buf) {
         None => Err(SourceFault::Capture(CaptureFault::Io)),
@@ -39,6 +40,7 @@ pub(crate) fn pass_over<S: Source>(source: &mut S, count: usize) -> Result<(), S
     ensures fault { IfErr result
         (IsCutShort count (S.remaining source.old) (S.remaining source.new)) }
     ensures counts { S.failed source.new ≡ S.failed source.old + (if is_io result then 1 else 0) }
+    ensures memory { result ≢ Err (faults.Capture captures.NoMemory) }
 {
     if count == 0 {
         return Ok(());
@@ -54,6 +56,7 @@ fn pass_pieces<S: Source>(source: &mut S, count: usize) -> Result<(), SourceFaul
     ensures fault { IfErr result
         (IsCutShort count (S.remaining source.old) (S.remaining source.new)) }
     ensures counts { S.failed source.new ≡ S.failed source.old + (if is_io result then 1 else 0) }
+    ensures memory { result ≢ Err (faults.Capture captures.NoMemory) }
 {
     let mut piece = [0; PIECE];
     let mut left = count;
