@@ -1,7 +1,10 @@
 //! The command `convert`.
 
-ghost use Rattle.std.specs.Prelude.{IfOk};
+ghost use Rattle.std.specs.Prelude.{◌≡◌, ◌-◌, ◌^◌, ◌<◌, ℕ, List, IfOk, false};
+ghost use Rattle.its_pcap.specs.Sources.{Gives, format_of_source, layer_of_source};
 ghost use Rattle.its_reporting.specs.Statuses.{IsCommandStatus};
+ghost use Rattle.its_commands.specs.Conversions.{Copies, IsCopied, IsStep, after_met, has_links};
+ghost use Rattle.its_commands.specs.Conversions.{is_end, told_status};
 
 use crate::written::Written;
 use its_linkframe::{Counted, Source};
@@ -10,7 +13,7 @@ use its_pcap::{
 };
 use its_records::{FileFault, RefusedCapture, Selection};
 use its_reporting::{Fault, LeftOut, OutputFormat, Status, status_of};
-use std::alloc::{AllocError, Global};
+use std::alloc::Global;
 use std::io::{Read, Write};
 
 /// What is converted, and to what.
@@ -74,7 +77,8 @@ fn convert_records<'a, R: Read + Drop, W: Write + Drop, E: Write>(
     Ok(status)
 }
 
-/// Writes the records of the source that are chosen, one by one, until it ends.
+/// Writes the records of the source that are chosen, one by one, until it ends. A record that has no
+/// place in the file is told, and left out.
 fn copy<'a, S: Source + Drop, W: Write + Drop, E: Write>(
     alloc: Global,
     conversion: Conversion<'a>,
@@ -83,48 +87,43 @@ fn copy<'a, S: Source + Drop, W: Write + Drop, E: Write>(
     written: &mut Written<W>,
     err: &mut E,
 ) -> Result<Status, Fault<'a>>
-    ensures { IfOk result IsCommandStatus }
+    ensures command { IfOk result IsCommandStatus }
+    ensures copied { IfOk result (IsCopied Gives layer_of_source selection.now.choice
+        selection.now.count (has_links (format_of_source source.old)) source.old written.old
+        source.new written.new) }
 {
-    let linked = source.format() != Format::Capture;
+    let linked = is_linked(source.format());
     let mut octets = Vec::new(alloc);
     let mut room = Vec::new(alloc);
-    let mut status = Status::Done;
-    let mut records = 0;
-    let mut chosen = 0;
+    let mut progress = Progress::begin();
     // The range is there so that the copying ends on any source. No file reaches its end.
     for step in 0..u64::MAX {
-        if selection.count == Some(chosen) {
-            break;
+        if selection.count == Some(progress.chosen) {
+            return Ok(progress.status());
         }
-        match source.next_into(&mut octets) {
-            Ok(Step::Record(head)) => {
-                let copied = copy_record(
-                    selection,
-                    &head,
-                    &mut octets,
-                    linked,
-                    &mut room,
-                    written,
-                )?;
-                match copied {
-                    Copied::Passed => {}
-                    Copied::Written => chosen += 1,
-                    Copied::LeftOut(fault) => {
-                        chosen += 1;
-                        leave_out(fault, conversion.target, records, conversion.lines, err)?;
-                        status = Status::Refused;
-                    }
-                }
-                records += 1;
-            }
-            Ok(Step::Passed) => written.expect(source.layer()),
-            Ok(Step::End) => break,
-            Err(fault) => {
-                return end_file(fault, conversion, selection, records, err);
-            }
+        let met = go_on(
+            selection,
+            conversion.target,
+            source,
+            linked,
+            &mut octets,
+            &mut room,
+            written,
+        )?;
+        tell(met, conversion, selection, progress.records, err)?;
+        progress = progress.after(met);
+        if met.is_end() {
+            return Ok(progress.status());
         }
     }
-    Ok(status)
+    Ok(progress.status())
+}
+
+/// Whether the records of a file of this format have the header of their link layer.
+fn is_linked(format: Format) -> bool
+    ensures { result ≡ has_links format }
+{
+    format != Format::Capture
 }
 
 /// What became of a record.
@@ -134,42 +133,162 @@ enum Copied {
     Passed,
     /// It is written.
     Written,
-    /// It has no place in the file, or that failed.
+    /// It has no place in the file.
     LeftOut(SinkFault),
 }
 
-/// Writes a record, if it is chosen.
-fn copy_record<W: Write + Drop>(
+/// What a step of the source met.
+#[derive(Clone, Copy, Debug, PartialEq, Eq)]
+enum Met {
+    /// A record.
+    Record(Copied),
+    /// A part of the file without one.
+    NoRecord,
+    /// The end of the file, or its fault.
+    End(Option<SourceFault>),
+}
+
+impl Met {
+    /// Whether no further step follows.
+    fn is_end(self) -> bool
+        ensures { result ≡ is_end self }
+    {
+        match self {
+            Met::Record(_) | Met::NoRecord => false,
+            Met::End(_) => true,
+        }
+    }
+}
+
+/// How far a file was copied.
+#[derive(Clone, Copy, Debug, PartialEq, Eq)]
+struct Progress {
+    /// How many records were read.
+    records: u64,
+    /// How many of them were chosen.
+    chosen: u64,
+    /// Whether one of these was left out, or the file has a fault.
+    refused: bool,
+}
+
+impl Progress {
+    /// Nothing yet.
+    fn begin() -> Progress
+        ensures { result ≡ record { records = 0; chosen = 0; refused = false } }
+    {
+        Progress {
+            records: 0,
+            chosen: 0,
+            refused: false,
+        }
+    }
+
+    /// The same after one more step.
+    fn after(self, met: Met) -> Progress
+        requires records { self.records < 2 ^ 64 - 1 }
+        requires chosen { self.chosen < 2 ^ 64 - 1 }
+        ensures { result ≡ after_met self met }
+    {
+        let (records, chosen, told) = match met {
+            Met::Record(Copied::Passed) => (1, 0, false),
+            Met::Record(Copied::Written) => (1, 1, false),
+            Met::Record(Copied::LeftOut(_)) => (1, 1, true),
+            Met::NoRecord => (0, 0, false),
+            Met::End(fault) => (0, 0, fault.is_some()),
+        };
+        Progress {
+            records: self.records + records,
+            chosen: self.chosen + chosen,
+            refused: self.refused || told,
+        }
+    }
+
+    /// The exit status.
+    fn status(self) -> Status
+        ensures { result ≡ told_status self.refused }
+    {
+        if self.refused {
+            Status::Refused
+        } else {
+            Status::Done
+        }
+    }
+}
+
+/// Goes one step over the file. `CannotWrite` where the file that is written failed, `OutOfMemory`
+/// where an allocation did.
+fn go_on<'a, S: Source + Drop, W: Write + Drop>(
     selection: &Selection,
+    target: &'a str,
+    source: &mut AnySource<S>,
+    linked: bool,
+    octets: &mut Vec<u8>,
+    room: &mut Vec<u8>,
+    written: &mut Written<W>,
+) -> Result<Met, Fault<'a>>
+    ensures { IfOk result (IsStep Gives layer_of_source selection.now.choice linked source.old
+        written.old source.new written.new) }
+{
+    match source.next_into(octets) {
+        Ok(Step::Record(head)) => {
+            let copied = copy_record(selection, target, &head, octets, linked, room, written)?;
+            Ok(Met::Record(copied))
+        }
+        Ok(Step::Passed) => {
+            written.expect(source.layer());
+            Ok(Met::NoRecord)
+        }
+        Ok(Step::End) => Ok(Met::End(None)),
+        Err(fault) => Ok(Met::End(Some(fault))),
+    }
+}
+
+/// Writes a record, if it is chosen.
+fn copy_record<'a, W: Write + Drop>(
+    selection: &Selection,
+    target: &'a str,
     head: &Head,
     octets: &mut Vec<u8>,
     linked: bool,
     room: &mut Vec<u8>,
     written: &mut Written<W>,
-) -> Result<Copied, AllocError> {
+) -> Result<Copied, Fault<'a>>
+    ensures { IfOk result (λ copied. (added : List ℕ) × Copies selection.now.choice linked head.now
+        octets.old.items written.old added written.new copied) }
+{
     if !selection.has_record(head, octets.as_slice(), linked, room)? {
         return Ok(Copied::Passed);
     }
     match written.put(head, octets, linked) {
         Ok(()) => Ok(Copied::Written),
-        Err(fault) => Ok(Copied::LeftOut(fault)),
+        Err(fault) => {
+            if fault.word().is_none() {
+                return Err(Fault::of_target(target));
+            }
+            Ok(Copied::LeftOut(fault))
+        }
     }
 }
 
-/// Tells that the record of this number is left out. `CannotWrite` where the file that is written
-/// failed instead.
-fn leave_out<'a, E: Write>(
-    fault: SinkFault,
-    target: &'a str,
-    record: u64,
-    lines: OutputFormat,
+/// Tells what a step met, after so many records: that the record is left out, or the fault of the
+/// file.
+fn tell<'a, E: Write>(
+    met: Met,
+    conversion: Conversion<'a>,
+    selection: &Selection,
+    records: u64,
     err: &mut E,
 ) -> Result<(), Fault<'a>> {
-    if fault.word().is_none() {
-        return Err(Fault::of_target(target));
+    match met {
+        Met::Record(Copied::LeftOut(fault)) => {
+            let left_out = LeftOut::new("record", records, fault, conversion.lines);
+            let _ = writeln!(err, "{left_out}");
+        }
+        Met::End(Some(fault)) => {
+            end_file(fault, conversion, selection, records, err)?;
+        }
+        _ => {}
     }
-    let left_out = LeftOut::new("record", record, fault, lines);
-    let _ = writeln!(err, "{left_out}");
     Ok(())
 }
 

@@ -1,7 +1,7 @@
 //! The walk over the records of a file.
 
-ghost use Rattle.std.specs.Prelude.{◌≡◌, ◌≤◌, IfOk, None};
-ghost use Rattle.its_records.specs.Walks.{walk_status};
+ghost use Rattle.std.specs.Prelude.{◌≡◌, ◌≤◌, IfOk, IsTrue, None, true};
+ghost use Rattle.its_records.specs.Walks.{walk_status, Chooses};
 
 use crate::frame::{frame_of, traits_of};
 use crate::refusal::{FileFault, RecordFault};
@@ -44,18 +44,37 @@ impl Selection {
         octets: &[u8],
         linked: bool,
         room: &mut Vec<u8>,
-    ) -> Result<bool, AllocError> {
-        if self.choice == Choice::all() {
+    ) -> Result<bool, AllocError>
+        ensures { IfOk result (Chooses self.now.choice head.now.moment) }
+    {
+        let moment = head.moment;
+        if self.has_any(moment) {
             return Ok(true);
         }
         room.clear();
         room.extend_from_slice(&octets[..octets.len().min(LONGEST_RECORD)])?;
         let frame = frame_of(head, room, linked);
-        Ok(self.has(head.moment, &frame))
+        Ok(self.has(moment, &frame))
+    }
+
+    /// Whether a record of this moment is chosen, whatever its frame is.
+    fn has_any(&self, moment: u64) -> bool
+        ensures { IsTrue result → Chooses self.now.choice moment true }
+    {
+        let choice = &self.choice;
+        choice.kinds.is_none()
+            && choice.source.is_none()
+            && choice.from.is_none()
+            && choice.port.is_none()
+            && !choice.refused
+            && choice.since <= moment
+            && moment <= choice.until
     }
 
     /// Whether a record of this moment is chosen.
-    fn has(&self, moment: u64, frame: &Result<FrameView<'_>, RecordFault>) -> bool {
+    fn has(&self, moment: u64, frame: &Result<FrameView<'_>, RecordFault>) -> bool
+        ensures { Chooses self.now.choice moment result }
+    {
         let traits = match frame {
             Ok(frame) => Some(traits_of(frame)),
             Err(_) => None,

@@ -1,8 +1,13 @@
 use Rattle.std.proofs.Common.{◌≤◌}
-use Rattle.its_reporting.specs.Statuses.{IsCommandStatus}
+use Rattle.its_pcap.specs.Sources.{Gives, layer_of_source}
+use Rattle.its_commands.specs.Conversions.{IsCopying}
 use Rattle.its_commands.proofs.converting.copy.Given as goal
 
--- no more records than steps were gone
+-- no more records than steps were gone, and what these steps wrote
 abbrev pub invariant-loop-step : goal.invariant-loop-step
-invariant-loop-step g l =
-    (l.records ≤ l.step) × (l.chosen ≤ l.step) × IsCommandStatus l.status
+invariant-loop-step g l = record {
+  records : l.progress.records ≤ l.step;
+  chosen : l.progress.chosen ≤ l.step;
+  copying : IsCopying Gives layer_of_source l.selection.choice l.linked l.fn.source l.fn.written
+      l.source l.written l.progress l.step;
+}
