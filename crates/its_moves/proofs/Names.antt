@@ -16,10 +16,6 @@ text_at (x ∷ fields) zero field lt is =
     ap (λ (f : Vec ℕ Global). Some f.items) (sym is)
 text_at (x ∷ fields) (suc place) field lt is = text_at fields place field (omega (arith, lt)) is
 
-pub length_texts : (fields : List (Vec ℕ Global)) → length (texts fields) ≡ length fields
-length_texts [] = refl
-length_texts (x ∷ fields) = ap suc (length_texts fields)
-
 -- one more name, which is another
 pub none_more : (names : List (List ℕ)) (word name : List ℕ) (n : ℕ)
     → slice_get names n ≡ Some name → name ≢ word → HasNoneBelow n names word

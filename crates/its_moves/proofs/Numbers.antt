@@ -1,6 +1,6 @@
 -- Digits and points.
 use Rattle.std.proofs.Common.{◌≡◌, ◌≢◌, ℕ, zero, suc, ◌+◌, ◌*◌, ◌^◌, ◌<◌, ◌≤◌, List, [], ◌∷◌, ◌++◌}
-use Rattle.std.proofs.Common.{length, get_or, take, drop}
+use Rattle.std.proofs.Common.{length, length-take, get_or, take, drop}
 use Rattle.std.proofs.Common.{refl, sym, ap, subst, ◌∙◌, arith, eq-eqb, length-append, length-drop}
 use Rattle.std.proofs.Common.{add-one, ◌-◌, Bool}
 use Rattle.std.specs.Prelude.{if◌then◌else◌}
@@ -9,7 +9,7 @@ use Rattle.std.proofs.lemmas.List.{take_all}
 use Rattle.std.specs.Char.{digit_value}
 use Rattle.std.specs.Str.Parse.{AllDigits, digits_value, digits_value_after}
 use Rattle.std.specs.Io.BufRead.{drop_through}
-use Rattle.std.proofs.lemmas.Int.Digits.{digits_value-lt, digits_value_more}
+use Rattle.std.proofs.lemmas.Int.Digits.{digits_more, digits_value-lt, digits_value_more}
 use Rattle.std.proofs.lemmas.Str.Parse.{digits_value-take-le}
 use Rattle.std.proofs.Math.Nat.{pow-le-pow_right, pow-succ', one-le-pow}
 use Rattle.its_moves.specs.Decimals.{before_point, behind_point}
@@ -57,6 +57,18 @@ next_digit ds i digits few lt =
       digits_value_more 10 ds i lt,
       digits_value-take-le 10 ds (i + 1) (omega arith),
       few_digits 19 ds digits few,
+    )
+
+-- one more digit behind digits fits
+pub digit_more : (ds : List ℕ) (i : ℕ) → AllDigits 10 (take i ds) → length ds ≤ 19
+    → i < length ds → digit_value (get_or ds i 0) < 10
+    → digits_value 10 (take i ds) * 10 + digit_value (get_or ds i 0) < 10000000000000000000
+digit_more ds i digits few lt digit =
+    omega (
+      arith,
+      digits_value_more 10 ds i lt,
+      few_digits 19 (take (i + 1) ds) (digits_more 10 ds i lt digits digit)
+          (omega (arith, few, length-take (i + 1) ds)),
     )
 
 -- both sides of a point fit

@@ -1,5 +1,6 @@
 -- The fields of a line (RFC 4180, but that a row is one line).
-use Rattle.std.specs.Prelude.{◌==◌, ℕ, List, [], ◌∷◌, ◌++◌, if◌then◌else◌}
+use Rattle.std.specs.Prelude.{◌==◌, ℕ, List, [], ◌∷◌, ◌++◌, if◌then◌else◌, map, slice_range}
+use Rattle.its_moves.specs.declared.fields.Bound.{Bound}
 use Rattle.its_moves.specs.declared.fields.Part.{Part}
 use Rattle.its_moves.specs.declared.fields.Part.TheVariants as parts
 use Rattle.its_moves.specs.declared.fields.Effect.{Effect}
@@ -40,3 +41,16 @@ fields_after separator part field (octet ∷ octets) =
 -- the fields of a line
 abbrev pub fields_of : ℕ → List ℕ → List (List ℕ)
 fields_of separator line = fields_after separator parts.Begin [] line
+
+-- what octets have within bounds
+abbrev pub cut : List ℕ → List Bound → List (List ℕ)
+cut octets bounds = map (λ (b : Bound). slice_range octets b.begin b.end) bounds
+
+-- ---- words of private functions
+
+-- the fields of the octets that follow where none is a mark
+abbrev pub plain_after : ℕ → List ℕ → List ℕ → List (List ℕ)
+plain_after separator field [] = field ∷ []
+plain_after separator field (octet ∷ octets) =
+    if octet == separator then field ∷ plain_after separator [] octets
+    else plain_after separator (field ++ octet ∷ []) octets

@@ -18,10 +18,11 @@ pub(crate) fn whole(octets: &[u8]) -> Option<i128>
     ensures none { IfNone result ((number : ℤ) → ¬ WritesWhole octets.now number) }
 {
     let digits = unsigned(octets);
-    if digits.is_empty() || digits.len() > MOST_DIGITS || !are_digits(digits) {
+    if digits.is_empty() || digits.len() > MOST_DIGITS {
         return None;
     }
-    Some(signed(octets, value(digits) as u128))
+    let magnitude = value_of(digits)?;
+    Some(signed(octets, magnitude as u128))
 }
 
 #[tactic(auto, using(crate::proofs::Numbers::small_power, crate::proofs::Numbers::some_power))]
@@ -129,4 +130,22 @@ fn value(digits: &[u8]) -> u64
         value = value * 10 + (*digit - b'0') as u64;
     }
     value
+}
+
+#[tactic(auto, using(crate::proofs::Numbers::digit_more, std::proofs::lemmas::Int::Digits::digits_more, std::proofs::lemmas::Int::Digits::digits_value_more, std::proofs::lemmas::Str::Parse::digit_at))]
+/// The number that octets write, of which there are at most 19. `None` where one is no digit.
+fn value_of(octets: &[u8]) -> Option<u64>
+    requires few { length octets.now ≤ 19 }
+    ensures digits { IfSome result (λ _. AllDigits 10 octets.now) }
+    ensures value { IfSome result (λ value. value ≡ digits_value 10 octets.now) }
+    ensures none { IfNone result (¬ AllDigits 10 octets.now) }
+{
+    let mut value = 0;
+    for octet in octets {
+        if !octet.is_ascii_digit() {
+            return None;
+        }
+        value = value * 10 + (*octet - b'0') as u64;
+    }
+    Some(value)
 }

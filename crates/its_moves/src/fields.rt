@@ -1,8 +1,8 @@
 //! The fields of a line (RFC 4180, but that a row is one line: an open quotation ends with it).
 
-ghost use Rattle.std.specs.Prelude.{◌≡◌, IfOk};
+ghost use Rattle.std.specs.Prelude.{◌≡◌, IfOk, OnOk, Ok, true, slice_range};
 ghost use Rattle.its_moves.specs.Columns.{texts};
-ghost use Rattle.its_moves.specs.Fields.{effect_of, effect_outside, fields_of};
+ghost use Rattle.its_moves.specs.Fields.{cut, effect_of, effect_outside, fields_of};
 
 use std::alloc::{AllocError, Global};
 use std::mem;
@@ -80,4 +80,64 @@ pub(crate) fn split(alloc: Global, separator: u8, line: &[u8]) -> Result<Vec<Vec
     }
     fields.push(field)?;
     Ok(fields)
+}
+
+/// Where a field stands in octets: from here up to there.
+#[derive(Clone, Copy, Debug, PartialEq, Eq)]
+pub(crate) struct Bound {
+    pub(crate) begin: usize,
+    pub(crate) end: usize,
+}
+
+/// The octets within a bound.
+pub(crate) fn within(octets: &[u8], bound: Bound) -> &[u8]
+    ensures { result.now ≡ slice_range octets.now bound.begin bound.end }
+{
+    let end = bound.end.min(octets.len());
+    let begin = bound.begin.min(end);
+    &octets[begin..end]
+}
+
+/// Finds the bounds of the fields of a line without a quotation mark, in place of others, so that no
+/// field takes memory of its own. `false` where the line has a mark.
+pub(crate) fn find_bounds(
+    separator: u8,
+    line: &[u8],
+    bounds: &mut Vec<Bound>,
+) -> Result<bool, AllocError>
+    ensures { result ≡ Ok true → cut line.now bounds.new.items ≡ fields_of separator line.now }
+{
+    bounds.clear();
+    let mut begin = 0;
+    for (place, octet) in line.iter().enumerate() {
+        if *octet == b'"' {
+            return Ok(false);
+        }
+        if *octet == separator {
+            bounds.push(Bound { begin, end: place })?;
+            begin = place + 1;
+        }
+    }
+    let end = line.len();
+    bounds.push(Bound { begin, end })?;
+    Ok(true)
+}
+
+/// Joins fields to one text, in place of another, and notes the bounds of each.
+pub(crate) fn join(
+    fields: &[Vec<u8>],
+    text: &mut Vec<u8>,
+    bounds: &mut Vec<Bound>,
+) -> Result<(), AllocError>
+    ensures { OnOk result (cut text.new.items bounds.new.items ≡ texts fields.now) }
+{
+    text.clear();
+    bounds.clear();
+    for field in fields {
+        let begin = text.len();
+        text.extend_from_slice(field.as_slice())?;
+        let end = text.len();
+        bounds.push(Bound { begin, end })?;
+    }
+    Ok(())
 }

@@ -4,7 +4,7 @@ ghost use Rattle.std.specs.Prelude.{◌≡◌, ◌↔◌, ◌<◌, ◌≤◌, �
 ghost use Rattle.std.specs.Prelude.{IsTrue, IfSome, IfNone, IfOk, IfErr};
 ghost use Rattle.std.specs.Option.{option_map};
 ghost use Rattle.its_gnvalue.specs.Values.{IsSpeed};
-ghost use Rattle.its_moves.specs.Columns.{texts};
+ghost use Rattle.its_moves.specs.Fields.{cut};
 ghost use Rattle.its_moves.specs.Rows.{AreNumbers, IsFirstWord, IsId, IsMoment, IsNumber};
 ghost use Rattle.its_moves.specs.Rows.{IsControlAt, IsWordOfPlace, MayBeNumber, field_at};
 ghost use Rattle.its_moves.specs.Rows.{may_field};
@@ -12,6 +12,7 @@ ghost use Rattle.its_moves.specs.Rows.{may_field};
 use crate::columns::{Column, Columns, Notation};
 use crate::decimal::{decimal, whole};
 use crate::fault::Word;
+use crate::fields::{Bound, within};
 use its_gnvalue::Place;
 use std::str;
 
@@ -164,34 +165,35 @@ pub(crate) struct Numbers {
     pub(crate) heading: u16,
 }
 
-/// The numbers of a row of these fields, whose moment isn't below this one; or the first word that
-/// refuses it.
+/// The numbers of a row of the fields within these bounds, whose moment isn't below this one; or the
+/// first word that refuses it.
 pub(crate) fn numbers_of(
     columns: &Columns,
-    fields: &[Vec<u8>],
+    octets: &[u8],
+    bounds: &[Bound],
     before: u64,
 ) -> Result<Numbers, Word>
-    ensures ok { IfOk result (AreNumbers columns.now (texts fields.now) before) }
+    ensures ok { IfOk result (AreNumbers columns.now (cut octets.now bounds.now) before) }
     ensures ranges { IfOk result (λ numbers. IsSpeed numbers.speed
         × (numbers.heading < 3600) × (numbers.at ≤ 2 ^ 62)) }
-    ensures err { IfErr result (IsFirstWord columns.now (texts fields.now) before) }
+    ensures err { IfErr result (IsFirstWord columns.now (cut octets.now bounds.now) before) }
 {
-    if fields.len() != columns.count {
+    if bounds.len() != columns.count {
         return Err(Word::Fields);
     }
-    let Some(at) = moment_of(columns, before, field(fields, columns.at)) else {
+    let Some(at) = moment_of(columns, before, field(octets, bounds, columns.at)) else {
         return Err(Word::At);
     };
-    if !is_id(field(fields, columns.id)) {
+    if !is_id(field(octets, bounds, columns.id)) {
         return Err(Word::Id);
     }
     let place = place_of(
         columns,
-        field(fields, columns.lat),
-        field(fields, columns.lon),
+        field(octets, bounds, columns.lat),
+        field(octets, bounds, columns.lon),
     )?;
-    let speed = speed_of(columns, optional_field(fields, columns.speed))?;
-    let turn = turn_of(columns, optional_field(fields, columns.heading))?;
+    let speed = speed_of(columns, optional_field(octets, bounds, columns.speed))?;
+    let turn = turn_of(columns, optional_field(octets, bounds, columns.heading))?;
     Ok(Numbers {
         at,
         place,
@@ -200,22 +202,23 @@ pub(crate) fn numbers_of(
     })
 }
 
-/// The octets of a field.
-pub(crate) fn field(fields: &[Vec<u8>], place: usize) -> &[u8]
-    ensures { result.now ≡ field_at (texts fields.now) place }
+/// The octets of the field of a place.
+pub(crate) fn field<'a>(octets: &'a [u8], bounds: &[Bound], place: usize) -> &'a [u8]
+    ensures { result.now ≡ field_at (cut octets.now bounds.now) place }
 {
-    match fields.get(place) {
-        Some(field) => field.as_slice(),
+    match bounds.get(place) {
+        Some(bound) => within(octets, *bound),
         None => &[],
     }
 }
 
 /// The octets of a field that may be absent.
-fn optional_field(fields: &[Vec<u8>], place: Option<usize>) -> Option<&[u8]>
-    ensures { option_map (λ octets. octets.now) result ≡ may_field (texts fields.now) place }
+fn optional_field<'a>(octets: &'a [u8], bounds: &[Bound], place: Option<usize>) -> Option<&'a [u8]>
+    ensures { option_map (λ octets. octets.now) result
+        ≡ may_field (cut octets.now bounds.now) place }
 {
     match place {
-        Some(place) => Some(field(fields, place)),
+        Some(place) => Some(field(octets, bounds, place)),
         None => None,
     }
 }

@@ -1,13 +1,13 @@
 //! The rows of a file, one after the other.
 
 ghost use Rattle.std.specs.Prelude.{◌≡◌, ◌≤◌, IfOk, IfSome, string_bytes};
-ghost use Rattle.its_moves.specs.Columns.{texts};
+ghost use Rattle.its_moves.specs.Fields.{cut};
 ghost use Rattle.its_moves.specs.Rows.{IsId, IsRow, IsRowBetween, ReachesBetween, ReachesRow};
 ghost use Rattle.its_moves.specs.Rows.{field_at};
 
 use crate::columns::{Columns, Notation, columns_of};
 use crate::fault::{LineFault, MovesFault, Word};
-use crate::fields::split;
+use crate::fields::{Bound, find_bounds, join, split};
 use crate::row::{Row, field, numbers_of};
 use std::alloc::Global;
 use std::io::{BufRead, Take};
@@ -28,6 +28,10 @@ pub struct Rows<R: BufRead> {
     columns: Columns,
     begin: u64,
     line: Vec<u8>,
+    /// The fields of a line with quotation marks, side by side without them.
+    text: Vec<u8>,
+    /// Where the fields stand, in the line or in that text.
+    bounds: Vec<Bound>,
     number: u64,
     before: u64,
     state: State,
@@ -72,6 +76,8 @@ impl<R: BufRead + Drop> Rows<R> {
                 columns,
                 begin,
                 line,
+                text: Vec::new(alloc),
+                bounds: Vec::new(alloc),
                 number: 1,
                 before: 0,
                 state: State::Reading,
@@ -157,45 +163,85 @@ impl<R: BufRead + Drop> Rows<R> {
         if octets.is_empty() {
             return Ok(Reached::Passed);
         }
+        if find_bounds(self.separator, octets, &mut self.bounds)? {
+            return row_of(
+                self.alloc,
+                &self.columns,
+                self.begin,
+                &mut self.before,
+                octets,
+                &self.bounds,
+            );
+        }
         let fields = split(self.alloc, self.separator, octets)?;
-        if is_passed_over(&self.columns, &fields) {
-            return Ok(Reached::Passed);
-        }
-        let numbers = match numbers_of(&self.columns, &fields, self.before) {
-            Ok(numbers) => numbers,
-            Err(word) => return Err(LineFault::Refused(word)),
-        };
-        self.before = numbers.at;
-        if numbers.at < self.begin {
-            return Ok(Reached::Passed);
-        }
-        Ok(Reached::Row(Row {
-            moment: numbers.at - self.begin,
-            id: id_of(self.alloc, &self.columns, &fields)?,
-            place: numbers.place,
-            speed: numbers.speed,
-            heading: numbers.heading,
-        }))
+        join(&fields, &mut self.text, &mut self.bounds)?;
+        row_of(
+            self.alloc,
+            &self.columns,
+            self.begin,
+            &mut self.before,
+            &self.text,
+            &self.bounds,
+        )
     }
 }
 
-/// The id of a row of these fields.
-fn id_of(alloc: Global, columns: &Columns, fields: &[Vec<u8>]) -> Result<String, LineFault>
-    requires { IsId (field_at (texts fields.now) columns.now.id) }
-    ensures { IfOk result (λ id.
-        string_bytes id ≡ field_at (texts fields.now) columns.now.id) }
+/// The row of the fields within these bounds, of a file whose clock shows so much at the begin and
+/// showed so much in the row before.
+fn row_of(
+    alloc: Global,
+    columns: &Columns,
+    begin: u64,
+    before: &mut u64,
+    octets: &[u8],
+    bounds: &[Bound],
+) -> Result<Reached, LineFault>
+    ensures row { IfOk result ReachesRow }
+    ensures before { before.old ≤ before.new }
+    ensures order { IfOk result (ReachesBetween begin before.old before.new) }
 {
-    match str::from_utf8(field(fields, columns.id)) {
+    if is_passed_over(columns, octets, bounds) {
+        return Ok(Reached::Passed);
+    }
+    let numbers = match numbers_of(columns, octets, bounds, *before) {
+        Ok(numbers) => numbers,
+        Err(word) => return Err(LineFault::Refused(word)),
+    };
+    *before = numbers.at;
+    if numbers.at < begin {
+        return Ok(Reached::Passed);
+    }
+    Ok(Reached::Row(Row {
+        moment: numbers.at - begin,
+        id: id_of(alloc, columns, octets, bounds)?,
+        place: numbers.place,
+        speed: numbers.speed,
+        heading: numbers.heading,
+    }))
+}
+
+/// The id of a row of these fields.
+fn id_of(
+    alloc: Global,
+    columns: &Columns,
+    octets: &[u8],
+    bounds: &[Bound],
+) -> Result<String, LineFault>
+    requires { IsId (field_at (cut octets.now bounds.now) columns.now.id) }
+    ensures { IfOk result (λ id.
+        string_bytes id ≡ field_at (cut octets.now bounds.now) columns.now.id) }
+{
+    match str::from_utf8(field(octets, bounds, columns.id)) {
         Ok(id) => Ok(String::from_str(alloc, id)?),
         Err(_) => unreachable!(),
     }
 }
 
 /// Whether a row of these fields is passed over: SUMO writes one without an id where no vehicle is.
-fn is_passed_over(columns: &Columns, fields: &[Vec<u8>]) -> bool {
+fn is_passed_over(columns: &Columns, octets: &[u8], bounds: &[Bound]) -> bool {
     columns.notation == Notation::Sumo
-        && fields.len() == columns.count
-        && field(fields, columns.id).is_empty()
+        && bounds.len() == columns.count
+        && field(octets, bounds, columns.id).is_empty()
 }
 
 /// Room for a line.

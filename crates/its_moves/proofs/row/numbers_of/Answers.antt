@@ -3,10 +3,10 @@ use mir.Val.{to_z, of_z}
 use mir.Syntax.{w16}
 use Rattle.std.proofs.lemmas.Int.{to_z-of_z}
 use Rattle.its_gnvalue.specs.Values.{IsSpeed}
-use Rattle.its_moves.specs.Columns.{texts}
+use Rattle.its_moves.specs.Fields.{cut}
 use Rattle.its_moves.specs.Rows.{IsId, IsMoment, IsNumber, MayBeNumber, may_field}
 use Rattle.its_moves.specs.declared.columns.Column.TheVariants as columns
-use Rattle.its_moves.proofs.Names.{length_texts}
+use Rattle.its_moves.proofs.Bounds.{length_cut}
 use Rattle.its_moves.proofs.row.numbers_of.Goals as goal
 
 -- a speed is one of 16 bits
@@ -16,9 +16,10 @@ speed_same z h = sym (to_z-of_z w16 z (grind (arith, h)))
 pub returns-clause-ok : goal.returns-clause-ok
 returns-clause-ok c =
     let notation = c.args.columns.now.notation in
-    let fields = c.args.fields.now in
+    let octets = c.args.octets.now in
+    let bounds = c.args.bounds.now in
     record {
-      count = length_texts fields ∙ c.if-fields-columns.false;
+      count = length_cut octets bounds ∙ c.if-bounds-columns.false;
       at = subst (λ (l : List ℕ). IsMoment notation c.args.before l c.in-Some.at) c.field.ensures
           c.in-Some.ensures.some;
       id = subst IsId c.field-2.ensures (c.is_id.ensures.0 c.if-not-is_id.false);
@@ -27,7 +28,7 @@ returns-clause-ok c =
       lon = subst (λ (l : List ℕ). IsNumber notation columns.Lon l c.in_ok-place.place.longitude)
           c.field-4.ensures c.in_ok-place.ensures.ok.1;
       speed = subst (λ (z : ℤ). MayBeNumber notation columns.Speed
-          (may_field (texts fields) c.args.columns.now.speed) z)
+          (may_field (cut octets bounds) c.args.columns.now.speed) z)
           (speed_same c.in_ok-speed.speed c.in_ok-speed.ensures.range)
           (subst (λ (o : Option (List ℕ)). MayBeNumber notation columns.Speed o c.in_ok-speed.speed)
           c.optional_field.ensures c.in_ok-speed.ensures.ok);
