@@ -1,6 +1,6 @@
 -- What many calls of a station are in the model.
 use Rattle.std.specs.Prelude.{◌≡◌, ℕ, ◌≤◌, ◌++◌, List, [], ◌∷◌, length, Option, Some, None}
-use Rattle.std.specs.Prelude.{IsSomeAnd, Bool}
+use Rattle.std.specs.Prelude.{IsSomeAnd, Bool, true, false}
 use Rattle.std.specs.Option.{option_map}
 use Rattle.its_gnvalue.specs.Values.{Position, IsSpeed}
 use Rattle.its_model.specs.Packet.{Message, Transmission}
@@ -69,6 +69,15 @@ TellsReply (replies.Accepted handed sent) answer =
     TellsAccepted (option_map delivered handed) sent answer
 TellsReply (replies.Refused refused) answer =
     IsSomeAnd (refusal_of refused) (λ refusal. answer ≡ model.Answer.Refused refusal)
+
+-- whether the call was refused
+abbrev pub is_refusal : Reply → Bool
+is_refusal (replies.Refused refused) = true
+is_refusal reply = false
+
+-- where a reply says that the call was done and no more, the answer is this
+abbrev pub IsThisWhereDone : Answer Transmission → Reply → Answer Transmission → Type 0
+IsThisWhereDone this reply answer = reply ≡ replies.Done → answer ≡ this
 
 -- these answers, one for one
 abbrev pub AreReplies : List Reply → List (Answer Transmission) → Type 0

@@ -1,6 +1,6 @@
 //! Many calls, one after the other.
 
-ghost use Rattle.std.specs.Prelude.{◌≡◌, ◌≤◌, ◌<◌, ℕ, Option, List, [], All, length, take};
+ghost use Rattle.std.specs.Prelude.{◌≡◌, ◌≢◌, ◌≤◌, ◌<◌, ℕ, Option, List, [], All, length, take};
 ghost use Rattle.std.specs.Prelude.{Err, IfOk, OnErr, IsTrue, IsFalse, IsSome, MatchResult};
 ghost use Rattle.std.specs.Prelude.{vec_len, vec_capacity};
 ghost use Rattle.std.specs.Option.{option_map};
@@ -12,7 +12,8 @@ ghost use Rattle.its_station.specs.Steps.{IsStepOf, Says, refusal_of};
 ghost use Rattle.its_station.specs.Requests.{TellsSent, TellsTick};
 ghost use Rattle.its_station.specs.Receiving.{IsFrameCall, Tells, said_by};
 ghost use Rattle.its_station.specs.Runs.{IsCall, IsInRange, IsReplyTo, IsDone, TellsReply};
-ghost use Rattle.its_station.specs.Runs.{IsRunOf, IsIsolatedRunOf, Fits, HandingFits, delivered};
+ghost use Rattle.its_station.specs.Runs.{IsRunOf, IsIsolatedRunOf, IsThisWhereDone};
+ghost use Rattle.its_station.specs.Runs.{Fits, HandingFits, delivered};
 
 use crate::outcome::{Handed, Outcome, Why};
 use crate::refused::Refused;
@@ -22,6 +23,7 @@ use its_gnvalue::{NoMemory, Place};
 use its_loctable::LocationStore;
 use its_model::laws::{calls_go_on, sources_are_isolated};
 use std::alloc::Global;
+use std::mem;
 
 /// A call of a station, with its arguments but for the moment. It owns its octets.
 #[derive(Debug, Drop, PartialEq, Eq)]
@@ -191,17 +193,38 @@ impl<S: LocationStore> Station<S> {
         }
     }
 
-    /// A frame that came. The room of the reply is taken before it is received: what is delivered
-    /// is a part of the frame.
+    /// A frame that came, with a payload of its own in the reply.
     fn receive_owned(&mut self, moment: u64, frame: &[u8]) -> Result<Reply, NoMemory>
         ensures step { IfOk result (λ reply. (c : ModelCall) × IsFrameCall frame.now c
             × ((s : StationModel) → RepresentsStation self.old s →
             IsReplyTo reply self.new (station_step s moment c))) }
         ensures unchanged { OnErr result (self.new ≡ self.old) }
     {
-        let room = Vec::with_capacity(self.alloc(), frame.len())?;
+        let mut room = Vec::new(self.alloc());
+        self.receive_in(moment, frame, &mut room)
+    }
+
+    /// `receive`, with a reply that owns its octets. A payload that is delivered takes `room`, which
+    /// is emptied first; where nothing is delivered the room stays, for the next frame. `NoMemory`
+    /// where an allocation failed: the station stands as before.
+    pub fn receive_in(
+        &mut self,
+        moment: u64,
+        frame: &[u8],
+        room: &mut Vec<u8>,
+    ) -> Result<Reply, NoMemory>
+        ensures step { IfOk result (λ reply. (c : ModelCall) × IsFrameCall frame.now c
+            × ((s : StationModel) → RepresentsStation self.old s →
+            IsReplyTo reply self.new (station_step s moment c))) }
+        ensures answered { IfOk result (λ reply. reply ≢ Reply.Done) }
+        ensures unchanged { OnErr result (self.new ≡ self.old) }
+    {
+        // What is delivered is a part of the frame, so its room is there before the call.
+        room.clear();
+        room.reserve(frame.len())?;
+        let alloc = self.alloc();
         match self.receive(moment, frame) {
-            Ok(outcome) => Ok(reply_of(outcome, room)),
+            Ok(outcome) => Ok(reply_of(alloc, outcome, room)),
             Err(refused) => refusal(refused),
         }
     }
@@ -210,10 +233,13 @@ impl<S: LocationStore> Station<S> {
 impl Reply {
     /// The reply to a call that tells nothing: `move_to`, `open`, `close` or `restart`. `NoMemory`
     /// where an allocation failed.
-    fn of_done(answer: Result<(), Refused>) -> Result<Reply, NoMemory>
+    pub fn of_done(answer: Result<(), Refused>) -> Result<Reply, NoMemory>
         ensures reply { (this : Answer Transmission) (new : StationState) (step : Step) →
             IsDone this → IsStepOf (Says this) answer new step →
             IfOk result (λ reply. IsReplyTo reply new step) }
+        ensures done { (this : Answer Transmission) (new : StationState) (step : Step) →
+            IsStepOf (Says this) answer new step →
+            IfOk result (λ reply. IsThisWhereDone this reply step.answer) }
         ensures memory { OnErr result (answer ≡ Err Refused.NoMemory) }
     {
         match answer {
@@ -223,9 +249,10 @@ impl Reply {
     }
 
     /// The reply to `tick`. `NoMemory` where an allocation failed.
-    fn of_tick(answer: Result<Option<Vec<u8>>, Refused>) -> Result<Reply, NoMemory>
+    pub fn of_tick(answer: Result<Option<Vec<u8>>, Refused>) -> Result<Reply, NoMemory>
         ensures reply { (new : StationState) (step : Step) → IsStepOf TellsTick answer new step →
             IfOk result (λ reply. IsReplyTo reply new step) }
+        ensures answered { IfOk result (λ reply. reply ≢ Reply.Done) }
         ensures memory { OnErr result (answer ≡ Err Refused.NoMemory) }
     {
         match answer {
@@ -236,9 +263,10 @@ impl Reply {
     }
 
     /// The reply to a call that sends. `NoMemory` where an allocation failed.
-    fn of_send(answer: Result<Vec<u8>, Refused>) -> Result<Reply, NoMemory>
+    pub fn of_send(answer: Result<Vec<u8>, Refused>) -> Result<Reply, NoMemory>
         ensures reply { (new : StationState) (step : Step) → IsStepOf TellsSent answer new step →
             IfOk result (λ reply. IsReplyTo reply new step) }
+        ensures answered { IfOk result (λ reply. reply ≢ Reply.Done) }
         ensures memory { OnErr result (answer ≡ Err Refused.NoMemory) }
     {
         match answer {
@@ -249,31 +277,35 @@ impl Reply {
 }
 
 /// The outcome as a reply, which takes the payload into the room that was made for it.
-fn reply_of(outcome: Outcome<'_>, room: Vec<u8>) -> Reply
-    requires empty { room.items ≡ [] }
-    requires size { vec_len room ≡ 0 }
-    requires room { Fits (vec_capacity room) outcome }
-    ensures { (answer : Answer Transmission) → Tells outcome.entry answer →
+fn reply_of(alloc: Global, outcome: Outcome<'_>, room: &mut Vec<u8>) -> Reply
+    requires empty { room.old.items ≡ [] }
+    requires size { vec_len room.old ≡ 0 }
+    requires room { Fits (vec_capacity room.old) outcome }
+    ensures reply { (answer : Answer Transmission) → Tells outcome.entry answer →
         TellsReply result answer }
+    ensures answered { result ≢ Reply.Done }
 {
     match outcome {
         Outcome::Ignored(why) => Reply::Ignored(why),
         Outcome::Accepted { handed, sent } => Reply::Accepted {
-            handed: deliver(handed, room),
+            handed: deliver(alloc, handed, room),
             sent,
         },
     }
 }
 
 /// What was delivered, with a payload of its own in the room that was made for it.
-fn deliver(handed: Option<Handed<'_>>, room: Vec<u8>) -> Option<Delivery>
-    requires empty { room.items ≡ [] }
-    requires size { vec_len room ≡ 0 }
-    requires room { HandingFits (vec_capacity room) handed }
+fn deliver(alloc: Global, handed: Option<Handed<'_>>, room: &mut Vec<u8>) -> Option<Delivery>
+    requires empty { room.old.items ≡ [] }
+    requires size { vec_len room.old ≡ 0 }
+    requires room { HandingFits (vec_capacity room.old) handed }
     ensures { option_map delivered result ≡ option_map said_by handed.entry }
 {
     match handed {
-        Some(handed) => Some(Delivery::new(handed, room)),
+        Some(handed) => {
+            let taken = mem::replace(room, Vec::new(alloc));
+            Some(Delivery::new(handed, taken))
+        }
         None => None,
     }
 }
@@ -281,7 +313,7 @@ fn deliver(handed: Option<Handed<'_>>, room: Vec<u8>) -> Option<Delivery>
 impl Delivery {
     /// The same, with a payload of its own in this room: an empty vector in which the payload has
     /// place.
-    pub fn new(handed: Handed<'_>, room: Vec<u8>) -> Delivery
+    fn new(handed: Handed<'_>, room: Vec<u8>) -> Delivery
         requires empty { room.items ≡ [] }
         requires size { vec_len room ≡ 0 }
         requires room { length handed.payload.now ≤ vec_capacity room }

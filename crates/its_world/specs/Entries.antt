@@ -1,16 +1,12 @@
 -- What an entry tells.
-use Rattle.std.specs.Prelude.{◌≡◌, ℕ, List, [], ◌∷◌, IsSomeAnd}
+use Rattle.std.specs.Prelude.{◌≡◌, ℕ, Bool, true, false, List, [], ◌∷◌, IsSomeAnd}
 use Rattle.std.specs.Option.{option_map}
 use Rattle.its_model.specs.Calls as model
 use Rattle.its_model.specs.Calls.{Answer}
 use Rattle.its_station.specs.Steps.{refusal_of}
-use Rattle.its_model.specs.Packet.{Transmission}
-use Rattle.its_model.specs.Station.{Step}
-use Rattle.its_station.specs.Receiving.{why_of, TellsAccepted}
-use Rattle.its_station.specs.Requests.{TellsSent}
-use Rattle.its_station.specs.State.{StationState, RepresentsStation}
-use Rattle.its_world.specs.declared.given.Given.{Given}
-use Rattle.its_world.specs.declared.given.Given.TheVariants as givens
+use Rattle.its_model.specs.World.{What}
+use Rattle.its_model.specs.World.What.{Calls, Deliver}
+use Rattle.its_station.specs.Receiving.{why_of}
 use Rattle.its_station.specs.Runs.{delivered}
 use Rattle.its_world.specs.declared.entry.Entry.{Entry}
 use Rattle.its_world.specs.declared.entry.Entry.TheVariants as entries
@@ -37,6 +33,11 @@ TellsEntry (entries.Accepted handed sent) answer =
     answer ≡ model.Answer.Accepted (option_map delivered handed) sent
 TellsEntry (entries.Refused fault) answer = TellsFault fault answer
 
+-- whether the event was done: it was not refused
+abbrev pub was_done : Entry → Bool
+was_done (entries.Refused fault) = false
+was_done entry = true
+
 -- these are the model's, one for one
 abbrev pub AreEntries : List Entry → List (Answer ℕ) → Type 0
 AreEntries [] [] = Unit {0}
@@ -44,27 +45,14 @@ AreEntries [] (a ∷ answers) = ⊥
 AreEntries (e ∷ log) [] = ⊥
 AreEntries (e ∷ log) (a ∷ answers) = TellsEntry e a × AreEntries log answers
 
--- ---- words of private functions
-
--- an entry that names no frame is this answer
-abbrev pub IsToldBy : Entry → Answer Transmission → Type 0
-IsToldBy entries.Moved answer = answer ≡ model.Answer.Moved
-IsToldBy entries.Opened answer = answer ≡ model.Answer.Opened
-IsToldBy entries.Closed answer = answer ≡ model.Answer.Closed
-IsToldBy entries.Restarted answer = answer ≡ model.Answer.Restarted
-IsToldBy entries.Quiet answer = answer ≡ model.Answer.Quiet
-IsToldBy (entries.Sent k) answer = ⊥
-IsToldBy (entries.Ignored why) answer = answer ≡ model.Answer.Ignored (why_of why)
-IsToldBy (entries.Accepted handed sent) answer = ⊥
-IsToldBy (entries.Refused fault) answer = TellsFault fault answer
-
--- a station's answer, whose frame has no number yet
-abbrev pub TellsGiven : Given → Answer Transmission → Type 0
-TellsGiven (givens.Told entry) answer = IsToldBy entry answer
-TellsGiven (givens.Sent frame) answer = TellsSent frame answer
-TellsGiven (givens.Accepted handed sent) answer =
-    TellsAccepted (option_map delivered handed) sent answer
-
--- a station's answer, and the station after it, are those of the step
-abbrev pub IsGivenBy : Given → StationState → Step → Type 0
-IsGivenBy given new step = TellsGiven given step.answer × RepresentsStation new step.station
+-- the answer to a call of which nothing is told but that it was done; of others it is of no account
+abbrev pub done_answer : {F : Type 0} → What → Answer F
+done_answer (Calls (model.OwnCall.Move place pai speed heading)) = model.Answer.Moved
+done_answer (Calls (model.OwnCall.Open port)) = model.Answer.Opened
+done_answer (Calls (model.OwnCall.Close port)) = model.Answer.Closed
+done_answer (Calls (model.OwnCall.Restart number)) = model.Answer.Restarted
+done_answer (Calls (model.OwnCall.Tick jitter)) = model.Answer.Quiet
+done_answer (Calls (model.OwnCall.SendShb r)) = model.Answer.Quiet
+done_answer (Calls (model.OwnCall.SendGbc r)) = model.Answer.Quiet
+done_answer (Calls (model.OwnCall.SendGac r)) = model.Answer.Quiet
+done_answer (Deliver k) = model.Answer.Quiet

@@ -1,5 +1,5 @@
 -- Events and configs in the model.
-use Rattle.std.specs.Prelude.{◌≤◌, ℕ}
+use Rattle.std.specs.Prelude.{◌≤◌}
 use Rattle.its_gnvalue.specs.Values.{IsSpeed}
 use Rattle.its_model.specs.Calls as asked
 use Rattle.its_model.specs.World as model

@@ -1,9 +1,10 @@
 //! The frames of a world: those that are kept, by their numbers.
 
-ghost use Rattle.std.specs.Prelude.{◌≡◌, ◌<◌, ◌≤◌, ◌+◌, ◌-◌, ◌^◌, ◌++◌, ◌∷◌, [], Some, OnOk};
+ghost use Rattle.std.specs.Prelude.{◌≡◌, ◌<◌, ◌≤◌, ◌+◌, ◌-◌, ◌^◌, [], Some, OnOk};
 ghost use Rattle.std.specs.Prelude.{length, drop, min, max};
 ghost use Rattle.std.specs.Option.{option_map};
 ghost use Rattle.std.specs.VecDeque.{deque_len, deque_capacity};
+ghost use Rattle.its_model.specs.World.{with_one_more};
 ghost use Rattle.its_world.specs.Frames.{frame_in};
 
 use its_gnvalue::NoMemory;
@@ -86,17 +87,17 @@ impl Air {
         Ok(())
     }
 
-    /// Gives a frame the next number, for which there has to be room.
-    pub(crate) fn give(&mut self, frame: Vec<u8>) -> usize
+    /// Gives the next number to the frame that a station gave, if it gave one. There has to be room
+    /// for it.
+    pub(crate) fn number(&mut self, given: Option<Vec<u8>>)
         requires room { deque_len self.old.kept < deque_capacity self.old.kept }
         requires number { self.old.released + deque_len self.old.kept < 2 ^ 64 - 1 }
-        ensures number { result ≡ self.old.released + length self.old.kept.items }
         ensures released { self.new.released ≡ self.old.released }
-        ensures given { self.new.kept.items ≡ self.old.kept.items ++ frame ∷ [] }
+        ensures given { self.new.kept.items ≡ with_one_more self.old.kept.items given }
     {
-        let number = self.count();
-        self.kept.push_back_reserved(frame);
-        number
+        if let Some(frame) = given {
+            self.kept.push_back_reserved(frame);
+        }
     }
 
     /// Lets those before this number go, as far as there are such and they aren't gone already.

@@ -6,8 +6,10 @@ ghost use Rattle.its_model.specs.Calls.Call.{Own};
 ghost use Rattle.its_model.specs.World.What.{Calls, Deliver};
 ghost use Rattle.its_station.specs.Runs.{IsCall};
 ghost use Rattle.its_station.specs.Runs as calls;
+ghost use Rattle.its_world.specs.Entries.{TellsEntry, done_answer};
 ghost use Rattle.its_world.specs.Events.{IsInRange, IsOwn, what_of};
 
+use crate::entry::Entry;
 use its_gnvalue::Place;
 use its_station::{Call, OwnedGbcRequest, OwnedShbRequest};
 
@@ -74,6 +76,23 @@ impl What {
             What::SendGeoanycast(request) => Some(Call::SendGeoanycast(request)),
             What::Restart(number) => Some(Call::Restart(number)),
             What::Deliver(_) => None,
+        }
+    }
+
+    /// What is told of it where its station answers only that it was done.
+    pub fn done_entry(&self) -> Entry
+        ensures { TellsEntry result (done_answer (what_of self.now)) }
+    {
+        match self {
+            What::MoveTo { .. } => Entry::Moved,
+            What::Open(_) => Entry::Opened,
+            What::Close(_) => Entry::Closed,
+            What::Restart(_) => Entry::Restarted,
+            What::Tick(_)
+            | What::SendShb(_)
+            | What::SendGeobroadcast(_)
+            | What::SendGeoanycast(_)
+            | What::Deliver(_) => Entry::Quiet,
         }
     }
 }

@@ -8,11 +8,12 @@ ghost use Rattle.its_model.specs.Station.{StationModel, station_step};
 ghost use Rattle.its_model.specs.World.{WorldModel, opening, world_step, entries};
 ghost use Rattle.its_model.specs.Reach.{HasOwnAddress};
 ghost use Rattle.its_headers.specs.Encoding.{IsBytes};
+ghost use Rattle.its_station.specs.Runs.{IsReplyTo, IsThisWhereDone};
 ghost use Rattle.its_station.specs.State.{StationState, RepresentsStation};
 ghost use Rattle.its_world.specs.Frames.{frame_in};
 ghost use Rattle.its_world.specs.State.{RepresentsWorld};
 ghost use Rattle.its_world.specs.Events.{IsConfig, IsInRange, config_of, event_of, what_of};
-ghost use Rattle.its_world.specs.Entries.{TellsEntry, IsGivenBy};
+ghost use Rattle.its_world.specs.Entries.{TellsEntry, done_answer};
 ghost use Rattle.its_world.specs.Mids.{AreApart, IsMidFault};
 ghost use Rattle.its_world.specs.Steps.{IsAskedBy, IsDelivered, IsKept, IsGone, AreSameBut};
 ghost use Rattle.its_world.specs.Late.{with_station};
@@ -21,14 +22,14 @@ use crate::air::Air;
 use crate::config::{Config, WorldFault};
 use crate::entry::{Entry, EntryFault};
 use crate::event::{Event, What};
-use crate::given::Given;
+use crate::outcome::CallOutcome;
 use crate::shared::refuse_shared;
 use crate::stations::{begin_station, stations_of};
 use its_gnvalue::NoMemory;
 use its_linkframe::laws::{one_frame, one_frame_fault};
 use its_loctable::SortedTable;
 use its_model::laws::addresses_are_own;
-use its_station::Station;
+use its_station::{Reply, Station};
 use std::alloc::Global;
 use std::marker::Model;
 
@@ -211,9 +212,11 @@ impl World {
         one_frame();
         one_frame_fault();
         let station = &mut self.stations[event.station];
-        let room = &mut self.room;
-        let given = ask(self.alloc, room, station, event.moment, &event.what, frame)?;
-        Ok(given.enter(&mut self.air))
+        let reply = ask(station, &mut self.room, event.moment, &event.what, frame)?;
+        let done = event.what.done_entry();
+        let outcome = CallOutcome::of_reply(done, reply, self.air.count());
+        self.air.number(outcome.frame);
+        Ok(outcome.entry)
     }
 }
 
@@ -236,20 +239,21 @@ fn delivered<'a>(air: &'a Air, what: &What) -> Option<&'a [u8]>
     }
 }
 
-/// What a station gives for a call or, where it is a delivery, for this frame. The room is for the
-/// payload of what is delivered.
+/// What a station replies to a call or, where it is a delivery, to this frame. A payload that is
+/// delivered takes the room.
 fn ask(
-    alloc: Global,
-    room: &mut Vec<u8>,
     station: &mut Station<SortedTable>,
+    room: &mut Vec<u8>,
     moment: u64,
     what: &What,
     frame: &[u8],
-) -> Result<Given, NoMemory>
+) -> Result<Reply, NoMemory>
     requires { IsInRange what.now }
-    ensures step { IfOk result (λ given. (call : Call) × IsAskedBy (what_of what.now) frame.now call
+    ensures step { IfOk result (λ reply. (call : Call) × IsAskedBy (what_of what.now) frame.now call
         × ((s : StationModel) → RepresentsStation station.old s →
-        IsGivenBy given station.new (station_step s moment call))) }
+        IsReplyTo reply station.new (station_step s moment call)
+        × IsThisWhereDone (done_answer (what_of what.now)) reply
+        (station_step s moment call).answer)) }
     ensures unchanged { OnErr result (station.new ≡ station.old) }
     ensures bytes { IsBytes frame.now }
 {
@@ -259,26 +263,16 @@ fn ask(
             pai,
             speed,
             heading,
-        } => Given::of_done(
-            Entry::Moved,
-            station.move_to(moment, *place, *pai, *speed, *heading),
-        ),
-        What::Open(port) => Given::of_done(Entry::Opened, station.open(moment, *port)),
-        What::Close(port) => Given::of_done(Entry::Closed, station.close(moment, *port)),
-        What::Restart(number) => {
-            Given::of_done(Entry::Restarted, station.restart(moment, *number))
-        }
-        What::Tick(jitter) => Given::of_tick(station.tick(moment, *jitter)),
-        What::SendShb(r) => Given::of_send(station.send_shb(moment, &r.lend())),
+        } => Reply::of_done(station.move_to(moment, *place, *pai, *speed, *heading)),
+        What::Open(port) => Reply::of_done(station.open(moment, *port)),
+        What::Close(port) => Reply::of_done(station.close(moment, *port)),
+        What::Restart(number) => Reply::of_done(station.restart(moment, *number)),
+        What::Tick(jitter) => Reply::of_tick(station.tick(moment, *jitter)),
+        What::SendShb(r) => Reply::of_send(station.send_shb(moment, &r.lend())),
         What::SendGeobroadcast(r) => {
-            Given::of_send(station.send_geobroadcast(moment, &r.lend()))
+            Reply::of_send(station.send_geobroadcast(moment, &r.lend()))
         }
-        What::SendGeoanycast(r) => Given::of_send(station.send_geoanycast(moment, &r.lend())),
-        What::Deliver(_) => {
-            // What is delivered is a part of the frame, so its room is there before the call.
-            room.clear();
-            room.reserve(frame.len())?;
-            Given::of_frame(alloc, station.receive(moment, frame), room)
-        }
+        What::SendGeoanycast(r) => Reply::of_send(station.send_geoanycast(moment, &r.lend())),
+        What::Deliver(_) => station.receive_in(moment, frame, room),
     }
 }

@@ -1,10 +1,10 @@
 use Rattle.std.proofs.Common.{rules, arith, ◌≡◌, ℕ, ◌<◌, length, Some, None, nat_eq, slice_index}
-use Rattle.std.proofs.Common.{sym, ◌∙◌, ap, subst}
+use Rattle.std.proofs.Common.{sym, ◌∙◌, ap}
 use Rattle.std.proofs.lemmas.Bool.{eqb-true}
 use Rattle.std.proofs.lemmas.List.{get_or-map}
 use Rattle.std.specs.HashMap.{get}
 use Rattle.its_gnvalue.specs.Values.{mid_of}
-use Rattle.its_world.specs.Mids.{mids, ShareMid}
+use Rattle.its_world.specs.Mids.{mids}
 use Rattle.its_world.specs.declared.config.Config.{Config}
 use Rattle.its_world.proofs.Walks.{differ_more, knows_more, places_more}
 use Rattle.its_world.proofs.shared.first_shared.Goals as goal

@@ -1,4 +1,4 @@
-use Rattle.std.proofs.Common.{◌≡◌, ◌≢◌, ℕ, ◌<◌, length, take, slice_index, arith, below_more, sym}
+use Rattle.std.proofs.Common.{◌≡◌, ◌≢◌, ◌<◌, length, take, slice_index, arith, below_more, sym}
 use Rattle.std.proofs.Common.{◌∙◌}
 use Rattle.std.proofs.lemmas.List.{length-take-le}
 use Rattle.its_world.specs.Mids.{mids}

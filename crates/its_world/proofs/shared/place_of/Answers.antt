@@ -1,4 +1,4 @@
-use Rattle.std.proofs.Common.{◌≡◌, ◌≢◌, ℕ, ◌<◌, length, slice_index, arith, below_more, sym, ◌∙◌}
+use Rattle.std.proofs.Common.{◌≡◌, ◌≢◌, slice_index, arith, below_more, sym, ◌∙◌}
 use Rattle.its_world.specs.Mids.{mids}
 use Rattle.its_world.proofs.Walks.{mid_here, told_apart}
 use Rattle.its_world.proofs.shared.place_of.Goals as goal

@@ -1,4 +1,4 @@
-use Rattle.std.proofs.Common.{◌≡◌, ◌≢◌, ℕ, ◌<◌, slice_index}
+use Rattle.std.proofs.Common.{◌≢◌, ℕ, ◌<◌, slice_index}
 use Rattle.its_world.specs.Mids.{mids}
 use Rattle.its_world.proofs.shared.place_of.Given as goal
 

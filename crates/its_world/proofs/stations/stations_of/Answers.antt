@@ -1,7 +1,7 @@
-use Rattle.std.proofs.Common.{◌≡◌, ◌+◌, List, length, map, take, ◌++◌, ◌∷◌, [], sym, ap, subst, ◌∙◌}
+use Rattle.std.proofs.Common.{◌≡◌, ◌+◌, List, map, take, ◌++◌, ◌∷◌, [], sym, ap, subst, ◌∙◌}
 use Rattle.std.proofs.lemmas.List.{take_more, map-append}
 use Rattle.its_model.specs.Station.{StationModel}
-use Rattle.its_model.specs.World.{Config as ModelConfig, opening, station_of}
+use Rattle.its_model.specs.World.{station_of}
 use Rattle.its_station.specs.State.{StationState}
 use Rattle.its_world.specs.declared.config.Config.{Config}
 use Rattle.its_world.specs.State.{RepresentStations}

@@ -1,16 +1,21 @@
-use Rattle.std.proofs.Common.{◌≡◌, ℕ, ◌<◌, ◌≤◌, List, length, set, Option, Some, None, rules, refl}
+use Rattle.std.proofs.Common.{◌≡◌, ℕ, ◌+◌, ◌<◌, ◌≤◌, List, length, set, Option, Some, None, rules, refl}
 use Rattle.std.proofs.Common.{sym, ap, subst, ◌∙◌, drop}
 use Rattle.std.specs.Prelude.{Vec}
 use Rattle.std.specs.Option.{option_map}
 use Rattle.std.specs.declared.alloc.Global.{Global}
+use Rattle.its_model.specs.Packet.{Transmission}
 use Rattle.its_model.specs.Calls as model
+use Rattle.its_model.specs.Calls.{Answer}
 use Rattle.its_model.specs.Station.{station_step}
-use Rattle.its_model.specs.World.{WorldModel, entry_of}
+use Rattle.its_model.specs.World.{WorldModel, entry_of, frame_of, with_one_more}
 use Rattle.its_station.specs.State.{StationState, RepresentsStation}
 use Rattle.its_world.specs.State.{WorldState, RepresentsWorld}
+use Rattle.its_world.specs.Entries.{TellsEntry}
 use Rattle.its_world.specs.Frames.{AreFrames}
-use Rattle.its_world.specs.Events.{event_of}
+use Rattle.its_world.specs.Events.{event_of, what_of}
 use Rattle.its_world.specs.Steps.{IsDelivered, IsKept}
+use Rattle.its_world.proofs.Giving.{done_told, given_numbered}
+use Rattle.its_world.proofs.Worlds.{count_kept}
 use Rattle.its_world.proofs.Logs.{nowhere, undelivered, answered_step, station_at, get_or_is}
 use Rattle.its_world.proofs.world.World.step.Goals as goal
 
@@ -80,11 +85,23 @@ returns-clause-step c = λ w h kept. (
     let own = c.index_mut-station.result.now in
     let is : own ≡ at.0 =
     c.index_mut-station.ensures.value ∙ get_or_is st.stations e.station at.0 own at.1 in
-    let asked = c.in_ok-given.ensures.step in
-    let given =
+    let asked = c.in_ok-reply.ensures.step in
+    let replied =
     asked.2 at.2 (subst (λ (x : StationState). RepresentsStation x at.2) (sym is) at.4) in
     let answer = (station_step at.2 e.moment asked.0).answer in
-    let entered = c.enter.ensures.entry answer w.air here.released here.frames given.0 in
+    let number : length w.air ≡ st.released + length st.frames =
+    sym (count_kept st.released st.frames w.air here.released here.frames) in
+    let told : TellsEntry c.of_reply-outcome.result.entry (entry_of (length w.air) answer) =
+    subst (λ n. TellsEntry c.of_reply-outcome.result.entry (entry_of n answer))
+    (c.count.ensures ∙ sym number)
+    (c.of_reply-outcome.ensures.entry answer replied.0.0
+    (λ done. subst (λ (a : Answer Transmission). TellsEntry c.done_entry-done.result (entry_of c.count.result a))
+    (sym (replied.1 done)) (done_told c.count.result (what_of c.args.event.now.what) c.done_entry-done.result c.done_entry-done.ensures))) in
+    let framed =
+    subst (λ (xs : List (Vec ℕ Global)). AreFrames xs (drop st.released (with_one_more w.air (frame_of answer))))
+    (sym c.number.ensures.given)
+    (given_numbered c.of_reply-outcome.result.frame (frame_of answer) st.released st.frames w.air here.released here.frames
+    (c.of_reply-outcome.ensures.frame answer replied.0.0)) in
     let octets = c.in-Some.frame.now in
     let delivered : IsDelivered st.released st.frames e.what (Some octets) =
     subst (λ (o : Option (List ℕ)). IsDelivered st.released st.frames e.what o)
@@ -92,12 +109,12 @@ returns-clause-step c = λ w h kept. (
     let new : WorldState =
     record {
       stations = set st.stations e.station c.ask.new.station;
-      released = c.enter.new.air.released;
-      frames = c.enter.new.air.kept.items;
+      released = c.number.new.self.released;
+      frames = c.number.new.self.kept.items;
     } in
-    let told = answered_step st new w e at.2 octets asked.0 c.one_frame.ensures
+    let stepped = answered_step st new w e at.2 octets asked.0 c.one_frame.ensures
     (λ t f enc fault.
-    c.one_frame_fault.ensures.none t octets f c.in_ok-given.ensures.bytes enc fault)
-    here at.3 kept_here delivered asked.1 c.ask.new.station given.1 refl c.enter.ensures.released
-    entered.1 in
-    (told.stands, entry_of (length w.air) answer, entered.0, told.last))
+    c.one_frame_fault.ensures.none t octets f c.in_ok-reply.ensures.bytes enc fault)
+    here at.3 kept_here delivered asked.1 c.ask.new.station replied.0.1 refl c.number.ensures.released
+    framed in
+    (stepped.stands, entry_of (length w.air) answer, told, stepped.last))

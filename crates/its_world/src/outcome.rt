@@ -1,0 +1,72 @@
+//! What comes of a station's reply: an entry, and the frame that the station gave.
+
+ghost use Rattle.std.specs.Prelude.{◌≡◌, Option, None, true, not};
+ghost use Rattle.its_model.specs.Packet.{Transmission};
+ghost use Rattle.its_model.specs.Calls.{Answer};
+ghost use Rattle.its_model.specs.World.{entry_of, frame_of, numbered};
+ghost use Rattle.its_station.specs.Receiving.{IsRelay};
+ghost use Rattle.its_station.specs.Runs.{TellsReply, is_refusal};
+ghost use Rattle.its_world.specs.Entries.{TellsEntry, was_done};
+
+use crate::entry::{Entry, EntryFault};
+use its_station::Reply;
+
+/// What comes of a call: what is told of it, and the frame that the station gave, if it gave one.
+#[derive(Debug, Drop, PartialEq, Eq)]
+pub struct CallOutcome {
+    /// What is told of the call.
+    pub entry: Entry,
+    /// The octets of the frame that the entry has by its number.
+    pub frame: Option<Vec<u8>>,
+}
+
+impl CallOutcome {
+    /// What comes of a reply. `done` is the entry of a call of which the reply tells only that it was
+    /// done, and a frame gets `number`.
+    pub fn of_reply(done: Entry, reply: Reply, number: usize) -> CallOutcome
+        ensures entry { (answer : Answer Transmission) → TellsReply reply answer →
+            (reply ≡ Reply.Done → TellsEntry done (entry_of number answer)) →
+            TellsEntry result.entry (entry_of number answer) }
+        ensures frame { (answer : Answer Transmission) → TellsReply reply answer →
+            IsRelay result.frame (frame_of answer) }
+        ensures refused { was_done done ≡ true →
+            was_done result.entry ≡ not (is_refusal reply) }
+    {
+        match reply {
+            Reply::Done => CallOutcome::told(done),
+            Reply::Quiet => CallOutcome::told(Entry::Quiet),
+            Reply::Sent(frame) => CallOutcome {
+                entry: Entry::Sent(number),
+                frame: Some(frame),
+            },
+            Reply::Ignored(why) => CallOutcome::told(Entry::Ignored(why)),
+            Reply::Accepted { handed, sent } => CallOutcome {
+                entry: Entry::Accepted {
+                    handed,
+                    sent: number_of(&sent, number),
+                },
+                frame: sent,
+            },
+            Reply::Refused(fault) => CallOutcome::told(Entry::Refused(EntryFault::Station(fault))),
+        }
+    }
+
+    /// An entry of a call for which the station gave no frame.
+    pub fn told(entry: Entry) -> CallOutcome
+        ensures entry { result.entry ≡ entry }
+        ensures frame { result.frame ≡ None }
+    {
+        CallOutcome { entry, frame: None }
+    }
+}
+
+/// A number for the frame, if there is one.
+fn number_of(frame: &Option<Vec<u8>>, number: usize) -> Option<usize>
+    ensures { (relayed : Option Transmission) → IsRelay frame.now relayed →
+        result ≡ numbered number relayed }
+{
+    match frame {
+        Some(_) => Some(number),
+        None => None,
+    }
+}
