@@ -1,8 +1,10 @@
 -- What is told of an event.
-use Rattle.std.specs.Prelude.{ℕ, List, Vec, Option, Some, None}
+use Rattle.std.specs.Prelude.{◌≡◌, ℕ, List, Vec, Option, Some, None}
 use Rattle.std.specs.Option.{option_map}
 use Rattle.std.specs.declared.alloc.Global.{Global}
-use Rattle.its_model.specs.World.{Event}
+use Rattle.its_model.specs.Calls.{Answer}
+use Rattle.its_model.specs.World.{Event, frame_of}
+use Rattle.its_world.specs.Entries.{TellsEntry}
 use Rattle.its_world.specs.Events.{what_of}
 use Rattle.its_world.specs.Frames.{frame_in}
 use Rattle.its_world.specs.State.{WorldState}
@@ -33,3 +35,10 @@ abbrev pub octets_of : WorldState → Option ℕ → Option (List ℕ)
 octets_of world None = None
 octets_of world (Some k) =
     option_map (λ (w : Vec ℕ Global). w.items) (frame_in world.released world.frames k)
+
+-- A record of an event that was done in this world: it has the octets of the frame that its entry
+-- names, where one is named and the world keeps it.
+abbrev pub IsRecordOf : WorldState → EventRecord → Type 0
+IsRecordOf world r =
+    (answer : Answer ℕ) → TellsEntry r.entry.now answer
+    → option_map (λ octets. octets.now) r.octets ≡ octets_of world (frame_of answer)

@@ -1,12 +1,8 @@
 //! What is told of an event.
 
-ghost use Rattle.std.specs.Prelude.{◌≡◌, ℕ};
-ghost use Rattle.std.specs.Option.{option_map};
-ghost use Rattle.its_model.specs.Calls.{Answer};
-ghost use Rattle.its_model.specs.World.{frame_of};
-ghost use Rattle.its_world.specs.Entries.{TellsEntry};
+ghost use Rattle.std.specs.Prelude.{◌≡◌};
 ghost use Rattle.its_world.specs.Events.{event_of};
-ghost use Rattle.its_simulation.specs.Records.{happening_in, octets_of};
+ghost use Rattle.its_simulation.specs.Records.{happening_in, IsRecordOf};
 
 use crate::action::Action;
 use crate::entry::{EntryKeys, entry_keys};
@@ -42,9 +38,7 @@ impl<'a> EventRecord<'a> {
         ensures number { result.number ≡ number }
         ensures event { happening_in result ≡ event_of event.now }
         ensures entry { result.entry.now ≡ entry.now }
-        ensures octets { (answer : Answer ℕ) → TellsEntry entry.now answer →
-            option_map (λ octets. octets.now) result.octets
-            ≡ octets_of world.now (frame_of answer) }
+        ensures octets { IsRecordOf world.now result }
     {
         EventRecord {
             number,

@@ -2,7 +2,7 @@
 
 ghost use Rattle.std.specs.Prelude.{◌++◌, ◌∷◌, [], List, OnOk};
 ghost use Rattle.its_model.specs.World.{Event as Happening};
-ghost use Rattle.its_simulation.specs.Records.{happening_in};
+ghost use Rattle.its_simulation.specs.Records.{happening_in, IsRecordOf};
 
 use crate::fault::SimulationFault;
 use crate::note::Note;
@@ -17,10 +17,12 @@ pub trait EventSink {
     /// may say nothing of them.
     ghost Took: { Self → List Happening → List Entry → Type 0 };
 
-    /// Takes an event that was done, with the world as it stands after it.
+    /// Takes an event that was done, with the world as it stands after it: the octets of the record
+    /// are those of the frame that its entry names.
     ///
     /// `OutOfMemory` where an allocation failed, `Output` where a write did.
     fn put(&mut self, world: &World, done: &EventRecord<'_>) -> Result<(), SimulationFault>
+        requires { IsRecordOf world.now done.now }
         ensures { (events : List Happening) (log : List Entry) → Took self.old events log
             → OnOk result (Took self.new (events ++ happening_in done.now ∷ [])
             (log ++ done.now.entry.now ∷ [])) };
