@@ -3,12 +3,12 @@
 use Rattle.std.proofs.Common.{◌≡◌, ℕ, zero, suc, ◌+◌, ◌<◌, ◌≤◌, List, [], ◌∷◌, Bool, true, false}
 use Rattle.std.proofs.Common.{not, cond, ◌&&◌, map, filter, refl, sym, ap, ◌∙◌, arith, length, ◌⊎◌}
 use Rattle.std.proofs.Common.{Option, Some, None, inl, inr, subst, ◌++◌, get_or, take, remove, insert}
-use Rattle.std.proofs.Common.{◌≢◌, is_some, true≢false, leb}
+use Rattle.std.proofs.Common.{◌≢◌, is_some, true≢false, leb, le_trans, ◌-◌}
 use Rattle.std.specs.Prelude.{count_by, sum_by, slice_get, ◌==◌, IfSome, HoldsAt}
 use Rattle.std.specs.List.{position, position_or_len}
 use Rattle.std.specs.Bool.{if◌then◌else◌}
 use Rattle.std.specs.Option.{option_map}
-use Rattle.std.specs.List.{AllByRecursion}
+use Rattle.std.specs.List.{AllByRecursion, AllWithin}
 use Rattle.std.specs.List.Sorted.{IsNonDecreasingBy, IsPermutation, IsPartitionPoint}
 use Rattle.std.proofs.lemmas.Bool.{eqb-true, eq-eqb, ne_eqb, cases_order, cases_eq, cases_lt}
 use Rattle.std.proofs.lemmas.Bool.{ltb-false, leb-true, leb-false}
@@ -522,16 +522,55 @@ point_without P Q xs i to end lt point side =
 -- with one of them put elsewhere, they stand in their order: `end` is its place among all of them
 pub rising_moved : (xs : List Standing) (i to end north : ℕ) (y : Standing) → i < length xs
     → end ≤ length xs → northing y.place ≡ north → IsNonDecreasingBy (λ s. northing s.place) xs
-    → IsPartitionPoint (λ s. leb (northing s.place) north ≡ true)
-    (λ s. leb (northing s.place) north ≡ false) xs end
+    → IsPartitionPoint (λ s. northing s.place ≤ north) (λ s. north ≤ northing s.place) xs end
     → ((i < end) × (to + 1 ≡ end)) ⊎ ((end ≤ i) × (to ≡ end))
     → IsNonDecreasingBy (λ s. northing s.place) (insert (remove xs i) to y)
 rising_moved xs i to end north y within room is up point side =
     let less = length-remove xs i within in
-    rising_with (remove xs i) to north y (omega (arith, less, within, room, side)) is
+    let parts = point_without (λ s. northing s.place ≤ north) (λ s. north ≤ northing s.place) xs i
+    to end within point side in
+    IsNonDecreasingBy-insert (λ (s : Standing). northing s.place) (remove xs i) to y
     (rising_without (λ s. northing s.place) xs i within up)
-    (point_without (λ s. leb (northing s.place) north ≡ true)
-    (λ s. leb (northing s.place) north ≡ false) xs i to end within point side)
+    (omega (arith, less, within, room, side))
+    (λ k d lt. let a = parts.0 k d (omega arith) lt in omega (arith, a, is))
+    (λ k d ge lt. let a = parts.1 k d ge lt in omega (arith, a, is))
+
+-- where one stands that goes north, and passes those that are no farther north
+pub to_north : (xs : List Standing) (from end north : ℕ) → from < end → end ≤ length xs
+    → IsNonDecreasingBy (λ s. northing s.place) xs
+    → AllWithin (λ s. northing s.place ≤ north) xs from end
+    → (end < length xs → HoldsAt (λ s. north ≤ northing s.place) xs end)
+    → IsPartitionPoint (λ s. northing s.place ≤ north) (λ s. north ≤ northing s.place) xs end
+to_north xs from end north gt room up passed stops = (
+  λ k d ge below. before k d below (cases_lt k from),
+  λ k d ge within. le_trans (stops (omega (arith, ge, within)) d) (up end k d ge within),
+)
+  where
+    before : (k : ℕ) (d : Standing) → k < end → (k < from) ⊎ (from ≤ k)
+        → northing (get_or xs k d).place ≤ north
+    before k d below (inl lt) =
+        le_trans (up k from d (omega (arith, lt)) (omega (arith, gt, room)))
+        (passed from d (omega arith) gt)
+    before k d below (inr ge) = passed k d ge below
+
+-- where one stands that goes south, and passes those that are no farther south
+pub to_south : (xs : List Standing) (from end north : ℕ) → from < length xs → end ≤ from
+    → IsNonDecreasingBy (λ s. northing s.place) xs
+    → HoldsAt (λ s. north ≤ northing s.place) xs from
+    → AllWithin (λ s. north ≤ northing s.place) xs end from
+    → (0 < end → HoldsAt (λ s. northing s.place ≤ north) xs (end - 1))
+    → IsPartitionPoint (λ s. northing s.place ≤ north) (λ s. north ≤ northing s.place) xs end
+to_south xs from end north within le up here passed stops = (
+  λ k d ge below. le_trans
+      (up k (end - 1) d (omega (arith, below)) (omega (arith, below, le, within)))
+      (stops (omega (arith, below)) d),
+  λ k d ge lt. behind k d ge lt (cases_lt k from),
+)
+  where
+    behind : (k : ℕ) (d : Standing) → end ≤ k → k < length xs → (k < from) ⊎ (from ≤ k)
+        → north ≤ northing (get_or xs k d).place
+    behind k d ge lt (inl below) = passed k d ge below
+    behind k d ge lt (inr past) = le_trans (here d) (up from k d past lt)
 
 -- of a list that is one of two, what is true of both
 pub of_either : (P : List Standing → Type 0) (b : Bool) (k l m : List Standing)

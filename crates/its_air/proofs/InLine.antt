@@ -334,7 +334,7 @@ file_in_line low top last (Leaves station moment ∷ es) ws none h =
 -- ---- steps
 
 -- how many frames there are
-abbrev frames_in : WorldModel → ℕ
+abbrev pub frames_in : WorldModel → ℕ
 frames_in w = length (origins w.log)
 
 record IsInLine (r : Rules) (configs : List Config) (low : ℕ) (a : AirModel) : Type 0 where
@@ -345,7 +345,7 @@ record IsInLine (r : Rules) (configs : List Config) (low : ℕ) (a : AirModel) :
       a.timetable.waiting
 
 -- an event gives the next frame, or none
-next_frame : (r : Rules) (configs : List Config) (file : List Filed) (n : ℕ) (p : Put)
+pub next_frame : (r : Rules) (configs : List Config) (file : List Filed) (n : ℕ) (p : Put)
     → (frames_in (world_at r configs file n) ≤ frames_in (world_after r configs file n p))
     × ((k : ℕ) → given (world_after r configs file n p).log ≡ Some k
     → (k ≡ frames_in (world_at r configs file n))

@@ -24,6 +24,7 @@ pub mod Heard
 pub mod Ticks
 pub mod Logs
 pub mod InLine
+pub mod Once
 pub mod Carried
 pub mod Comings
 pub mod Counting

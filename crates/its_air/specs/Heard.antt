@@ -89,6 +89,14 @@ DeliveriesAreHeard r configs file =
     → (n : ℕ) × (p : Put) × (n < m) × IsHeard r configs file n p k q.event.station
     × (q.event.moment ≡ p.event.moment + r.delay)
 
+-- The air delivers each frame to a station at most once: two deliveries of its own, of one frame to
+-- one station, are one.
+abbrev pub DeliversOnce : Rules → List Config → List Filed → Type 0
+DeliversOnce r configs file =
+    (m n k : ℕ) (p q : Put) → IsDone r configs file m p → IsDone r configs file n q
+    → p.own ≡ true → q.own ≡ true → p.event.what ≡ Deliver k → q.event.what ≡ Deliver k
+    → p.event.station ≡ q.event.station → m ≡ n
+
 -- The step of this number did p, a tick of the air's own that wasn't refused, and this is its
 -- station after it.
 pub record IsTicked (r : Rules) (configs : List Config) (file : List Filed) (n : ℕ) (p : Put)

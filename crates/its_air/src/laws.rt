@@ -3,7 +3,7 @@
 ghost use Rattle.std.specs.Prelude.{◌≡◌, ℕ, List};
 ghost use Rattle.its_model.specs.World.{Config};
 ghost use Rattle.its_air.specs.Heard.{StepsDoEvents, MomentsNeverFall, WhatIsHeardIsDelivered};
-ghost use Rattle.its_air.specs.Heard.{DeliveriesAreHeard, TicksGoOn, TicksAreDue};
+ghost use Rattle.its_air.specs.Heard.{DeliveriesAreHeard, DeliversOnce, TicksGoOn, TicksAreDue};
 ghost use Rattle.its_air.specs.Heard.{SendsGoOn, SendsAreDue};
 ghost use Rattle.its_air.specs.Carried.{LogsNeverFall, FramesComeInOrder, StationsInRangeHear};
 ghost use Rattle.its_air.specs.Carried.{ReachesInAir};
@@ -45,6 +45,13 @@ pub fn what_is_heard_is_delivered()
 pub fn deliveries_are_heard()
     ensures { (rules : Rules) (configs : List Config) (file : List Filed) →
         DeliveriesAreHeard rules configs file }
+{}
+
+/// The air delivers each frame to a station at most once, whatever the file delivers beside it. So
+/// what is heard and delivered (`what_is_heard_is_delivered`) is delivered exactly once.
+pub fn deliveries_come_once()
+    ensures { (rules : Rules) (configs : List Config) (file : List Filed) →
+        DeliversOnce rules configs file }
 {}
 
 /// In a run that is over, the next tick of a station whose tick of the air's own wasn't refused is

@@ -147,6 +147,7 @@ impl<'a> MovingRun<'a> {
             events,
             taken: 0,
             row: None,
+            known: None,
             until: air.until,
             greatest,
             frames_before: 0,
@@ -169,6 +170,7 @@ impl<'a> MovingRun<'a> {
     {
         let row = rows.next()?;
         if let Some(row) = &row {
+            self.known = self.vehicles.number_of_row(row.id.as_str());
             if !self.has_station_for(row) {
                 return Err(MovesFault::Line(rows.line(), Word::TooManyStations).into());
             }
@@ -178,9 +180,9 @@ impl<'a> MovingRun<'a> {
         Ok(())
     }
 
-    /// Whether a station has the id of a row, or can be made for it.
+    /// Whether the station of a row is known, or one can be made for it.
     fn has_station_for(&self, row: &Row) -> bool {
-        self.number_of(row.id.as_str()).is_some() || self.next_config(row.place).is_some()
+        self.known.is_some() || self.next_config(row.place).is_some()
     }
 
     /// How the next station begins that a row makes, at this place. `None` where it would be one too
@@ -453,7 +455,7 @@ impl<'a> MovingRun<'a> {
         ensures moving { OnOk result (StaysUnder self.old (S.Took sink.old) self.new
             (S.Took sink.new)) }
     {
-        if let Some(station) = self.number_of(row.id.as_str()) {
+        if let Some(station) = self.known_station() {
             return Ok(RowStation {
                 station,
                 ports: &[],
@@ -470,6 +472,18 @@ impl<'a> MovingRun<'a> {
         ensures { IfSome result (λ station. station < length self.now.run.world.stations) }
     {
         let station = self.vehicles.number(id)?;
+        if self.run.has_station(station) {
+            Some(station)
+        } else {
+            None
+        }
+    }
+
+    /// The number of the station of the row that was read last, where a row made one.
+    fn known_station(&self) -> Option<usize>
+        ensures { IfSome result (λ station. station < length self.now.run.world.stations) }
+    {
+        let station = self.known?;
         if self.run.has_station(station) {
             Some(station)
         } else {

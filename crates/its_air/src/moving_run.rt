@@ -48,6 +48,8 @@ pub(crate) struct MovingRun<'a> {
     pub(crate) taken: usize,
     /// The next row, where there is one.
     pub(crate) row: Option<Row>,
+    /// The number of its station, where a row made one: so its id is looked for once.
+    pub(crate) known: Option<usize>,
     /// The last moment that is run, where one is given.
     pub(crate) until: Option<u64>,
     /// The greatest moment of an event, and of a row that was read; 0 where there is neither.

@@ -1,10 +1,10 @@
 //! Where the stations of a world stand, in the order of their latitudes: who hears a frame is among
 //! those of a narrow band.
 
-ghost use Rattle.std.specs.Prelude.{◌≡◌, ◌≤◌, ◌<◌, ◌+◌, ℕ, OnOk, IfOk, IfSome, List, length};
+ghost use Rattle.std.specs.Prelude.{◌≡◌, ◌≤◌, ◌<◌, ◌+◌, ◌-◌, ℕ, OnOk, IfOk, IfSome, List, length};
 ghost use Rattle.std.specs.Prelude.{◌==◌, IfNone, HoldsAt, filter, map, slice_get};
-ghost use Rattle.std.specs.List.{position, insert, remove};
-ghost use Rattle.std.specs.List.Sorted.{IsNonDecreasingBy};
+ghost use Rattle.std.specs.List.{AllWithin, position, insert, remove};
+ghost use Rattle.std.specs.List.Sorted.{IsNonDecreasingBy, IsPartitionPoint};
 ghost use Rattle.its_station.specs.State.{StationState};
 ghost use Rattle.its_world.specs.Steps.{AreSameBut};
 ghost use Rattle.its_air.specs.Reach.{hearers, hears_there};
@@ -36,6 +36,9 @@ fn northing(place: Place) -> u32
 #[derive(Drop)]
 pub struct Standings {
     order: Vec<Standing>,
+    /// Where each stood in that order when it was last put there, by its number. It may have been
+    /// shifted since: it is looked for there first.
+    hints: Vec<usize>,
     ghost rising: { IsNonDecreasingBy (λ s. northing s.place) order.items },
 }
 
@@ -50,7 +53,9 @@ impl Standings {
             order.push(Standing { place, number })?;
         }
         order.sort_unstable_by_key(|standing| northing(standing.place));
-        Ok(Standings { order })
+        let mut hints = Vec::from_elem(alloc, 0, stations.len())?;
+        note_places(&order, &mut hints, 0, order.len());
+        Ok(Standings { order, hints })
     }
 
     /// Those in a band of latitudes, from one northing to another.
@@ -103,6 +108,7 @@ impl Standings {
             .order
             .partition_point(|other| northing(other.place) <= north);
         let standing = Standing { place, number };
+        self.hints.push(to)?;
         self.order.insert(to, standing)?;
         Ok(())
     }
@@ -116,17 +122,77 @@ impl Standings {
             IfSome (slice_get new number) (λ st. st.vector.place ≡ place) →
             AreStandingsOf new self.new.order.items }
     {
-        let Some(from) = find_station(&self.order, number, stood) else {
+        let Some(from) = find_station(&self.order, &self.hints, number, stood) else {
             return;
         };
-        let north = northing(place);
-        let end = self
-            .order
-            .partition_point(|standing| northing(standing.place) <= north);
+        let end = end_for(&self.order, from, northing(place));
         // Where it stood before this end, the end is nearer by one without it.
         let to = if from < end { end - 1 } else { end };
         replace_at(&mut self.order, from, to, Standing { place, number });
+        let past = from.max(to).saturating_add(1);
+        note_places(&self.order, &mut self.hints, from.min(to), past);
     }
+}
+
+/// Notes where those stand that are at these indexes.
+fn note_places(order: &[Standing], hints: &mut Vec<usize>, first: usize, past: usize) {
+    for at in first..past {
+        if let Some(standing) = order.get(at) {
+            if let Some(hint) = hints.get_mut(standing.number) {
+                *hint = at;
+            }
+        }
+    }
+}
+
+/// An index that parts these by a northing: those before it are no farther north, those from there
+/// on no farther south. It is looked for from another one on, and is near where a station that
+/// stands there moves a little.
+fn end_for(order: &[Standing], from: usize, north: u32) -> usize
+    requires rising { IsNonDecreasingBy (λ s. northing s.place) order.now }
+    requires from { from < length order.now }
+    ensures bound { result ≤ length order.now }
+    ensures point { IsPartitionPoint (λ s. northing s.place ≤ north) (λ s. north ≤ northing s.place)
+        order.now result }
+{
+    let end = end_to_north(order, from, north);
+    if from < end {
+        end
+    } else {
+        end_to_south(order, from, north)
+    }
+}
+
+/// The first index, from this one on, at which none stands south of a northing.
+fn end_to_north(order: &[Standing], from: usize, north: u32) -> usize
+    requires from { from < length order.now }
+    ensures bound { (from ≤ result) × (result ≤ length order.now) }
+    ensures passed { AllWithin (λ s. northing s.place ≤ north) order.now from result }
+    ensures stops { result < length order.now →
+        HoldsAt (λ s. north ≤ northing s.place) order.now result }
+{
+    for end in from..order.len() {
+        if north <= northing(order[end].place) {
+            return end;
+        }
+    }
+    order.len()
+}
+
+/// The last index, up to this one, before which none stands north of a northing.
+fn end_to_south(order: &[Standing], from: usize, north: u32) -> usize
+    requires from { from < length order.now }
+    ensures bound { result ≤ from }
+    ensures passed { AllWithin (λ s. north ≤ northing s.place) order.now result from }
+    ensures stops { 0 < result → HoldsAt (λ s. northing s.place ≤ north) order.now (result - 1) }
+{
+    for passed in 0..from {
+        let end = from - passed;
+        if northing(order[end - 1].place) <= north {
+            return end;
+        }
+    }
+    0
 }
 
 /// Takes the standing at one index out, and puts this one in at an index of those that are left:
@@ -144,13 +210,22 @@ fn replace_at(order: &mut Vec<Standing>, from: usize, to: usize, standing: Stand
     order[to] = standing;
 }
 
-/// An index at which the station of a number stands in these. Where its place is known, those that
-/// aren't south of it are looked at first: it is the first of them, or near.
-fn find_station(order: &[Standing], number: usize, stood: Option<Place>) -> Option<usize>
+/// An index at which the station of a number stands in these. It is looked for where its hint says
+/// and then, where its place is known, from the first on that isn't south of it: there, or near.
+fn find_station(
+    order: &[Standing],
+    hints: &[usize],
+    number: usize,
+    stood: Option<Place>,
+) -> Option<usize>
     ensures bound { IfSome result (λ at. at < length order.now) }
     ensures found { IfSome result (HoldsAt (λ s. s.number ≡ number) order.now) }
     ensures none { IfNone result (position (λ s. s.number == number) order.now ≡ None) }
 {
+    let hinted = find_hinted(order, hints, number);
+    if hinted.is_some() {
+        return hinted;
+    }
     if let Some(place) = stood {
         let found = find_from(order, number, place);
         if found.is_some() {
@@ -158,6 +233,19 @@ fn find_station(order: &[Standing], number: usize, stood: Option<Place>) -> Opti
         }
     }
     place_in(order, number)
+}
+
+/// The index at which the hint of a number says that it stands, if it does.
+fn find_hinted(order: &[Standing], hints: &[usize], number: usize) -> Option<usize>
+    ensures bound { IfSome result (λ at. at < length order.now) }
+    ensures found { IfSome result (HoldsAt (λ s. s.number ≡ number) order.now) }
+{
+    let at = *hints.get(number)?;
+    if at < order.len() && order[at].number == number {
+        Some(at)
+    } else {
+        None
+    }
 }
 
 /// An index at which the station of a number stands, looked for from the first on that isn't south

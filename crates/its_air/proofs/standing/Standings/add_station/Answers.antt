@@ -9,8 +9,8 @@ use Rattle.its_air.specs.Standings.{northing, AreStandingsOf}
 use Rattle.its_air.proofs.Counts.{stand_added, rising_with, of_either}
 use Rattle.its_air.proofs.standing.Standings.add_station.Goals as goal
 
-pub invariant_of-self : goal.invariant_of-self
-invariant_of-self c =
+pub invariant_of-self-2 : goal.invariant_of-self-2
+invariant_of-self-2 c =
     let key : Standing → ℕ = λ s. northing s.place in
     let xs = c.args.self.now.order.items in
     let to = c.partition_point-to.result in

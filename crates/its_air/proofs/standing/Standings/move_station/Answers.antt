@@ -1,9 +1,8 @@
-use Rattle.std.proofs.Common.{◌≡◌, ◌<◌, ◌≤◌, ◌+◌, ◌⊎◌, inl, inr, ℕ, List, true, false, leb}
+use Rattle.std.proofs.Common.{◌≡◌, ◌<◌, ◌≤◌, ◌+◌, ◌⊎◌, inl, inr, ℕ, List}
 use Rattle.std.proofs.Common.{HoldsAt, None, length, subst, sym, rules}
 use Rattle.std.specs.List.{position}
 use Rattle.std.specs.Prelude.{◌==◌}
-use Rattle.std.specs.List.Sorted.{IsNonDecreasingBy, IsPartitionPoint, IsPartitionedBy}
-use Rattle.std.proofs.lemmas.List.Sorted.{IsPartitionPoint-from_clause, IsPartitionedBy-leb}
+use Rattle.std.specs.List.Sorted.{IsNonDecreasingBy, IsPartitionPoint}
 use Rattle.its_air.specs.declared.standing.Standing.{Standing}
 use Rattle.its_air.specs.Standings.{northing, AreStandingsOf}
 use Rattle.its_air.proofs.Counts.{stand_new, stand_same, rising_moved}
@@ -17,14 +16,14 @@ returns-in_default c = λ old new stand same at.
     c.deref.ensures.value c.in_default.ensures.none)
     stand same
 
-pub invariant_of-self : goal.invariant_of-self
-invariant_of-self c =
+pub invariant_of-self-2 : goal.invariant_of-self-2
+invariant_of-self-2 c =
     let key : Standing → ℕ = λ s. northing s.place in
     let xs = c.args.self.now.order.items in
     let i = c.in-Some.from in
     let to = c.if-from-end.to in
-    let end = c.partition_point-end.result in
-    let north = c.northing-north.result in
+    let end = c.end_for-end.result in
+    let north = c.northing.result in
     let y : Standing = record { place = c.args.place; number = c.args.number } in
     let within : i < length xs = search rules in
     let up : IsNonDecreasingBy key xs = c.args.self.now.rising in
@@ -33,15 +32,11 @@ invariant_of-self c =
       | then-from-end w ↦ inl (w.if-from-end.true, search rules)
       | else-from-end w ↦ inr (w.if-from-end.false, search rules)
     ] in
-    let point = IsPartitionPoint-from_clause (λ (s : Standing). leb (northing s.place) north)
-    c.deref-2.result.now end c.partition_point-end.ensures.partitioned
-    (subst (IsPartitionedBy (λ (s : Standing). leb (northing s.place) north))
-    (sym c.deref-2.ensures.value) (IsPartitionedBy-leb key xs north up))
-    (λ a r q k. search rules) in
     let placed = rising_moved xs i to end north y within (search rules)
-    (sym c.northing-north.ensures.value) up
-    (subst (λ (l : List Standing). IsPartitionPoint (λ s. leb (northing s.place) north ≡ true)
-    (λ s. leb (northing s.place) north ≡ false) l end) c.deref-2.ensures.value point) side in
+    (sym c.northing.ensures.value) up
+    (subst (λ (l : List Standing). IsPartitionPoint (λ s. northing s.place ≤ north)
+    (λ s. north ≤ northing s.place) l end) c.deref-3.ensures.value c.end_for-end.ensures.point)
+    side in
     record { rising = subst (IsNonDecreasingBy key) (sym c.replace_at.ensures) placed }
 
 pub returns : goal.returns

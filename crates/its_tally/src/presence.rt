@@ -1,5 +1,11 @@
 //! Which stations of a run are present, as its notes tell.
 
+ghost use Rattle.std.specs.Prelude.{◌≡◌, ◌==◌, ◌&&◌, ℕ, not, nat_eq, IfOk, OnOk};
+ghost use Rattle.std.specs.HashSet.{contains as has};
+ghost use Rattle.its_geometry.specs.Area.{area_holds};
+ghost use Rattle.its_model.specs.History.{is_among};
+ghost use Rattle.its_tally.specs.Presences.{starts_absent, absent_after};
+
 use its_geometry::contains;
 use its_gnvalue::NoMemory;
 use its_loctable::SortedTable;
@@ -17,7 +23,10 @@ pub struct Presence {
 
 impl Presence {
     /// Which stations are present at the start, by their numbers.
-    pub fn at_start(alloc: Global, present: &[bool]) -> Result<Presence, NoMemory> {
+    pub fn at_start(alloc: Global, present: &[bool]) -> Result<Presence, NoMemory>
+        ensures { IfOk result (λ presence. (station : ℕ) →
+            has nat_eq presence.absent station ≡ starts_absent present.now station) }
+    {
         let mut absent = HashSet::new(alloc);
         for (station, is_present) in present.iter().enumerate() {
             if !*is_present {
@@ -28,7 +37,10 @@ impl Presence {
     }
 
     /// Takes a note of the run.
-    pub fn take(&mut self, note: &Note<'_>) -> Result<(), NoMemory> {
+    pub fn take(&mut self, note: &Note<'_>) -> Result<(), NoMemory>
+        ensures { OnOk result ((station : ℕ) → has nat_eq self.new.absent station
+            ≡ absent_after note.now station (has nat_eq self.old.absent station)) }
+    {
         match *note {
             Note::Made { station, .. } | Note::Left { station } => {
                 self.absent.insert(station)?;
@@ -49,7 +61,12 @@ impl Presence {
         sender: usize,
         number: usize,
         station: &Station<SortedTable>,
-    ) -> bool {
+    ) -> bool
+        ensures { result ≡ (not (number == sender)
+            && area_holds request.now.area station.now.vector.place
+            && is_among request.now.port station.now.ports
+            && not (has nat_eq self.now.absent number)) }
+    {
         let within = contains(&request.area, station.vector().place());
         number != sender
             && within

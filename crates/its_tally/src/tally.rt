@@ -1,6 +1,10 @@
 //! Counting what came of the packets for an area, beside the world.
 
-ghost use Rattle.std.specs.Prelude.{◌≡◌, ◌<◌, ◌+◌, ◌-◌, ◌^◌};
+ghost use Rattle.std.specs.Prelude.{◌≡◌, ◌<◌, ◌+◌, ◌-◌, ◌^◌, ◌&&◌, [], true, cond, length};
+ghost use Rattle.std.specs.Prelude.{IfOk, OnOk};
+ghost use Rattle.its_world.specs.Events.{what_of};
+ghost use Rattle.its_tally.specs.Totals.{AreTotals, capped, counted, with_entry, with_frame};
+ghost use Rattle.its_tally.specs.Totals.{with_accepted, packets_sent, is_area_send, was_sent};
 
 use crate::presence::Presence;
 use crate::summary::{SendKind, SendSummary, Totals};
@@ -51,7 +55,10 @@ pub struct Tally {
 impl Tally {
     /// A tally of a run that has not begun. `present` has, by numbers, which stations are present
     /// at the start.
-    pub fn new(alloc: Global, present: &[bool]) -> Result<Tally, NoMemory> {
+    pub fn new(alloc: Global, present: &[bool]) -> Result<Tally, NoMemory>
+        ensures totals { IfOk result (λ tally. AreTotals tally.totals [] []) }
+        ensures sends { IfOk result (λ tally. tally.sends.items ≡ []) }
+    {
         Ok(Tally {
             sends: Vec::new(alloc),
             carried: VecDeque::new(alloc),
@@ -63,17 +70,24 @@ impl Tally {
     }
 
     /// What came of each packet for an area, in the order in which they were sent.
-    pub fn sends(&self) -> &[SendSummary] {
+    pub fn sends(&self) -> &[SendSummary]
+        ensures { result.now ≡ self.now.sends.items }
+    {
         self.sends.as_slice()
     }
 
     /// The counts of all events.
-    pub fn totals(&self) -> Totals {
+    pub fn totals(&self) -> Totals
+        ensures { result ≡ self.now.totals }
+    {
         self.totals
     }
 
     /// Forgets what the frames carried that the world has let go: none of them is delivered again.
-    fn forget_released(&mut self, world: &World) {
+    fn forget_released(&mut self, world: &World)
+        ensures totals { self.new.totals ≡ self.old.totals }
+        ensures sends { self.new.sends ≡ self.old.sends }
+    {
         let released = world.released();
         for _frame in self.released..released {
             self.carried.pop_front();
@@ -82,7 +96,12 @@ impl Tally {
     }
 
     /// Counts an event.
-    fn count(&mut self, world: &World, done: &EventRecord<'_>) -> Result<(), NoMemory> {
+    fn count(&mut self, world: &World, done: &EventRecord<'_>) -> Result<(), NoMemory>
+        ensures totals { OnOk result
+            (self.new.totals ≡ with_entry self.old.totals done.now.entry.now) }
+        ensures sends { OnOk result (length self.new.sends.items ≡ length self.old.sends.items
+            + cond (is_area_send (what_of done.now.what.now) && was_sent done.now.entry.now) 1 0) }
+    {
         count_one(&mut self.totals.events);
         match done.entry {
             Entry::Sent(_) => self.count_send(world, done),
@@ -108,7 +127,11 @@ impl Tally {
     }
 
     /// Counts a frame of a station's own, and its packet where that is for an area.
-    fn count_send(&mut self, world: &World, done: &EventRecord<'_>) -> Result<(), NoMemory> {
+    fn count_send(&mut self, world: &World, done: &EventRecord<'_>) -> Result<(), NoMemory>
+        ensures totals { OnOk result (self.new.totals ≡ with_frame true self.old.totals) }
+        ensures sends { OnOk result (length self.new.sends.items ≡ length self.old.sends.items
+            + cond (is_area_send (what_of done.now.what.now)) 1 0) }
+    {
         let (kind, request) = match done.what {
             What::SendGeobroadcast(request) => (SendKind::Gbc, request),
             What::SendGeoanycast(request) => (SendKind::Gac, request),
@@ -131,7 +154,10 @@ impl Tally {
     }
 
     /// Counts a frame and what it carries.
-    fn count_frame(&mut self, carried: Option<CarriedPacket>) -> Result<(), NoMemory> {
+    fn count_frame(&mut self, carried: Option<CarriedPacket>) -> Result<(), NoMemory>
+        ensures totals { OnOk result (self.new.totals ≡ with_frame true self.old.totals) }
+        ensures sends { self.new.sends ≡ self.old.sends }
+    {
         self.carried.push_back(carried)?;
         count_one(&mut self.totals.frames);
         Ok(())
@@ -143,7 +169,11 @@ impl Tally {
         done: &EventRecord<'_>,
         handed: bool,
         relayed: bool,
-    ) -> Result<(), NoMemory> {
+    ) -> Result<(), NoMemory>
+        ensures totals { OnOk result
+            (self.new.totals ≡ with_accepted handed relayed self.old.totals) }
+        ensures sends { length self.new.sends.items ≡ length self.old.sends.items }
+    {
         let carried = self.carried_by(done.what);
         if handed {
             count_one(&mut self.totals.deliveries);
@@ -172,7 +202,10 @@ impl Tally {
         &mut self,
         done: &EventRecord<'_>,
         carried: Option<CarriedPacket>,
-    ) -> Result<(), NoMemory> {
+    ) -> Result<(), NoMemory>
+        ensures totals { self.new.totals ≡ self.old.totals }
+        ensures sends { length self.new.sends.items ≡ length self.old.sends.items }
+    {
         let Some(carried) = carried else {
             return Ok(());
         };
@@ -188,7 +221,10 @@ impl Tally {
     }
 
     /// What a relay of this carries. It is a frame more of the send.
-    fn relayed(&mut self, carried: Option<CarriedPacket>) -> Option<CarriedPacket> {
+    fn relayed(&mut self, carried: Option<CarriedPacket>) -> Option<CarriedPacket>
+        ensures totals { self.new.totals ≡ self.old.totals }
+        ensures sends { length self.new.sends.items ≡ length self.old.sends.items }
+    {
         let carried = carried?;
         if let Some(send) = self.sends.as_mut_slice().get_mut(carried.send) {
             count_one(&mut send.frames);
@@ -198,8 +234,10 @@ impl Tally {
 }
 
 impl EventSink for Tally {
-    // What is counted isn't said by contracts.
-    ghost Took = { λ _ _ _. Unit {0} };
+    // The totals, and how many packets for areas were sent; of the counts of one packet nothing is
+    // said.
+    ghost Took = { λ tally events log. AreTotals tally.totals events log
+        × (length tally.sends.items ≡ packets_sent events log) };
 
     fn put(&mut self, world: &World, done: &EventRecord<'_>) -> Result<(), SimulationFault> {
         self.forget_released(world);
@@ -217,7 +255,9 @@ impl EventSink for Tally {
 }
 
 /// One more.
-fn count_one(count: &mut usize) {
+fn count_one(count: &mut usize)
+    ensures { count.new ≡ capped (count.old + 1) }
+{
     *count = count.saturating_add(1);
 }
 

@@ -1,0 +1,6 @@
+//! Two runs of four stations in an air, without beacons and with them, line by line: what each run
+//! does and what is answered is written out, and the definitions of an air and of a world give just
+//! these lines. Nothing of this crate runs.
+#![tactic(auto)]
+
+pub mod laws;

@@ -1,0 +1,11 @@
+//! What came of a run: the packets for an area, each with where it was delivered, and the counts of
+//! all events.
+#![tactic(auto)]
+
+mod presence;
+mod summary;
+mod tally;
+
+pub use presence::Presence;
+pub use summary::{SendKind, SendSummary, Totals};
+pub use tally::{CarriedPacket, Tally};
