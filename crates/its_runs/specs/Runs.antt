@@ -1,20 +1,21 @@
 -- How a command ends that ran a scenario.
-use Rattle.std.specs.Prelude.{◌≡◌, ◌&&◌, List, Bool, true, false, not, if◌then◌else◌}
+use Rattle.std.specs.Prelude.{◌≡◌, ◌&&◌, List, [], map, Bool, true, false, not, if◌then◌else◌}
 use Rattle.std.specs.List.{list_all}
 use Rattle.its_world.specs.declared.entry.Entry.{Entry}
-use Rattle.its_world.specs.declared.entry.Entry.TheVariants as entries
+use Rattle.its_world.specs.Entries.{was_done}
 use Rattle.its_world.specs.State.{WorldState}
+use Rattle.its_world.specs.Events.{config_of}
+use Rattle.its_scenario.specs.declared.air.Air.{Air}
 use Rattle.its_scenario.specs.declared.scenario.Scenario.{Scenario}
+use Rattle.its_scenario.specs.Airs.{end_of}
+use Rattle.its_air.specs.AirTimed.{rules_of}
+use Rattle.its_air.specs.Moving.{IsMovedRun}
 use Rattle.its_air.specs.Scenarios.{IsRunOf}
+use Rattle.its_air.specs.Traffics.{all_traffic}
 use Rattle.its_reporting.specs.declared.status.Status.{Status}
 use Rattle.its_reporting.specs.declared.status.Status.TheVariants.{Done, Refused, Failed}
 use Rattle.its_runs.specs.declared.fault.RunFault.{RunFault}
 use Rattle.its_runs.specs.declared.fault.RunFault.TheVariants.{Scenario as NoScenario, Row, Stopped}
-
--- whether the event was done: it was not refused
-abbrev pub was_done : Entry → Bool
-was_done (entries.Refused fault) = false
-was_done entry = true
 
 -- how a run with these entries ends: refused where it is strict and one of them is a refusal, and
 -- else done
@@ -25,6 +26,13 @@ run_status strict log = if strict && not (list_all was_done log) then Refused el
 abbrev pub IsRunStatus : Bool → Scenario → Status → Type 0
 IsRunStatus strict scenario status =
     (world : WorldState) × IsRunOf scenario world (λ events log. status ≡ run_status strict log)
+
+-- the scenario was run in this air with moves of stations, and its run ends so
+abbrev pub IsMovedStatus : Bool → Scenario → Air → Status → Type 0
+IsMovedStatus strict s air status =
+    (world : WorldState)
+    × IsMovedRun (rules_of air (all_traffic s.every.items) (end_of air.until []) s.present.items)
+    (map config_of s.stations.items) air.until world (λ events log. status ≡ run_status strict log)
 
 -- the status of what kept a scenario from being run: a bad scenario is refused, and a bad line of
 -- moves, all else failed

@@ -1,12 +1,12 @@
 //! The stations that packets for an area are for, and how far these came there.
 
 use crate::waiting_frames::WaitingFrames;
-use its_air::{CarriedPacket, Presence};
 use its_geometry::{Area, contains};
 use its_gnvalue::NoMemory;
 use its_scenario::Scenario;
 use its_simulation::{EventRecord, Note};
 use its_station::{OwnedGbcRequest, Refused};
+use its_tally::{CarriedPacket, Presence};
 use its_world::{Entry, EntryFault, What, World};
 use std::alloc::Global;
 

@@ -76,7 +76,8 @@ pub(crate) struct Both<L, F> {
 }
 
 impl<L: EventSink, F: EventSink> EventSink for Both<L, F> {
-    ghost Took = { λ _ _ _. Unit {0} };
+    ghost Took = { λ both events log. L.Took both.lines events log
+        × F.Took both.frames events log };
 
     fn put(&mut self, world: &World, done: &EventRecord<'_>) -> Result<(), SimulationFault> {
         self.lines.put(world, done)?;

@@ -2,10 +2,10 @@
 
 use crate::audience::{Audience, Reach};
 use crate::quantile::Quantiles;
-use its_air::{Presence, SendKind};
 use its_gnvalue::NoMemory;
 use its_simulation::{EventRecord, SimulationFault};
 use its_station::{OwnedGbcRequest, Refused, Why};
+use its_tally::{Presence, SendKind};
 use its_world::{Entry, EntryFault, World};
 use std::alloc::Global;
 use std::collections::HashSet;

@@ -4,11 +4,11 @@
 use crate::open_send::OpenSend;
 use crate::rows::Rows;
 use crate::waiting_frames::WaitingFrames;
-use its_air::{CarriedPacket, Presence, SendKind};
 use its_gnvalue::NoMemory;
 use its_scenario::Scenario;
 use its_simulation::{EventRecord, Note, SimulationFault};
 use its_station::OwnedGbcRequest;
+use its_tally::{CarriedPacket, Presence, SendKind};
 use its_world::{What, World};
 use std::alloc::Global;
 use std::collections::VecDeque;

@@ -1,8 +1,8 @@
 //! The command `sim`.
 
-ghost use Rattle.std.specs.Prelude.{◌≡◌, ◌≤◌, IfOk, None, true, vec_len};
+ghost use Rattle.std.specs.Prelude.{◌≡◌, ◌≤◌, IfOk, IfSome, IsSome, None, true, vec_len};
 ghost use Rattle.its_reporting.specs.Statuses.{IsCommandStatus};
-ghost use Rattle.its_runs.specs.Runs.{IsRunStatus};
+ghost use Rattle.its_runs.specs.Runs.{IsRunStatus, IsMovedStatus};
 
 use crate::course::Course;
 use crate::fault::{RunFault, is_cut_short};
@@ -14,11 +14,12 @@ use crate::results::Results;
 use crate::summary::print_summary;
 use crate::target::FrameTarget;
 use crate::watched::Watched;
-use its_air::{AirFault, Tally, run_moves, run_scenario};
+use its_air::{AirFault, run_moves, run_scenario};
 use its_moves::Rows;
 use its_reporting::{Fault, FrameFile, Status, status_of};
 use its_scenario::{Air, Reading, Scenario};
 use its_simulation::{EventSink, JsonLines, SimulationFault, TextLines};
+use its_tally::Tally;
 use std::alloc::Global;
 use std::io;
 use std::io::{BufRead, BufReader, Read, Write};
@@ -163,6 +164,8 @@ fn run<M: BufRead + Drop, F: EventSink + Drop, R: Write + Drop, W: Write>(
     ensures command { IfOk result IsCommandStatus }
     ensures run { course.old.moves ≡ None →
         IfOk result (IsRunStatus options.strict course.old.scenario.now) }
+    ensures moved { IsSome course.old.moves → IfSome course.old.scenario.now.air (λ air.
+        IfOk result (IsMovedStatus options.strict course.old.scenario.now air)) }
 {
     let besides = Finding {
         findings,
@@ -187,6 +190,8 @@ fn run_printed<M: BufRead + Drop, F: EventSink + Drop, W: Write>(
     ensures command { IfOk result IsCommandStatus }
     ensures run { course.old.moves ≡ None →
         IfOk result (IsRunStatus options.strict course.old.scenario.now) }
+    ensures moved { IsSome course.old.moves → IfSome course.old.scenario.now.air (λ air.
+        IfOk result (IsMovedStatus options.strict course.old.scenario.now air)) }
 {
     if options.lines.json {
         let mut objects = JsonLines::new(alloc, out)?.noting(options.notes);
@@ -246,6 +251,8 @@ fn run_summed_up<M: BufRead + Drop, F: EventSink + Found + Drop, W: Write>(
     ensures command { IfOk result IsCommandStatus }
     ensures run { course.old.moves ≡ None →
         IfOk result (IsRunStatus options.strict course.old.scenario.now) }
+    ensures moved { IsSome course.old.moves → IfSome course.old.scenario.now.air (λ air.
+        IfOk result (IsMovedStatus options.strict course.old.scenario.now air)) }
 {
     let mut watched = Watched::new(Both {
         lines: Tally::new(alloc, course.scenario.present.as_slice())?,
@@ -274,18 +281,16 @@ fn run_watched<M: BufRead + Drop, S: EventSink>(
     ensures command { IfOk result IsCommandStatus }
     ensures run { course.old.moves ≡ None →
         IfOk result (IsRunStatus strict course.old.scenario.now) }
+    ensures moved { IsSome course.old.moves → IfSome course.old.scenario.now.air (λ air.
+        IfOk result (IsMovedStatus strict course.old.scenario.now air)) }
 {
     let scenario = course.scenario;
-    match (&mut course.moves, &scenario.air) {
-        (Some(moves), Some(air)) => run_moved(
-            alloc,
-            scenario,
-            air,
-            &mut moves.rows,
-            watched,
-            strict,
-        ),
-        _ => run_alone(alloc, scenario, watched, strict),
+    let Some(air) = &scenario.air else {
+        return run_alone(alloc, scenario, watched, strict);
+    };
+    match &mut course.moves {
+        Some(moves) => run_moved(alloc, scenario, air, &mut moves.rows, watched, strict),
+        None => run_alone(alloc, scenario, watched, strict),
     }
 }
 
@@ -314,8 +319,10 @@ fn run_moved<M: BufRead + Drop, S: EventSink>(
     watched: &mut Watched<S>,
     strict: bool,
 ) -> Result<Status, AirFault>
-    requires { vec_len scenario.now.stations ≤ 65535 }
-    ensures { IfOk result IsCommandStatus }
+    requires stations { vec_len scenario.now.stations ≤ 65535 }
+    requires fresh { watched.old.all_done ≡ true }
+    ensures command { IfOk result IsCommandStatus }
+    ensures run { IfOk result (IsMovedStatus strict scenario.now air.now) }
 {
     run_moves(alloc, scenario, air, rows, watched)?;
     Ok(watched.status(strict))

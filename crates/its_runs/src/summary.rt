@@ -1,11 +1,11 @@
 //! The lines of a run that is summed up.
 
 use crate::findings::Found;
-use its_air::{SendSummary, Tally, Totals};
 use its_gnvalue::NoMemory;
 use its_json::JsonLine;
 use its_reporting::OutputFormat;
 use its_simulation::SimulationFault;
+use its_tally::{SendSummary, Tally, Totals};
 use serde::Serialize;
 use std::alloc::Global;
 use std::fmt;

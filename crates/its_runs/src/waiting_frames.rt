@@ -1,8 +1,8 @@
 //! The frames of packets for an area of which deliveries wait.
 
-use its_air::CarriedPacket;
 use its_gnvalue::NoMemory;
 use its_scenario::{FileEvent, Scenario};
+use its_tally::CarriedPacket;
 use its_world::{Event, What};
 use std::alloc::Global;
 use std::collections::HashMap;

@@ -3,8 +3,9 @@
 ghost use Rattle.std.specs.Prelude.{◌≡◌, List, true};
 ghost use Rattle.std.specs.List.{list_all};
 ghost use Rattle.its_world.specs.declared.entry.Entry.{Entry as Told};
+ghost use Rattle.its_world.specs.Entries.{was_done};
 ghost use Rattle.its_reporting.specs.Statuses.{IsCommandStatus};
-ghost use Rattle.its_runs.specs.Runs.{run_status, was_done};
+ghost use Rattle.its_runs.specs.Runs.{run_status};
 
 use its_reporting::Status;
 use its_simulation::{EventRecord, EventSink, Note, SimulationFault};

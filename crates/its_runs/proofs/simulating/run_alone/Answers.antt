@@ -2,7 +2,8 @@ use Rattle.std.proofs.Common.{rules, ◌≡◌, [], List}
 use Rattle.std.specs.List.{list_all}
 use Rattle.its_model.specs.World.{Event}
 use Rattle.its_world.specs.declared.entry.Entry.{Entry}
-use Rattle.its_runs.specs.Runs.{run_status, was_done}
+use Rattle.its_world.specs.Entries.{was_done}
+use Rattle.its_runs.specs.Runs.{run_status}
 use Rattle.its_runs.proofs.Following.{run_follows}
 use Rattle.its_runs.proofs.simulating.run_alone.Goals as goal
 

@@ -2,7 +2,7 @@ use Rattle.std.proofs.Common.{rules, ◌≡◌, ◌∷◌, ◌++◌, []}
 use Rattle.std.specs.Prelude.{◌&&◌}
 use Rattle.std.specs.List.{list_all}
 use Rattle.std.proofs.lemmas.List.Folds.{list_all-append}
-use Rattle.its_runs.specs.Runs.{was_done}
+use Rattle.its_world.specs.Entries.{was_done}
 use Rattle.its_runs.proofs.watched.WatchedEventSink.put.Goals as goal
 
 -- the entries so far, and this one
