@@ -1,3 +1,4 @@
+pub mod Calls
 pub mod Sockets
 pub mod Stations
 pub mod Statuses

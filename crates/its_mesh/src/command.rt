@@ -1,8 +1,10 @@
 //! The command `mesh`.
 
-ghost use Rattle.std.specs.Prelude.{◌≡◌, IfOk, IfErr, IfSome, None};
+ghost use Rattle.std.specs.Prelude.{◌≡◌, IfOk, IfErr, IfSome, None, map};
 ghost use Rattle.its_reporting.specs.FileNames.{format_of_file};
 ghost use Rattle.its_reporting.specs.Statuses.{IsCommandStatus};
+ghost use Rattle.its_world.specs.Events.{config_of, event_of};
+ghost use Rattle.its_mesh.specs.Calls.{IsMeshRun};
 ghost use Rattle.its_mesh.specs.Statuses.{IsMeshStatus};
 
 use crate::fault::MeshFault;
@@ -190,7 +192,9 @@ fn run_mesh<'f, S: Sockets, W: Write, E: Write>(
     out: &mut W,
     err: &mut E,
 ) -> Result<Status, MeshFault<'f>>
-    ensures { IfOk result (IsMeshStatus options.strict) }
+    ensures status { IfOk result (IsMeshStatus options.strict) }
+    ensures run { IfOk result (IsMeshRun (map config_of scenario.stations.items)
+        (map event_of scenario.events.items) options.strict) }
 {
     let Scenario {
         stations,

@@ -1,17 +1,19 @@
 //! Stations that talk by sockets, and what is printed of them.
 
-ghost use Rattle.std.specs.Prelude.{◌≡◌, ◌&&◌, ◌||◌, not, ℕ, All, IfOk, OnOk, List, map, slice_get};
+ghost use Rattle.std.specs.Prelude.{◌≡◌, ◌&&◌, ◌||◌, not, ℕ, false, All, IfOk, OnOk, OnErr};
+ghost use Rattle.std.specs.Prelude.{List, map, slice_get};
 ghost use Rattle.its_model.specs.Station.{StationModel};
 ghost use Rattle.its_model.specs.World.{opening};
-ghost use Rattle.its_runs.specs.Runs.{was_done};
+ghost use Rattle.its_world.specs.Entries.{was_done};
 ghost use Rattle.its_station.specs.Runs.{IsInRange};
 ghost use Rattle.its_world.specs.Events as happenings;
-ghost use Rattle.its_world.specs.Events.{IsConfig, config_of};
+ghost use Rattle.its_world.specs.Events.{IsConfig, config_of, event_of};
 ghost use Rattle.its_world.specs.State.{RepresentStations};
-ghost use Rattle.its_mesh.specs.Stations.{AreStations, IsCalled};
+ghost use Rattle.its_mesh.specs.Calls.{HasBegun, HasRun};
+ghost use Rattle.its_mesh.specs.Stations.{IsCalled, IsCutShort, IsNoted};
 ghost use Rattle.its_mesh.specs.Statuses.{mesh_status};
 
-use crate::answers::{CallOutcome, answer, call_word, done_entry, no_station, outcome_of};
+use crate::answers::{answer, call_word, done_entry};
 use crate::fault::{MeshFault, SocketFault, fault_of_lines};
 use crate::lines::{print_call, print_stations};
 use crate::sockets::{Sent, Sockets};
@@ -21,7 +23,7 @@ use its_reporting::{Fault, FrameFile, OutputFormat, Status};
 use its_runs::is_done;
 use its_simulation::SimulationFault;
 use its_station::{Call, Station};
-use its_world::{Config, Entry, Event, stations_of};
+use its_world::{CallOutcome, Config, Entry, EntryFault, Event, stations_of};
 use std::alloc::{AllocError, Global};
 use std::io;
 use std::io::{ErrorKind, Write};
@@ -60,8 +62,9 @@ impl<'a, 't, S: Sockets, W: Write, E: Write, F: Write + Drop> Mesh<'a, 't, S, W,
         err: &'a mut E,
     ) -> Result<Mesh<'a, 't, S, W, E, F>, MeshFault<'f>>
         requires { All IsConfig configs.now }
-        ensures { IfOk result (λ mesh. RepresentStations mesh.stations.items
+        ensures stations { IfOk result (λ mesh. RepresentStations mesh.stations.items
             (opening (map config_of configs.now)).stations) }
+        ensures unused { IfOk result (λ mesh. (mesh.moment ≡ 0) × (mesh.refused ≡ false)) }
     {
         let stations = stations_of(alloc, configs)?;
         for number in 0..configs.len() {
@@ -86,14 +89,22 @@ impl<'a, 't, S: Sockets, W: Write, E: Write, F: Write + Drop> Mesh<'a, 't, S, W,
     }
 
     /// Runs the events, and rounds after each. An event that delivers a frame is passed over, since
-    /// the sockets do that. With `strict` a call that was refused makes the status `Refused`, where
-    /// it would be `Done`.
+    /// the sockets do that: so each call of the others is made once, in their order, and between
+    /// them what comes by sockets, at the greatest moment so far. With `strict` a call that was
+    /// refused makes the status `Refused`, where it would be `Done`. Where it ends before the last
+    /// event, the calls that were made are a beginning of theirs.
     pub(crate) fn run<'f>(&mut self, events: Vec<Event>, strict: bool) -> Result<Status, Fault<'f>>
         requires ranges { All (λ event. happenings.IsInRange event.what) events.items }
         ensures status { IfOk result (λ status. status
             ≡ mesh_status self.new.failed (strict && self.new.refused)) }
-        ensures stations { AreStations self.old.stations.items
-            → OnOk result (AreStations self.new.stations.items) }
+        ensures made { (models : List StationModel) →
+            RepresentStations self.old.stations.items models →
+            OnOk result (HasRun (map event_of events.items) models self.old.moment
+            self.old.refused self.new.stations.items self.new.refused) }
+        ensures stopped { (models : List StationModel) →
+            RepresentStations self.old.stations.items models →
+            OnErr result (HasBegun (map event_of events.items) models self.old.moment
+            self.old.refused self.new.stations.items self.new.refused) }
     {
         for event in events {
             if let Some(call) = event.what.into_call() {
@@ -111,8 +122,9 @@ impl<'a, 't, S: Sockets, W: Write, E: Write, F: Write + Drop> Mesh<'a, 't, S, W,
         })
     }
 
-    /// Makes a call of a station, prints its line, and sends the frame that it gives to each other
-    /// station.
+    /// Makes a call of a station, notes whether it was refused, prints its line, and sends the frame
+    /// that it gives to each other station. An `Err` where memory ran out, and then the call was not
+    /// made, or where the line or the frame could not be written, and then it was.
     pub(crate) fn call<'f>(
         &mut self,
         station: usize,
@@ -122,8 +134,13 @@ impl<'a, 't, S: Sockets, W: Write, E: Write, F: Write + Drop> Mesh<'a, 't, S, W,
         requires { IsInRange call }
         ensures called { (models : List StationModel) →
             RepresentStations self.old.stations.items models →
-            OnOk result (IsCalled self.old.stations.items (slice_get models station) station moment
-            call self.new.stations.items) }
+            OnOk result (IsNoted self.old.stations.items (slice_get models station) station moment
+            call self.old.refused self.new.stations.items self.new.refused) }
+        ensures stopped { (models : List StationModel) →
+            RepresentStations self.old.stations.items models →
+            OnErr result (IsCutShort self.old.stations.items models (slice_get models station)
+            station moment call self.old.refused self.new.stations.items self.new.refused) }
+        ensures moment { self.new.moment ≡ self.old.moment }
         ensures asked { (count : ℕ) → S.Asked self.old.sockets.now count
             → S.Asked self.new.sockets.now count }
     {
@@ -144,6 +161,8 @@ impl<'a, 't, S: Sockets, W: Write, E: Write, F: Write + Drop> Mesh<'a, 't, S, W,
     /// Writes a frame that a station gave to the file of frames, if there is one.
     fn record(&mut self, moment: u64, station: usize, frame: &[u8]) -> io::Result<()>
         ensures stations { self.new.stations ≡ self.old.stations }
+        ensures refused { self.new.refused ≡ self.old.refused }
+        ensures moment { self.new.moment ≡ self.old.moment }
         ensures sockets { self.new.sockets.now ≡ self.old.sockets.now }
     {
         match &mut self.file {
@@ -162,16 +181,22 @@ impl<'a, 't, S: Sockets, W: Write, E: Write, F: Write + Drop> Mesh<'a, 't, S, W,
         requires { IsInRange call }
         ensures called { (models : List StationModel) →
             RepresentStations self.old.stations.items models →
-            OnOk result (IsCalled self.old.stations.items (slice_get models station) station moment
-            call self.new.stations.items) }
+            IfOk result (λ outcome. IsCalled self.old.stations.items (slice_get models station)
+            station moment call (not (was_done outcome.entry)) self.new.stations.items) }
+        ensures unmade { (models : List StationModel) →
+            RepresentStations self.old.stations.items models →
+            OnErr result (RepresentStations self.new.stations.items models) }
         ensures sockets { self.new.sockets.now ≡ self.old.sockets.now }
+        ensures refused { self.new.refused ≡ self.old.refused }
+        ensures moment { self.new.moment ≡ self.old.moment }
     {
         if station >= self.stations.len() {
-            return Ok(no_station());
+            let fault = EntryFault::NoSuchStation;
+            return Ok(CallOutcome::told(Entry::Refused(fault)));
         }
         let done = done_entry(&call);
         let reply = answer(&mut self.stations[station], moment, call)?;
-        Ok(outcome_of(done, reply, self.frames))
+        Ok(CallOutcome::of_reply(done, reply, self.frames))
     }
 
     /// Prints the line of a call with this word, and notes whether it was refused.
@@ -184,6 +209,7 @@ impl<'a, 't, S: Sockets, W: Write, E: Write, F: Write + Drop> Mesh<'a, 't, S, W,
     ) -> Result<(), SimulationFault>
         ensures refused { self.new.refused ≡ (self.old.refused || not (was_done entry.now)) }
         ensures stations { self.new.stations ≡ self.old.stations }
+        ensures moment { self.new.moment ≡ self.old.moment }
         ensures sockets { self.new.sockets.now ≡ self.old.sockets.now }
     {
         self.refused |= !is_done(entry);
@@ -202,6 +228,8 @@ impl<'a, 't, S: Sockets, W: Write, E: Write, F: Write + Drop> Mesh<'a, 't, S, W,
     /// over.
     fn send(&mut self, from: usize, frame: &[u8])
         ensures stations { self.new.stations ≡ self.old.stations }
+        ensures refused { self.new.refused ≡ self.old.refused }
+        ensures moment { self.new.moment ≡ self.old.moment }
         ensures asked { (count : ℕ) → S.Asked self.old.sockets.now count
             → S.Asked self.new.sockets.now count }
     {
@@ -215,6 +243,8 @@ impl<'a, 't, S: Sockets, W: Write, E: Write, F: Write + Drop> Mesh<'a, 't, S, W,
     /// Tells of a socket that failed, and goes on.
     pub(crate) fn fail(&mut self, fault: SocketFault)
         ensures stations { self.new.stations ≡ self.old.stations }
+        ensures refused { self.new.refused ≡ self.old.refused }
+        ensures moment { self.new.moment ≡ self.old.moment }
         ensures sockets { self.new.sockets.now ≡ self.old.sockets.now }
     {
         let _ = writeln!(self.err, "{fault}");

@@ -1,7 +1,9 @@
 //! Rounds in which each socket is asked for what came.
 
-ghost use Rattle.std.specs.Prelude.{ℕ, ◌+◌, ◌≤◌, OnOk};
-ghost use Rattle.its_mesh.specs.Stations.{AreStations};
+ghost use Rattle.std.specs.Prelude.{◌≡◌, ℕ, ◌+◌, ◌≤◌, ◌<◌, IfOk, OnOk, List, length};
+ghost use Rattle.its_model.specs.Station.{StationModel};
+ghost use Rattle.its_world.specs.State.{RepresentStations};
+ghost use Rattle.its_mesh.specs.Calls.{HasReceived, HasReceivedAt};
 
 use crate::fault::SocketFault;
 use crate::mesh::Mesh;
@@ -22,10 +24,14 @@ const QUIET: u32 = 4;
 const LONGEST_READ: usize = LONGEST_FRAME + 1;
 
 impl<'a, 't, S: Sockets, W: Write, E: Write, F: Write + Drop> Mesh<'a, 't, S, W, E, F> {
-    /// Holds rounds until nothing came in four in a row, 64 at most.
+    /// Holds rounds until nothing came in four in a row, 64 at most. No call is made but of what
+    /// comes by sockets.
     pub(crate) fn rounds<'f>(&mut self) -> Result<(), Fault<'f>>
-        ensures { AreStations self.old.stations.items
-            → OnOk result (AreStations self.new.stations.items) }
+        ensures received { (models : List StationModel) →
+            RepresentStations self.old.stations.items models →
+            HasReceived models self.old.moment self.old.refused self.new.stations.items
+            self.new.refused }
+        ensures moment { self.new.moment ≡ self.old.moment }
     {
         let mut quiet = 0;
         for _ in 0..MOST {
@@ -37,10 +43,14 @@ impl<'a, 't, S: Sockets, W: Write, E: Write, F: Write + Drop> Mesh<'a, 't, S, W,
         Ok(())
     }
 
-    /// Asks each socket in turn. Tells whether anything came.
+    /// Asks each socket in turn. Tells whether anything came. No call is made but of what comes by
+    /// sockets.
     fn round<'f>(&mut self) -> Result<bool, Fault<'f>>
-        ensures { AreStations self.old.stations.items
-            → OnOk result (AreStations self.new.stations.items) }
+        ensures received { (models : List StationModel) →
+            RepresentStations self.old.stations.items models →
+            HasReceived models self.old.moment self.old.refused self.new.stations.items
+            self.new.refused }
+        ensures moment { self.new.moment ≡ self.old.moment }
     {
         let mut came = false;
         for station in 0..self.stations.len() {
@@ -52,10 +62,14 @@ impl<'a, 't, S: Sockets, W: Write, E: Write, F: Write + Drop> Mesh<'a, 't, S, W,
     }
 
     /// Asks a station's socket until it would block or fails, or 64 datagrams came, and hands each
-    /// to the station. Gives how many came.
+    /// to the station once, at the greatest moment so far. Gives how many came.
     fn ask<'f>(&mut self, station: usize) -> Result<u32, Fault<'f>>
-        ensures stations { AreStations self.old.stations.items
-            → OnOk result (AreStations self.new.stations.items) }
+        ensures received { (models : List StationModel) →
+            RepresentStations self.old.stations.items models →
+            station < length self.old.stations.items →
+            (count : ℕ) × HasReceivedAt models station self.old.moment self.old.refused
+            self.new.stations.items self.new.refused count × IfOk result (λ came. came ≡ count) }
+        ensures moment { self.new.moment ≡ self.old.moment }
         ensures asked { (before : ℕ) → S.Asked self.old.sockets.now before → OnOk result
             ((count : ℕ) × (count ≤ 64) × S.Asked self.new.sockets.now (before + count)) }
     {
