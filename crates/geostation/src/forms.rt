@@ -5,7 +5,7 @@ use std::alloc::{AllocError, Global};
 
 /// An argument of a command: its name, and what help says of it.
 #[derive(Clone, Copy)]
-enum Word {
+enum Argument {
     /// It has to be given, in its place.
     Required(&'static str, &'static str),
     /// The same, and it may begin with a minus sign, as a number below 0 does.
@@ -32,136 +32,148 @@ enum Word {
 struct Form {
     name: &'static str,
     about: &'static str,
-    words: &'static [Word],
-    choosing: &'static [Word],
+    arguments: &'static [Argument],
+    choosing: &'static [Argument],
     example: &'static str,
 }
 
-const JSON: Word = Word::Flag("json", "Prints each line as a JSON object");
+const JSON: Argument = Argument::Flag("json", "Prints each line as a JSON object");
 
-const EXPLAIN: Word = Word::Flag("explain", "Says in words what each code means");
+const EXPLAIN: Argument = Argument::Flag("explain", "Says in words what each code means");
 
-const NO_EXPLAIN: Word = Word::Flag("no-explain", "Doesn't, on a terminal either");
+const NO_EXPLAIN: Argument = Argument::Flag("no-explain", "Doesn't, on a terminal either");
 
-const QUIET: Word = Word::LetterFlag(
+const QUIET: Argument = Argument::LetterFlag(
     'q',
     "quiet",
     "Tells nothing but what is wrong: no progress, no notices",
 );
 
-const COLOR: Word = Word::Choice(
+const COLOR: Argument = Argument::Choice(
     "color",
     "WHEN",
     &["auto", "always", "never"],
     "When kinds and refusals are coloured: auto is on a terminal",
 );
 
-const STRICT: Word = Word::Flag(
+const STRICT: Argument = Argument::Flag(
     "strict",
     "Ends with status 1 where an event or an unknown key is refused",
 );
 
-const FRAMES: Word = Word::Value(
+const FRAMES: Argument = Argument::Value(
     "frames",
     "OUT",
     "Also writes the frames to this file: .pcap, .pcapng or .cap",
 );
 
-const TO: Word = Word::Choice(
+const TO: Argument = Argument::Choice(
     "to",
     "FORMAT",
     &["capture", "pcap", "pcapng"],
     "The format that is written, in place of what the file's name says",
 );
 
-const FORMAT: Word = Word::Choice(
+const FORMAT: Argument = Argument::Choice(
     "format",
     "FORMAT",
     &["capture", "pcap", "pcapng"],
     "The format that is read, in place of what the first octets say",
 );
 
-const KIND: Word = Word::Value(
+const KIND: Argument = Argument::Value(
     "kind",
     "LIST",
     "Chooses frames of these kinds: beacon,shb,gbc,gac",
 );
 
-const SOURCE: Word = Word::Value(
+const SOURCE: Argument = Argument::Value(
     "source",
     "HEX16",
     "Chooses frames whose packet is of this address",
 );
 
-const FROM_MAC: Word = Word::Value("from-mac", "HEX12", "Chooses frames from this link address");
+const FROM_MAC: Argument = Argument::Value(
+    "from-mac",
+    "HEX12",
+    "Chooses frames from this link address",
+);
 
-const PORT: Word = Word::Value("port", "N", "Chooses frames to this destination port");
+const PORT: Argument = Argument::Value("port", "N", "Chooses frames to this destination port");
 
-const SINCE: Word = Word::Value("since", "N", "Chooses records of this moment and later");
+const SINCE: Argument = Argument::Value("since", "N", "Chooses records of this moment and later");
 
-const UNTIL: Word = Word::Value("until", "N", "Chooses records of this moment and before");
+const UNTIL: Argument = Argument::Value("until", "N", "Chooses records of this moment and before");
 
-const REFUSED: Word = Word::Flag("refused", "Chooses refused records");
+const REFUSED: Argument = Argument::Flag("refused", "Chooses refused records");
 
-const COUNT: Word = Word::Value(
+const COUNT: Argument = Argument::Value(
     "count",
     "N",
     "Reads nothing more once so many records are chosen",
 );
 
-const TIME: Word = Word::Choice(
+const TIME: Argument = Argument::Choice(
     "time",
     "TIME",
     &["raw", "utc", "relative", "delta"],
     "How moments are told: in milliseconds, in UTC, in seconds since the first or the last one",
 );
 
-const FIELDS: Word = Word::Value(
+const FIELDS: Argument = Argument::Value(
     "fields",
     "NAMES",
     "Prints the values of these keys of --json, parted by commas, as CSV",
 );
 
-const FRAMES_ONLY: Word = Word::Flag(
+const FRAMES_ONLY: Argument = Argument::Flag(
     "frames-only",
     "Writes Ethernet frames in place of records with their link layer's header",
 );
 
-const ADDRESS: Word = Word::Required("ADDRESS", "The station's address, 16 hexadecimal digits");
+const ADDRESS: Argument = Argument::Required(
+    "ADDRESS",
+    "The station's address, 16 hexadecimal digits",
+);
 
-const LAT: Word = Word::Signed(
+const LAT: Argument = Argument::Signed(
     "LAT",
     "Its latitude in tenths of a microdegree: 481000000 is 48.1 degrees",
 );
 
-const LON: Word = Word::Signed(
+const LON: Argument = Argument::Signed(
     "LON",
     "Its longitude in tenths of a microdegree: 115000000 is 11.5 degrees",
 );
 
-const CAPACITY: Word = Word::Value(
+const CAPACITY: Argument = Argument::Value(
     "capacity",
     "N",
     "How many sources it knows: 1 to 4096, else 64",
 );
 
-const REMEMBER: Word = Word::Value(
+const REMEMBER: Argument = Argument::Value(
     "remember",
     "N",
     "How many numbers it remembers of each: 1 to 64, else 8",
 );
 
-const CAPTURE: Word = Word::Required("FILE", "The capture, or - for standard input");
+const CAPTURE: Argument = Argument::Required("FILE", "The capture, or - for standard input");
 
-const SCENARIO: Word = Word::Required("SCENARIO", "The scenario, or - for standard input");
+const SCENARIO: Argument = Argument::Required("SCENARIO", "The scenario, or - for standard input");
 
-const OUTPUT: Word = Word::LetterValue('o', "output", "FILE", "The file that is made, as OUT");
+const OUTPUT: Argument = Argument::LetterValue(
+    'o',
+    "output",
+    "FILE",
+    "The file that is made, as OUT",
+);
 
 /// By which records are chosen.
-const CHOOSING: &[Word] = &[KIND, SOURCE, FROM_MAC, PORT, SINCE, UNTIL, REFUSED, COUNT];
+const CHOOSING: &[Argument] = &[KIND, SOURCE, FROM_MAC, PORT, SINCE, UNTIL, REFUSED, COUNT];
 
 /// The same where `--port` says something else.
-const CHOOSING_TO_ANY_PORT: &[Word] = &[KIND, SOURCE, FROM_MAC, SINCE, UNTIL, REFUSED, COUNT];
+const CHOOSING_TO_ANY_PORT: &[Argument] = &[KIND, SOURCE, FROM_MAC, SINCE, UNTIL, REFUSED, COUNT];
 
 /// Adds all commands to a program, in the order of the help.
 pub(crate) fn add_commands<'a>(
@@ -209,7 +221,7 @@ static READERS: [Form; 3] = [
     Form {
         name: "show",
         about: "Prints a line for each record of a capture",
-        words: &[
+        arguments: &[
             CAPTURE, FORMAT, JSON, EXPLAIN, NO_EXPLAIN, COLOR, TIME, FIELDS,
         ],
         choosing: CHOOSING,
@@ -220,7 +232,7 @@ Example:
     Form {
         name: "check",
         about: "Prints a line for each refused record of a capture, and a count",
-        words: &[CAPTURE, FORMAT, JSON, EXPLAIN, NO_EXPLAIN],
+        arguments: &[CAPTURE, FORMAT, JSON, EXPLAIN, NO_EXPLAIN],
         choosing: CHOOSING,
         example: "\
 Example:
@@ -229,13 +241,13 @@ Example:
     Form {
         name: "stats",
         about: "Counts the records of a capture by kind, source, port and second",
-        words: &[
+        arguments: &[
             CAPTURE,
             FORMAT,
             JSON,
             EXPLAIN,
             NO_EXPLAIN,
-            Word::Value(
+            Argument::Value(
                 "top",
                 "N",
                 "Prints so many sources, those of the most frames",
@@ -253,9 +265,9 @@ static MAKERS: [Form; 2] = [
     Form {
         name: "convert",
         about: "Writes the records of a capture in the format of another file's name",
-        words: &[
-            Word::Required("IN", "The capture, or - for standard input"),
-            Word::Unless(
+        arguments: &[
+            Argument::Required("IN", "The capture, or - for standard input"),
+            Argument::Unless(
                 "OUT",
                 "output",
                 "The file that is made: .pcap, .pcapng or .cap, or - for standard output",
@@ -276,9 +288,9 @@ Example:
     Form {
         name: "import",
         about: "Makes a capture of lines of a moment and hexadecimal digits",
-        words: &[
-            Word::Required("FILE", "The lines, or - for standard input"),
-            Word::Unless(
+        arguments: &[
+            Argument::Required("FILE", "The lines, or - for standard input"),
+            Argument::Unless(
                 "OUT",
                 "output",
                 "The capture that is made, or - for standard output",
@@ -300,39 +312,39 @@ static RUNNERS: [Form; 3] = [
     Form {
         name: "sim",
         about: "Runs a scenario and prints a line for each event",
-        words: &[
+        arguments: &[
             SCENARIO,
-            Word::Flag(
+            Argument::Flag(
                 "summary",
                 "Prints what came of each send in place of the events",
             ),
-            Word::Values(
+            Argument::Values(
                 "set",
                 "KEY=VALUE",
                 "Puts a key of the air in place of the scenario's",
             ),
-            Word::Value(
+            Argument::Value(
                 "moves",
                 "FILE",
                 "Moves stations as the rows of this file say: CSV, or - for standard input",
             ),
-            Word::Flag(
+            Argument::Flag(
                 "notes",
                 "Also prints who comes, who leaves and what is lost in an air",
             ),
             FRAMES,
             TO,
-            Word::Value(
+            Argument::Value(
                 "sends",
                 "FILE",
                 "Also writes a row for each send to this file: CSV",
             ),
-            Word::Value(
+            Argument::Value(
                 "stations",
                 "FILE",
                 "Also writes a row for each station: CSV",
             ),
-            Word::Value(
+            Argument::Value(
                 "load",
                 "FILE",
                 "Also writes a row for each second with frames: CSV",
@@ -352,18 +364,18 @@ Example:
     Form {
         name: "view",
         about: "Writes the page that shows a run, with the run in it, as one file",
-        words: &[
-            Word::Required(
+        arguments: &[
+            Argument::Required(
                 "RUN",
                 "The lines of sim --json, or a scenario, or - for standard input",
             ),
-            Word::LetterValue(
+            Argument::LetterValue(
                 'o',
                 "output",
                 "FILE",
                 "The page that is made, in place of standard output",
             ),
-            Word::Value(
+            Argument::Value(
                 "viewer",
                 "DIR",
                 "The folder of the page, in place of the one beside the program",
@@ -380,7 +392,7 @@ Example:
     Form {
         name: "mesh",
         about: "Runs a scenario over UDP sockets on the loopback",
-        words: &[SCENARIO, FRAMES, TO, JSON, EXPLAIN, NO_EXPLAIN, STRICT],
+        arguments: &[SCENARIO, FRAMES, TO, JSON, EXPLAIN, NO_EXPLAIN, STRICT],
         choosing: &[],
         example: "\
 Example:
@@ -393,14 +405,14 @@ static STATIONS: [Form; 2] = [
     Form {
         name: "replay",
         about: "Prints what a station would have done with the frames of a capture",
-        words: &[
+        arguments: &[
             CAPTURE,
             ADDRESS,
             LAT,
             LON,
             CAPACITY,
             REMEMBER,
-            Word::Values(
+            Argument::Values(
                 "port",
                 "N",
                 "Opens this port at the start; frames aren't chosen by it",
@@ -420,7 +432,7 @@ Example:
     Form {
         name: "station",
         about: "Runs one station on JSON lines",
-        words: &[ADDRESS, LAT, LON, CAPACITY, REMEMBER],
+        arguments: &[ADDRESS, LAT, LON, CAPACITY, REMEMBER],
         choosing: &[],
         example: "\
 Example:
@@ -428,29 +440,29 @@ Example:
     },
 ];
 
-impl Word {
-    /// The argument.
-    fn argument<'a>(self, alloc: Global) -> Result<Arg<'a>, AllocError> {
+impl Argument {
+    /// The same, as clap has it.
+    fn to_clap<'a>(self, alloc: Global) -> Result<Arg<'a>, AllocError> {
         Ok(match self {
-            Word::Required(name, help) => Arg::new(alloc, name).required(true).help(help),
-            Word::Signed(name, help) => Arg::new(alloc, name)
+            Argument::Required(name, help) => Arg::new(alloc, name).required(true).help(help),
+            Argument::Signed(name, help) => Arg::new(alloc, name)
                 .required(true)
                 .allow_negative_numbers(true)
                 .help(help),
-            Word::Unless(name, other, help) => Arg::new(alloc, name)
+            Argument::Unless(name, other, help) => Arg::new(alloc, name)
                 .help(help)
                 .required_unless_present(other)?
                 .conflicts_with(other)?,
-            Word::Flag(name, help) => flag(alloc, name, help),
-            Word::LetterFlag(letter, name, help) => flag(alloc, name, help).short(letter),
-            Word::Value(name, value, help) => option(alloc, name, value, help),
-            Word::LetterValue(letter, name, value, help) => {
+            Argument::Flag(name, help) => flag(alloc, name, help),
+            Argument::LetterFlag(letter, name, help) => flag(alloc, name, help).short(letter),
+            Argument::Value(name, value, help) => option(alloc, name, value, help),
+            Argument::LetterValue(letter, name, value, help) => {
                 option(alloc, name, value, help).short(letter)
             }
-            Word::Values(name, value, help) => {
+            Argument::Values(name, value, help) => {
                 option(alloc, name, value, help).action(ArgAction::Append)
             }
-            Word::Choice(name, value, values, help) => {
+            Argument::Choice(name, value, values, help) => {
                 option(alloc, name, value, help).value_parser(values)
             }
         })
@@ -484,8 +496,8 @@ impl Form {
         let mut command = Command::new(alloc, self.name)
             .about(self.about)
             .after_help(self.example);
-        for word in self.words.iter().chain(self.choosing) {
-            command = command.arg(word.argument(alloc)?)?;
+        for argument in self.arguments.iter().chain(self.choosing) {
+            command = command.arg(argument.to_clap(alloc)?)?;
         }
         Ok(command)
     }

@@ -5,7 +5,7 @@ ghost use Rattle.its_replay.specs.Units.{IsUnit};
 ghost use Rattle.its_world.specs.Events.{IsConfig};
 
 use crate::arguments;
-use crate::station::StationWords;
+use crate::station::StationArguments;
 use crate::subcommand::Subcommand;
 use its_commands::{check_file, convert_file, import_file, show_file};
 use its_frame_text::Explanation;
@@ -195,12 +195,12 @@ where
             Subcommand::Replay {
                 file,
                 selection,
-                words,
+                station,
                 ports,
                 frames,
                 lines,
             },
-        ) => match unit_of(&words, ports, err) {
+        ) => match unit_of(&station, ports, err) {
             Ok(unit) => {
                 let options = ReplayOptions {
                     file,
@@ -212,21 +212,21 @@ where
             }
             Err(status) => status,
         },
-        Ok(Subcommand::Station(words)) => serve(rt.alloc(), &words, input, out, err),
+        Ok(Subcommand::Station(station)) => serve(rt.alloc(), &station, input, out, err),
         Ok(Subcommand::BadSetting { fault, explain }) => refuse_setting(fault, explain, err),
         Err(error) => explain(&error, out, err),
     }
 }
 
-/// Is the station that these words describe, driven by the lines of standard input.
+/// Is the station that these arguments describe, driven by the lines of standard input.
 fn serve<I: Read + Drop, W: Write, E: Write>(
     alloc: Global,
-    words: &StationWords<'_>,
+    station: &StationArguments<'_>,
     input: I,
     out: &mut W,
     err: &mut E,
 ) -> Status {
-    match config_of(words, err) {
+    match config_of(station, err) {
         Ok(config) => match run_station(alloc, &config, input, out, err) {
             Ended::Done => Status::Done,
             Ended::Refused => Status::Refused,
@@ -236,11 +236,15 @@ fn serve<I: Read + Drop, W: Write, E: Write>(
     }
 }
 
-/// The station that these words describe, with these ports open from its start.
-fn unit_of<E: Write>(words: &StationWords<'_>, ports: PortList, err: &mut E) -> Result<Unit, Status>
+/// The station that these arguments describe, with these ports open from its start.
+fn unit_of<E: Write>(
+    station: &StationArguments<'_>,
+    ports: PortList,
+    err: &mut E,
+) -> Result<Unit, Status>
     ensures { IfOk result IsUnit }
 {
-    let config = config_of(words, err)?;
+    let config = config_of(station, err)?;
     Ok(Unit {
         address: config.address,
         place: config.place,
@@ -250,12 +254,11 @@ fn unit_of<E: Write>(words: &StationWords<'_>, ports: PortList, err: &mut E) -> 
     })
 }
 
-/// The station that these words describe. Words that describe none are bad arguments, and told with
-/// what was wrong.
-fn config_of<E: Write>(words: &StationWords<'_>, err: &mut E) -> Result<Config, Status>
+/// The station that these arguments describe. Those that describe none are told with what was wrong.
+fn config_of<E: Write>(station: &StationArguments<'_>, err: &mut E) -> Result<Config, Status>
     ensures { IfOk result IsConfig }
 {
-    match read_station(words) {
+    match read_station(station) {
         Ok(config) => Ok(config),
         Err(KeyFault::Refused(key, wrong)) => {
             let _ = writeln!(err, "error: {key}: {}", WrongOf(key, wrong));

@@ -3,9 +3,9 @@
 use clap::ArgMatches;
 use its_scenario::Fields;
 
-/// The words of a station, of which those behind the place may be missing.
+/// The arguments of a station, of which those behind the place may be missing.
 #[derive(Clone, Copy, Debug, PartialEq, Eq)]
-pub struct StationWords<'a> {
+pub struct StationArguments<'a> {
     address: &'a str,
     lat: &'a str,
     lon: &'a str,
@@ -13,10 +13,10 @@ pub struct StationWords<'a> {
     remember: Option<&'a str>,
 }
 
-impl<'a> StationWords<'a> {
+impl<'a> StationArguments<'a> {
     /// Those that were matched: the first three are required, so there is an answer.
-    pub(crate) fn of(matches: &ArgMatches<'a>) -> Option<StationWords<'a>> {
-        Some(StationWords {
+    pub(crate) fn of(matches: &ArgMatches<'a>) -> Option<StationArguments<'a>> {
+        Some(StationArguments {
             address: matches.get_str("ADDRESS")?,
             lat: matches.get_str("LAT")?,
             lon: matches.get_str("LON")?,
@@ -25,8 +25,8 @@ impl<'a> StationWords<'a> {
         })
     }
 
-    /// The word under the name that a scenario has for it.
-    fn word(&self, name: &str) -> Option<&'a str> {
+    /// The argument under the name that a scenario has for it.
+    fn value(&self, name: &str) -> Option<&'a str> {
         match name {
             "address" => Some(self.address),
             "lat" => Some(self.lat),
@@ -38,20 +38,20 @@ impl<'a> StationWords<'a> {
     }
 }
 
-impl Fields for StationWords<'_> {
-    fn has(&self, word: &str) -> bool {
-        self.word(word).is_some()
+impl Fields for StationArguments<'_> {
+    fn has(&self, name: &str) -> bool {
+        self.value(name).is_some()
     }
 
-    fn integer(&self, word: &str) -> Option<i64> {
-        self.word(word)?.parse().ok()
+    fn integer(&self, name: &str) -> Option<i64> {
+        self.value(name)?.parse().ok()
     }
 
-    fn truth(&self, _word: &str) -> Option<bool> {
+    fn truth(&self, _name: &str) -> Option<bool> {
         None
     }
 
-    fn text(&self, word: &str) -> Option<&str> {
-        self.word(word)
+    fn text(&self, name: &str) -> Option<&str> {
+        self.value(name)
     }
 }

@@ -3,7 +3,7 @@
 use crate::choosing::{
     BadArgument, count_of, fields_of, ports_of, selection_of, selection_to_any_port, time_of,
 };
-use crate::station::StationWords;
+use crate::station::StationArguments;
 use clap::ArgMatches;
 use its_commands::{Selection, Showing};
 use its_mesh::MeshOptions;
@@ -70,18 +70,18 @@ pub enum Subcommand<'a> {
         options: MeshOptions,
         heads: bool,
     },
-    /// To give the records of the capture in the file to the station that the words describe, whose
-    /// ports are these, and to write the frames that it passes on to `frames`.
+    /// To give the records of the capture in the file to the station that its arguments describe,
+    /// whose ports are these, and to write the frames that it passes on to `frames`.
     Replay {
         file: &'a str,
         selection: Selection,
-        words: StationWords<'a>,
+        station: StationArguments<'a>,
         ports: PortList,
         frames: Option<Target<'a>>,
         lines: OutputFormat,
     },
-    /// To be one station, which these words describe.
-    Station(StationWords<'a>),
+    /// To be one station, which these arguments describe.
+    Station(StationArguments<'a>),
     /// To refuse a value of the air that was given beside a scenario.
     BadSetting {
         fault: SettingFault<'a>,
@@ -100,7 +100,7 @@ pub(crate) fn subcommand_of<'a>(
     };
     match name {
         "show" | "check" | "stats" | "convert" => over_capture(name, inner, console),
-        "station" => Ok(StationWords::of(inner).map(Subcommand::Station)),
+        "station" => Ok(StationArguments::of(inner).map(Subcommand::Station)),
         "replay" => replaying(inner, console),
         "sim" => simulating(inner, console),
         _ => Ok(other(name, inner, console)),
@@ -242,13 +242,13 @@ fn replaying<'a>(
     matches: &ArgMatches<'a>,
     console: Console,
 ) -> Result<Option<Subcommand<'a>>, BadArgument<'a>> {
-    let (Some(file), Some(words)) = (file_of(matches), StationWords::of(matches)) else {
+    let (Some(file), Some(station)) = (file_of(matches), StationArguments::of(matches)) else {
         return Ok(None);
     };
     Ok(Some(Subcommand::Replay {
         file,
         selection: selection_to_any_port(matches, format_of(matches, "format"))?,
-        words,
+        station,
         ports: ports_of(matches)?,
         frames: frames_of(matches),
         lines: lines_of("replay", matches, console),
