@@ -1,16 +1,23 @@
-//! A road of many stations in an air, in plain Rust: `air STATIONS SECONDS scenario` prints the
-//! scenario for `geostation sim`, `air STATIONS SECONDS run` runs the same and prints its totals.
+//! An air of many stations, in plain Rust: `air road STATIONS SECONDS` prints the scenario of a
+//! road for `geostation sim`, `air run FILE` runs a scenario of such a road or of a town
+//! (`town.py`) and prints its summary, and on standard error how many frames were received.
 #![allow(dead_code)]
 #[path = "twin/geometry.rs"]
 mod geometry;
+#[path = "twin/grid.rs"]
+mod grid;
 #[path = "twin/packets.rs"]
 mod packets;
+#[path = "twin/scenario.rs"]
+mod scenario;
 #[path = "twin/station.rs"]
 mod station;
 #[path = "twin/table.rs"]
 mod table;
 
-use geometry::{Area, Place, Shape, contains, distance2};
+use geometry::{Place, contains};
+use grid::Grid;
+use scenario::Scenario;
 use station::{Entry, Event, Station, What, Why, World};
 use std::cmp::Reverse;
 use std::collections::{BinaryHeap, HashSet};
@@ -21,7 +28,7 @@ const SEED: u64 = 1;
 const PORT: u16 = 2002;
 const CAPACITY: usize = 256;
 const FIRST: u64 = 0x1400_0200_0000_0001;
-const WARNINGS: u64 = 10;
+const WARNINGS: usize = 10;
 
 /// The generator of the scenario's draws: xoshiro256++, its state filled by splitmix64.
 struct Draws([u64; 4]);
@@ -52,69 +59,53 @@ impl Draws {
     }
 }
 
-/// Ten kilometres of road along the equator, at equal distances. Where ROAD is `north`, a road to the
-/// north, ten metres from one station to the next.
-fn place(number: usize, stations: usize) -> Place {
+/// Ten kilometres of road along the equator, at equal distances. Where ROAD is `north`, a road to
+/// the north, ten metres from one spot to the next.
+fn place(spot: usize, stations: usize) -> Place {
     if std::env::var_os("ROAD").is_some_and(|road| road == "north") {
-        return Place { lat: (number * 898) as i32, lon: 0 };
+        return Place { lat: (spot * 898) as i32, lon: 0 };
     }
-    Place { lat: 0, lon: (number * 898_315 / stations) as i32 }
+    Place { lat: 0, lon: (spot * 898_315 / stations) as i32 }
 }
 
-fn event(station: usize, moment: u64, what: What) -> Event {
-    Event { station, moment, what }
-}
-
-/// Each station sends once a second, at a moment of its own; ten warnings for the road's far end.
-fn events(stations: usize, seconds: u64) -> Vec<Event> {
-    let mut events: Vec<Event> = (0..stations).map(|s| event(s, 0, What::Open(PORT))).collect();
-    let area = Area {
-        shape: Shape::Circle,
-        centre: place(stations - 1, stations),
-        a: 300,
-        b: 0,
-        angle: 0,
-    };
-    for second in 0..seconds {
-        for s in 0..stations {
-            let moment = 1000 * second + (s * 1000 / stations) as u64;
-            events.push(event(s, moment, What::SendShb { port: PORT, payload: vec![0x68, 0x69] }));
-        }
-        if second >= 2 && second < 2 + WARNINGS {
-            let (port, payload) = (PORT, vec![0x69, 0x63, 0x65]);
-            let what = What::SendGeobroadcast { port, hops: 200, area, payload };
-            events.push(event(0, 1000 * second + 999, what));
-        }
+/// On which spot the station of each number stands: in disorder.
+fn spots(stations: usize) -> Vec<usize> {
+    let mut spots: Vec<usize> = (0..stations).collect();
+    let mut draws = Draws::new(2);
+    for i in (1..stations).rev() {
+        spots.swap(i, (draws.next() % (i as u64 + 1)) as usize);
     }
-    events
+    spots
 }
 
-fn print_scenario(stations: usize, seconds: u64) {
+/// Each station sends once a second, in the order of their numbers, at a moment of its own; the one
+/// at the near end sends ten warnings for the far end.
+fn print_road(stations: usize, seconds: usize) {
+    let spots = spots(stations);
     let until = 1000 * seconds - 1;
     println!("[air]\nrange = {RANGE}\nseed = {SEED}\nbeacons = true\nuntil = {until}");
-    println!("[[station]]");
-    for s in 0..stations {
-        if s > 0 {
-            println!("[[station]]");
-        }
-        let Place { lat, lon } = place(s, stations);
-        println!("address = \"{:016x}\"\nlat = {lat}\nlon = {lon}", FIRST + s as u64);
-        println!("capacity = {CAPACITY}");
+    for (s, spot) in spots.iter().enumerate() {
+        let Place { lat, lon } = place(*spot, stations);
+        println!("[[station]]\naddress = \"{:016x}\"", FIRST + s as u64);
+        println!("lat = {lat}\nlon = {lon}\ncapacity = {CAPACITY}");
     }
-    for Event { station, moment, what } in events(stations, seconds) {
-        print!("[[event]]\nstation = {station}\nat = {moment}\n");
-        match what {
-            What::Open(port) => println!("do = \"open\"\nport = {port}"),
-            What::SendShb { port, .. } => {
-                println!("do = \"shb\"\nport = {port}\ninfo = 0\ntc = 0\npayload = \"6869\"");
-            }
-            What::SendGeobroadcast { port, hops, area, .. } => {
-                println!("do = \"gbc\"\nport = {port}\ninfo = 0\ntc = 0\nlt = 26\nhops = {hops}");
-                let Place { lat, lon } = area.centre;
-                println!("shape = \"circle\"\nalat = {lat}\nalon = {lon}\na = {}", area.a);
-                println!("b = 0\nangle = 0\npayload = \"696365\"");
-            }
-            What::Tick(_) | What::Deliver(_) => {}
+    for s in 0..stations {
+        println!("[[event]]\nstation = {s}\nat = 0\ndo = \"open\"\nport = {PORT}");
+    }
+    let near = spots.iter().position(|spot| *spot == 0).unwrap();
+    let Place { lat, lon } = place(stations - 1, stations);
+    for second in 0..seconds {
+        for s in 0..stations {
+            let moment = 1000 * second + s * 1000 / stations;
+            println!("[[event]]\nstation = {s}\nat = {moment}\ndo = \"shb\"\nport = {PORT}");
+            println!("info = 0\ntc = 0\npayload = \"6869\"");
+        }
+        if second >= 2 && second < 2 + WARNINGS {
+            let moment = 1000 * second + 999;
+            println!("[[event]]\nstation = {near}\nat = {moment}\ndo = \"gbc\"\nport = {PORT}");
+            println!("info = 0\ntc = 0\nlt = 26\nhops = 200\nshape = \"circle\"");
+            println!("alat = {lat}\nalon = {lon}\na = 300\nb = 0\nangle = 0");
+            println!("payload = \"696365\"");
         }
     }
 }
@@ -123,6 +114,7 @@ fn print_scenario(stations: usize, seconds: u64) {
 enum Own {
     Tick(u16),
     Deliver(usize),
+    Send(usize),
 }
 
 /// What waits beside the events of the file, the first on top.
@@ -138,6 +130,8 @@ struct Carried {
 struct Send {
     event: u64,
     moment: u64,
+    station: usize,
+    port: u16,
     inside: usize,
     delivered: usize,
     frames: usize,
@@ -151,6 +145,7 @@ struct Tally {
     carried: Vec<Option<Carried>>,
     delivered: HashSet<(usize, usize)>,
     events: u64,
+    receptions: u64,
     deliveries: u64,
     duplicates: u64,
     ignored: u64,
@@ -162,7 +157,10 @@ impl Tally {
         let number = self.events;
         self.events += 1;
         let carried = match &event.what {
-            What::Deliver(frame) => self.carried[*frame],
+            What::Deliver(frame) => {
+                self.receptions += 1;
+                self.carried[*frame]
+            }
             _ => None,
         };
         match entry {
@@ -173,10 +171,11 @@ impl Tally {
                             *s != event.station && contains(area, it.place()) && it.is_open(*port)
                         };
                         let inside = world.stations.iter().enumerate().filter(inside).count();
-                        let moment = event.moment;
                         self.sends.push(Send {
                             event: number,
-                            moment,
+                            moment: event.moment,
+                            station: event.station,
+                            port: *port,
                             inside,
                             frames: 1,
                             ..Default::default()
@@ -217,8 +216,9 @@ impl Tally {
 
     fn print(&self) {
         for send in &self.sends {
-            let Send { event, moment, inside, delivered, frames, hops, last } = send;
-            print!("send {event} {moment} 0 gbc port {PORT} inside {inside} ");
+            let Send { event, moment, station, port, inside, .. } = send;
+            let Send { delivered, frames, hops, last, .. } = send;
+            print!("send {event} {moment} {station} gbc port {port} inside {inside} ");
             println!("delivered {delivered} frames {frames} hops {hops} last {last}");
         }
         let Tally { events, deliveries, duplicates, ignored, refused, .. } = self;
@@ -227,78 +227,132 @@ impl Tally {
     }
 }
 
-fn run(stations: usize, seconds: u64) -> Tally {
-    let until = 1000 * seconds - 1;
-    let at = |s| Station::new(FIRST + s as u64, place(s, stations), CAPACITY, 8);
-    let mut world = World::new((0..stations).map(at).collect());
-    let mut file = events(stations, seconds);
-    file.sort_by_key(|event| event.moment);
-    let mut file = file.into_iter().peekable();
-    let mut draws = Draws::new(SEED);
-    let mut heap: BinaryHeap<Waiting> = BinaryHeap::new();
-    let mut placed = 0u64;
-    let mut tally = Tally::default();
-    for s in 0..stations {
-        let jitter = (draws.next() % 751) as u16;
-        heap.push(Reverse((u64::from(jitter), placed, s, Own::Tick(jitter))));
-        placed += 1;
-    }
-    loop {
-        let own = heap.peek().map(|Reverse((moment, ..))| *moment);
-        let filed = file.peek().map(|event| event.moment);
-        let event = match (filed, own) {
-            (None, None) => break,
-            (Some(f), o) if o.is_none_or(|o| f <= o) => file.next().unwrap(),
-            _ => {
-                let Some(Reverse((moment, _, station, own))) = heap.pop() else { break };
-                let what = match own {
-                    Own::Tick(jitter) => What::Tick(jitter),
-                    Own::Deliver(frame) => What::Deliver(frame),
-                };
-                Event { station, moment, what }
+/// The air that goes on by itself.
+struct Air {
+    scenario: Scenario,
+    world: World,
+    grid: Grid,
+    draws: Draws,
+    heap: BinaryHeap<Waiting>,
+    placed: u64,
+    found: Vec<usize>,
+}
+
+impl Air {
+    fn new(scenario: Scenario) -> Air {
+        let at = |spot: &scenario::Spot| Station::new(spot.address, spot.place, spot.capacity, 8);
+        let world = World::new(scenario.stations.iter().map(at).collect());
+        let places: Vec<Place> = scenario.stations.iter().map(|spot| spot.place).collect();
+        let grid = Grid::new(scenario.range, &places);
+        let (draws, heap) = (Draws::new(scenario.seed), BinaryHeap::new());
+        let mut air = Air { scenario, world, grid, draws, heap, placed: 0, found: Vec::new() };
+        for station in 0..places.len() {
+            if air.scenario.beacons {
+                air.put_tick(0, 0, station);
             }
-        };
-        if event.moment > until {
-            break;
         }
-        let entry = world.step(&event);
-        tally.count(&world, &event, &entry);
-        let given = match &entry {
+        for number in 0..air.scenario.every.len() {
+            for station in 0..places.len() {
+                let moment = air.draws.next() % air.scenario.every[number].period;
+                air.put(moment, station, Own::Send(number));
+            }
+        }
+        air
+    }
+
+    fn put(&mut self, moment: u64, station: usize, own: Own) {
+        self.heap.push(Reverse((moment, self.placed, station, own)));
+        self.placed += 1;
+    }
+
+    fn put_tick(&mut self, moment: u64, due: u64, station: usize) {
+        let jitter = (self.draws.next() % 751) as u16;
+        self.put(moment.max(due + u64::from(jitter)), station, Own::Tick(jitter));
+    }
+
+    /// Of an event of the air's own, what it does, and the traffic that it is of.
+    fn what_of(&self, own: Own) -> (What, Option<usize>) {
+        match own {
+            Own::Tick(jitter) => (What::Tick(jitter), None),
+            Own::Deliver(frame) => (What::Deliver(frame), None),
+            Own::Send(number) => {
+                let every = self.scenario.every[number];
+                let payload = vec![0; every.octets];
+                (What::SendShb { port: every.port, payload }, Some(number))
+            }
+        }
+    }
+
+    /// What follows an event: deliveries of what it gave, the next tick, the next send.
+    fn follow(&mut self, event: &Event, entry: &Entry, sent: Option<usize>) {
+        let given = match entry {
             Entry::Sent(frame) => Some(*frame),
             Entry::Accepted { sent, .. } => *sent,
             _ => None,
         };
         if let Some(frame) = given {
-            let from = world.stations[event.station].place();
-            for (s, station) in world.stations.iter().enumerate() {
-                let reach = (100 * RANGE) * (100 * RANGE);
-                if s == event.station || distance2(from, station.place()) > reach {
-                    continue;
-                }
+            let from = self.world.stations[event.station].place();
+            let mut found = std::mem::take(&mut self.found);
+            self.grid.hearers(event.station, from, &mut found);
+            for station in &found {
                 // No frame is lost, but each has its draw.
-                let _ = draws.next();
-                heap.push(Reverse((event.moment + DELAY, placed, s, Own::Deliver(frame))));
-                placed += 1;
+                let _ = self.draws.next();
+                self.put(event.moment + DELAY, *station, Own::Deliver(frame));
             }
+            self.found = found;
         }
         if let What::Tick(_) = event.what {
-            let jitter = (draws.next() % 751) as u16;
-            let due = world.stations[event.station].beacon_from() + u64::from(jitter);
-            heap.push(Reverse((event.moment.max(due), placed, event.station, Own::Tick(jitter))));
-            placed += 1;
+            let due = self.world.stations[event.station].beacon_from();
+            self.put_tick(event.moment, due, event.station);
         }
+        if let Some(number) = sent {
+            let period = self.scenario.every[number].period;
+            self.put(event.moment + period, event.station, Own::Send(number));
+        }
+    }
+}
+
+fn run(mut scenario: Scenario) -> Tally {
+    let until = scenario.until;
+    let mut file = std::mem::take(&mut scenario.events);
+    file.sort_by_key(|event| event.moment);
+    let mut file = file.into_iter().peekable();
+    let mut air = Air::new(scenario);
+    let mut tally = Tally::default();
+    loop {
+        let own = air.heap.peek().map(|Reverse((moment, ..))| *moment);
+        let filed = file.peek().map(|event| event.moment);
+        let (event, sent) = match (filed, own) {
+            (None, None) => break,
+            (Some(f), o) if o.is_none_or(|o| f <= o) => (file.next().unwrap(), None),
+            _ => {
+                let Some(Reverse((moment, _, station, own))) = air.heap.pop() else { break };
+                let (what, sent) = air.what_of(own);
+                (Event { station, moment, what }, sent)
+            }
+        };
+        if event.moment > until {
+            break;
+        }
+        let entry = air.world.step(&event);
+        tally.count(&air.world, &event, &entry);
+        air.follow(&event, &entry, sent);
     }
     tally
 }
 
 fn main() {
     let words: Vec<String> = std::env::args().skip(1).collect();
-    let [stations, seconds, what] = words.as_slice() else {
-        panic!("air STATIONS SECONDS scenario|run");
-    };
-    let (stations, seconds) = (stations.parse().unwrap(), seconds.parse().unwrap());
-    match what.as_str() {
-        "scenario" => print_scenario(stations, seconds),
-        _ => run(stations, seconds).print(),
+    let words: Vec<&str> = words.iter().map(String::as_str).collect();
+    match words.as_slice() {
+        ["road", stations, seconds] => {
+            print_road(stations.parse().unwrap(), seconds.parse().unwrap());
+        }
+        ["run", file] => {
+            let tally = run(Scenario::read(&std::fs::read_to_string(file).unwrap()));
+            tally.print();
+            eprintln!("{}", tally.receptions);
+        }
+        _ => panic!("air road STATIONS SECONDS, or air run FILE"),
     }
 }

@@ -3,6 +3,7 @@
 use clap::ArgMatches;
 use its_commands::{Choice, Field, Kinds, Selection, Time};
 use its_gnvalue::{GnAddress, Mac};
+use its_headers::Kind;
 use its_pcap::Format;
 use its_replay::PortList;
 use std::fmt;
@@ -48,12 +49,11 @@ impl FromStr for KindList {
             gac: false,
         };
         for word in words.split(',') {
-            match word {
-                "beacon" => kinds.beacon = true,
-                "shb" => kinds.shb = true,
-                "gbc" => kinds.gbc = true,
-                "gac" => kinds.gac = true,
-                _ => return Err(()),
+            match Kind::named(word).ok_or(())? {
+                Kind::Beacon => kinds.beacon = true,
+                Kind::Shb => kinds.shb = true,
+                Kind::Gbc => kinds.gbc = true,
+                Kind::Gac => kinds.gac = true,
             }
         }
         Ok(KindList(kinds))

@@ -2,11 +2,9 @@
 
 use crate::choosing::BadArgument;
 use its_commands::Field;
+use its_headers::{KINDS, Kind};
 use its_scenario::nearest;
 use std::alloc::{AllocError, Global};
-
-/// The kinds of packet.
-const KINDS: &[&str] = &["beacon", "shb", "gbc", "gac"];
 
 /// The keys of a record, of which `Field` knows which they are.
 const FIELDS: &[&str] = &[
@@ -23,8 +21,8 @@ pub(crate) fn tip_of(
 ) -> Result<Option<&'static str>, AllocError> {
     match bad {
         BadArgument::Value("kind", list, _) => {
-            match list.split(',').find(|word| !KINDS.contains(word)) {
-                Some(word) => tip_among(alloc, word, KINDS),
+            match list.split(',').find(|word| Kind::named(word).is_none()) {
+                Some(word) => tip_among(alloc, word, &KINDS.map(Kind::word)),
                 None => Ok(None),
             }
         }

@@ -1,20 +1,16 @@
--- Who hears a frame is among those of a band of latitudes.
-use Rattle.std.proofs.Common.{◌≡◌, ℕ, ◌+◌, ◌-◌, ◌*◌, ◌/◌, ◌<◌, ◌≤◌, List, [], ◌∷◌}
-use Rattle.std.proofs.Common.{Bool, true, false, cond, ◌&&◌, filter, refl, sym, ap, subst, ◌∙◌}
-use Rattle.std.proofs.Common.{arith, true≢false, length, take, drop, ◌++◌, ltb, leb}
-use Rattle.std.specs.Prelude.{ℤ, pos, negsuc, ◌+ℤ◌, ◌-ℤ◌, unsigned_abs, nat_le}
-use Rattle.std.proofs.lemmas.Bool.{leb-true, le-leb, lt-leb, ltb-true, ltb-false, and_from, and_parts, and_left, and_right}
+-- Where a place in range lies: its latitude and its longitude are near.
+use Rattle.std.proofs.Common.{◌≡◌, ℕ, ◌+◌, ◌-◌, ◌*◌, ◌/◌, ◌<◌, ◌≤◌, Bool, true, false, refl, sym}
+use Rattle.std.proofs.Common.{ap, arith, subst, ◌∙◌, div-mul-le_self, ◌⊎◌, inl, inr}
+use Rattle.std.specs.Prelude.{ℤ, pos, negsuc, ◌+ℤ◌, ◌-ℤ◌, unsigned_abs, int_lt, if◌then◌else◌}
+use Rattle.std.proofs.lemmas.Bool.{leb-true, leb-false, le-ltb, cases_lt}
 use Rattle.std.proofs.lemmas.Int.{ints}
-use Rattle.std.proofs.lemmas.List.{get_or-take, get_or-drop, length-take, length-drop, take-append-drop, append-nil}
-use Rattle.std.proofs.lemmas.List.Elements.{filter-append, recursion_from_All, All-from_recursion, All-take}
-use Rattle.std.specs.List.{AllWithin, AllByRecursion}
-use Rattle.std.specs.List.Sorted.{IsPartitionPoint}
+use Rattle.std.proofs.lemmas.Nat.{le-div}
 use Rattle.its_gnvalue.specs.Values.{Position}
-use Rattle.its_geometry.specs.Offsets.{northward, squared_distance}
-use Rattle.its_geometry.proofs.SignedLemmas.{unsigned_abs-northward}
-use Rattle.its_air.specs.declared.standing.Standing.{Standing}
-use Rattle.its_air.specs.Reach.{is_within, hears_there}
-use Rattle.its_air.specs.Standings.{northing, is_in_band}
+use Rattle.its_geometry.specs.Offsets.{northward, eastward, wrap_longitude, longitude_scale}
+use Rattle.its_geometry.specs.Offsets.{squared_distance}
+use Rattle.its_geometry.proofs.SignedLemmas.{unsigned_abs-northward, unsigned_abs-eastward}
+use Rattle.its_air.specs.Reach.{is_within}
+use Rattle.its_air.specs.Standings.{northing, easting, row_of, Covers}
 
 -- signed numbers are no farther apart than their lengths
 longer : (a b : ℤ) → unsigned_abs (a +ℤ b) ≤ unsigned_abs a + unsigned_abs b
@@ -55,109 +51,180 @@ near_in_latitude range centre place within =
     let gap = unsigned_abs (place.latitude -ℤ centre.latitude) in
     omega (arith, short, unsigned_abs-northward centre place, longer_than gap)
 
--- a northing is in the band that is as wide as the reach
-in_band : (range low high : ℕ) (centre place : Position) → low ≤ northing centre - 100 * range
-    → northing centre + 100 * range ≤ high → is_within range centre place ≡ true
-    → (nat_le low (northing place) && nat_le (northing place) high) ≡ true
-in_band range low high centre place under over within =
+-- a quotient of more is no less
+quotient_mono : (m n d : ℕ) → 0 < d → m ≤ n → m / d ≤ n / d
+quotient_mono m n d positive le =
+    let whole : m / d * d ≤ m = div-mul-le_self m d in
+    le-div (m / d) n d positive (omega (arith, whole, le))
+
+-- the row of a place in range
+pub in_rows : (height range : ℕ) (centre place : Position) → is_within range centre place ≡ true
+    → ((northing centre - 100 * range) / (100 * height + 1) ≤ row_of height place)
+    × (row_of height place ≤ (northing centre + 100 * range) / (100 * height + 1))
+in_rows height range centre place within =
     let near = near_in_latitude range centre place within in
     let up = apart place.latitude centre.latitude (pos 900000000) in
-    let down = apart_back place.latitude centre.latitude (pos 900000000) in
-    and_from _ _ (le-leb low (northing place) (omega (arith, under, near, down)))
-    (le-leb (northing place) high (omega (arith, over, near, up)))
+    let down = apart_back place.latitude centre.latitude (pos 900000000) in (
+      quotient_mono _ _ (100 * height + 1) (omega arith) (omega (arith, near, down)),
+      quotient_mono _ _ (100 * height + 1) (omega arith) (omega (arith, near, up)),
+    )
 
--- what passes a narrower test is all in what passes the wider one
-filter_narrow : (p q : Standing → Bool) → ((s : Standing) → p s ≡ true → q s ≡ true)
-    → (xs : List Standing) → filter p (filter q xs) ≡ filter p xs
-filter_narrow p q narrow [] = refl
-filter_narrow p q narrow (x ∷ xs) = by (q x) (p x) refl refl (filter_narrow p q narrow xs)
+-- a longitude that is this far off the short way round is so far off
+turned : (a b : ℤ) → unsigned_abs (b -ℤ a) ≡ unsigned_abs (a -ℤ b)
+turned a b = grind (arith, ints)
+
+whole_round : (z : ℤ) → unsigned_abs z ≤ 1800000000
+    → unsigned_abs (z +ℤ pos 5400000000) ≡ unsigned_abs (z +ℤ pos 1800000000) + 3600000000
+whole_round (pos n) small = omega arith
+whole_round (negsuc n) small = grind arith
+
+within_round : (z : ℤ) → unsigned_abs z ≤ 1800000000
+    → unsigned_abs (z +ℤ pos 1800000000) ≤ 3600000000
+within_round (pos n) small = omega arith
+within_round (negsuc n) small = grind arith
+
+-- the ends of a stretch, and between them whatever is no farther off
+near_east : (c p : ℤ) (width west east : ℕ) → unsigned_abs c ≤ 1800000000
+    → unsigned_abs p ≤ 1800000000
+    → unsigned_abs (c +ℤ pos 1800000000) ≡ west + width
+    → unsigned_abs (c +ℤ pos 1800000000) + width ≡ east → east ≤ 3600000000
+    → unsigned_abs (wrap_longitude (p -ℤ c)) < width
+    → (west ≤ unsigned_abs (p +ℤ pos 1800000000)) × (unsigned_abs (p +ℤ pos 1800000000) ≤ east)
+near_east c p width west east small_c small_p is_west is_east inside near =
+    by (int_lt (p -ℤ c) (negsuc 1799999999)) (int_lt (pos 1800000000) (p -ℤ c)) near
   where
-    by : (b c : Bool) → q x ≡ b → p x ≡ c → filter p (filter q xs) ≡ filter p xs
-        → filter p (cond b (x ∷ filter q xs) (filter q xs)) ≡ cond c (x ∷ filter p xs) (filter p xs)
-    by true true qx px more = rw px (ap (λ (l : List Standing). x ∷ l) more)
-    by true false qx px more = rw px more
-    by false true qx px more = absurd (true≢false (sym (narrow x px) ∙ qx))
-    by false false qx px more = more
+    v : ℤ
+    v = p -ℤ c
 
--- who hears is in the band
-pub in_band_alone : (range giver : ℕ) (place : Position) (xs : List Standing) (low high : ℕ)
-    → low ≤ northing place - 100 * range → northing place + 100 * range ≤ high
-    → filter (hears_there range giver place) (filter (is_in_band low high) xs)
-    ≡ filter (hears_there range giver place) xs
-in_band_alone range giver place xs low high under over =
-    filter_narrow (hears_there range giver place) (is_in_band low high)
-    (λ s hears. in_band range low high place s.place under over (and_parts _ _ hears).1) xs
+    by : (a b : Bool)
+        → unsigned_abs (if a then v +ℤ pos 3600000000 else if b then v -ℤ pos 3600000000 else v)
+        < width
+        → (west ≤ unsigned_abs (p +ℤ pos 1800000000)) × (unsigned_abs (p +ℤ pos 1800000000) ≤ east)
+    by true b lt =
+        let is : c +ℤ pos 1800000000 +ℤ (p -ℤ c +ℤ pos 3600000000) ≡ p +ℤ pos 5400000000 =
+        omega (arith, ints) in
+        let far = subst (λ (z : ℤ). unsigned_abs z ≤ unsigned_abs (c +ℤ pos 1800000000)
+        + unsigned_abs (p -ℤ c +ℤ pos 3600000000)) is
+        (longer (c +ℤ pos 1800000000) (p -ℤ c +ℤ pos 3600000000)) in
+        absurd (omega (arith, far, lt, whole_round p small_p, is_east, inside))
+    by false true lt =
+        let is : p +ℤ pos 1800000000 +ℤ (pos 3600000000 -ℤ (p -ℤ c)) ≡ c +ℤ pos 5400000000 =
+        omega (arith, ints) in
+        let far = subst (λ (z : ℤ). unsigned_abs z ≤ unsigned_abs (p +ℤ pos 1800000000)
+        + unsigned_abs (pos 3600000000 -ℤ (p -ℤ c))) is
+        (longer (p +ℤ pos 1800000000) (pos 3600000000 -ℤ (p -ℤ c))) in
+        let back = turned (p -ℤ c) (pos 3600000000) in
+        absurd (omega (
+          arith,
+          far,
+          back,
+          lt,
+          whole_round c small_c,
+          is_west,
+          within_round p small_p,
+        ))
+    by false false lt =
+        let up = apart p c (pos 1800000000) in
+        let down = apart_back p c (pos 1800000000) in
+        (omega (arith, down, lt, is_west), omega (arith, up, lt, is_east))
 
--- what is true of a part is true of it taken alone
-all_take : (P : Standing → Type 0) (xs : List Standing) (i : ℕ) → AllWithin P xs 0 i
-    → AllByRecursion P (take i xs)
-all_take P xs i h =
-    recursion_from_All P (take i xs) (λ k d lt.
-    let within : k < i = omega (arith, lt, length-take i xs) in
-    subst P (sym (get_or-take i xs k d within)) (h k d (omega arith) within))
+-- a place that is farther round is no nearer
+round_mono : (a b k : ℕ) → a ≤ b → a * k / 100000000 ≤ b * k / 100000000
+round_mono a b k le =
+    let product : a * k ≤ b * k = grind arith in
+    quotient_mono (a * k) (b * k) 100000000 (omega arith) product
 
-all_drop : (P : Standing → Type 0) (xs : List Standing) (i : ℕ) → AllWithin P xs i (length xs)
-    → AllByRecursion P (drop i xs)
-all_drop P xs i h =
-    recursion_from_All P (drop i xs) (λ k d lt.
-    subst P (sym (get_or-drop i xs k d))
-    (h (i + k) d (omega arith) (omega (arith, lt, length-drop i xs))))
+-- a difference of no more than half the way round is the short one
+short_way : (n : ℕ) → n ≤ 1800000000 → unsigned_abs (wrap_longitude (pos n)) ≡ n
+short_way n small = rw (le-ltb 1800000000 n small) refl
 
-keeps_none : (p : Standing → Bool) (xs : List Standing) → AllByRecursion (λ s. p s ≡ false) xs
-    → filter p xs ≡ []
-keeps_none p [] h = refl
-keeps_none p (x ∷ xs) h = rw h.0 (keeps_none p xs h.1)
+farther_east : (z : ℤ) (w : ℕ) → unsigned_abs z ≤ 1800000000
+    → unsigned_abs (z +ℤ pos w +ℤ pos 1800000000) ≡ unsigned_abs (z +ℤ pos 1800000000) + w
+farther_east (pos n) w small = omega arith
+farther_east (negsuc n) w small = grind arith
 
-keeps_all : (p : Standing → Bool) (xs : List Standing) → AllByRecursion (λ s. p s ≡ true) xs
-    → filter p xs ≡ xs
-keeps_all p [] h = refl
-keeps_all p (x ∷ xs) h = rw h.0 (ap (λ (l : List Standing). x ∷ l) (keeps_all p xs h.1))
+square_mono : (m n : ℕ) → m ≤ n → m * m ≤ n * n
+square_mono m n le = grind arith
 
-weaker : (P Q : Standing → Type 0) → ((s : Standing) → P s → Q s) → (xs : List Standing)
-    → AllByRecursion P xs → AllByRecursion Q xs
-weaker P Q imp [] h = tt
-weaker P Q imp (x ∷ xs) h = (imp x h.0, weaker P Q imp xs h.1)
+-- what is in range is no farther east than the range, and at one latitude what isn't in it is
+near_enough : (range : ℕ) (centre place : Position) → is_within range centre place ≡ true
+    → unsigned_abs (eastward centre place) ≤ 100 * range
+unfolding squared_distance
+near_enough range centre place within =
+    let le : squared_distance centre place ≤ 100 * range * (100 * range) = leb-true _ _ within in
+    root (unsigned_abs (eastward centre place)) (100 * range) (omega (arith, le))
 
-both : (P Q R : Standing → Type 0) → ((s : Standing) → P s → Q s → R s) → (xs : List Standing)
-    → AllByRecursion P xs → AllByRecursion Q xs → AllByRecursion R xs
-both P Q R imp [] h g = tt
-both P Q R imp (x ∷ xs) h g = (imp x h.0 g.0, both P Q R imp xs h.1 g.1)
+too_far : (range : ℕ) (centre place : Position) → is_within range centre place ≡ false
+    → place.latitude ≡ centre.latitude → 100 * range < unsigned_abs (eastward centre place)
+unfolding squared_distance
+too_far range centre place out level =
+    let more : 100 * range * (100 * range) < squared_distance centre place =
+    leb-false _ _ out in
+    let far = unsigned_abs (eastward centre place) in
+    let none : unsigned_abs (northward centre place) ≡ 0 =
+    unsigned_abs-northward centre place
+    ∙ ap (λ (z : ℤ). unsigned_abs (z -ℤ centre.latitude) * 11132 / 10000) level
+    ∙ ap (λ (z : ℤ). unsigned_abs z * 11132 / 10000) (nothing centre.latitude) in
+    let north : unsigned_abs (northward centre place) * unsigned_abs (northward centre place) ≡ 0 =
+    ap (λ n. n * n) none in
+    by (cases_lt (100 * range) far) (omega (arith, more, north))
+  where
+    nothing : (z : ℤ) → z -ℤ z ≡ pos 0
+    nothing z = omega (arith, ints)
 
--- so far in those that follow
-within_drop : (P : Standing → Type 0) (xs : List Standing) (j : ℕ) → AllByRecursion P xs
-    → AllByRecursion P (take j xs)
-within_drop P xs j h =
-    recursion_from_All P (take j xs) (All-take P j xs (All-from_recursion P xs h))
+    by : (100 * range < unsigned_abs (eastward centre place))
+        ⊎ (unsigned_abs (eastward centre place) ≤ 100 * range)
+        → 100 * range * (100 * range)
+        < unsigned_abs (eastward centre place) * unsigned_abs (eastward centre place)
+        → 100 * range < unsigned_abs (eastward centre place)
+    by (inl lt) square = lt
+    by (inr le) square = absurd (omega (arith, square, square_mono _ _ le))
 
--- between two partition points stands the band
-pub between : (low high : ℕ) (xs : List Standing) (i j : ℕ)
-    → IsPartitionPoint (λ s. ltb (northing s.place) low ≡ true)
-    (λ s. ltb (northing s.place) low ≡ false) xs i
-    → IsPartitionPoint (λ s. leb (northing s.place) high ≡ true)
-    (λ s. leb (northing s.place) high ≡ false) (drop i xs) j
-    → take j (drop i xs) ≡ filter (is_in_band low high) xs
-between low high xs i j first second =
-    let p = is_in_band low high in
-    let ys = drop i xs in
-    let Below : Bool → Standing → Type 0 = λ b s. ltb (northing s.place) low ≡ b in
-    let UpTo : Bool → Standing → Type 0 = λ b s. leb (northing s.place) high ≡ b in
-    let Kept : Bool → Standing → Type 0 = λ b s. p s ≡ b in
-    let under : AllByRecursion (Kept false) (take i xs) =
-    weaker (Below true) (Kept false) (λ s h. and_left (leb low (northing s.place)) _
-    (lt-leb low (northing s.place) (ltb-true _ _ h))) (take i xs)
-    (all_take (Below true) xs i first.0) in
-    let above : AllByRecursion (Below false) ys = all_drop (Below false) xs i first.1 in
-    let inside : AllByRecursion (Kept true) (take j ys) =
-    both (Below false) (UpTo true) (Kept true) (λ s h g. and_from (leb low (northing s.place)) _
-    (le-leb low (northing s.place) (ltb-false _ _ h)) g)
-    (take j ys) (within_drop (Below false) ys j above) (all_take (UpTo true) ys j second.0) in
-    let over : AllByRecursion (Kept false) (drop j ys) =
-    weaker (UpTo false) (Kept false)
-    (λ s h. and_right (leb low (northing s.place)) (leb (northing s.place) high) h) (drop j ys)
-    (all_drop (UpTo false) ys j second.1) in
-    let split : filter p ys ≡ take j ys =
-    ap (filter p) (sym (take-append-drop j ys)) ∙ filter-append p (take j ys) (drop j ys)
-    ∙ ap (λ (l : List Standing). filter p (take j ys) ++ l) (keeps_none p (drop j ys) over)
-    ∙ append-nil (filter p (take j ys)) ∙ keeps_all p (take j ys) inside in
-    sym (ap (filter p) (sym (take-append-drop i xs)) ∙ filter-append p (take i xs) ys
-    ∙ ap (λ (l : List Standing). l ++ filter p ys) (keeps_none p (take i xs) under) ∙ split)
+-- where a place at one latitude, so far to the east, is out of range, no other so far off is in it
+pub covers : (range width : ℕ) (centre west east : Position)
+    → width ≤ 60000000 → unsigned_abs centre.longitude ≤ 1800000000
+    → unsigned_abs west.longitude ≤ 1800000000 → unsigned_abs east.longitude ≤ 1800000000
+    → centre.longitude ≡ west.longitude +ℤ pos width
+    → east.latitude ≡ centre.latitude → east.longitude ≡ centre.longitude +ℤ pos width
+    → is_within range centre east ≡ false
+    → Covers range centre (easting west) (easting east)
+covers range width centre west east narrow small small_west small_east is_west level is_east out p
+    valid within =
+    near_east centre.longitude p.longitude width (easting west) (easting east) small valid begins
+    ends (within_round east.longitude small_east) (near (cases_lt _ width))
+  where
+    k : ℕ
+    k = 11132 * longitude_scale centre.latitude
+
+    off : ℕ
+    off = unsigned_abs (wrap_longitude (p.longitude -ℤ centre.longitude))
+
+    begins : unsigned_abs (centre.longitude +ℤ pos 1800000000) ≡ easting west + width
+    begins =
+        ap (λ (z : ℤ). unsigned_abs (z +ℤ pos 1800000000)) is_west
+        ∙ farther_east west.longitude width small_west
+
+    ends : unsigned_abs (centre.longitude +ℤ pos 1800000000) + width ≡ easting east
+    ends =
+        sym (ap (λ (z : ℤ). unsigned_abs (z +ℤ pos 1800000000)) is_east
+        ∙ farther_east centre.longitude width small)
+
+    beside : (z : ℤ) → z +ℤ pos width -ℤ z ≡ pos width
+    beside z = omega (arith, ints)
+
+    probe : unsigned_abs (wrap_longitude (east.longitude -ℤ centre.longitude)) ≡ width
+    probe =
+        ap (λ (z : ℤ). unsigned_abs (wrap_longitude (z -ℤ centre.longitude))) is_east
+        ∙ ap (λ (z : ℤ). unsigned_abs (wrap_longitude z)) (beside centre.longitude)
+        ∙ short_way width (omega (arith, narrow))
+
+    near : (off < width) ⊎ (width ≤ off) → off < width
+    near (inl lt) = lt
+    near (inr ge) =
+        let far = too_far range centre east out level in
+        let close = near_enough range centre p within in
+        let there = unsigned_abs-eastward centre east
+        ∙ ap (λ n. n * (11132 * longitude_scale centre.latitude) / 100000000) probe in
+        let here = unsigned_abs-eastward centre p in
+        let more = round_mono width off k ge in
+        absurd (omega (arith, far, close, there, here, more))

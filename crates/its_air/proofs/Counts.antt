@@ -4,14 +4,14 @@ use Rattle.std.proofs.Common.{◌≡◌, ℕ, zero, suc, ◌+◌, ◌<◌, ◌�
 use Rattle.std.proofs.Common.{not, cond, ◌&&◌, map, filter, refl, sym, ap, ◌∙◌, arith, length, ◌⊎◌}
 use Rattle.std.proofs.Common.{Option, Some, None, inl, inr, subst, ◌++◌, get_or, take, remove, insert}
 use Rattle.std.proofs.Common.{◌≢◌, is_some, true≢false, leb, le_trans, ◌-◌}
-use Rattle.std.specs.Prelude.{count_by, sum_by, slice_get, ◌==◌, IfSome, HoldsAt}
+use Rattle.std.specs.Prelude.{count_by, sum_by, slice_get, ◌==◌, IfSome, HoldsAt, unsigned_abs}
 use Rattle.std.specs.List.{position, position_or_len}
 use Rattle.std.specs.Bool.{if◌then◌else◌}
 use Rattle.std.specs.Option.{option_map}
 use Rattle.std.specs.List.{AllByRecursion, AllWithin}
 use Rattle.std.specs.List.Sorted.{IsNonDecreasingBy, IsPermutation, IsPartitionPoint}
 use Rattle.std.proofs.lemmas.Bool.{eqb-true, eq-eqb, ne_eqb, cases_order, cases_eq, cases_lt}
-use Rattle.std.proofs.lemmas.Bool.{ltb-false, leb-true, leb-false}
+use Rattle.std.proofs.lemmas.Bool.{ltb-false, leb-true, leb-false, le-leb}
 use Rattle.std.proofs.lemmas.List.Edits.{length-remove, get_or-remove_below, get_or-remove_above}
 use Rattle.std.proofs.lemmas.List.Sorted.{IsNonDecreasingBy-insert}
 use Rattle.std.proofs.lemmas.List.{get_or-take, length-take}
@@ -26,7 +26,7 @@ use Rattle.its_station.specs.State.{StationState}
 use Rattle.its_world.specs.Steps.{AreSameBut}
 use Rattle.its_air.specs.declared.standing.Standing.{Standing}
 use Rattle.its_air.specs.Reach.{is_within, hears, hearers, numbers_from, hears_there}
-use Rattle.its_air.specs.Standings.{northing, count_at, times_at, AreStandingsOf}
+use Rattle.its_air.specs.Standings.{hears_from, is_off, count_at, times_at, AreStandingsOf}
 
 -- once or never
 abbrev bit : Bool → ℕ
@@ -165,13 +165,9 @@ count_numbers passes n (suc i) (st ∷ sts) =
         omega (arith, here, no)
     by false u = refl
 
--- a place from which a station of this number hears
-abbrev kind_of : ℕ → ℕ → Position → ℕ → Position → Bool
-kind_of range giver place n p = not (n == giver) && is_within range place p
-
 count_hearers : (range giver : ℕ) (place : Position) (sts : List StationState) (n : ℕ)
     → count_by (λ m. m == n) (hearers range sts giver place)
-    ≡ times_at (kind_of range giver place n) (slice_get sts n)
+    ≡ times_at (hears_from range giver place n) (slice_get sts n)
 count_hearers range giver place sts n =
     subst (λ k. count_by (λ m. m == k) (hearers range sts giver place)
     ≡ passing (hears range giver place k) (slice_get sts n)) from_zero
@@ -181,19 +177,19 @@ count_hearers range giver place sts n =
     from_zero = omega arith
 
     by : (o : Option StationState)
-        → passing (hears range giver place n) o ≡ times_at (kind_of range giver place n) o
+        → passing (hears range giver place n) o ≡ times_at (hears_from range giver place n) o
     by None = refl
     by (Some st) = refl
 
-count_gathered : (range giver : ℕ) (place : Position) (xs : List Standing) (n : ℕ)
+pub count_gathered : (range giver : ℕ) (place : Position) (xs : List Standing) (n : ℕ)
     → count_by (λ m. m == n) (map (λ s. s.number) (filter (hears_there range giver place) xs))
-    ≡ count_at (kind_of range giver place n) n xs
+    ≡ count_at (hears_from range giver place n) n xs
 count_gathered range giver place [] n = refl
 count_gathered range giver place (s ∷ xs) n =
     let a = first (hears_there range giver place s) (filter (hears_there range giver place) xs) in
     let b = count_gathered range giver place xs n in
     let c = alike (s.number == n) refl in
-    let d = count_more (λ t. t.number == n && kind_of range giver place n t.place) s xs in
+    let d = count_more (λ t. t.number == n && hears_from range giver place n t.place) s xs in
     omega (arith, a, b, c, d)
   where
     first : (b : Bool) (u : List Standing)
@@ -207,25 +203,25 @@ count_gathered range giver place (s ∷ xs) n =
     never false = refl
 
     alike : (b : Bool) → (s.number == n) ≡ b
-        → cond (hears_there range giver place s) (bit b) 0 ≡ bit (b && kind_of range giver place n s.place)
+        → cond (hears_there range giver place s) (bit b) 0
+        ≡ bit (b && hears_from range giver place n s.place)
     alike true e =
         ap (λ k. bit (not (k == giver) && is_within range place s.place))
         (eqb-true s.number n e)
     alike false e = never (hears_there range giver place s)
 
--- who hears, gathered from standings in any order and put in the order of numbers
+-- who hears, counted in any order, are in the order of numbers those that hear
 pub gathered : (range giver : ℕ) (place : Position) (sts : List StationState) (xs : List Standing)
     (found sorted : List ℕ) → AreStandingsOf sts xs
-    → found ≡ map (λ s. s.number) (filter (hears_there range giver place) xs)
+    → ((n : ℕ) → count_by (λ m. m == n) found ≡ count_at (hears_from range giver place n) n xs)
     → IsPermutation found sorted → IsNonDecreasingBy (λ x. x) sorted
     → sorted ≡ hearers range sts giver place
-gathered range giver place sts xs found sorted stand is same up =
+gathered range giver place sts xs found sorted stand as_often same up =
     same_rising sorted (hearers range sts giver place) (rises_sorted sorted up)
     (rises_numbers (hears range giver place) 0 sts) (λ n.
     sum_by-IsPermutation (λ m. bit (m == n)) found sorted same
-    ∙ ap (count_by (λ m. m == n)) is
-    ∙ count_gathered range giver place xs n
-    ∙ stand (kind_of range giver place n) n
+    ∙ as_often n
+    ∙ stand (hears_from range giver place n) n
     ∙ sym (count_hearers range giver place sts n))
 
 -- what is at an index of the first ones
@@ -474,13 +470,12 @@ rising_without key xs i lt up a b d le within =
         (up (a + 1) (b + 1) d (omega (arith, le)) (omega (arith, within, len)))
 
 -- with one more, where it belongs, they do too
-pub rising_with : (xs : List Standing) (to north : ℕ) (y : Standing) → to ≤ length xs
-    → northing y.place ≡ north → IsNonDecreasingBy (λ s. northing s.place) xs
-    → IsPartitionPoint (λ s. leb (northing s.place) north ≡ true)
-    (λ s. leb (northing s.place) north ≡ false) xs to
-    → IsNonDecreasingBy (λ s. northing s.place) (insert xs to y)
-rising_with xs to north y le is up point =
-    IsNonDecreasingBy-insert (λ (s : Standing). northing s.place) xs to y up le
+pub rising_with : (key : Standing → ℕ) (xs : List Standing) (to at : ℕ) (y : Standing)
+    → to ≤ length xs → key y ≡ at → IsNonDecreasingBy key xs
+    → IsPartitionPoint (λ s. leb (key s) at ≡ true) (λ s. leb (key s) at ≡ false) xs to
+    → IsNonDecreasingBy key (insert xs to y)
+rising_with key xs to at y le is up point =
+    IsNonDecreasingBy-insert key xs to y up le
     (λ k d lt. let a = leb-true _ _ (point.0 k d (omega arith) lt) in omega (arith, a, is))
     (λ k d ge lt. let a = leb-false _ _ (point.1 k d ge lt) in omega (arith, a, is))
 
@@ -520,47 +515,43 @@ point_without P Q xs i to end lt point side =
         (point.1 (k + 1) d (omega (arith, is, ge)) (omega (arith, within)))
 
 -- with one of them put elsewhere, they stand in their order: `end` is its place among all of them
-pub rising_moved : (xs : List Standing) (i to end north : ℕ) (y : Standing) → i < length xs
-    → end ≤ length xs → northing y.place ≡ north → IsNonDecreasingBy (λ s. northing s.place) xs
-    → IsPartitionPoint (λ s. northing s.place ≤ north) (λ s. north ≤ northing s.place) xs end
+pub rising_moved : (key : Standing → ℕ) (xs : List Standing) (i to end at : ℕ) (y : Standing)
+    → i < length xs → end ≤ length xs → key y ≡ at → IsNonDecreasingBy key xs
+    → IsPartitionPoint (λ s. key s ≤ at) (λ s. at ≤ key s) xs end
     → ((i < end) × (to + 1 ≡ end)) ⊎ ((end ≤ i) × (to ≡ end))
-    → IsNonDecreasingBy (λ s. northing s.place) (insert (remove xs i) to y)
-rising_moved xs i to end north y within room is up point side =
+    → IsNonDecreasingBy key (insert (remove xs i) to y)
+rising_moved key xs i to end at y within room is up point side =
     let less = length-remove xs i within in
-    let parts = point_without (λ s. northing s.place ≤ north) (λ s. north ≤ northing s.place) xs i
-    to end within point side in
-    IsNonDecreasingBy-insert (λ (s : Standing). northing s.place) (remove xs i) to y
-    (rising_without (λ s. northing s.place) xs i within up)
+    let parts = point_without (λ s. key s ≤ at) (λ s. at ≤ key s) xs i to end within point side in
+    IsNonDecreasingBy-insert key (remove xs i) to y (rising_without key xs i within up)
     (omega (arith, less, within, room, side))
     (λ k d lt. let a = parts.0 k d (omega arith) lt in omega (arith, a, is))
     (λ k d ge lt. let a = parts.1 k d ge lt in omega (arith, a, is))
 
--- where one stands that goes north, and passes those that are no farther north
-pub to_north : (xs : List Standing) (from end north : ℕ) → from < end → end ≤ length xs
-    → IsNonDecreasingBy (λ s. northing s.place) xs
-    → AllWithin (λ s. northing s.place ≤ north) xs from end
-    → (end < length xs → HoldsAt (λ s. north ≤ northing s.place) xs end)
-    → IsPartitionPoint (λ s. northing s.place ≤ north) (λ s. north ≤ northing s.place) xs end
-to_north xs from end north gt room up passed stops = (
+-- where one stands that comes later, and passes those that come no later
+pub to_behind : (key : Standing → ℕ) (xs : List Standing) (from end at : ℕ) → from < end
+    → end ≤ length xs → IsNonDecreasingBy key xs → AllWithin (λ s. key s ≤ at) xs from end
+    → (end < length xs → HoldsAt (λ s. at ≤ key s) xs end)
+    → IsPartitionPoint (λ s. key s ≤ at) (λ s. at ≤ key s) xs end
+to_behind key xs from end at gt room up passed stops = (
   λ k d ge below. before k d below (cases_lt k from),
   λ k d ge within. le_trans (stops (omega (arith, ge, within)) d) (up end k d ge within),
 )
   where
     before : (k : ℕ) (d : Standing) → k < end → (k < from) ⊎ (from ≤ k)
-        → northing (get_or xs k d).place ≤ north
+        → key (get_or xs k d) ≤ at
     before k d below (inl lt) =
         le_trans (up k from d (omega (arith, lt)) (omega (arith, gt, room)))
         (passed from d (omega arith) gt)
     before k d below (inr ge) = passed k d ge below
 
--- where one stands that goes south, and passes those that are no farther south
-pub to_south : (xs : List Standing) (from end north : ℕ) → from < length xs → end ≤ from
-    → IsNonDecreasingBy (λ s. northing s.place) xs
-    → HoldsAt (λ s. north ≤ northing s.place) xs from
-    → AllWithin (λ s. north ≤ northing s.place) xs end from
-    → (0 < end → HoldsAt (λ s. northing s.place ≤ north) xs (end - 1))
-    → IsPartitionPoint (λ s. northing s.place ≤ north) (λ s. north ≤ northing s.place) xs end
-to_south xs from end north within le up here passed stops = (
+-- where one stands that comes sooner, and passes those that come no sooner
+pub to_before : (key : Standing → ℕ) (xs : List Standing) (from end at : ℕ) → from < length xs
+    → end ≤ from → IsNonDecreasingBy key xs → HoldsAt (λ s. at ≤ key s) xs from
+    → AllWithin (λ s. at ≤ key s) xs end from
+    → (0 < end → HoldsAt (λ s. key s ≤ at) xs (end - 1))
+    → IsPartitionPoint (λ s. key s ≤ at) (λ s. at ≤ key s) xs end
+to_before key xs from end at within le up here passed stops = (
   λ k d ge below. le_trans
       (up k (end - 1) d (omega (arith, below)) (omega (arith, below, le, within)))
       (stops (omega (arith, below)) d),
@@ -568,9 +559,40 @@ to_south xs from end north within le up here passed stops = (
 )
   where
     behind : (k : ℕ) (d : Standing) → end ≤ k → k < length xs → (k < from) ⊎ (from ≤ k)
-        → north ≤ northing (get_or xs k d).place
+        → at ≤ key (get_or xs k d)
     behind k d ge lt (inl below) = passed k d ge below
     behind k d ge lt (inr past) = le_trans (here d) (up from k d past lt)
+
+-- where none is off, none is with one more that isn't
+on : (y : Standing) → unsigned_abs y.place.longitude ≤ 1800000000 → bit (is_off y) ≡ 0
+on y small =
+    ap (λ (b : Bool). bit (not b)) (le-leb (unsigned_abs y.place.longitude) 1800000000 small)
+
+pub none_off_more : (xs : List Standing) (y : Standing)
+    → unsigned_abs y.place.longitude ≤ 1800000000 → count_by is_off xs ≡ 0
+    → count_by is_off (xs ++ y ∷ []) ≡ 0
+none_off_more xs y small none =
+    let pushed = sum_by_push (λ (s : Standing). bit (is_off s)) xs y in
+    omega (arith, pushed, none, on y small)
+
+pub none_off_moved : (xs ys : List Standing) → IsPermutation xs ys → count_by is_off xs ≡ 0
+    → count_by is_off ys ≡ 0
+none_off_moved xs ys moved none =
+    sum_by-IsPermutation (λ (s : Standing). bit (is_off s)) xs ys moved ∙ none
+
+pub none_off_with : (xs : List Standing) (to : ℕ) (y : Standing)
+    → unsigned_abs y.place.longitude ≤ 1800000000 → count_by is_off xs ≡ 0
+    → count_by is_off (insert xs to y) ≡ 0
+none_off_with xs to y small none =
+    let more = sum_by-insert (λ (s : Standing). bit (is_off s)) xs to y in
+    omega (arith, more, none, on y small)
+
+pub none_off_replaced : (xs : List Standing) (i to : ℕ) (y : Standing) → i < length xs
+    → unsigned_abs y.place.longitude ≤ 1800000000 → count_by is_off xs ≡ 0
+    → count_by is_off (insert (remove xs i) to y) ≡ 0
+none_off_replaced xs i to y within small none =
+    let less = sum_by-remove (λ (s : Standing). bit (is_off s)) xs i y within in
+    none_off_with (remove xs i) to y small (omega (arith, less, none))
 
 -- of a list that is one of two, what is true of both
 pub of_either : (P : List Standing → Type 0) (b : Bool) (k l m : List Standing)

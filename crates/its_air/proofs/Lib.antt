@@ -3,6 +3,8 @@ pub mod Hearing
 pub mod Among
 pub mod Under
 pub mod Bands
+pub mod Between
+pub mod Rows
 pub mod Counts
 pub mod Putting
 pub mod BesideOrder
@@ -35,3 +37,4 @@ pub mod Shifts
 pub mod Counted
 pub mod Moved
 pub mod UnderRows
+pub mod Outside

@@ -26,8 +26,11 @@ use Rattle.its_air.specs.Files.{filed_due}
 use Rattle.its_air.specs.Keeps.{GoesBy, IsTimed, Keeps}
 use Rattle.its_air.specs.Moving.{Awaits, AwaitsFrame, IsMoving, IsMovedRun, IsTaken, DoesAt}
 use Rattle.its_air.specs.Moving.{DoesTaken, without_first}
+use Rattle.its_air.specs.Outside.{IsOutside, station_of_filed}
 use Rattle.its_air.specs.Queues.{filed_in, filed_of, own_of, waiting_cmp}
 use Rattle.its_scenario.specs.Events.{station_in}
+use Rattle.its_scenario.specs.declared.event.AddressedEvent.{AddressedEvent}
+use Rattle.its_scenario.specs.declared.moves.Moves.{Moves}
 use Rattle.its_scenario.specs.declared.event.FileEvent.TheVariants as files
 use Rattle.its_air.specs.Runs.{SaysAsBefore}
 use Rattle.its_air.specs.Timetable.{AirModel, Filed, Pending, Put, Rules, Timetable, Traffic, at}
@@ -54,6 +57,7 @@ use Rattle.its_air.proofs.Waits.{waits_none, waits_own}
 use Rattle.std.proofs.Common.{◌⊎◌, inl, inr}
 use Rattle.std.proofs.Math.Nat.{le-max_left, max-le, min-le_left}
 use Rattle.std.proofs.lemmas.Bool.{cases_lt}
+use Rattle.std.proofs.lemmas.List.{length-append}
 use denote.Ref.{Bor}
 use Rattle.its_scenario.specs.declared.event.FileEvent.{FileEvent}
 
@@ -64,6 +68,15 @@ as_many : (configs : List Config) (events : List Event) (world : WorldState)
 as_many configs events world Took h =
     length_stations world.stations (world_run (opening configs) events).stations h.stands.stations
     ∙ stations_of_run configs events
+
+-- of a run that is under way: those of the scenario and those that were made
+pub stations_made : (rules : Rules) (configs made : List Config) (past : List Filed)
+    (last from end counted by : ℕ) (run : Run) (A : List Event → List Entry → Type 0)
+    → IsMoving rules configs made past last from end counted by run A
+    → length run.world.stations ≡ length configs + length made
+stations_made rules configs made past last from end counted by run A h =
+    as_many h.all h.air.done run.world A h.timed.told ∙ ap length h.are_all
+    ∙ length-append configs made
 
 -- ---- what waits is the air's own alone
 
@@ -310,29 +323,29 @@ no_fewer_after now all a p t = by (is_passed_over a.present p)
 -- ---- steps
 
 -- what a run with moves has once what came from outside was taken
-coming_taken : (rules : Rules) (configs : List Config) (f : Filed) (end counted by : ℕ)
+coming_taken : (rules : Rules) (configs made : List Config) (past : List Filed) (f : Filed)
+    (end counted by : ℕ)
     (old new : Run) (A B : List Event → List Entry → Type 0) → moment_in f ≤ end
     → station_of_pending (of_file f) < length old.world.stations
     → new.world.released ≡ old.world.released
     → ((r : Rules) (cs : List Config) (a : AirModel) → IsTimed r cs a old A
     → IsTimed r cs (take_one r cs a (of_file f) a.timetable) new B)
-    → IsMoving rules configs (moment_in f) (moment_in f) end counted by old A
-    → IsMoving rules configs (moment_in f) (moment_in f) end counted by new B
-coming_taken rules configs (Happens e) end counted by old new A B within there released does h =
+    → IsMoving rules configs made past (moment_in f) (moment_in f) end counted by old A
+    → IsMoving rules configs made (past ++ f ∷ []) (moment_in f) (moment_in f) end counted by new B
+coming_taken rules configs made past (Happens e) end counted by old new A B within there released
+    does h =
     let many = as_many h.all h.air.done old.world A h.timed.told in
     let kept = released_of h.all h.air.done old.world A h.timed.told in
     record {
-      made = h.made;
       all = h.all;
       now = h.now;
       are_all = h.are_all;
       are_now = h.are_now;
       steps = suc h.steps;
-      past = h.past ++ Happens e ∷ [];
       air = take_one h.now h.all h.air (Does (by_file e)) h.air.timetable;
       timed = does h.now h.all h.air h.timed;
       reached =
-          reached_coming h.now h.all h.steps h.past e.moment end end h.air (Happens e) h.reached
+          reached_coming h.now h.all h.steps past e.moment end end h.air (Happens e) h.reached
           (omega arith) h.since (omega arith) within (omega (arith, many, there));
       recent = omega arith;
       near = omega arith;
@@ -346,20 +359,19 @@ coming_taken rules configs (Happens e) end counted by old new A B within there r
           let more = no_fewer_after h.now h.all h.air (by_file e) h.air.timetable in
           let were = h.few in omega (arith, more, were);
     }
-coming_taken rules configs (Leaves n m) end counted by old new A B within there released does h =
+coming_taken rules configs made past (Leaves n m) end counted by old new A B within there released
+    does h =
     let many = as_many h.all h.air.done old.world A h.timed.told in
     record {
-      made = h.made;
       all = h.all;
       now = h.now;
       are_all = h.are_all;
       are_now = h.are_now;
       steps = suc h.steps;
-      past = h.past ++ Leaves n m ∷ [];
       air = take_one h.now h.all h.air (Departs n m) h.air.timetable;
       timed = does h.now h.all h.air h.timed;
       reached =
-          reached_coming h.now h.all h.steps h.past m end end h.air (Leaves n m) h.reached
+          reached_coming h.now h.all h.steps past m end end h.air (Leaves n m) h.reached
           (omega arith) h.since (omega arith) within (omega (arith, many, there));
       recent = omega arith;
       near = omega arith;
@@ -375,16 +387,16 @@ pub comes_at : (f : Filed) (old new : Run) (A B : List Event → List Entry → 
     → new.world.released ≡ old.world.released
     → ((r : Rules) (cs : List Config) (a : AirModel) → IsTimed r cs a old A
     → IsTimed r cs (take_one r cs a (of_file f) a.timetable) new B)
-    → DoesAt (moment_in f) old A new B
-comes_at f old new A B there released does = λ rules configs end counted by within h.
-    coming_taken rules configs f end counted by old new A B within there released does h
+    → DoesAt (moment_in f) (f ∷ []) old A new B
+comes_at f old new A B there released does = λ rules configs made past end counted by within h.
+    coming_taken rules configs made past f end counted by old new A B within there released does h
 
 -- the same of an event
 pub event_comes_at : (e : Event) (old new : Run) (A B : List Event → List Entry → Type 0)
     → e.station < length old.world.stations → new.world.released ≡ old.world.released
     → ((r : Rules) (cs : List Config) (a : AirModel) → IsTimed r cs a old A
     → IsTimed r cs (take_one r cs a (Does (by_file e)) a.timetable) new B)
-    → DoesAt e.moment old A new B
+    → DoesAt e.moment (Happens e ∷ []) old A new B
 event_comes_at e old new A B there released does =
     comes_at (Happens e) old new A B there released does
 
@@ -395,7 +407,7 @@ pub comes_well : {X E : Type 0} (result : Result X E) (f : Filed) (old new : Run
     → new.world.released ≡ old.world.released
     → ((r : Rules) (cs : List Config) (a : AirModel) → IsTimed r cs a old A
     → OnOk result (IsTimed r cs (take_one r cs a (of_file f) a.timetable) new B))
-    → OnOk result (DoesAt (moment_in f) old A new B)
+    → OnOk result (DoesAt (moment_in f) (f ∷ []) old A new B)
 comes_well (Ok x) f old new A B there released does = comes_at f old new A B there released does
 comes_well (Err e) f old new A B there released does = tt
 
@@ -403,29 +415,38 @@ pub same_station : (f : FileEvent) → station_of_pending (of_file (filed_of f))
 same_station (files.Happens e) = refl
 same_station (files.Leaves station moment) = refl
 
+pub station_filed : (f : FileEvent) → station_of_filed (filed_of f) ≡ station_in f
+station_filed (files.Happens e) = refl
+station_filed (files.Leaves station moment) = refl
+
+-- nothing comes
+pub none_at : (moment : ℕ) (run : Run) (A : List Event → List Entry → Type 0)
+    → DoesAt moment [] run A run A
+none_at moment run A = λ rules configs made past end counted by within h.
+    subst (λ (p : List Filed). IsMoving rules configs made p moment moment end counted by run A)
+    (sym (append-nil past)) h
+
 -- the first of the air's own is done
 pub own_taken : (w : Waiting) (old new : Run) (A B : List Event → List Entry → Type 0)
     → new.world.released ≡ old.world.released
     → ((r : Rules) (cs : List Config) (a : AirModel) → IsTimed r cs a old A
     → IsTimed r cs (take_one r cs a (pending_of w) a.timetable) new B)
     → DoesTaken w old A new B
-own_taken w old new A B released does = λ rules configs from end counted by h.
+own_taken w old new A B released does = λ rules configs made past from end counted by h.
     let kept = released_of h.all h.air.done old.world A h.timed.told in
     let t : Timetable = record { waiting = h.rest; draws = h.air.timetable.draws } in
     let order : InOrder (pending_of w ∷ h.rest) = subst InOrder h.first h.reached.in_order in
     record {
-      made = h.made;
       all = h.all;
       now = h.now;
       are_all = h.are_all;
       are_now = h.are_now;
       steps = suc h.steps;
-      past = h.past;
       air = take_one h.now h.all h.air (pending_of w) t;
       timed = does h.now h.all (without_first h.air h.rest) h.timed;
       reached =
           let near = h.recent in
-          reached_own h.now h.all h.steps h.past from (w.moment + 1) end end h.air (put_of w)
+          reached_own h.now h.all h.steps past from (w.moment + 1) end end h.air (put_of w)
           h.rest h.reached h.first near (omega arith) (omega arith) h.within;
       recent = omega arith;
       near = omega arith;
@@ -450,11 +471,12 @@ own_well (Ok x) w old new A B released does = own_taken w old new A B released d
 own_well (Err e) w old new A B released does = tt
 
 -- its station is there
-taken_there : (rules : Rules) (configs : List Config) (from end counted by : ℕ) (w : Waiting)
+taken_there : (rules : Rules) (configs made : List Config) (past : List Filed)
+    (from end counted by : ℕ) (w : Waiting)
     (run : Run) (A : List Event → List Entry → Type 0)
-    → IsTaken rules configs from end counted by w run A
+    → IsTaken rules configs made past from end counted by w run A
     → w.station < length run.world.stations
-taken_there rules configs from end counted by w run A h =
+taken_there rules configs made past from end counted by w run A h =
     let own : AllByRecursion (IsOwnOf h.all) (pending_of w ∷ h.rest) =
     subst (AllByRecursion (IsOwnOf h.all)) h.first h.reached.own in
     let many = as_many h.all h.air.done run.world A h.timed.told in
@@ -470,8 +492,8 @@ pub always_done : (w : Waiting) (can : Bool) (run : Run) (A B : List Event → L
     → (w.station < length run.world.stations → IsKept run.world.released (own_of w.own)
     → can ≡ true)
     → can ≡ false → DoesTaken w run A run B
-always_done w can run A B does not = λ rules configs from end counted by h.
-    let is = does (taken_there rules configs from end counted by w run A h)
+always_done w can run A B does not = λ rules configs made past from end counted by h.
+    let is = does (taken_there rules configs made past from end counted by w run A h)
     (kept_of run.world.released counted by (w.moment + h.now.delay) w.moment (own_of w.own)
     h.frames.0) in
     let no : ⊥ = cc in absurd no
@@ -487,16 +509,19 @@ frames_in_all world w h =
 -- ---- between the steps
 
 -- the first of the air's own was taken from what waits, and isn't done yet
-pub is_taken : (rules : Rules) (configs : List Config) (last from end counted by : ℕ)
+pub is_taken : (rules : Rules) (configs made : List Config) (past : List Filed)
+    (last from end counted by : ℕ)
     (old new : Run) (A : List Event → List Entry → Type 0) (w : Waiting) → new.air ≡ old.air
     → new.every ≡ old.every → new.world ≡ old.world → new.present ≡ old.present
     → new.draws ≡ old.draws → new.queue.due ≡ old.queue.due → new.queue.taken ≡ old.queue.taken
     → new.queue.until ≡ old.queue.until → new.queue.put ≡ old.queue.put
     → IsPermutation (heap_items old.queue.own) (w ∷ heap_items new.queue.own)
     → IsUpperBound waiting_cmp w (heap_items new.queue.own) → w.moment ≤ end
-    → IsMoving rules configs last from end counted by old A
-    → IsTaken rules configs from end counted by w new A
-is_taken rules configs last from end counted by old new A w air every world present draws due taken
+    → IsMoving rules configs made past last from end counted by old A
+    → IsTaken rules configs made past from end counted by w new A
+is_taken rules configs made past last from end counted by old new A w air every world present
+    draws due
+    taken
     until put moves first within h =
     let got = takes_alone h.all old.queue new.queue old.draws h.air.timetable w due taken until put
     moves first h.reached.own h.timed.keeps in
@@ -505,13 +530,11 @@ is_taken rules configs last from end counted by old new A w air every world pres
     let near = h.near in
     let le = since.0 in
     record {
-      made = h.made;
       all = h.all;
       now = h.now;
       are_all = h.are_all;
       are_now = h.are_now;
       steps = h.steps;
-      past = h.past;
       air = h.air;
       rest = got.0;
       first = got.1;
@@ -542,7 +565,8 @@ is_taken rules configs last from end counted by old new A w air every world pres
     }
 
 -- frames were let go while it was taken
-pub still_taken : (rules : Rules) (configs : List Config) (from end counted by counted' by' : ℕ)
+pub still_taken : (rules : Rules) (configs made : List Config) (past : List Filed)
+    (from end counted by counted' by' : ℕ)
     (old new : Run) (A : List Event → List Entry → Type 0) (w : Waiting) → new.air ≡ old.air
     → new.every ≡ old.every → new.queue ≡ old.queue → new.draws ≡ old.draws
     → new.present ≡ old.present
@@ -552,22 +576,22 @@ pub still_taken : (rules : Rules) (configs : List Config) (from end counted by c
     → ((waiting : List Pending) → AllByRecursion (λ p. w.moment ≤ at p) waiting
     → AllByRecursion (Awaits old.world.released counted by (w.moment + old.air.delay)) waiting
     → AllByRecursion (Awaits new.world.released counted' by' (w.moment + old.air.delay)) waiting)
-    → IsTaken rules configs from end counted by w old A
-    → IsTaken rules configs from end counted' by' w new A
-still_taken rules configs from end counted by counted' by' old new A w air every queue draws present
+    → IsTaken rules configs made past from end counted by w old A
+    → IsTaken rules configs made past from end counted' by' w new A
+still_taken rules configs made past from end counted by counted' by' old new A w air every queue
+    draws
+    present
     stands count frames h =
     let told = h.timed.told in
     let delay : old.air.delay ≡ h.now.delay = ap (λ (r : Rules). r.delay) h.timed.goes_by in
     let order : InOrder (pending_of w ∷ h.rest) = subst InOrder h.first h.reached.in_order in
     let moment : w.moment ≤ w.moment = omega arith in
     record {
-      made = h.made;
       all = h.all;
       now = h.now;
       are_all = h.are_all;
       are_now = h.are_now;
       steps = h.steps;
-      past = h.past;
       air = h.air;
       rest = h.rest;
       first = h.first;
@@ -609,26 +633,27 @@ still_taken rules configs from end counted by counted' by' old new A w air every
     }
 
 -- none was taken: what comes from outside is the next
-pub is_next : (rules : Rules) (configs : List Config) (last from end counted by moment : ℕ)
+pub is_next : (rules : Rules) (configs made : List Config) (past : List Filed)
+    (last from end counted by moment : ℕ)
     (old new : Run) (A : List Event → List Entry → Type 0) → new.air ≡ old.air
     → new.every ≡ old.every → new.world ≡ old.world → new.present ≡ old.present
     → new.draws ≡ old.draws → new.queue.due ≡ old.queue.due → new.queue.taken ≡ old.queue.taken
     → new.queue.until ≡ old.queue.until → new.queue.put ≡ old.queue.put
     → heap_items new.queue.own ≡ heap_items old.queue.own
     → All (λ w. moment ≤ w.moment) (heap_items old.queue.own) → from ≤ moment
-    → IsMoving rules configs last from end counted by old A
-    → IsMoving rules configs moment moment end counted by new A
-is_next rules configs last from end counted by moment old new A air every world present draws due
+    → IsMoving rules configs made past last from end counted by old A
+    → IsMoving rules configs made past moment moment end counted by new A
+is_next rules configs made past last from end counted by moment old new A air every world present
+    draws
+    due
     taken until put heap late le h =
     let recent = h.recent in
     record {
-      made = h.made;
       all = h.all;
       now = h.now;
       are_all = h.are_all;
       are_now = h.are_now;
       steps = h.steps;
-      past = h.past;
       air = h.air;
       timed =
           record {
@@ -640,7 +665,7 @@ is_next rules configs last from end counted by moment old new A air every world 
                 (keeps_alone old.queue new.queue old.draws h.air.timetable due taken until put heap
                 h.timed.keeps);
           };
-      reached = reached_later h.now h.all h.steps h.past from moment end end h.air h.reached le
+      reached = reached_later h.now h.all h.steps past from moment end end h.air h.reached le
           (omega arith);
       recent = omega arith;
       near = omega arith;
@@ -657,22 +682,21 @@ is_next rules configs last from end counted by moment old new A air every world 
     }
 
 -- rows were read: the last moment is later, perhaps
-pub ends_later : (rules : Rules) (configs : List Config) (last from end end' counted by : ℕ)
+pub ends_later : (rules : Rules) (configs made : List Config) (past : List Filed)
+    (last from end end' counted by : ℕ)
     (run : Run) (A : List Event → List Entry → Type 0) → end ≤ end'
-    → IsMoving rules configs last from end counted by run A
-    → IsMoving rules configs last from end' counted by run A
-ends_later rules configs last from end end' counted by run A le h =
+    → IsMoving rules configs made past last from end counted by run A
+    → IsMoving rules configs made past last from end' counted by run A
+ends_later rules configs made past last from end end' counted by run A le h =
     record {
-      made = h.made;
       all = h.all;
       now = h.now;
       are_all = h.are_all;
       are_now = h.are_now;
       steps = h.steps;
-      past = h.past;
       air = h.air;
       timed = h.timed;
-      reached = reached_later h.now h.all h.steps h.past from from end end' h.air h.reached
+      reached = reached_later h.now h.all h.steps past from from end end' h.air h.reached
           (omega arith) le;
       recent = h.recent;
       near = h.near;
@@ -682,19 +706,18 @@ ends_later rules configs last from end end' counted by run A le h =
     }
 
 -- the sink was told more, of which it says nothing
-pub says_moving : (rules : Rules) (configs : List Config) (last from end counted by : ℕ)
+pub says_moving : (rules : Rules) (configs made : List Config) (past : List Filed)
+    (last from end counted by : ℕ)
     (run : Run) (A B : List Event → List Entry → Type 0) → SaysAsBefore A B
-    → IsMoving rules configs last from end counted by run A
-    → IsMoving rules configs last from end counted by run B
-says_moving rules configs last from end counted by run A B says h =
+    → IsMoving rules configs made past last from end counted by run A
+    → IsMoving rules configs made past last from end counted by run B
+says_moving rules configs made past last from end counted by run A B says h =
     record {
-      made = h.made;
       all = h.all;
       now = h.now;
       are_all = h.are_all;
       are_now = h.are_now;
       steps = h.steps;
-      past = h.past;
       air = h.air;
       timed =
           record {
@@ -713,7 +736,8 @@ says_moving rules configs last from end counted by run A B says h =
 
 -- ---- stations that are made
 
-absent_more : (made : List Config) (c : Config) → absent (made ++ c ∷ []) ≡ absent made ++ false ∷ []
+absent_more : (made : List Config) (c : Config) → absent (made ++ c ∷ []) ≡ absent made ++ false
+    ∷ []
 absent_more [] c = refl
 absent_more (x ∷ made) c = ap (λ (l : List Bool). false ∷ l) (absent_more made c)
 
@@ -735,30 +759,30 @@ rules_more r made c now is =
     ∙ ap (λ (l : List Bool). r.present ++ l) (sym (absent_more made c)))
 
 -- a station is made, and absent
-pub one_made : (rules : Rules) (configs : List Config) (last from end counted by : ℕ)
+pub one_made : (rules : Rules) (configs made : List Config) (past : List Filed)
+    (last from end counted by : ℕ)
     (old new : Run) (A : List Event → List Entry → Type 0) (c : Config) → new.air ≡ old.air
     → new.every ≡ old.every → new.queue ≡ old.queue → new.draws ≡ old.draws
     → new.present.items ≡ old.present.items ++ false ∷ []
     → new.world.released ≡ old.world.released
     → ((cs : List Config) (events : List Event) → IsSimulation cs events old.world
     → All (λ e. e.station < length cs) events → IsSimulation (cs ++ c ∷ []) events new.world)
-    → IsMoving rules configs last from end counted by old A
-    → IsMoving rules configs last from end counted by new A
-one_made rules configs last from end counted by old new A c air every queue draws present released
+    → IsMoving rules configs made past last from end counted by old A
+    → IsMoving rules configs (made ++ c ∷ []) past last from end counted by new A
+one_made rules configs made past last from end counted by old new A c air every queue draws present
+    released
     adds h =
     let told = h.timed.told in
     let there = h.reached.done_there in
     let done = adds h.all h.air.done (record { stands = told.stands; laws = told.laws }) there in
     let same = were_there h.all c h.air.done there in
     record {
-      made = h.made ++ c ∷ [];
       all = h.all ++ c ∷ [];
       now = rules_beside (c ∷ []) h.now.until h.now;
       are_all = ap (λ (l : List Config). l ++ c ∷ []) h.are_all
-          ∙ append_assoc configs h.made (c ∷ []);
-      are_now = rules_more rules h.made c h.now h.are_now;
+          ∙ append_assoc configs made (c ∷ []);
+      are_now = rules_more rules made c h.now h.are_now;
       steps = h.steps;
-      past = h.past;
       air = record {
         done = h.air.done;
         timetable = h.air.timetable;
@@ -786,7 +810,7 @@ one_made rules configs last from end counted by old new A c air every queue draw
                 (subst (λ (ws : List ℕ). Keeps old.queue ws h.air.timetable) (sym draws)
                 h.timed.keeps);
           };
-      reached = reached_made h.now h.all h.steps h.past from end h.air c h.reached;
+      reached = reached_made h.now h.all h.steps past from end h.air c h.reached;
       recent = h.recent;
       near = h.near;
       since = h.since;
@@ -863,17 +887,15 @@ pub begun : (rules : Rules) (configs : List Config) (end : ℕ) (run : Run)
     → RepresentsWorld run.world (opening configs) → HoldsOfSchedules configs (opening configs)
     → Keeps run.queue run.draws (air_opening rules configs []).timetable
     → run.world.released ≡ 0 → Took [] []
-    → IsMoving rules configs 0 0 end 0 0 run Took
+    → IsMoving rules configs [] [] 0 0 end 0 0 run Took
 begun rules configs end run Took long goes present stands laws keeps released took =
     let opened = reached_opening rules configs 0 end long in
     record {
-      made = [];
       all = configs;
       now = rules;
       are_all = sym (append-nil configs);
       are_now = all_rules rules;
       steps = 0;
-      past = [];
       air = air_opening rules configs [];
       timed =
           record {
@@ -912,20 +934,22 @@ rules_at_end r made end now is =
     }) (append-nil (r.present ++ absent made))
 
 -- Nothing waits up to the last moment, and nothing comes any more: it is the run of an air.
-pub ended : (rules : Rules) (configs : List Config) (last from end counted by : ℕ) (run : Run)
-    (A : List Event → List Entry → Type 0) (given : Option ℕ)
-    → IfSome given (λ moment. end ≡ moment)
+pub ended : (rules : Rules) (configs made : List Config) (past : List Filed)
+    (last from end counted by : ℕ) (run : Run)
+    (A : List Event → List Entry → Type 0) (moves : Moves) (asked : List AddressedEvent)
+    (given : Option ℕ) → IfSome given (λ moment. end ≡ moment)
     → All (λ w. end + 1 ≤ w.moment) (heap_items run.queue.own)
-    → IsMoving rules configs last from end counted by run A
-    → IsMovedRun rules configs given run.world A
-ended rules configs last from end counted by run A given is late h =
-    let over = reached_over h.now h.all h.steps h.past from end h.air h.reached
+    → IsMoving rules configs made past last from end counted by run A
+    → IsOutside (length configs) (length made) moves asked end past
+    → IsMovedRun rules configs moves asked given run.world A
+ended rules configs made past last from end counted by run A moves asked given is late h outside =
+    let over = reached_over h.now h.all h.steps past from end h.air h.reached
     (none_waits_after h.all run.queue run.draws h.air.timetable end late h.reached.own
     h.timed.keeps) in
     let at_end : Rules → List Config → AirModel =
-    λ r cs. air_run r cs h.steps (air_opening r cs h.past) in
-    let same = rules_at_end rules h.made end h.now h.are_now in
-    let here : IsTimedRun (rules_beside [] end h.now) h.all h.past run.world A =
+    λ r cs. air_run r cs h.steps (air_opening r cs past) in
+    let same = rules_at_end rules made end h.now h.are_now in
+    let here : IsTimedRun (rules_beside [] end h.now) h.all past run.world A =
     record {
       steps = h.steps;
       over = over.0;
@@ -933,13 +957,14 @@ ended rules configs last from end counted by run A given is late h =
           h.timed.told;
     } in
     record {
-      made = h.made;
-      file = h.past;
+      made = made;
+      file = past;
       until = end;
       rises = h.reached.past_rises;
       last = is;
       run =
-          subst (λ (cs : List Config). IsTimedRun (rules_beside h.made end rules) cs h.past
+          subst (λ (cs : List Config). IsTimedRun (rules_beside made end rules) cs past
           run.world A) h.are_all
-          (subst (λ (r : Rules). IsTimedRun r h.all h.past run.world A) same here);
+          (subst (λ (r : Rules). IsTimedRun r h.all past run.world A) same here);
+      outside = outside;
     }

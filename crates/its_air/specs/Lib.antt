@@ -12,6 +12,7 @@ pub mod Traffics
 pub mod Waits
 pub mod Keeps
 pub mod FitsRun
+pub mod Outside
 pub mod Moving
 pub mod UnderRows
 pub mod Beside

@@ -5,11 +5,15 @@ use Rattle.std.specs.Prelude.{Option, IfSome}
 use Rattle.std.specs.List.{AllByRecursion}
 use Rattle.its_model.specs.World.{Config, Event, What, opening, world_run}
 use Rattle.its_model.specs.World.What.{Calls, Deliver}
+use Rattle.its_scenario.specs.Airs.{moment_of}
+use Rattle.its_scenario.specs.declared.event.AddressedEvent.{AddressedEvent}
+use Rattle.its_scenario.specs.declared.moves.Moves.{Moves}
 use Rattle.its_world.specs.declared.entry.Entry.{Entry}
 use Rattle.its_world.specs.State.{WorldState}
 use Rattle.its_air.specs.AirTimed.{IsTimedRun}
 use Rattle.its_air.specs.Beside.{IsReached, Rises, rules_beside}
 use Rattle.its_air.specs.Keeps.{IsTimed}
+use Rattle.its_air.specs.Outside.{IsOfStation, IsOutside, MayCome}
 use Rattle.its_air.specs.Timetable.{AirModel, Filed, Pending, Rules, at}
 use Rattle.its_air.specs.Timetable.Pending.{Does, Departs}
 use Rattle.its_air.specs.Waits.{pending_of}
@@ -18,8 +22,9 @@ use Rattle.its_air.specs.declared.waiting.Waiting.{Waiting}
 
 -- Stations were made beside these, which were absent at the start. Of all of them it is the run of
 -- an air by these rules, up to a last moment, which is the given one, if one is given. Its file is
--- what came from outside, in the order of moments.
-pub record IsMovedRun (rules : Rules) (configs : List Config) (given : Option ℕ)
+-- what came from outside, in the order of moments: rows, leaves, and what the scenario asked for.
+pub record IsMovedRun (rules : Rules) (configs : List Config) (moves : Moves)
+    (asked : List AddressedEvent) (given : Option ℕ)
     (world : WorldState) (Took : List Event → List Entry → Type 0) : Type 0 where
   pub made : List Config
   pub file : List Filed
@@ -27,6 +32,7 @@ pub record IsMovedRun (rules : Rules) (configs : List Config) (given : Option �
   pub rises : Rises file
   pub last : IfSome given (λ moment. until ≡ moment)
   pub run : IsTimedRun (rules_beside made until rules) (configs ++ made) file world Took
+  pub outside : IsOutside (length configs) (length made) moves asked until file
 
 -- ---- words of private functions
 
@@ -45,24 +51,23 @@ Awaits released counted by latest (Departs station moment) = Unit {0}
 -- A run is under way: it stands as the air of the model does to which so many steps lead, whatever
 -- comes from a moment on. The last event was done by another moment; nothing waits for an earlier
 -- one.
-pub record IsMoving (rules : Rules) (configs : List Config) (last from end counted by : ℕ)
-    (run : Run) (Took : List Event → List Entry → Type 0) : Type 0 where
-  pub made : List Config
-  pub all : List Config
-  pub now : Rules
-  pub are_all : all ≡ configs ++ made
-  pub are_now : now ≡ rules_beside made rules.until rules
-  pub steps : ℕ
-  pub past : List Filed
-  pub air : AirModel
-  pub timed : IsTimed now all air run Took
-  pub reached : IsReached now all steps past from end air
-  pub recent : last ≤ from
-  pub near : from ≤ last + 1
-  pub since : AllByRecursion (λ p. last ≤ at p) air.timetable.waiting
-  pub frames : AllByRecursion (Awaits run.world.released counted by (last + now.delay))
-      air.timetable.waiting
-  pub few : counted ≤ length (world_run (opening all) air.done).air
+pub record IsMoving (rules : Rules) (configs made : List Config) (past : List Filed)
+    (last from end counted by : ℕ) (run : Run) (Took : List Event → List Entry → Type 0) : Type 0
+  where
+    pub all : List Config
+    pub now : Rules
+    pub are_all : all ≡ configs ++ made
+    pub are_now : now ≡ rules_beside made rules.until rules
+    pub steps : ℕ
+    pub air : AirModel
+    pub timed : IsTimed now all air run Took
+    pub reached : IsReached now all steps past from end air
+    pub recent : last ≤ from
+    pub near : from ≤ last + 1
+    pub since : AllByRecursion (λ p. last ≤ at p) air.timetable.waiting
+    pub frames : AllByRecursion (Awaits run.world.released counted by (last + now.delay))
+        air.timetable.waiting
+    pub few : counted ≤ length (world_run (opening all) air.done).air
 
 -- the air of the model with its first taken
 abbrev pub without_first : AirModel → List Pending → AirModel
@@ -74,15 +79,14 @@ without_first a rest =
     }
 
 -- The same, where the first that waits was taken and isn't done yet.
-pub record IsTaken (rules : Rules) (configs : List Config) (from end counted by : ℕ)
-    (taken : Waiting) (run : Run) (Took : List Event → List Entry → Type 0) : Type 0 where
-  pub made : List Config
+pub record IsTaken (rules : Rules) (configs made : List Config) (past : List Filed)
+    (from end counted by : ℕ) (taken : Waiting) (run : Run) (Took : List Event → List Entry →
+    Type 0) : Type 0 where
   pub all : List Config
   pub now : Rules
   pub are_all : all ≡ configs ++ made
   pub are_now : now ≡ rules_beside made rules.until rules
   pub steps : ℕ
-  pub past : List Filed
   pub air : AirModel
   pub rest : List Pending
   pub first : air.timetable.waiting ≡ pending_of taken ∷ rest
@@ -94,24 +98,42 @@ pub record IsTaken (rules : Rules) (configs : List Config) (from end counted by 
       (pending_of taken ∷ rest)
   pub few : counted ≤ length (world_run (opening all) air.done).air
 
--- what comes at a moment is done
-abbrev pub DoesAt : ℕ → Run → (List Event → List Entry → Type 0) → Run
+-- this comes at a moment, and is done
+abbrev pub DoesAt : ℕ → List Filed → Run → (List Event → List Entry → Type 0) → Run
     → (List Event → List Entry → Type 0) → Type 0
-DoesAt moment old Before new After =
-    (rules : Rules) (configs : List Config) (end counted by : ℕ) → moment ≤ end →
-    IsMoving rules configs moment moment end counted by old Before →
-    IsMoving rules configs moment moment end counted by new After
+DoesAt moment came old Before new After =
+    (rules : Rules) (configs made : List Config) (past : List Filed) (end counted by : ℕ) →
+    moment ≤ end →
+    IsMoving rules configs made past moment moment end counted by old Before →
+    IsMoving rules configs made (past ++ came) moment moment end counted by new After
 
 -- the same of an event of this station, where it is there
-abbrev pub DoesThere : ℕ → ℕ → Run → (List Event → List Entry → Type 0) → Run
+abbrev pub DoesThere : ℕ → ℕ → List Filed → Run → (List Event → List Entry → Type 0) → Run
     → (List Event → List Entry → Type 0) → Type 0
-DoesThere station moment old Before new After =
-    station < length old.world.stations → DoesAt moment old Before new After
+DoesThere station moment came old Before new After =
+    station < length old.world.stations → DoesAt moment came old Before new After
+
+-- what was to come at a moment came, or couldn't, and what came was done
+pub record DoesFiled (moment : ℕ) (filed : Filed) (old : Run)
+    (Before : List Event → List Entry → Type 0) (new : Run)
+    (After : List Event → List Entry → Type 0) : Type 0 where
+  pub came : List Filed
+  pub may : MayCome (length old.world.stations) filed came
+  pub does : DoesAt moment came old Before new After
 
 -- what was taken is done
 abbrev pub DoesTaken : Waiting → Run → (List Event → List Entry → Type 0) → Run
     → (List Event → List Entry → Type 0) → Type 0
 DoesTaken taken old Before new After =
-    (rules : Rules) (configs : List Config) (from end counted by : ℕ) →
-    IsTaken rules configs from end counted by taken old Before →
-    IsMoving rules configs taken.moment (taken.moment + 1) end counted by new After
+    (rules : Rules) (configs made : List Config) (past : List Filed)
+    (from end counted by : ℕ) →
+    IsTaken rules configs made past from end counted by taken old Before →
+    IsMoving rules configs made past taken.moment (taken.moment + 1) end counted by new After
+
+-- what the scenario has is done, of a station
+pub record DoesAsked (event : AddressedEvent) (station : ℕ) (old : Run)
+    (Before : List Event → List Entry → Type 0) (new : Run)
+    (After : List Event → List Entry → Type 0) : Type 0 where
+  pub came : List Filed
+  pub may : IsOfStation (length old.world.stations) event station came
+  pub does : DoesAt (moment_of event.filed) came old Before new After

@@ -2,7 +2,7 @@
 //! leave some time after their last one.
 
 ghost use Rattle.std.specs.Prelude.{[], ℕ, List, Some, None, map, ◌≡◌, ◌≤◌, ◌<◌, ◌+◌, ◌^◌, All};
-ghost use Rattle.std.specs.Prelude.{length, slice_get, true, false, vec_len, ◌⊎◌};
+ghost use Rattle.std.specs.Prelude.{length, slice_get, true, false, vec_len, ◌⊎◌, ◌*◌};
 ghost use Rattle.std.specs.Prelude.{IfNone, IfOk, IfSome, OnOk};
 ghost use Rattle.std.specs.BinaryHeap.{heap_items};
 ghost use Rattle.std.specs.List.{AllByRecursion};
@@ -14,7 +14,7 @@ ghost use Rattle.its_scenario.specs.Events.{FitsFileEvent};
 ghost use Rattle.its_scenario.specs.declared.event.AddressedEvent.{AddressedEvent as Addressed};
 ghost use Rattle.its_model.specs.World.{Config as Beginning, WorldModel, opening};
 ghost use Rattle.its_moves.specs.Rows.{IsRowBetween};
-ghost use Rattle.its_world.specs.Events.{IsConfig, IsInRange, config_of, what_of};
+ghost use Rattle.its_world.specs.Events.{IsConfig, IsInRange, config_of, event_of, what_of};
 ghost use Rattle.its_world.specs.Steps.{IsKept};
 ghost use Rattle.its_world.specs.State.{RepresentsWorld};
 ghost use Rattle.its_air.specs.AirTimed.{rules_of};
@@ -23,10 +23,13 @@ ghost use Rattle.its_air.specs.Keeps.{GoesBy, Keeps};
 ghost use Rattle.its_air.specs.Moving.{Awaits, IsMovedRun};
 ghost use Rattle.its_air.specs.Queues.{IsFiledInRange};
 ghost use Rattle.its_air.specs.Standings.{AreStandingsOf};
-ghost use Rattle.its_air.specs.Timetable.{Pending, Rules, air_opening, at};
+ghost use Rattle.its_air.specs.Outside.{Came, IsByMoment, row_move};
+ghost use Rattle.its_air.specs.Timetable.{Filed, Pending, Rules, air_opening, at};
 ghost use Rattle.its_air.specs.Traffics.{all_traffic};
-ghost use Rattle.its_air.specs.UnderRows.{ComesFrom, IsComing, IsNext, IsUnder, IsUnderSome};
-ghost use Rattle.its_air.specs.UnderRows.{StaysAt, StaysUnder, end_in};
+ghost use Rattle.its_air.specs.UnderRows.{CameUnder, ComesFrom, DoesEvent, DoesLeave, DoesRow};
+ghost use Rattle.its_air.specs.UnderRows.{IsComing, IsNext, IsUnder, IsUnderSome, MakesUnder};
+ghost use Rattle.its_air.specs.UnderRows.{StaysUnder, asked_in, class_in, end_in, stations_in};
+ghost use Rattle.its_air.specs.UnderRows.{turn_in};
 
 use crate::departures::Departures;
 use crate::fault::AirFault;
@@ -63,7 +66,7 @@ use std::io::BufRead;
 ///
 /// It is the run of an air, as `run_air` does one, of the scenario's stations and those that rows
 /// made, these absent at the start, whose file is what came from outside, in the order of moments:
-/// so the laws of airs hold of it. Which rows, leaves and events these are is not said.
+/// so the laws of airs hold of it.
 ///
 /// `Moves` where a row can't be read, or one that was read would need a station too many, or one of
 /// a MID that another has: the sink has the events before, as where an allocation or the sink failed.
@@ -78,7 +81,8 @@ pub fn run_moves<R: BufRead + Drop, S: EventSink>(
     ensures { S.Took sink.old [] [] → IfOk result (λ world.
         IsMovedRun (rules_of air.now (all_traffic scenario.now.every.items)
         (end_of air.now.until []) scenario.now.present.items)
-        (map config_of scenario.now.stations.items) air.now.until world (S.Took sink.new)) }
+        (map config_of scenario.now.stations.items) scenario.now.moves
+        scenario.now.addressed.items air.now.until world (S.Took sink.new)) }
 {
     // A law, for the proof alone.
     every_schedule();
@@ -127,6 +131,10 @@ impl<'a> MovingRun<'a> {
         ensures departures { IfOk result (λ moving.
             heap_items moving.departures.waiting ≡ []) }
         ensures row { IfOk result (λ moving. moving.row ≡ None) }
+        ensures moves { IfOk result (λ moving. moving.moves.now ≡ scenario.now.moves) }
+        ensures asked { IfOk result (λ moving.
+            IsByMoment scenario.now.addressed.items (asked_in moving)) }
+        ensures taken { IfOk result (λ moving. moving.taken ≡ 0) }
         ensures until { IfOk result (λ moving. moving.until ≡ air.now.until) }
         ensures frames { IfOk result (λ moving. (moving.run.world.released ≡ 0)
             × (moving.frames_before ≡ 0) × (moving.delivered_by ≡ 0)) }
@@ -164,6 +172,7 @@ impl<'a> MovingRun<'a> {
             × (self.new.delivered_by ≡ self.old.delivered_by) }
         ensures until { self.new.until ≡ self.old.until }
         ensures end { self.old.greatest ≤ self.new.greatest }
+        ensures moves { self.new.moves ≡ self.old.moves }
         ensures begin { rows.new.begin ≡ rows.old.begin }
         ensures row { OnOk result (ForSome self.new.row
             (IsRowBetween rows.old.begin rows.old.before rows.new.before)) }
@@ -207,14 +216,18 @@ impl<'a> MovingRun<'a> {
         ensures standings { OnOk result (AreStandingsOf self.new.run.world.stations
             self.new.run.standings.order.items) }
         ensures until { self.new.until ≡ self.old.until }
+        ensures moves { self.new.moves ≡ self.old.moves }
+        ensures asked { self.new.events ≡ self.old.events }
         ensures moving { IfOk result (λ more. more ≡ true →
             (rules : Rules) (configs : List Beginning) →
             IsUnderSome rules configs rows.old.begin rows.old.before self.old (S.Took sink.old) →
             IsUnderSome rules configs rows.new.begin rows.new.before self.new (S.Took sink.new)) }
         ensures ended { IfOk result (λ more. more ≡ false →
-            (rules : Rules) (configs : List Beginning) →
+            (rules : Rules) (configs : List Beginning) (asked : List Addressed) →
+            IsByMoment asked (asked_in self.old) →
             IsUnderSome rules configs rows.old.begin rows.old.before self.old (S.Took sink.old) →
-            IsMovedRun rules configs self.old.until self.new.run.world (S.Took sink.new)) }
+            IsMovedRun rules configs self.old.moves.now asked self.old.until self.new.run.world
+            (S.Took sink.new)) }
     {
         let end = self.end();
         let coming = self.next_until(end);
@@ -261,6 +274,7 @@ impl<'a> MovingRun<'a> {
         ensures draws { self.new.run.draws ≡ self.old.run.draws }
         ensures present { self.new.run.present ≡ self.old.run.present }
         ensures row { self.new.row ≡ self.old.row }
+        ensures moves { self.new.moves ≡ self.old.moves }
         ensures departures { self.new.departures ≡ self.old.departures }
         ensures events { (self.new.events ≡ self.old.events) × (self.new.taken ≡ self.old.taken) }
         ensures end { (self.new.until ≡ self.old.until)
@@ -301,6 +315,7 @@ impl<'a> MovingRun<'a> {
     fn next_row(&self) -> Option<Coming>
         ensures some { IfSome result (λ coming. IsComing self.now coming.moment coming.outside
             × ForSome self.now.row (λ row. coming.moment ≤ row.moment)) }
+        ensures class { IfSome result (λ coming. class_in coming.outside ≡ 0) }
         ensures none { IfNone result (self.now.row ≡ None) }
     {
         match &self.row {
@@ -316,6 +331,7 @@ impl<'a> MovingRun<'a> {
     fn next_departure(&self) -> Option<Coming>
         ensures some { IfSome result (λ coming. IsComing self.now coming.moment coming.outside
             × All (λ d. coming.moment ≤ d.moment) (heap_items self.now.departures.waiting)) }
+        ensures class { IfSome result (λ coming. class_in coming.outside ≡ 1) }
         ensures none { IfNone result (heap_items self.now.departures.waiting ≡ []) }
     {
         match self.departures.first() {
@@ -332,6 +348,7 @@ impl<'a> MovingRun<'a> {
         ensures some { IfSome result (λ coming. IsComing self.now coming.moment coming.outside
             × ((e : Bor Addressed) → slice_get self.now.events.items self.now.taken ≡ Some e →
             coming.moment ≤ moment_of e.now.filed)) }
+        ensures class { IfSome result (λ coming. class_in coming.outside ≡ 2) }
         ensures none { IfNone result (slice_get self.now.events.items self.now.taken ≡ None) }
     {
         match self.events.get(self.taken) {
@@ -358,9 +375,13 @@ impl<'a> MovingRun<'a> {
         ensures standings { OnOk result (AreStandingsOf self.new.run.world.stations
             self.new.run.standings.order.items) }
         ensures until { self.new.until ≡ self.old.until }
-        ensures moving { OnOk result ((rules : Rules) (configs : List Beginning) →
-            IsUnder rules configs coming.moment coming.moment rows.old.begin rows.old.before
-            self.old (S.Took sink.old) →
+        ensures moves { self.new.moves ≡ self.old.moves }
+        ensures asked { self.new.events ≡ self.old.events }
+        ensures moving { OnOk result ((rules : Rules) (configs made : List Beginning)
+            (past : List Filed) (came : List Came) →
+            IsUnder rules configs made past coming.moment coming.moment rows.old.begin
+            rows.old.before self.old (S.Took sink.old) →
+            CameUnder (length configs) (length made) came past (turn_in coming) self.old →
             IsUnderSome rules configs rows.new.begin rows.new.before self.new (S.Took sink.new)) }
     {
         match coming.outside {
@@ -381,10 +402,14 @@ impl<'a> MovingRun<'a> {
         ensures standings { OnOk result (AreStandingsOf self.new.run.world.stations
             self.new.run.standings.order.items) }
         ensures until { self.new.until ≡ self.old.until }
-        ensures moving { OnOk result ((rules : Rules) (configs : List Beginning) (moment : ℕ) →
+        ensures moves { self.new.moves ≡ self.old.moves }
+        ensures asked { self.new.events ≡ self.old.events }
+        ensures moving { OnOk result ((rules : Rules) (configs made : List Beginning)
+            (past : List Filed) (came : List Came) (moment : ℕ) →
             IsComing self.old moment Outside.Row → moment ≤ end_in self.old →
-            IsUnder rules configs moment moment rows.old.begin rows.old.before
+            IsUnder rules configs made past moment moment rows.old.begin rows.old.before
             self.old (S.Took sink.old) →
+            CameUnder (length configs) (length made) came past (3 * moment) self.old →
             IsUnderSome rules configs rows.new.begin rows.new.before self.new (S.Took sink.new)) }
     {
         let Some(row) = self.row.take() else {
@@ -407,7 +432,10 @@ impl<'a> MovingRun<'a> {
         ensures standings { OnOk result (AreStandingsOf self.new.run.world.stations
             self.new.run.standings.order.items) }
         ensures until { self.new.until ≡ self.old.until }
-        ensures moving { OnOk result (StaysAt moment self.old (S.Took sink.old) self.new
+        ensures moves { self.new.moves ≡ self.old.moves }
+        ensures row { self.new.row ≡ self.old.row }
+        ensures events { (self.new.events ≡ self.old.events) × (self.new.taken ≡ self.old.taken) }
+        ensures moving { OnOk result (DoesLeave station moment self.old (S.Took sink.old) self.new
             (S.Took sink.new)) }
     {
         if self.departures.take_first()? {
@@ -428,7 +456,9 @@ impl<'a> MovingRun<'a> {
             self.new.run.standings.order.items) }
         ensures until { self.new.until ≡ self.old.until }
         ensures end { self.new.greatest ≡ self.old.greatest }
-        ensures moving { OnOk result (StaysAt row.now.moment self.old (S.Took sink.old) self.new
+        ensures moves { self.new.moves ≡ self.old.moves }
+        ensures events { (self.new.events ≡ self.old.events) × (self.new.taken ≡ self.old.taken) }
+        ensures moving { OnOk result (DoesRow row.now self.old (S.Took sink.old) self.new
             (S.Took sink.new)) }
     {
         let found = self.station_of(row, line, sink)?;
@@ -450,10 +480,17 @@ impl<'a> MovingRun<'a> {
             self.new.run.standings.order.items) }
         ensures until { self.new.until ≡ self.old.until }
         ensures end { self.new.greatest ≡ self.old.greatest }
+        ensures moves { self.new.moves ≡ self.old.moves }
+        ensures events { (self.new.events ≡ self.old.events) × (self.new.taken ≡ self.old.taken) }
         ensures there { IfOk result (λ found.
             found.station < length self.new.run.world.stations) }
-        ensures moving { OnOk result (StaysUnder self.old (S.Took sink.old) self.new
-            (S.Took sink.new)) }
+        ensures moving { IfOk result (λ found.
+            ((found.station < stations_in self.old) × (found.ports.now ≡ [])
+            × StaysUnder self.old (S.Took sink.old) self.new (S.Took sink.new))
+            ⊎ ((found.station ≡ stations_in self.old)
+            × (found.ports.now ≡ self.old.moves.now.ports.items)
+            × (config : Beginning)
+            × MakesUnder config self.old (S.Took sink.old) self.new (S.Took sink.new))) }
     {
         if let Some(station) = self.known_station() {
             return Ok(RowStation {
@@ -504,8 +541,11 @@ impl<'a> MovingRun<'a> {
             self.new.run.standings.order.items) }
         ensures until { self.new.until ≡ self.old.until }
         ensures end { self.new.greatest ≡ self.old.greatest }
-        ensures moving { OnOk result (StaysUnder self.old (S.Took sink.old) self.new
-            (S.Took sink.new)) }
+        ensures moves { self.new.moves ≡ self.old.moves }
+        ensures events { (self.new.events ≡ self.old.events) × (self.new.taken ≡ self.old.taken) }
+        ensures number { IfOk result (λ station. station ≡ stations_in self.old) }
+        ensures moving { OnOk result ((config : Beginning)
+            × MakesUnder config self.old (S.Took sink.old) self.new (S.Took sink.new)) }
         ensures there { IfOk result (λ station.
             station < length self.new.run.world.stations) }
     {
@@ -533,8 +573,14 @@ impl<'a> MovingRun<'a> {
         ensures until { self.new.until ≡ self.old.until }
         ensures moving { (e : Bor Addressed) →
             slice_get self.old.events.items self.old.taken ≡ Some e → OnOk result
-            (StaysAt (moment_of e.now.filed) self.old (S.Took sink.old) self.new
-            (S.Took sink.new)) }
+            (DoesEvent e.now self.old (S.Took sink.old) self.new (S.Took sink.new)) }
+        ensures moves { self.new.moves ≡ self.old.moves }
+        ensures row { self.new.row ≡ self.old.row }
+        ensures departures { self.new.departures ≡ self.old.departures }
+        ensures events { (e : Bor Addressed) →
+            slice_get self.old.events.items self.old.taken ≡ Some e →
+            (self.new.events ≡ self.old.events) × (self.new.taken ≡ self.old.taken + 1) }
+        ensures asked { self.new.events ≡ self.old.events }
     {
         let Some(event) = self.events.get(self.taken) else {
             return Ok(());
@@ -578,6 +624,8 @@ fn in_order(alloc: Global, addressed: &[AddressedEvent]) -> Result<Vec<&Addresse
     ensures ranges { IfOk result (λ events. All (λ a. FitsFileEvent a.now.filed) events.items) }
     ensures sorted { IfOk result (λ events.
         IsNonDecreasingBy (λ a. moment_of a.now.filed) events.items) }
+    ensures each { IfOk result (λ events. IsByMoment addressed.now
+        (map (λ (a : Bor Addressed). a.now) events.items)) }
 {
     let mut events = Vec::with_capacity(alloc, addressed.len())?;
     for event in addressed {
@@ -600,11 +648,17 @@ fn last_moment(events: &[&AddressedEvent]) -> u64
 
 /// The first of two, the former where they are of one moment.
 fn first_of(former: Option<Coming>, latter: Option<Coming>) -> Option<Coming>
+    requires classes { IfSome former (λ one. IfSome latter (λ other.
+        class_in one.outside ≤ class_in other.outside)) }
     ensures one { IfSome result (λ first. (former ≡ Some first) ⊎ (latter ≡ Some first)) }
     ensures former { IfSome former (λ other. IfSome result (λ first.
         first.moment ≤ other.moment)) }
     ensures latter { IfSome latter (λ other. IfSome result (λ first.
         first.moment ≤ other.moment)) }
+    ensures former_turn { IfSome former (λ other. IfSome result (λ first.
+        turn_in first ≤ turn_in other)) }
+    ensures latter_turn { IfSome latter (λ other. IfSome result (λ first.
+        turn_in first ≤ turn_in other)) }
     ensures none { IfNone result ((former ≡ None) × (latter ≡ None)) }
 {
     match (former, latter) {
@@ -634,6 +688,7 @@ fn move_of(station: usize, row: &Row) -> Event
     ensures kept { (released : ℕ) → IsKept released (what_of result.what) }
     ensures moment { result.moment ≡ row.now.moment }
     ensures station { result.station ≡ station }
+    ensures event { event_of result ≡ row_move station row.now }
 {
     Event {
         station,

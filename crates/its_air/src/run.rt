@@ -21,6 +21,7 @@ ghost use Rattle.its_air.specs.AirRun.{AreDue, IsAirRun, events_in};
 ghost use Rattle.its_air.specs.AirTimed.{IsTimedRun, rules_of};
 ghost use Rattle.its_air.specs.Files.{SameFile, filed_due};
 ghost use Rattle.its_air.specs.Keeps.{Keeps, IsAnswered, IsTimed, GoesBy, GoesOn, follow_own};
+ghost use Rattle.its_air.specs.Outside.{IsDelivery};
 ghost use Rattle.its_air.specs.Timetable.{Timetable, send, send_all, is_refusal, is_present};
 ghost use Rattle.its_air.specs.Timetable.{put_first_ticks, put_first_sends, put_send};
 ghost use Rattle.its_air.specs.Timetable.{put_traffic, put_tick, heard_by};
@@ -167,7 +168,7 @@ impl<'a> Run<'a> {
         schedule_first_ticks(&mut queue, &mut draws, present, ticking)?;
         schedule_traffic(&mut queue, &mut draws, present, every, configs.len())?;
         let world = World::of_apart(alloc, configs)?;
-        let standings = Standings::of(alloc, world.stations())?;
+        let standings = Standings::of(alloc, air.range, world.stations())?;
         Ok(Run {
             alloc,
             air: *air,
@@ -226,7 +227,8 @@ impl<'a> Run<'a> {
 
     /// Whether none of the frames that were let go is delivered by what happens.
     pub(crate) fn keeps(&self, what: &What) -> bool
-        ensures { IsTrue result → IsKept self.now.world.released (what_of what.now) }
+        ensures kept { IsTrue result → IsKept self.now.world.released (what_of what.now) }
+        ensures delivers { result ≡ false → IsDelivery (what_of what.now) }
     {
         match what {
             What::Deliver(frame) => self.world.released() <= *frame,

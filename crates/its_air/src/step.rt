@@ -1,15 +1,17 @@
 //! What comes to a run from outside is done, and what is the air's own.
 
 ghost use Rattle.std.specs.Prelude.{[], ℕ, IsTrue, ◌≡◌, ◌≤◌, ◌<◌, ◌+◌, ◌^◌, ◌∷◌, All, length};
-ghost use Rattle.std.specs.Prelude.{IfOk, OnOk};
+ghost use Rattle.std.specs.Prelude.{IfOk, OnOk, ◌⊎◌, false, map};
 ghost use Rattle.its_scenario.specs.Airs.{moment_of};
 ghost use Rattle.its_scenario.specs.Events.{FitsFileEvent, station_in};
-ghost use Rattle.its_world.specs.Events.{IsInRange, what_of};
+ghost use Rattle.its_world.specs.Events.{IsInRange, event_of, what_of};
 ghost use Rattle.its_world.specs.Steps.{IsKept};
 ghost use Rattle.its_air.specs.AirRun.{events_in};
-ghost use Rattle.its_air.specs.Moving.{DoesAt, DoesTaken, DoesThere};
+ghost use Rattle.its_air.specs.Moving.{DoesAsked, DoesFiled, DoesTaken, DoesThere};
+ghost use Rattle.its_air.specs.Outside.{Delivers, at_station, opening_at, station_of_filed};
 ghost use Rattle.its_air.specs.Queues.{IsFiledInRange, filed_of, own_of};
 ghost use Rattle.its_air.specs.Standings.{AreStandingsOf};
+ghost use Rattle.its_air.specs.Timetable.Filed.{Happens};
 
 use crate::copying::copy_of;
 use crate::fault::AirFault;
@@ -33,8 +35,8 @@ pub(crate) fn do_at<S: EventSink>(
     requires standings { AreStandingsOf run.old.world.stations run.old.standings.order.items }
     ensures standings { OnOk result
         (AreStandingsOf run.new.world.stations run.new.standings.order.items) }
-    ensures moving { OnOk result (DoesAt (moment_of event.now.filed) run.old (S.Took sink.old)
-        run.new (S.Took sink.new)) }
+    ensures moving { OnOk result (DoesAsked event.now station run.old (S.Took sink.old) run.new
+        (S.Took sink.new)) }
 {
     let mut filed = filed_at(alloc, &event.filed, station)?;
     if event.round_station {
@@ -50,6 +52,7 @@ fn filed_at(alloc: Global, filed: &FileEvent, station: usize) -> Result<FileEven
     requires range { IsFiledInRange filed.now }
     ensures range { IfOk result IsFiledInRange }
     ensures moment { IfOk result (λ same. moment_of same ≡ moment_of filed.now) }
+    ensures same { IfOk result (λ same. filed_of same ≡ at_station station (filed_of filed.now)) }
 {
     Ok(match filed {
         FileEvent::Happens(event) => FileEvent::Happens(Event {
@@ -75,8 +78,8 @@ pub(crate) fn do_filed<S: EventSink>(
     requires standings { AreStandingsOf run.old.world.stations run.old.standings.order.items }
     ensures standings { OnOk result
         (AreStandingsOf run.new.world.stations run.new.standings.order.items) }
-    ensures moving { OnOk result (DoesAt (moment_of filed.now) run.old (S.Took sink.old) run.new
-        (S.Took sink.new)) }
+    ensures moving { OnOk result (DoesFiled (moment_of filed.now) (filed_of filed.now) run.old
+        (S.Took sink.old) run.new (S.Took sink.new)) }
 {
     if is_there(run, filed) {
         run.do_filed(filed, sink)
@@ -91,6 +94,9 @@ fn is_there(run: &Run<'_>, filed: &FileEvent) -> bool
     ensures there { IsTrue result → station_in filed.now < length run.now.world.stations }
     ensures kept { IsTrue result → All (λ event. IsKept run.now.world.released event.what)
         (events_in (filed_of filed.now ∷ [])) }
+    ensures away { result ≡ false →
+        (length run.now.world.stations ≤ station_of_filed (filed_of filed.now))
+        ⊎ Delivers (filed_of filed.now) }
 {
     match filed {
         FileEvent::Happens(event) => run.has_station(event.station) && run.keeps(&event.what),
@@ -143,7 +149,9 @@ pub(crate) fn move_in<S: EventSink>(
     requires standings { AreStandingsOf run.old.world.stations run.old.standings.order.items }
     ensures standings { OnOk result
         (AreStandingsOf run.new.world.stations run.new.standings.order.items) }
-    ensures moving { OnOk result (DoesThere event.now.station event.now.moment run.old
+    ensures moving { OnOk result (DoesThere event.now.station event.now.moment
+        (Happens (event_of event.now)
+        ∷ map (opening_at event.now.station event.now.moment) ports.now) run.old
         (S.Took sink.old) run.new (S.Took sink.new)) }
 {
     let came = run.do_outer(event, sink)?;
@@ -165,7 +173,8 @@ fn open_ports<S: EventSink>(
     requires standings { AreStandingsOf run.old.world.stations run.old.standings.order.items }
     ensures standings { OnOk result
         (AreStandingsOf run.new.world.stations run.new.standings.order.items) }
-    ensures moving { OnOk result (DoesThere event.now.station event.now.moment run.old
+    ensures moving { OnOk result (DoesThere event.now.station event.now.moment
+        (map (opening_at event.now.station event.now.moment) ports.now) run.old
         (S.Took sink.old) run.new (S.Took sink.new)) }
 {
     for port in ports {

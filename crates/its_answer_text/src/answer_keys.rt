@@ -1,6 +1,6 @@
 //! What is told of an answer.
 
-use crate::words::why_word;
+use crate::words::{ACCEPTED, IGNORED, REFUSED, SENT, why_word};
 use its_frame_text::{Explanation, Hex, MessageKeys};
 use its_json::{Octets, Printed};
 use its_station::{Delivery, Why};
@@ -25,9 +25,6 @@ pub struct AnswerKeys<'a, Code, Reason> {
     #[serde(skip)]
     explain: bool,
 }
-
-/// The word of an answer that gives a frame and tells nothing else.
-const SENT: &str = "sent";
 
 /// What is told of a payload that is delivered to its port.
 pub fn delivery_keys(delivery: &Delivery) -> MessageKeys<'_> {
@@ -67,7 +64,7 @@ impl<'a, C: Drop, R: Drop> PrintedAnswer<'a, C, R> {
     pub fn ignored(why: Why) -> PrintedAnswer<'a, C, R> {
         AnswerKeys {
             why: Some(why_word(why)),
-            ..AnswerKeys::word("ignored")
+            ..AnswerKeys::word(IGNORED)
         }
     }
 
@@ -77,7 +74,7 @@ impl<'a, C: Drop, R: Drop> PrintedAnswer<'a, C, R> {
         AnswerKeys {
             delivered: delivery.as_ref().map(delivery_keys),
             sent,
-            ..AnswerKeys::word("accepted")
+            ..AnswerKeys::word(ACCEPTED)
         }
     }
 
@@ -86,7 +83,7 @@ impl<'a, C: Drop, R: Drop> PrintedAnswer<'a, C, R> {
         AnswerKeys {
             code: Some(Printed(code)),
             reason: Some(Printed(reason)),
-            ..AnswerKeys::word("refused")
+            ..AnswerKeys::word(REFUSED)
         }
     }
 

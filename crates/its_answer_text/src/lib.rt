@@ -3,8 +3,7 @@
 
 mod answer_keys;
 mod reason;
-mod words;
+pub mod words;
 
 pub use answer_keys::{AnswerKeys, PrintedAnswer, delivery_keys};
 pub use reason::RefusedReason;
-pub use words::why_word;

@@ -5,13 +5,8 @@ use Rattle.its_geometry.specs.Area.{GeoArea, HasMeasures}
 use Rattle.its_geometry.specs.declared.area.Shape.{Shape}
 use Rattle.its_geometry.specs.declared.area.Shape.TheVariants as shapes
 use Rattle.its_model.specs.Calls.{GbcRequest as ModelGbc, ShbRequest as ModelShb}
-use Rattle.its_model.specs.Packet.{AreaKind, geobroadcast, geoanycast}
-use Rattle.its_headers.specs.declared.kind.Kind.{Kind}
-use Rattle.its_headers.specs.declared.kind.Kind.TheVariants as kinds
 use Rattle.its_c.specs.declared.layout.AreaRequest.{AreaRequest}
 use Rattle.its_c.specs.declared.layout.ShbRequest.{ShbRequest}
-use Rattle.its_c.specs.declared.to_area.AreaCast.{AreaCast}
-use Rattle.its_c.specs.declared.to_area.AreaCast.TheVariants as casts
 
 -- the place of these coordinates
 abbrev pub place_of : ℤ → ℤ → Position
@@ -45,16 +40,6 @@ gbc_asked r area payload =
       area = area;
       message = record { port = r.port; info = r.info; payload = payload };
     }
-
--- a kind of packet for an area
-abbrev pub kind_of_cast : AreaCast → AreaKind
-kind_of_cast casts.Geobroadcast = geobroadcast
-kind_of_cast casts.Geoanycast = geoanycast
-
--- the same, as a kind of packet
-abbrev pub kind_cast : AreaCast → Kind
-kind_cast casts.Geobroadcast = kinds.Gbc
-kind_cast casts.Geoanycast = kinds.Gac
 
 -- the number of a shape
 abbrev pub number_of_shape : Shape → ℕ

@@ -20,11 +20,9 @@ use crate::status::NO_ROOM;
 use crate::told::{told_beacon, told_frame};
 use its_gnvalue::{Lifetime, TrafficClass};
 use its_headers::Kind;
+use its_linkframe::LONGEST_FRAME;
 use its_station::ShbRequest as StationShbRequest;
 use std::alloc::Global;
-
-/// The longest frame, in octets: a call that may write one wants room for it.
-pub(crate) const LONGEST_FRAME: usize = 1468;
 
 /// Writes the frame of a beacon, where one is due: 3000 ms after the last packet of the station's
 /// own, and `jitter` ms later; else the length is 0. Refused by `NO_ROOM` for a buffer under 1468

@@ -9,10 +9,10 @@ ghost use Rattle.its_c.specs.Told.{Holds};
 
 use crate::counting::{counts_of, told_counts};
 use crate::handle::Geostation;
-use crate::sending::LONGEST_FRAME;
 use crate::status::{NO_MEMORY, NO_ROOM, OK};
 use crate::told::hand_out;
 use its_json::JsonLine;
+use its_linkframe::LONGEST_FRAME;
 use its_pipe::{Response, answer_line, print_response};
 use its_station::Reply;
 use std::alloc::Global;

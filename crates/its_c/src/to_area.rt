@@ -1,50 +1,29 @@
 //! The calls that send to an area: geobroadcasts and geoanycasts, written into the caller's buffer.
 
 ghost use Rattle.std.specs.Prelude.{◌≡◌, ◌≢◌, ◌≤◌, ◌<◌, pos, length};
-ghost use Rattle.std.specs.Prelude.{None, Err, IfOk, IfSome, OnErr};
+ghost use Rattle.std.specs.Prelude.{None, IfSome};
 ghost use Rattle.its_geometry.specs.Area.{GeoArea};
+ghost use Rattle.its_headers.specs.declared.kind.Kind.TheVariants as kinds;
 ghost use Rattle.its_model.specs.Calls.{Own, area_call};
 ghost use Rattle.its_model.specs.Calls.OwnCall.{SendGbc, SendGac};
 ghost use Rattle.its_model.specs.Station.{StationModel, station_step};
 ghost use Rattle.its_model.specs.Station.{first, moment_refusal, own_refusal};
 ghost use Rattle.its_station.specs.Counting.{counted_send};
-ghost use Rattle.its_station.specs.Requests.{TellsSent, gbc_request};
-ghost use Rattle.its_station.specs.State.{RepresentsStation};
-ghost use Rattle.its_station.specs.Steps.{IsStepOf};
-ghost use Rattle.its_c.specs.Arguments.{IsAreaOf, gbc_asked, kind_of_cast, kind_cast};
+ghost use Rattle.its_station.specs.Requests.{TellsSent, gbc_request, kind_cast, kind_of_cast};
+ghost use Rattle.its_c.specs.Arguments.{IsAreaOf, gbc_asked};
 ghost use Rattle.its_c.specs.Open.{HoldsModel};
 ghost use Rattle.its_c.specs.Told.{IsTold, ShowsFrame};
 
 use crate::counting::count_send;
 use crate::handle::Geostation;
 use crate::layout::AreaRequest;
-use crate::sending::LONGEST_FRAME;
 use crate::status::{BAD_ARGUMENT, NO_ROOM};
 use crate::told::told_frame;
 use its_geometry::Area;
 use its_gnvalue::{Lifetime, Place, TrafficClass};
-use its_headers::Kind;
-use its_loctable::SortedTable;
-use its_station::{GbcRequest, Refused, Station};
+use its_linkframe::LONGEST_FRAME;
+use its_station::{AreaCast, GbcRequest};
 use std::alloc::Global;
-
-/// The kinds of packet for an area.
-#[derive(Clone, Copy)]
-enum AreaCast {
-    Geobroadcast,
-    Geoanycast,
-}
-
-impl AreaCast {
-    fn kind(self) -> Kind
-        ensures { result ≡ kind_cast self }
-    {
-        match self {
-            AreaCast::Geobroadcast => Kind::Gbc,
-            AreaCast::Geoanycast => Kind::Gac,
-        }
-    }
-}
 
 /// Writes the frame of a geobroadcast (GBC), to all stations in an area, with the station's next
 /// sequence number. Refused by `NO_ROOM` for a buffer under 1468 octets, by `BAD_ARGUMENT` for a
@@ -64,7 +43,7 @@ pub extern "C" fn geostation_send_gbc(
     ensures step { (m : StationModel) → 1468 ≤ length frame.old →
         HoldsModel s.old.held.station m → result ≢ pos 20 →
         (area : GeoArea) × IsAreaOf request.now area ×
-        IsTold TellsSent (ShowsFrame written.new frame.new) (counted_send Kind.Gbc) result
+        IsTold TellsSent (ShowsFrame written.new frame.new) (counted_send kinds.Gbc) result
         s.old s.new
         (station_step m now (Own (SendGbc (gbc_asked request.now area payload.now)))) }
     ensures refused { result ≡ pos 20 → (area : GeoArea) → IsAreaOf request.now area → ⊥ }
@@ -104,7 +83,7 @@ pub extern "C" fn geostation_send_gac(
     ensures step { (m : StationModel) → 1468 ≤ length frame.old →
         HoldsModel s.old.held.station m → result ≢ pos 20 →
         (area : GeoArea) × IsAreaOf request.now area ×
-        IsTold TellsSent (ShowsFrame written.new frame.new) (counted_send Kind.Gac) result
+        IsTold TellsSent (ShowsFrame written.new frame.new) (counted_send kinds.Gac) result
         s.old s.new
         (station_step m now (Own (SendGac (gbc_asked request.now area payload.now)))) }
     ensures refused { result ≡ pos 20 → (area : GeoArea) → IsAreaOf request.now area → ⊥ }
@@ -166,32 +145,10 @@ fn send_to_area(
     };
     let r = area_request(request, area, payload);
     let mut station = s.held.take(alloc);
-    let said = frame_for_area(&mut station, now, cast, &r);
+    let said = station.send_to_area(now, cast, &r);
     s.held.put(station);
     count_send(&mut s.counts, cast.kind(), &said);
     told_frame(said, frame, written)
-}
-
-/// The station's frame for an area.
-fn frame_for_area(
-    station: &mut Station<SortedTable>,
-    now: u64,
-    cast: AreaCast,
-    r: &GbcRequest<'_>,
-) -> Result<Vec<u8>, Refused>
-    ensures step { (m : StationModel) → RepresentsStation station.old m →
-        IsStepOf TellsSent result station.new
-        (station_step m now (Own (area_call (kind_of_cast cast) (gbc_request r.now)))) }
-    ensures unchanged { OnErr result (station.new ≡ station.old) }
-    ensures memory { (m : StationModel) → RepresentsStation station.old m →
-        result ≡ Err Refused.NoMemory → first (moment_refusal m now)
-        (own_refusal m (area_call (kind_of_cast cast) (gbc_request r.now))) ≡ None }
-    ensures short_frame { IfOk result (λ sent. length sent.items ≤ 1468) }
-{
-    match cast {
-        AreaCast::Geobroadcast => station.send_geobroadcast(now, r),
-        AreaCast::Geoanycast => station.send_geoanycast(now, r),
-    }
 }
 
 /// The area of a request, if it has one.

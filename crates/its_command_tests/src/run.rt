@@ -4,7 +4,7 @@
 use its_commands::{Selection, Showing, check, show};
 use its_reporting::{OutputFormat, Status};
 use its_runs::{RunOptions, simulate};
-use its_shortage::written;
+use its_test_support::written;
 use std::alloc::Global;
 use std::io::{Read, Write};
 

@@ -3,7 +3,7 @@
 use crate::run::{Command, Left, left_of};
 use its_commands::{Selection, Showing, check_file, import_file, read_lines, show_file};
 use its_reporting::{OutputFormat, Status, create};
-use its_shortage::{MOST, STEP, Shortage, written};
+use its_test_support::{MOST, STEP, Shortage, written};
 use std::alloc::Global;
 use std::fs;
 

@@ -17,7 +17,7 @@ use Rattle.its_pcap.specs.declared.format.Format.TheVariants as formats
 use Rattle.its_pcap.specs.declared.link.LinkLayer.{LinkLayer}
 use Rattle.its_pcap.specs.declared.put_fault.PutFault.{PutFault}
 use Rattle.its_pcap.specs.declared.put_fault.PutFault.TheVariants as puts
-use Rattle.its_pcap.specs.declared.record.Head.{Head}
+use Rattle.its_pcap.specs.declared.record.RecordHeader.{RecordHeader}
 use Rattle.its_pcap.specs.declared.record.Step.{Step}
 use Rattle.its_pcap.specs.declared.record.Step.TheVariants as steps
 use Rattle.its_pcap.specs.declared.sink.SinkFault.{SinkFault}
@@ -155,7 +155,7 @@ text_refused l moment text t puts.Io p = tt
 text_refused l moment text t puts.Failed p = tt
 
 -- what becomes of the octets of a record becomes of the record
-pub puts_text : (linked : Bool) (h : Head) (w : List ℕ) (t next : Target)
+pub puts_text : (linked : Bool) (h : RecordHeader) (w : List ℕ) (t next : Target)
     (r : Result (Unit {0}) SinkFault) (l : LinkLayer) (text : List ℕ)
     → HasText t.frames_only t.layer linked h w l text → WritesText l h.moment text t next r
     → PutsRecord linked h w t next r
@@ -170,7 +170,7 @@ puts_text linked h w t next (Err (faults.Record f)) l text has p = absurd p
 puts_text linked h w t next (Err (faults.Link f)) l text has p = absurd p
 
 -- a record that has a word for why it isn't written is left out
-pub left_out : (linked : Bool) (h : Head) (w : List ℕ) (t next : Target) (fault : SinkFault)
+pub left_out : (linked : Bool) (h : RecordHeader) (w : List ℕ) (t next : Target) (fault : SinkFault)
     → ¬ (word_of fault ≡ None) → PutsRecord linked h w t next (Err fault)
     → IsLeftOut t linked h w fault × (next ≡ t)
 left_out linked h w t next (faults.Record f) some p = p

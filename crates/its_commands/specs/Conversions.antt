@@ -16,7 +16,7 @@ use Rattle.its_pcap.specs.declared.link.LinkLayer.{LinkLayer}
 use Rattle.its_pcap.specs.declared.link.LinkLayer.TheVariants as layers
 use Rattle.its_pcap.specs.declared.put_fault.PutFault.{PutFault}
 use Rattle.its_pcap.specs.declared.put_fault.PutFault.TheVariants as puts
-use Rattle.its_pcap.specs.declared.record.Head.{Head}
+use Rattle.its_pcap.specs.declared.record.RecordHeader.{RecordHeader}
 use Rattle.its_pcap.specs.declared.record.Step.{Step}
 use Rattle.its_pcap.specs.declared.record.Step.TheVariants as steps
 use Rattle.its_pcap.specs.declared.sink.SinkFault.{SinkFault}
@@ -87,7 +87,7 @@ IsFrameText false own w text = text ≡ w
 -- The octets that are written of a record, and their link layer: all of them and the record's own,
 -- or those of its frame and Ethernet. The record is of the link layer of the file, if that is
 -- known, and wasn't cut.
-abbrev pub HasText : Bool → Option LinkLayer → Bool → Head → List ℕ → LinkLayer → List ℕ → Type 0
+abbrev pub HasText : Bool → Option LinkLayer → Bool → RecordHeader → List ℕ → LinkLayer → List ℕ → Type 0
 HasText false only linked h w l text = IsLayerFor h only l × (text ≡ w)
 HasText true only linked h w l text =
     (own : LinkLayer) × IsLayerFor h None own × (l ≡ layers.Ethernet) × IsFrameText linked own w text
@@ -98,7 +98,7 @@ abbrev pub refusal_to : Bool → Option LinkLayer → Option LinkLayer
 refusal_to true only = None
 refusal_to false only = only
 
-abbrev pub IsLeftOut : Target → Bool → Head → List ℕ → SinkFault → Type 0
+abbrev pub IsLeftOut : Target → Bool → RecordHeader → List ℕ → SinkFault → Type 0
 IsLeftOut t linked h w (faults.Record f) =
     refusal_of h (refusal_to t.frames_only t.layer) ≡ Some f
 IsLeftOut t linked h w (faults.Link f) =
@@ -120,7 +120,7 @@ pub record IsAdded (l : LinkLayer) (moment : ℕ) (text added : List ℕ) (t nex
   pub begun : next.begun ≡ true
 
 -- what became of a record, what was written of it, and the file afterwards
-abbrev pub Copies : Choice → Bool → Head → List ℕ → Target → List ℕ → Target → Copied → Type 0
+abbrev pub Copies : Choice → Bool → RecordHeader → List ℕ → Target → List ℕ → Target → Copied → Type 0
 Copies choice linked h w t added next copies.Passed =
     Chooses choice h.moment false × (added ≡ []) × (next ≡ t)
 Copies choice linked h w t added next copies.Written =
@@ -260,7 +260,7 @@ WritesText l moment text t next (Err (faults.Record fault)) = ⊥
 WritesText l moment text t next (Err (faults.Link fault)) = ⊥
 
 -- the same of a record
-abbrev pub PutsRecord : Bool → Head → List ℕ → Target → Target → Result (Unit {0}) SinkFault
+abbrev pub PutsRecord : Bool → RecordHeader → List ℕ → Target → Target → Result (Unit {0}) SinkFault
     → Type 0
 PutsRecord linked h w t next (Ok _) =
     (l : LinkLayer) × (text : List ℕ) × (added : List ℕ)

@@ -9,7 +9,7 @@ ghost use Rattle.its_commands.specs.Conversions.{is_end, told_status};
 use crate::written::Written;
 use its_linkframe::{Counted, Source};
 use its_pcap::{
-    AnySource, Format, Head, LONGEST_CAPTURED, RecordSource, SinkFault, SourceFault, Step,
+    AnySource, Format, LONGEST_CAPTURED, RecordHeader, RecordSource, SinkFault, SourceFault, Step,
 };
 use its_records::{FileFault, RefusedCapture, Selection};
 use its_reporting::{Fault, LeftOut, OutputFormat, Status, status_of};
@@ -247,7 +247,7 @@ fn go_on<'a, S: Source + Drop, W: Write + Drop>(
 fn copy_record<'a, W: Write + Drop>(
     selection: &Selection,
     target: &'a str,
-    head: &Head,
+    head: &RecordHeader,
     octets: &mut Vec<u8>,
     linked: bool,
     room: &mut Vec<u8>,

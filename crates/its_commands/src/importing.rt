@@ -8,8 +8,9 @@ ghost use Rattle.its_commands.specs.Lines.{HasFrame, lines_fault_status};
 ghost use Rattle.its_reporting.specs.Statuses.{IsStopped, IsWriterStatus};
 
 use its_frame_text::Explanation;
+use its_lines::{Line, Passed, are_digits};
 use its_linkframe::{CaptureWriter, Counted, LONGEST_FRAME, Record};
-use its_reporting::{Fault, Line, OutputFormat, Passed, Status, are_digits};
+use its_reporting::{Fault, OutputFormat, Status};
 use std::alloc::{AllocError, AllocFailed, Global};
 use std::io::{BufRead, Write};
 use std::str;
@@ -114,8 +115,8 @@ fn read_moment(digits: &[u8]) -> Option<u64> {
     str::from_utf8(digits).ok()?.parse::<u64>().ok()
 }
 
-/// Reads the digits of 1 to 1468 octets.
-fn read_frame(alloc: Global, digits: &[u8]) -> Result<Vec<u8>, LineError>
+/// The octets of the digits, 1 to 1468 of them.
+fn parse_frame(alloc: Global, digits: &[u8]) -> Result<Vec<u8>, LineError>
     ensures { IfOk result (λ frame. IsFrameLength (vec_len frame)) }
 {
     match hex::decode(alloc, digits) {
@@ -168,7 +169,7 @@ fn read_line(alloc: Global, line: &Line) -> Result<Record, LineError>
     if passed.any {
         return Err(LineError::Refused(fault_of_long(&rest[1..], passed)));
     }
-    let frame = read_frame(alloc, &rest[1..])?;
+    let frame = parse_frame(alloc, &rest[1..])?;
     Ok(Record { moment, frame })
 }
 

@@ -7,8 +7,8 @@ ghost use Rattle.its_commands.specs.Conversions.{IsFrameText, expecting};
 
 use its_linkframe::Counted;
 use its_pcap::{
-    AnySink, Format, Head, LinkFault, LinkLayer, PutFault, RecordSink, SinkFault, frame_start,
-    has_place, layer_for,
+    AnySink, Format, LinkFault, LinkLayer, PutFault, RecordHeader, RecordSink, SinkFault,
+    frame_start, has_place, layer_for,
 };
 use std::io::Write;
 use std::marker::Model;
@@ -65,7 +65,7 @@ impl<W: Write + Drop> Written<W> {
     /// rules of its link layer, then by its length and last by its moment.
     pub(crate) fn put(
         &mut self,
-        head: &Head,
+        head: &RecordHeader,
         octets: &mut Vec<u8>,
         linked: bool,
     ) -> Result<(), SinkFault>

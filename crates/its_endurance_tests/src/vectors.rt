@@ -1,6 +1,6 @@
 //! Frames of the first station.
 
-use its_vectors::put;
+use its_test_support::put;
 
 /// A beacon.
 static BEACON: [u8; 50] = [

@@ -5,7 +5,7 @@ use crate::vectors::{BEACON, GEOBROADCAST};
 use its_gnvalue::Mac;
 use its_headers::{Fault, FaultKind, decode};
 use its_linkframe::{FrameFault, LONGEST_FRAME, read_frame, relay_frame, retarget, write_frame};
-use its_vectors::put;
+use its_test_support::put;
 use std::alloc::Global;
 
 const OTHER: [u8; 6] = [0x02, 0, 0, 0, 0, 0x02];

@@ -5,7 +5,7 @@ use crate::answers::{next_of, write_record};
 use crate::vectors::GEOBROADCAST;
 use its_headers::{LONGEST_PAYLOAD, Packet, PacketView, decode, encode_into};
 use its_linkframe::{CaptureReader, CaptureWriter, Counted};
-use its_vectors::put;
+use its_test_support::put;
 use std::alloc::Global;
 
 /// The geobroadcast with a payload of 1398 octets, all of them 0x5a.

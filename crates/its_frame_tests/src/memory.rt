@@ -6,7 +6,7 @@ use its_headers::{Packet, decode};
 use its_linkframe::{
     CaptureFault, CaptureReader, CaptureWriter, Counted, read_frame, relay_frame, write_frame,
 };
-use its_shortage::{STEP, Shortage};
+use its_test_support::{STEP, Shortage};
 use std::alloc::Global;
 
 /// What takes memory for a frame.

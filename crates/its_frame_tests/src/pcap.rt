@@ -3,8 +3,8 @@
 use crate::answers::{Answer, CUT, FAILED, IO, eight_of, then};
 use crate::devices::Slow;
 use its_linkframe::Counted;
-use its_pcap::{Head, LinkLayer, PcapReader, PcapWriter, PutFault, SourceFault, Step};
-use its_vectors::put;
+use its_pcap::{LinkLayer, PcapReader, PcapWriter, PutFault, RecordHeader, SourceFault, Step};
+use its_test_support::put;
 use std::alloc::Global;
 use std::io::Read;
 
@@ -25,7 +25,7 @@ fn answers<R: Read + Drop>(alloc: Global, device: R) -> ([Answer; 8], Vec<u8>) {
 
 /// A header, a record of Ethernet, and the end.
 fn one_record(moment: u64, captured: u32, wire: u32) -> [Answer; 8] {
-    let head = Head {
+    let head = RecordHeader {
         moment,
         captured,
         wire,

@@ -4,9 +4,8 @@
 use crate::answers::{Answer, CUT, FAILED, IO, eight_of, end_of, then};
 use crate::devices::Slow;
 use its_linkframe::{CaptureFault, Counted};
-use its_pcap::{AnySource, Head, LinkLayer, PcapngReader, RecordSource, SourceFault, Step};
-use its_shortage::{MOST, STEP, Shortage};
-use its_vectors::put;
+use its_pcap::{AnySource, LinkLayer, PcapngReader, RecordHeader, RecordSource, SourceFault, Step};
+use its_test_support::{MOST, STEP, Shortage, put};
 use std::alloc::Global;
 use std::io::Read;
 
@@ -50,13 +49,13 @@ fn joined(pieces: &[&[u8]]) -> [u8; 192] {
 fn sections_of_both_orders_are_read(rt: HostRuntime) {
     let file = joined(&[&LOW[..28], &UNKNOWN, &LOW[28..], &HIGH]);
     let (given, frame) = answers(rt.alloc(), file.as_slice());
-    let first = Head {
+    let first = RecordHeader {
         moment: 1,
         captured: 3,
         wire: 3,
         layer: Some(LinkLayer::Ethernet),
     };
-    let second = Head {
+    let second = RecordHeader {
         moment: 0,
         captured: 4,
         wire: 6,

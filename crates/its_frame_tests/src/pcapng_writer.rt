@@ -6,8 +6,8 @@ use crate::devices::Slot;
 use crate::pcapng::answers;
 use its_linkframe::Counted;
 use its_pcap::{
-    AnySink, CaptureSource, Format, Head, LinkFault, LinkLayer, PcapngWriter, PutFault,
-    RecordFault, RecordSink, SinkFault, Step, has_place, layer_for,
+    AnySink, CaptureSource, Format, LinkFault, LinkLayer, PcapngWriter, PutFault, RecordFault,
+    RecordHeader, RecordSink, SinkFault, Step, has_place, layer_for,
 };
 use std::alloc::{AllocError, Global};
 
@@ -24,8 +24,8 @@ const PLAIN: &[u8; 32] = b"\x01\0\0\0\x20\0\0\0\x01\0\0\0\0\0\x04\0\
     \x09\0\x01\0\x03\0\0\0\0\0\0\0\x20\0\0\0";
 
 /// What is told of a whole frame of Ethernet.
-fn whole(moment: u64, size: u32) -> Head {
-    Head {
+fn whole(moment: u64, size: u32) -> RecordHeader {
+    RecordHeader {
         moment,
         captured: size,
         wire: size,
@@ -146,7 +146,7 @@ fn a_full_device_is_told_at_each_octet(rt: HostRuntime) {
 /// length before its moment.
 #[test]
 fn a_record_without_place_is_refused(rt: HostRuntime) {
-    let cut = Head {
+    let cut = RecordHeader {
         moment: 0,
         captured: 0,
         wire: 1,

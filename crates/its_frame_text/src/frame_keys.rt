@@ -2,7 +2,7 @@
 
 use its_btp::split;
 use its_geometry::{Area, Shape};
-use its_headers::{Kind, PacketView};
+use its_headers::PacketView;
 use its_json::{Digits, Octets};
 use its_linkframe::FrameView;
 use serde::Serialize;
@@ -88,7 +88,7 @@ impl<'a> FrameKeys<'a> {
         FrameKeys {
             from: Digits(frame.from.octets()),
             to: Digits(frame.to.octets()),
-            kind: kind_word(packet.kind()),
+            kind: packet.kind().word(),
             address: Digits(vector.address().as_u64().to_be_bytes()),
             tst: vector.tst(),
             lat: place.lat(),
@@ -104,16 +104,6 @@ impl<'a> FrameKeys<'a> {
             target: TargetKeys::of(packet),
             message: MessageKeys::of(packet.payload()),
         }
-    }
-}
-
-/// The word of a kind of packet.
-fn kind_word(kind: Kind) -> &'static str {
-    match kind {
-        Kind::Beacon => "beacon",
-        Kind::Shb => "shb",
-        Kind::Gbc => "gbc",
-        Kind::Gac => "gac",
     }
 }
 

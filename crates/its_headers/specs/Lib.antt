@@ -9,6 +9,7 @@ pub mod Packets
 pub mod Written
 pub mod Bytes
 pub mod Decoding
+pub mod Kinds
 pub use Rattle.its_model.specs.Packet
 pub use Rattle.its_gnvalue.specs.Values
 pub use Rattle.its_geometry.specs.Area

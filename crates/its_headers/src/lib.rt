@@ -19,7 +19,7 @@ mod wire;
 pub use decoding::{DecodeCode, DecodeFault, decode};
 pub use encoding::encode_into;
 pub use its_faults::{Fault, FaultCode, FaultKind};
-pub use kind::Kind;
+pub use kind::{KINDS, Kind};
 pub use packet::{AreaPacket, Header, Packet, SingleHopBroadcast};
 pub use payload::{LONGEST_PAYLOAD, Payload, SHORTEST_PAYLOAD};
 pub use relaying::relay_into;

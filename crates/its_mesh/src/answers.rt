@@ -8,6 +8,7 @@ ghost use Rattle.its_world.specs.Entries.{was_done};
 
 use its_gnvalue::NoMemory;
 use its_loctable::SortedTable;
+use its_scenario::Verb;
 use its_station::{Call, Reply, Station};
 use its_world::Entry;
 
@@ -30,16 +31,9 @@ pub(crate) fn answer(
 
 /// The word of a call, as a scenario has it after `do`; `receive` for what comes by a socket.
 pub(crate) fn call_word(call: &Call) -> &'static str {
-    match call {
-        Call::MoveTo { .. } => "move",
-        Call::Open(_) => "open",
-        Call::Close(_) => "close",
-        Call::Tick(_) => "tick",
-        Call::SendShb(_) => "shb",
-        Call::SendGeobroadcast(_) => "gbc",
-        Call::SendGeoanycast(_) => "gac",
-        Call::Restart(_) => "restart",
-        Call::Receive(_) => "receive",
+    match Verb::of_call(call) {
+        Some(verb) => verb.word(),
+        None => "receive",
     }
 }
 

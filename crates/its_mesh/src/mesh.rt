@@ -20,7 +20,7 @@ use crate::sockets::{Sent, Sockets};
 use its_gnvalue::NoMemory;
 use its_loctable::SortedTable;
 use its_reporting::{Fault, FrameFile, OutputFormat, Status};
-use its_runs::is_done;
+use its_runs::is_refused;
 use its_simulation::SimulationFault;
 use its_station::{Call, Station};
 use its_world::{CallOutcome, Config, Entry, EntryFault, Event, stations_of};
@@ -212,7 +212,7 @@ impl<'a, 't, S: Sockets, W: Write, E: Write, F: Write + Drop> Mesh<'a, 't, S, W,
         ensures moment { self.new.moment ≡ self.old.moment }
         ensures sockets { self.new.sockets.now ≡ self.old.sockets.now }
     {
-        self.refused |= !is_done(entry);
+        self.refused |= is_refused(entry);
         print_call(
             self.alloc,
             self.format,

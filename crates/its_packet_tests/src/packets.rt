@@ -10,7 +10,7 @@ mod wrong_fields;
 
 use its_gnvalue::NoRoom;
 use its_headers::{DecodeFault, FaultKind, Packet, PacketView, decode, encode_into};
-use its_vectors::put;
+use its_test_support::put;
 use std::alloc::Global;
 use std::process::Abort;
 

@@ -6,39 +6,39 @@ use Rattle.its_linkframe.specs.declared.record.CaptureFault.TheVariants as captu
 use Rattle.its_pcap.specs.declared.fault.SourceFault.{SourceFault}
 use Rattle.its_pcap.specs.declared.fault.SourceFault.TheVariants as faults
 use Rattle.its_pcap.specs.declared.interface.Interface.{Interface}
-use Rattle.its_pcap.specs.declared.octets.Order.{Order}
-use Rattle.its_pcap.specs.declared.options.Turn.{Turn}
+use Rattle.its_pcap.specs.declared.octets.Endianness.{Endianness}
+use Rattle.its_pcap.specs.declared.options.OptionStep.{OptionStep}
 use Rattle.its_pcap.specs.declared.options.OptionKind.{OptionKind}
 use Rattle.its_pcap.specs.Interfaces.{AreOptions, one_option, options, HasTicks, HasOffset, IsTurn}
 use Rattle.its_pcap.specs.Interfaces.{is_end}
-use Rattle.its_pcap.specs.Moments.{ahead_of, behind_of}
+use Rattle.its_pcap.specs.Moments.{added_of, taken_of}
 use Rattle.its_pcap.specs.Layouts.{Reads, IsFaultOf, gives_that}
 use Rattle.its_pcap.proofs.Layouts.{reads, reads-as, reads-joined, prefix-behind, gives-read}
 
 pub has-ticks : (i : Interface) (n : ℕ) (j : Interface) (b : Option (List ℕ)) → j.ticks ≡ n
-    → j.layer ≡ i.layer → j.snap ≡ i.snap → j.ahead ≡ i.ahead → j.behind ≡ i.behind
+    → j.layer ≡ i.layer → j.snap ≡ i.snap → j.offset_added ≡ i.offset_added → j.offset_taken ≡ i.offset_taken
     → Reads ((gives_that (HasTicks i n)).Is j) b b
-has-ticks i n j b ticks layer snap ahead behind = gives-read (HasTicks i n) j b (record {
+has-ticks i n j b ticks layer snap offset_added offset_taken = gives-read (HasTicks i n) j b (record {
   ticks = ticks;
   layer = layer;
   snap = snap;
-  ahead = ahead;
-  behind = behind;
+  offset_added = offset_added;
+  offset_taken = offset_taken;
 })
 
 pub has-offset : (i : Interface) (n : ℕ) (j : Interface) (b : Option (List ℕ))
-    → j.ahead ≡ ahead_of n → j.behind ≡ behind_of n → j.layer ≡ i.layer
+    → j.offset_added ≡ added_of n → j.offset_taken ≡ taken_of n → j.layer ≡ i.layer
     → j.snap ≡ i.snap → j.ticks ≡ i.ticks
     → Reads ((gives_that (HasOffset i n)).Is j) b b
-has-offset i n j b ahead behind layer snap ticks = gives-read (HasOffset i n) j b (record {
-  ahead = ahead;
-  behind = behind;
+has-offset i n j b offset_added offset_taken layer snap ticks = gives-read (HasOffset i n) j b (record {
+  offset_added = offset_added;
+  offset_taken = offset_taken;
   layer = layer;
   snap = snap;
   ticks = ticks;
 })
 
-pub is-turn : (room : ℕ) (head : OptionKind × ℕ) (i : Interface) (t : Turn)
+pub is-turn : (room : ℕ) (head : OptionKind × ℕ) (i : Interface) (t : OptionStep)
     (b : Option (List ℕ)) → t.left ≡ room - 4 - head.1 → t.interface ≡ i → t.is_end ≡ is_end head.0
     → Reads ((gives_that (IsTurn room head i)).Is t) b b
 is-turn room head i t b left interface end = gives-read (IsTurn room head i) t b (record {
@@ -47,12 +47,12 @@ is-turn room head i t b left interface end = gives-read (IsTurn room head i) t b
   end = end;
 })
 
-pub no-options : (o : Order) (room : ℕ) (i : Interface) (a : Option (List ℕ))
+pub no-options : (o : Endianness) (room : ℕ) (i : Interface) (a : Option (List ℕ))
     → Reads (AreOptions o room i 0 room i) a a
 no-options o room i a =
     reads (AreOptions o room i 0 room i) a a [] (refl, refl, refl) (Consumes-nil a)
 
-pub more-options : (o : Order) (room : ℕ) (i : Interface) (count l : ℕ) (k : Interface) (t : Turn)
+pub more-options : (o : Endianness) (room : ℕ) (i : Interface) (count l : ℕ) (k : Interface) (t : OptionStep)
     (a b c : Option (List ℕ)) → Reads (AreOptions o room i count l k) a b → 4 ≤ l
     → Reads ((one_option o l k).Is t) b c → t.is_end ≡ false
     → Reads (AreOptions o room i (suc count) t.left t.interface) a c
@@ -60,7 +60,7 @@ more-options o room i count l k t a b c before some read more =
     reads-as _ _ a c (λ w j. (l, k, t, some, j, more, refl, refl))
     (reads-joined (AreOptions o room i count l k) ((one_option o l k).Is t) a b c before read)
 
-pub last-option : (o : Order) (room : ℕ) (i : Interface) (count l : ℕ) (k : Interface) (t : Turn)
+pub last-option : (o : Endianness) (room : ℕ) (i : Interface) (count l : ℕ) (k : Interface) (t : OptionStep)
     (a b c : Option (List ℕ)) → Reads (AreOptions o room i count l k) a b → 4 ≤ l
     → Reads ((one_option o l k).Is t) b c → t.is_end ≡ true
     → Reads ((options o room i).Is (t.left, t.interface)) a c
@@ -80,7 +80,7 @@ last-option o room i count l k t a b c before some read end =
     ))
     (reads-joined (AreOptions o room i count l k) ((one_option o l k).Is t) a b c before read)
 
-pub no-more-options : (o : Order) (room : ℕ) (i : Interface) (count l : ℕ) (k : Interface)
+pub no-more-options : (o : Endianness) (room : ℕ) (i : Interface) (count l : ℕ) (k : Interface)
     (a b : Option (List ℕ)) → Reads (AreOptions o room i count l k) a b → l < 4
     → Reads ((options o room i).Is (l, k)) a b
 unfolding options
@@ -100,7 +100,7 @@ no-more-options o room i count l k a b before few =
     (reads-joined (AreOptions o room i count l k) (λ w. w ≡ []) a b b before
     (reads (λ w. w ≡ []) b b [] refl (Consumes-nil b)))
 
-pub option-fault : (o : Order) (room : ℕ) (i : Interface) (count l : ℕ) (k : Interface)
+pub option-fault : (o : Endianness) (room : ℕ) (i : Interface) (count l : ℕ) (k : Interface)
     (f : SourceFault) (a b c : Option (List ℕ)) → Reads (AreOptions o room i count l k) a b → 4 ≤ l
     → IsFaultOf (one_option o l k) b c f
     → IsFaultOf (options o room i) a c f

@@ -5,8 +5,8 @@ use Rattle.std.proofs.lemmas.List.{drop-append-le}
 use Rattle.std.proofs.Math.Seq.{drop-append-add}
 use Rattle.std.specs.Io.KnownBytes.{Consumes}
 use Rattle.byteorder.specs.Numbers.{big_from-append, little_from-append}
-use Rattle.its_pcap.specs.declared.octets.Order.{Order}
-use Rattle.its_pcap.specs.declared.octets.Order.TheVariants as orders
+use Rattle.its_pcap.specs.declared.octets.Endianness.{Endianness}
+use Rattle.its_pcap.specs.declared.octets.Endianness.TheVariants as orders
 use Rattle.its_pcap.specs.Octets.{number_in}
 use Rattle.its_pcap.specs.Reading.{EndsWhere}
 use Rattle.its_pcap.proofs.Cuts.{ConsumesPrefix-after}
@@ -34,20 +34,20 @@ pub EndsWhere-after : (P : List ℕ → Type 0) (a b c : Option (List ℕ)) (p :
 EndsWhere-after P a b c p n gone cut all =
     (IfSome-few P a b p n gone cut.0 all, ConsumesPrefix-after a b c p gone cut.1, cut.2)
 
-pub number_in-append : (o : Order) (n : ℕ) (p v : List ℕ) → n ≤ length p
+pub number_in-append : (o : Endianness) (n : ℕ) (p v : List ℕ) → n ≤ length p
     → number_in o n (p ++ v) ≡ number_in o n p
-number_in-append orders.High n p v le = big_from-append n p v le
-number_in-append orders.Low n p v le = little_from-append n p v le
+number_in-append orders.Big n p v le = big_from-append n p v le
+number_in-append orders.Little n p v le = little_from-append n p v le
 
 -- a number in the first part
-pub number_in-front : (o : Order) (n k : ℕ) (p v : List ℕ) → k + n ≤ length p
+pub number_in-front : (o : Endianness) (n k : ℕ) (p v : List ℕ) → k + n ≤ length p
     → number_in o n (drop k (p ++ v)) ≡ number_in o n (drop k p)
 number_in-front o n k p v le =
     ap (number_in o n) (drop-append-le k p v (omega arith))
     ∙ number_in-append o n (drop k p) v (omega (arith, le, length-drop k p))
 
 -- a number in the second part
-pub number_in-behind : (o : Order) (n k j : ℕ) (p v : List ℕ) → k ≡ length p + j
+pub number_in-behind : (o : Endianness) (n k j : ℕ) (p v : List ℕ) → k ≡ length p + j
     → number_in o n (drop k (p ++ v)) ≡ number_in o n (drop j v)
 number_in-behind o n k j p v is =
     ap (λ (t : ℕ). number_in o n (drop t (p ++ v))) is ∙ ap (number_in o n) (drop-append-add p v j)

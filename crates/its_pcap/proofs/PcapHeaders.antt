@@ -7,42 +7,42 @@ use Rattle.byteorder.specs.Numbers.{big_from-append}
 use Rattle.its_linkframe.specs.declared.record.CaptureFault.TheVariants as captures
 use Rattle.its_pcap.specs.declared.fault.SourceFault.{SourceFault}
 use Rattle.its_pcap.specs.declared.fault.SourceFault.TheVariants as faults
-use Rattle.its_pcap.specs.declared.pcap.Mark.{Mark}
+use Rattle.its_pcap.specs.declared.pcap.Magic.{Magic}
 use Rattle.its_pcap.specs.Octets.{number_in}
 use Rattle.its_pcap.specs.Reading.{IsCutShort}
-use Rattle.its_pcap.specs.Pcap.{mark_number, HasMark, HasVersion, link_type, EndsInHeader}
+use Rattle.its_pcap.specs.Pcap.{mark_number, HasMagic, HasVersion, link_type, EndsInHeader}
 use Rattle.its_pcap.specs.Pcap.{IsHeaderFault}
 use Rattle.its_pcap.proofs.Cuts.{ConsumesPrefix-after}
 use Rattle.its_pcap.proofs.Parts.{EndsWhere-after, number_in-front, number_in-behind}
 
-pub HasMark-more : (m : Mark) (p v : List ℕ) → HasMark m p → HasMark m (p ++ v)
-HasMark-more m p v is = (omega (arith, is.0, length-append p v), big_from-append 4 p v is.0 ∙ is.1)
+pub HasMagic-more : (m : Magic) (p v : List ℕ) → HasMagic m p → HasMagic m (p ++ v)
+HasMagic-more m p v is = (omega (arith, is.0, length-append p v), big_from-append 4 p v is.0 ∙ is.1)
 
--- the number behind the mark
-pub version-behind : (m : Mark) (p q v : List ℕ) → length p ≡ 4 → length q ≡ 2
+-- the number behind the magic
+pub version-behind : (m : Magic) (p q v : List ℕ) → length p ≡ 4 → length q ≡ 2
     → number_in m.order 2 (drop 4 ((p ++ q) ++ v)) ≡ number_in m.order 2 (drop 0 q)
 version-behind m p q v four two =
     number_in-front m.order 2 4 (p ++ q) v (omega (arith, four, two, length-append p q))
     ∙ number_in-behind m.order 2 4 0 p q (omega (arith, four))
 
-pub HasVersion-parts : (m : Mark) (p q v : List ℕ) → length p ≡ 4 → length q ≡ 2
+pub HasVersion-parts : (m : Magic) (p q v : List ℕ) → length p ≡ 4 → length q ≡ 2
     → big_number 4 p ≡ mark_number m → number_in m.order 2 (drop 0 q) ≡ 2
     → HasVersion m ((p ++ q) ++ v)
-HasVersion-parts m p q v four two mark version = (
-  HasMark-more m (p ++ q) v (HasMark-more m p q (omega (arith, four), mark)),
+HasVersion-parts m p q v four two magic version = (
+  HasMagic-more m (p ++ q) v (HasMagic-more m p q (omega (arith, four), magic)),
   omega (arith, four, two, length-append p q, length-append (p ++ q) v),
   version-behind m p q v four two ∙ version,
 )
 
 -- the same with a third part behind them
-pub HasVersion-longer : (m : Mark) (p q r v : List ℕ) → length p ≡ 4 → length q ≡ 2
+pub HasVersion-longer : (m : Magic) (p q r v : List ℕ) → length p ≡ 4 → length q ≡ 2
     → big_number 4 p ≡ mark_number m → number_in m.order 2 (drop 0 q) ≡ 2
     → HasVersion m (((p ++ q) ++ r) ++ v)
-HasVersion-longer m p q r v four two mark version =
+HasVersion-longer m p q r v four two magic version =
     subst (HasVersion m) (sym (append_assoc (p ++ q) r v))
-    (HasVersion-parts m p q (r ++ v) four two mark version)
+    (HasVersion-parts m p q (r ++ v) four two magic version)
 
-pub link_type-parts : (m : Mark) (p q r v : List ℕ) → length p ≡ 4 → length q ≡ 2 → length r ≡ 18
+pub link_type-parts : (m : Magic) (p q r v : List ℕ) → length p ≡ 4 → length q ≡ 2 → length r ≡ 18
     → link_type m (((p ++ q) ++ r) ++ v) ≡ number_in m.order 4 (drop 14 r) % 65536
 link_type-parts m p q r v four two more =
     let front : length (p ++ q) ≡ 6 = omega (arith, four, two, length-append p q) in

@@ -10,10 +10,10 @@ use Rattle.std.specs.Io.KnownBytes.{Consumes, IsAtEnd}
 use Rattle.its_linkframe.specs.declared.record.CaptureFault.TheVariants as captures
 use Rattle.its_pcap.specs.declared.fault.SourceFault.{SourceFault}
 use Rattle.its_pcap.specs.declared.fault.SourceFault.TheVariants as faults
-use Rattle.its_pcap.specs.declared.pcap.FileHead.{FileHead}
-use Rattle.its_pcap.specs.declared.pcap.Mark.{Mark}
+use Rattle.its_pcap.specs.declared.pcap.FileHeader.{FileHeader}
+use Rattle.its_pcap.specs.declared.pcap.Magic.{Magic}
 use Rattle.its_pcap.specs.declared.pcap.TheConstants.{LONGEST_CAPTURED}
-use Rattle.its_pcap.specs.declared.record.Head.{Head}
+use Rattle.its_pcap.specs.declared.record.RecordHeader.{RecordHeader}
 use Rattle.its_pcap.specs.Octets.{number_in}
 use Rattle.its_pcap.specs.Reading.{IsCutShort, IsFrameFault, EndsWhere}
 use Rattle.its_pcap.specs.Pcap.{captured_of, moment_of, AnnouncesRecord, EndsInRecord}
@@ -27,7 +27,7 @@ pub Consumes-filled : (a b : Option (List ℕ)) (n : ℕ) (buf : List ℕ) → l
 Consumes-filled a b n buf le gone = subst (Consumes a b) (take_all n buf le) gone
 
 -- fewer octets than a head came, and the end
-pub EndsInRecord-short : (m : Mark) (a b : Option (List ℕ)) (p : List ℕ) → 0 < length p
+pub EndsInRecord-short : (m : Magic) (a b : Option (List ℕ)) (p : List ℕ) → 0 < length p
     → length p < 12 → Consumes a b p → IsAtEnd b → EndsWhere (EndsInRecord m) a b
 EndsInRecord-short m None b p some few gone end = (tt, (p, gone), end)
 EndsInRecord-short m (Some u) None p some few gone end = absurd gone
@@ -38,17 +38,17 @@ EndsInRecord-short m (Some u) (Some v) p some few gone end =
       end,
     )
 
-pub captured_of-head : (m : Mark) (p v : List ℕ) → length p ≡ 12
+pub captured_of-head : (m : Magic) (p v : List ℕ) → length p ≡ 12
     → captured_of m (p ++ v) ≡ number_in m.order 4 (drop 8 p)
 captured_of-head m p v size = number_in-front m.order 4 8 p v (omega (arith, size))
 
-pub captured_of-parts : (m : Mark) (p q v : List ℕ) → length p ≡ 12
+pub captured_of-parts : (m : Magic) (p q v : List ℕ) → length p ≡ 12
     → captured_of m ((p ++ q) ++ v) ≡ number_in m.order 4 (drop 8 p)
 captured_of-parts m p q v size =
     ap (captured_of m) (append_assoc p q v) ∙ captured_of-head m p (q ++ v) size
 
 -- a cut in the later part of a record
-pub IsRecordFault-cut : (m : Mark) (a b c : Option (List ℕ)) (p : List ℕ) (n : ℕ) (f : SourceFault)
+pub IsRecordFault-cut : (m : Magic) (a b c : Option (List ℕ)) (p : List ℕ) (n : ℕ) (f : SourceFault)
     → Consumes a b p → ((v : List ℕ) → length v < n → EndsInRecord m (p ++ v))
     → IsCutShort n b c f
     → IsRecordFault m a c f
@@ -64,7 +64,7 @@ IsRecordFault-cut m a b c p n (faults.Capture captures.NoMemory) gone all cut = 
 IsRecordFault-cut m a b c p n (faults.Capture captures.Failed) gone all cut = absurd cut
 
 -- a fault in its frame
-pub IsRecordFault-frame : (m : Mark) (a b c : Option (List ℕ)) (p : List ℕ) (n : ℕ)
+pub IsRecordFault-frame : (m : Magic) (a b c : Option (List ℕ)) (p : List ℕ) (n : ℕ)
     (f : SourceFault) → Consumes a b p → length p ≡ 16
     → ((v : List ℕ) → AnnouncesRecord m (p ++ v))
     → ((v : List ℕ) → length v < n → EndsInRecord m (p ++ v))
@@ -90,7 +90,7 @@ IsRecordFault-frame m a b c p n (faults.Capture captures.NoMemory) gone size is 
     )
 IsRecordFault-frame m a b c p n (faults.Capture captures.Failed) gone size is all cut = absurd cut
 
-pub AnnouncesRecord-parts : (m : Mark) (p q v : List ℕ) (n : ℕ) → length p ≡ 12
+pub AnnouncesRecord-parts : (m : Magic) (p q v : List ℕ) (n : ℕ) → length p ≡ 12
     → n ≡ number_in m.order 4 (drop 8 p) → n ≤ LONGEST_CAPTURED
     → AnnouncesRecord m ((p ++ q) ++ v)
 AnnouncesRecord-parts m p q v n size is fits = (
@@ -98,7 +98,7 @@ AnnouncesRecord-parts m p q v n size is fits = (
   omega (arith, is, fits, captured_of-parts m p q v size),
 )
 
-pub EndsInRecord-parts : (m : Mark) (p q v : List ℕ) (n : ℕ) → length p ≡ 12 → length q ≡ 4
+pub EndsInRecord-parts : (m : Magic) (p q v : List ℕ) (n : ℕ) → length p ≡ 12 → length q ≡ 4
     → n ≡ number_in m.order 4 (drop 8 p) → n ≤ LONGEST_CAPTURED → length v < n
     → EndsInRecord m ((p ++ q) ++ v)
 EndsInRecord-parts m p q v n twelve four is fits few =
@@ -111,7 +111,7 @@ EndsInRecord-parts m p q v n twelve four is fits few =
       ),
     )
 
-pub EndsInRecord-head : (m : Mark) (p v : List ℕ) (n : ℕ) → length p ≡ 12
+pub EndsInRecord-head : (m : Magic) (p v : List ℕ) (n : ℕ) → length p ≡ 12
     → n ≡ number_in m.order 4 (drop 8 p) → n ≤ LONGEST_CAPTURED → length v < 4
     → EndsInRecord m (p ++ v)
 EndsInRecord-head m p v n twelve is fits few = (
@@ -126,11 +126,11 @@ EndsInRecord-head m p v n twelve is fits few = (
 )
 
 -- what is told of a record that was read
-pub HasRecord-parts : (f : FileHead) (keep : ℕ) (h : Head) (frame p q r v : List ℕ) → length p ≡ 12
-    → length q ≡ 4 → length r ≡ h.captured → h.captured ≡ number_in f.mark.order 4 (drop 8 p)
+pub HasRecord-parts : (f : FileHeader) (keep : ℕ) (h : RecordHeader) (frame p q r v : List ℕ) → length p ≡ 12
+    → length q ≡ 4 → length r ≡ h.captured → h.captured ≡ number_in f.magic.order 4 (drop 8 p)
     → h.captured ≤ LONGEST_CAPTURED
-    → h.moment ≡ moment_of f.mark.unit (number_in f.mark.order 4 (drop 0 p)) (number_in f.mark.order 4 (drop 4 p))
-    → h.wire ≡ number_in f.mark.order 4 (drop 0 q) → h.layer ≡ Some f.layer
+    → h.moment ≡ moment_of f.magic.unit (number_in f.magic.order 4 (drop 0 p)) (number_in f.magic.order 4 (drop 4 p))
+    → h.wire ≡ number_in f.magic.order 4 (drop 0 q) → h.layer ≡ Some f.layer
     → frame ≡ take (min h.captured keep) r
     → HasRecord f keep h frame (((p ++ q) ++ r) ++ v)
 HasRecord-parts f keep h frame p q r v twelve four size captured fits moment wire layer kept =
@@ -139,22 +139,22 @@ HasRecord-parts f keep h frame p q r v twelve four size captured fits moment wir
     let sixteen : length (p ++ q) ≡ 16 = omega (arith, twelve, four, length-append p q) in
     let long : length w ≡ 16 + length r + length v =
     omega (arith, sixteen, length-append (p ++ q) (r ++ v), length-append r v) in
-    let at : (k : ℕ) → k + 4 ≤ 12 → number_in f.mark.order 4 (drop k w)
-    ≡ number_in f.mark.order 4 (drop k p) = λ k le.
-    number_in-front f.mark.order 4 k (p ++ q) (r ++ v) (omega (arith, le, sixteen))
-    ∙ number_in-front f.mark.order 4 k p q (omega (arith, le, twelve)) in
-    let last : number_in f.mark.order 4 (drop 12 w) ≡ number_in f.mark.order 4 (drop 0 q) =
-    number_in-front f.mark.order 4 12 (p ++ q) (r ++ v) (omega (arith, sixteen))
-    ∙ number_in-behind f.mark.order 4 12 0 p q (omega (arith, twelve)) in
+    let at : (k : ℕ) → k + 4 ≤ 12 → number_in f.magic.order 4 (drop k w)
+    ≡ number_in f.magic.order 4 (drop k p) = λ k le.
+    number_in-front f.magic.order 4 k (p ++ q) (r ++ v) (omega (arith, le, sixteen))
+    ∙ number_in-front f.magic.order 4 k p q (omega (arith, le, twelve)) in
+    let last : number_in f.magic.order 4 (drop 12 w) ≡ number_in f.magic.order 4 (drop 0 q) =
+    number_in-front f.magic.order 4 12 (p ++ q) (r ++ v) (omega (arith, sixteen))
+    ∙ number_in-behind f.magic.order 4 12 0 p q (omega (arith, twelve)) in
     let tail : drop 16 w ≡ r ++ v =
     ap (λ (n : ℕ). drop n w) (sym sixteen) ∙ drop-append_seam (p ++ q) (r ++ v) in
     let has : HasRecord f keep h frame w = record {
-      announces = AnnouncesRecord-parts f.mark p q (r ++ v) h.captured twelve captured fits;
+      announces = AnnouncesRecord-parts f.magic p q (r ++ v) h.captured twelve captured fits;
       head = record {
         moment = moment
-            ∙ ap (λ (n : ℕ). moment_of f.mark.unit n (number_in f.mark.order 4 (drop 4 p)))
+            ∙ ap (λ (n : ℕ). moment_of f.magic.unit n (number_in f.magic.order 4 (drop 4 p)))
             (sym (at 0 (omega arith)))
-            ∙ ap (moment_of f.mark.unit (number_in f.mark.order 4 w)) (sym (at 4 (omega arith)));
+            ∙ ap (moment_of f.magic.unit (number_in f.magic.order 4 w)) (sym (at 4 (omega arith)));
         captured = captured ∙ sym (at 8 (omega arith));
         wire = wire ∙ sym last;
         layer = layer;

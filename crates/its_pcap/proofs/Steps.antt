@@ -11,13 +11,13 @@ use Rattle.its_pcap.specs.declared.blocks.Block.{Block}
 use Rattle.its_pcap.specs.declared.blocks.Block.TheVariants as blocks
 use Rattle.its_pcap.specs.declared.fault.SourceFault.{SourceFault}
 use Rattle.its_pcap.specs.declared.fault.SourceFault.TheVariants as faults
-use Rattle.its_pcap.specs.declared.octets.Order.{Order}
+use Rattle.its_pcap.specs.declared.octets.Endianness.{Endianness}
 use Rattle.its_pcap.specs.declared.pcapng.Stage.{Stage}
 use Rattle.its_pcap.specs.declared.pcapng.Stage.TheVariants as stages
 use Rattle.its_pcap.specs.declared.record.Step.{Step}
 
 -- a block was read and taken
-pub taken : (o : Option Order) (was now : PcapngReading) (frame : List ℕ) (b : Block)
+pub taken : (o : Option Endianness) (was now : PcapngReading) (frame : List ℕ) (b : Block)
     (answer : Result Step SourceFault)
     → Reads ((next_block o was.interfaces was.keep frame).Is b) was.rest now.rest
     → IsTaken b was.stage now.stage was.interfaces now.interfaces answer
@@ -37,20 +37,20 @@ taken o was now frame blocks.Other answer reads t =
     (record { block = blocks.Other; reads = reads; taken = (refl, t.1, t.2) })
 
 -- what is next is the answer where blocks are read
-pub at_stage : (stage : Stage) (o : Option Order) (was now : PcapngReading) (frame : List ℕ)
+pub at_stage : (stage : Stage) (o : Option Endianness) (was now : PcapngReading) (frame : List ℕ)
     (answer : Result Step SourceFault)
     → ((stage ≡ stages.Start) × (o ≡ None))
-    ⊎ ((order : Order) × (stage ≡ stages.Blocks order) × (o ≡ Some order))
+    ⊎ ((order : Endianness) × (stage ≡ stages.Blocks order) × (o ≡ Some order))
     → IsNext o was now frame answer → IsAnswerAt stage was now frame answer
 at_stage stage o was now frame answer (inl p) next =
     subst (λ (s : Stage). IsAnswerAt s was now frame answer) (sym p.0)
-    (subst (λ (x : Option Order). IsNext x was now frame answer) p.1 next)
+    (subst (λ (x : Option Endianness). IsNext x was now frame answer) p.1 next)
 at_stage stage o was now frame answer (inr p) next =
     subst (λ (s : Stage). IsAnswerAt s was now frame answer) (sym p.1)
-    (subst (λ (x : Option Order). IsNext x was now frame answer) p.2 next)
+    (subst (λ (x : Option Endianness). IsNext x was now frame answer) p.2 next)
 
 -- where memory was wanting for what was read, that is an interface
-pub taken_memory : (o : Option Order) (was now : PcapngReading) (frame : List ℕ) (b : Block)
+pub taken_memory : (o : Option Endianness) (was now : PcapngReading) (frame : List ℕ) (b : Block)
     (answer : Result Step SourceFault)
     → Reads ((next_block o was.interfaces was.keep frame).Is b) was.rest now.rest
     → IsTaken b was.stage now.stage was.interfaces now.interfaces answer
@@ -62,13 +62,13 @@ taken_memory o was now frame (blocks.Record h) answer reads t e = absurd (true�
 taken_memory o was now frame blocks.Other answer reads t e = absurd (true≢false (sym (ap is_ok t.0) ∙ ap is_ok e))
 
 -- such an interface, by the stage
-pub interface_at : (stage : Stage) (o : Option Order) (was now : PcapngReading)
+pub interface_at : (stage : Stage) (o : Option Endianness) (was now : PcapngReading)
     → ((stage ≡ stages.Start) × (o ≡ None))
-    ⊎ ((order : Order) × (stage ≡ stages.Blocks order) × (o ≡ Some order))
+    ⊎ ((order : Endianness) × (stage ≡ stages.Blocks order) × (o ≡ Some order))
     → ReadsInterface o was now → ReadsInterfaceAt stage was now
 interface_at stage o was now (inl p) reads =
     subst (λ (s : Stage). ReadsInterfaceAt s was now) (sym p.0)
-    (subst (λ (x : Option Order). ReadsInterface x was now) p.1 reads)
+    (subst (λ (x : Option Endianness). ReadsInterface x was now) p.1 reads)
 interface_at stage o was now (inr p) reads =
     subst (λ (s : Stage). ReadsInterfaceAt s was now) (sym p.1)
-    (subst (λ (x : Option Order). ReadsInterface x was now) p.2 reads)
+    (subst (λ (x : Option Endianness). ReadsInterface x was now) p.2 reads)

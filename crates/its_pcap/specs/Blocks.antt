@@ -10,8 +10,8 @@ use Rattle.its_pcap.specs.declared.blocks.Kind.{Kind}
 use Rattle.its_pcap.specs.declared.blocks.Kind.TheVariants as kinds
 use Rattle.its_pcap.specs.declared.field.TheConstants.{LONGEST_BLOCK}
 use Rattle.its_pcap.specs.declared.interface.Interface.{Interface}
-use Rattle.its_pcap.specs.declared.octets.Order.{Order}
-use Rattle.its_pcap.specs.declared.octets.Order.TheVariants as orders
+use Rattle.its_pcap.specs.declared.octets.Endianness.{Endianness}
+use Rattle.its_pcap.specs.declared.octets.Endianness.TheVariants as orders
 use Rattle.its_pcap.specs.declared.pcap.TheConstants.{LONGEST_CAPTURED}
 use Rattle.its_pcap.specs.Layouts.{Layout, behind, field, frame, gives, number, number_that, octets}
 use Rattle.its_pcap.specs.Interfaces.{plain, options}
@@ -22,30 +22,30 @@ use Rattle.its_pcap.specs.Octets.{number_in}
 abbrev pub IsBlockLength : ℕ → ℕ → Type 0
 IsBlockLength least n = (n % 4 ≡ 0) × (n ≤ LONGEST_BLOCK) × (least ≤ n)
 
-abbrev pub block_length : Order → ℕ → Layout ℕ
+abbrev pub block_length : Endianness → ℕ → Layout ℕ
 block_length o least = number_that o 4 (IsBlockLength least)
 
 -- the length of a block of n octets at its end
-abbrev pub last_length : Order → ℕ → Layout (Unit {0})
+abbrev pub last_length : Endianness → ℕ → Layout (Unit {0})
 last_length o n = field 4 (λ _ w. number_in o 4 w ≡ n) (λ w. number_in o 4 w ≢ n)
 
 -- what is left of a block of n octets before its end, and the length at its end
-unfoldable pub closing : Order → ℕ → ℕ → Layout (Unit {0})
+unfoldable pub closing : Endianness → ℕ → ℕ → Layout (Unit {0})
 closing o rest n =
     behind (octets rest) (λ _. last_length o n)
 
 -- ---- a section header, behind its type
 
 -- the magic 1a2b3c4d, in either order of octets
-abbrev pub magic_of : Order → ℕ
-magic_of orders.High = 439041101
-magic_of orders.Low = 1295788826
+abbrev pub magic_of : Endianness → ℕ
+magic_of orders.Big = 439041101
+magic_of orders.Little = 1295788826
 
-abbrev pub HasMagic : Order → List ℕ → Type 0
+abbrev pub HasMagic : Endianness → List ℕ → Type 0
 HasMagic o w = big_number 4 (drop 4 w) ≡ magic_of o
 
 -- the length, and the magic, which says its order
-pub record IsSectionHead (head : Order × ℕ) (w : List ℕ) : Type 0 where
+pub record IsSectionHead (head : Endianness × ℕ) (w : List ℕ) : Type 0 where
   pub magic : HasMagic head.0 w
   pub length : head.1 ≡ number_in head.0 4 w
   pub fits : IsBlockLength 28 head.1
@@ -53,10 +53,10 @@ pub record IsSectionHead (head : Order × ℕ) (w : List ℕ) : Type 0 where
 -- the magic is checked before the length
 abbrev pub IsWrongSection : List ℕ → Type 0
 IsWrongSection w =
-    ((o : Order) → ¬ HasMagic o w)
-    ⊎ ((o : Order) × HasMagic o w × ¬ IsBlockLength 28 (number_in o 4 w))
+    ((o : Endianness) → ¬ HasMagic o w)
+    ⊎ ((o : Endianness) × HasMagic o w × ¬ IsBlockLength 28 (number_in o 4 w))
 
-abbrev pub section_head : Layout (Order × ℕ)
+abbrev pub section_head : Layout (Endianness × ℕ)
 section_head = field 8 IsSectionHead IsWrongSection
 
 -- behind the magic a major version of 1; minor version, section length and options aren't read
@@ -68,7 +68,7 @@ section =
 
 -- ---- an interface, behind its type
 
-unfoldable pub interface : Order → Layout Block
+unfoldable pub interface : Endianness → Layout Block
 interface o =
     behind (block_length o 20)
     (λ n. behind (plain o)
@@ -78,25 +78,25 @@ interface o =
 -- ---- packets, behind their type, of the interfaces of their section
 
 -- an interface by its number, from 0
-abbrev pub named : Order → List Interface → Layout Interface
+abbrev pub named : Endianness → List Interface → Layout Interface
 named o is =
     field 4 (λ i w. slice_get is (number_in o 4 w) ≡ Some i)
     (λ w. slice_get is (number_in o 4 w) ≡ None)
 
 -- a timestamp: the upper 32 bits, and the lower
-abbrev pub timestamp_in : Order → List ℕ → ℕ
+abbrev pub timestamp_in : Endianness → List ℕ → ℕ
 timestamp_in o w = number_in o 4 w * 2 ^ 32 + number_in o 4 (drop 4 w)
 
-abbrev pub moment : Order → Interface → Layout ℕ
+abbrev pub moment : Endianness → Interface → Layout ℕ
 moment o i =
-    field 8 (λ m w. IsMoment i.ticks i.ahead i.behind (timestamp_in o w) m)
-    (λ w. IsNoMoment i.ticks i.ahead i.behind (timestamp_in o w))
+    field 8 (λ m w. IsMoment i.ticks i.offset_added i.offset_taken (timestamp_in o w) m)
+    (λ w. IsNoMoment i.ticks i.offset_added i.offset_taken (timestamp_in o w))
 
 -- a captured length that a record may have, and for which the block has room
 abbrev pub FitsRecord : ℕ → ℕ → Type 0
 FitsRecord room c = (c ≤ LONGEST_CAPTURED) × (c ≤ room)
 
-unfoldable pub packet : Order → List Interface → ℕ → List ℕ → Layout Block
+unfoldable pub packet : Endianness → List Interface → ℕ → List ℕ → Layout Block
 packet o is keep kept =
     behind (block_length o 32)
     (λ n. behind (named o is)
@@ -121,19 +121,19 @@ abbrev pub simple_length : ℕ → ℕ → ℕ
 simple_length snap wire = if snap == 0 then wire else min wire snap
 
 -- the length on the wire, and how many octets there are of it
-pub record IsSimpleLength (o : Order) (i : Interface) (room : ℕ) (lengths : ℕ × ℕ) (w : List ℕ)
+pub record IsSimpleLength (o : Endianness) (i : Interface) (room : ℕ) (lengths : ℕ × ℕ) (w : List ℕ)
     : Type 0 where
   pub wire : lengths.0 ≡ number_in o 4 w
   pub captured : lengths.1 ≡ simple_length i.snap lengths.0
   pub fits : FitsRecord room lengths.1
 
-abbrev pub simple_lengths : Order → Interface → ℕ → Layout (ℕ × ℕ)
+abbrev pub simple_lengths : Endianness → Interface → ℕ → Layout (ℕ × ℕ)
 simple_lengths o i room =
     field 4 (IsSimpleLength o i room)
     (λ w. ¬ FitsRecord room (simple_length i.snap (number_in o 4 w)))
 
 -- a simple packet: a record of the first interface, at moment 0
-unfoldable pub simple : Order → List Interface → ℕ → List ℕ → Layout Block
+unfoldable pub simple : Endianness → List Interface → ℕ → List ℕ → Layout Block
 simple o is keep kept =
     behind (block_length o 16)
     (λ n. behind (first is)
@@ -149,7 +149,7 @@ simple o is keep kept =
 
 -- ---- a block of another kind, behind its type: it is passed over
 
-unfoldable pub other : Order → Layout Block
+unfoldable pub other : Endianness → Layout Block
 other o =
     behind (block_length o 12) (λ n. behind (closing o (n - 12) n) (λ _. gives blocks.Other))
 
@@ -164,7 +164,7 @@ kind_of_block number =
     else kinds.Other
 
 -- a block of this type, in a section of this order with these interfaces
-abbrev pub block_of : Order → List Interface → ℕ → List ℕ → Kind → Layout Block
+abbrev pub block_of : Endianness → List Interface → ℕ → List ℕ → Kind → Layout Block
 block_of o is keep kept kinds.Section = section
 block_of o is keep kept kinds.Interface = interface o
 block_of o is keep kept kinds.Simple = simple o is keep kept

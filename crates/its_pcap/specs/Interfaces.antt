@@ -2,27 +2,27 @@
 use Rattle.std.specs.Prelude.{◌≡◌, ℕ, ◌+◌, ◌-◌, ◌%◌, ◌<◌, ◌≤◌, ◌⊎◌, ◌==◌, ◌&&◌, zero, suc}
 use Rattle.std.specs.Prelude.{Bool, true, false, List, [], drop, if◌then◌else◌}
 use Rattle.its_pcap.specs.declared.interface.Interface.{Interface}
-use Rattle.its_pcap.specs.declared.octets.Order.{Order}
-use Rattle.its_pcap.specs.declared.octets.Order.TheVariants as orders
+use Rattle.its_pcap.specs.declared.octets.Endianness.{Endianness}
+use Rattle.its_pcap.specs.declared.octets.Endianness.TheVariants as orders
 use Rattle.its_pcap.specs.declared.options.OptionKind.{OptionKind}
 use Rattle.its_pcap.specs.declared.options.OptionKind.TheVariants as kinds
-use Rattle.its_pcap.specs.declared.options.Turn.{Turn}
+use Rattle.its_pcap.specs.declared.options.OptionStep.{OptionStep}
 use Rattle.its_pcap.specs.Layouts.{Layout, Joined, behind, field, gives, gives_that, number}
 use Rattle.its_pcap.specs.Layouts.{number_that, octets}
 use Rattle.its_pcap.specs.LinkLayers.{layer_of}
-use Rattle.its_pcap.specs.Moments.{IsTooFine, ticks_of, ahead_of, behind_of}
+use Rattle.its_pcap.specs.Moments.{IsTooFine, ticks_of, added_of, taken_of}
 use Rattle.its_pcap.specs.Octets.{number_in}
 
 -- what the 8 octets before the options say: link type, two octets that are not read, snap length;
 -- without options a tick is a millionth of a second, and nothing is added to a moment
-pub record IsPlain (o : Order) (i : Interface) (w : List ℕ) : Type 0 where
+pub record IsPlain (o : Endianness) (i : Interface) (w : List ℕ) : Type 0 where
   pub layer : i.layer ≡ layer_of (number_in o 2 w)
   pub snap : i.snap ≡ number_in o 4 (drop 4 w)
   pub ticks : i.ticks ≡ 1000000
-  pub ahead : i.ahead ≡ 0
-  pub behind : i.behind ≡ 0
+  pub offset_added : i.offset_added ≡ 0
+  pub offset_taken : i.offset_taken ≡ 0
 
-abbrev pub plain : Order → Layout Interface
+abbrev pub plain : Endianness → Layout Interface
 plain o = field 8 (IsPlain o) (λ _. ⊥)
 
 -- the same interface, with these ticks of a second
@@ -30,13 +30,13 @@ pub record HasTicks (i : Interface) (n : ℕ) (j : Interface) : Type 0 where
   pub ticks : j.ticks ≡ n
   pub layer : j.layer ≡ i.layer
   pub snap : j.snap ≡ i.snap
-  pub ahead : j.ahead ≡ i.ahead
-  pub behind : j.behind ≡ i.behind
+  pub offset_added : j.offset_added ≡ i.offset_added
+  pub offset_taken : j.offset_taken ≡ i.offset_taken
 
 -- the same interface, with these seconds, signed, added to each moment
 pub record HasOffset (i : Interface) (offset : ℕ) (j : Interface) : Type 0 where
-  pub ahead : j.ahead ≡ ahead_of offset
-  pub behind : j.behind ≡ behind_of offset
+  pub offset_added : j.offset_added ≡ added_of offset
+  pub offset_taken : j.offset_taken ≡ taken_of offset
   pub layer : j.layer ≡ i.layer
   pub snap : j.snap ≡ i.snap
   pub ticks : j.ticks ≡ i.ticks
@@ -55,30 +55,30 @@ kind_of_option code size =
 abbrev pub option_room : ℕ → ℕ → ℕ
 option_room code size = if code == 0 then 0 else size + (4 - size % 4) % 4
 
-abbrev pub code_in : Order → List ℕ → ℕ
+abbrev pub code_in : Endianness → List ℕ → ℕ
 code_in o w = number_in o 2 w
 
-abbrev pub size_in : Order → List ℕ → ℕ
+abbrev pub size_in : Endianness → List ℕ → ℕ
 size_in o w = number_in o 2 (drop 2 w)
 
 -- What the head of an option says: what it is, and the room of its value, where so many octets are
 -- left.
-pub record IsOptionHead (o : Order) (left : ℕ) (head : OptionKind × ℕ) (w : List ℕ) : Type 0 where
+pub record IsOptionHead (o : Endianness) (left : ℕ) (head : OptionKind × ℕ) (w : List ℕ) : Type 0 where
   pub kind : head.0 ≡ kind_of_option (code_in o w) (size_in o w)
   pub room : head.1 ≡ option_room (code_in o w) (size_in o w)
   pub fits : head.1 ≤ left
 
-abbrev pub option_head : Order → ℕ → Layout (OptionKind × ℕ)
+abbrev pub option_head : Endianness → ℕ → Layout (OptionKind × ℕ)
 option_head o left =
     field 4 (IsOptionHead o left) (λ w. left < option_room (code_in o w) (size_in o w))
 
 -- ticks that are not too fine, and padding
 unfoldable pub resolution : Interface → Layout Interface
 resolution i =
-    behind (number_that orders.High 1 (λ r. ¬ IsTooFine r))
+    behind (number_that orders.Big 1 (λ r. ¬ IsTooFine r))
     (λ r. behind (octets 3) (λ _. gives_that (HasTicks i (ticks_of r))))
 
-unfoldable pub offset : Order → Interface → Layout Interface
+unfoldable pub offset : Endianness → Interface → Layout Interface
 offset o i = behind (number o 8) (λ s. gives_that (HasOffset i s))
 
 -- a value that is passed over
@@ -86,7 +86,7 @@ unfoldable pub passed : ℕ → Interface → Layout Interface
 passed room i = behind (octets room) (λ _. gives i)
 
 -- the value of an option
-abbrev pub option_value : Order → Interface → OptionKind → ℕ → Layout Interface
+abbrev pub option_value : Endianness → Interface → OptionKind → ℕ → Layout Interface
 option_value o i kinds.End room = gives i
 option_value o i kinds.Resolution room = resolution i
 option_value o i kinds.Offset room = offset o i
@@ -99,12 +99,12 @@ is_end kinds.Offset = false
 is_end kinds.Other = false
 
 -- what is known behind an option
-pub record IsTurn (room : ℕ) (head : OptionKind × ℕ) (i : Interface) (t : Turn) : Type 0 where
+pub record IsTurn (room : ℕ) (head : OptionKind × ℕ) (i : Interface) (t : OptionStep) : Type 0 where
   pub left : t.left ≡ room - 4 - head.1
   pub interface : t.interface ≡ i
   pub end : t.is_end ≡ is_end head.0
 
-unfoldable pub one_option : Order → ℕ → Interface → Layout Turn
+unfoldable pub one_option : Endianness → ℕ → Interface → Layout OptionStep
 one_option o left i =
     behind (option_head o (left - 4))
     (λ head. behind (option_value o i head.0 head.1) (λ j. gives_that (IsTurn left head j)))
@@ -113,28 +113,28 @@ one_option o left i =
 
 -- So many options, none of them the end, in so many octets: how many are left then, and what the
 -- options say. Of one given twice the last counts.
-abbrev pub AreOptions : Order → ℕ → Interface → ℕ → ℕ → Interface → List ℕ → Type 0
+abbrev pub AreOptions : Endianness → ℕ → Interface → ℕ → ℕ → Interface → List ℕ → Type 0
 AreOptions o room i zero left j w = (w ≡ []) × (left ≡ room) × (j ≡ i)
 AreOptions o room i (suc count) left j w =
-    (l : ℕ) × (k : Interface) × (t : Turn) × (4 ≤ l)
+    (l : ℕ) × (k : Interface) × (t : OptionStep) × (4 ≤ l)
     × Joined (AreOptions o room i count l k) ((one_option o l k).Is t) w
     × (t.is_end ≡ false) × (left ≡ t.left) × (j ≡ t.interface)
 
 -- behind the last option: no room for a further one, or the end of options
-abbrev pub IsLast : Order → ℕ → Interface → ℕ → Interface → List ℕ → Type 0
+abbrev pub IsLast : Endianness → ℕ → Interface → ℕ → Interface → List ℕ → Type 0
 IsLast o l k left j w =
     ((w ≡ []) × (l < 4) × (left ≡ l) × (j ≡ k))
-    ⊎ ((4 ≤ l) × (t : Turn) × (one_option o l k).Is t w × (t.is_end ≡ true) × (left ≡ t.left)
+    ⊎ ((4 ≤ l) × (t : OptionStep) × (one_option o l k).Is t w × (t.is_end ≡ true) × (left ≡ t.left)
     × (j ≡ t.interface))
 
 -- some options, and behind them an option of which this holds
-abbrev pub BehindOptions : Order → ℕ → Interface → (Layout Turn → List ℕ → Type 0) → List ℕ
+abbrev pub BehindOptions : Endianness → ℕ → Interface → (Layout OptionStep → List ℕ → Type 0) → List ℕ
     → Type 0
 BehindOptions o room i P w =
     (count l : ℕ) × (k : Interface) × (4 ≤ l)
     × Joined (AreOptions o room i count l k) (P (one_option o l k)) w
 
-unfoldable pub options : Order → ℕ → Interface → Layout (ℕ × Interface)
+unfoldable pub options : Endianness → ℕ → Interface → Layout (ℕ × Interface)
 options o room i = record {
   Is = λ x w. (count l : ℕ) × (k : Interface)
       × Joined (AreOptions o room i count l k) (IsLast o l k x.0 x.1) w;

@@ -7,7 +7,7 @@ use Rattle.its_linkframe.specs.declared.record.CaptureFault.TheVariants as captu
 use Rattle.its_linkframe.specs.Devices.{ConsumesPrefix}
 use Rattle.its_pcap.specs.declared.fault.SourceFault.{SourceFault}
 use Rattle.its_pcap.specs.declared.fault.SourceFault.TheVariants as faults
-use Rattle.its_pcap.specs.declared.octets.Order.{Order}
+use Rattle.its_pcap.specs.declared.octets.Endianness.{Endianness}
 use Rattle.its_pcap.specs.Octets.{number_in}
 use Rattle.its_pcap.specs.Reading.{MeetsEnd}
 
@@ -62,12 +62,12 @@ field size Says IsWrong = record {
 }
 
 -- a number of which this holds
-abbrev pub number_that : Order → ℕ → (ℕ → Type 0) → Layout ℕ
+abbrev pub number_that : Endianness → ℕ → (ℕ → Type 0) → Layout ℕ
 number_that o size Holds =
     field size (λ x w. (number_in o size w ≡ x) × Holds x) (λ w. ¬ Holds (number_in o size w))
 
 -- any number
-abbrev pub number : Order → ℕ → Layout ℕ
+abbrev pub number : Endianness → ℕ → Layout ℕ
 number o size = number_that o size (λ _. Unit {0})
 
 -- so many octets of any kind

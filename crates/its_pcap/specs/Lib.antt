@@ -1,4 +1,4 @@
-pub mod Begun
+pub mod Peeked
 pub mod Blocks
 pub mod Codes
 pub mod Ethernet

@@ -12,23 +12,23 @@ abbrev pub IsTooFine : ℕ → Type 0
 IsTooFine resolution = ((19 < resolution) × (resolution < 128)) ⊎ (191 < resolution)
 
 -- signed seconds of 64 bits: those that are added, and those that are taken
-abbrev pub ahead_of : ℕ → ℕ
-ahead_of offset = if nat_lt offset (2 ^ 63) then offset else 0
+abbrev pub added_of : ℕ → ℕ
+added_of offset = if nat_lt offset (2 ^ 63) then offset else 0
 
-abbrev pub behind_of : ℕ → ℕ
-behind_of offset = if nat_lt offset (2 ^ 63) then 0 else 2 ^ 64 - offset
+abbrev pub taken_of : ℕ → ℕ
+taken_of offset = if nat_lt offset (2 ^ 63) then 0 else 2 ^ 64 - offset
 
 -- milliseconds before seconds are taken: a fraction of a millisecond is cut down
 abbrev pub milliseconds : ℕ → ℕ → ℕ → ℕ
-milliseconds ticks ahead timestamp = timestamp * 1000 / ticks + 1000 * ahead
+milliseconds ticks offset_added timestamp = timestamp * 1000 / ticks + 1000 * offset_added
 
 -- the moment, with the seconds that were taken, is those milliseconds
 abbrev pub IsMoment : ℕ → ℕ → ℕ → ℕ → ℕ → Type 0
-IsMoment ticks ahead behind timestamp moment =
-    moment + 1000 * behind ≡ milliseconds ticks ahead timestamp
+IsMoment ticks offset_added offset_taken timestamp moment =
+    moment + 1000 * offset_taken ≡ milliseconds ticks offset_added timestamp
 
 -- it would be below 0, or has no place in 64 bits
 abbrev pub IsNoMoment : ℕ → ℕ → ℕ → ℕ → Type 0
-IsNoMoment ticks ahead behind timestamp =
-    (milliseconds ticks ahead timestamp < 1000 * behind)
-    ⊎ (2 ^ 64 + 1000 * behind ≤ milliseconds ticks ahead timestamp)
+IsNoMoment ticks offset_added offset_taken timestamp =
+    (milliseconds ticks offset_added timestamp < 1000 * offset_taken)
+    ⊎ (2 ^ 64 + 1000 * offset_taken ≤ milliseconds ticks offset_added timestamp)

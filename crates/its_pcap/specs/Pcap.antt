@@ -11,16 +11,16 @@ use Rattle.its_linkframe.specs.Devices.{ConsumesPrefix}
 use Rattle.its_pcap.specs.declared.fault.SourceFault.{SourceFault}
 use Rattle.its_pcap.specs.declared.fault.SourceFault.TheVariants as faults
 use Rattle.its_pcap.specs.declared.link.LinkLayer.{LinkLayer}
-use Rattle.its_pcap.specs.declared.octets.Order.{Order}
-use Rattle.its_pcap.specs.declared.octets.Order.TheVariants as orders
-use Rattle.its_pcap.specs.declared.pcap.FileHead.{FileHead}
-use Rattle.its_pcap.specs.declared.pcap.Mark.{Mark}
+use Rattle.its_pcap.specs.declared.octets.Endianness.{Endianness}
+use Rattle.its_pcap.specs.declared.octets.Endianness.TheVariants as orders
+use Rattle.its_pcap.specs.declared.pcap.FileHeader.{FileHeader}
+use Rattle.its_pcap.specs.declared.pcap.Magic.{Magic}
 use Rattle.its_pcap.specs.declared.pcap.Unit.{Unit}
 use Rattle.its_pcap.specs.declared.pcap.Unit.TheVariants as units
 use Rattle.its_pcap.specs.declared.pcap.Stage.{Stage}
 use Rattle.its_pcap.specs.declared.pcap.Stage.TheVariants as stages
 use Rattle.its_pcap.specs.declared.pcap.TheConstants.{LONGEST_CAPTURED}
-use Rattle.its_pcap.specs.declared.record.Head.{Head}
+use Rattle.its_pcap.specs.declared.record.RecordHeader.{RecordHeader}
 use Rattle.its_pcap.specs.declared.record.Step.{Step}
 use Rattle.its_pcap.specs.declared.record.Step.TheVariants as steps
 use Rattle.its_pcap.specs.LinkLayers.{layer_of}
@@ -29,36 +29,36 @@ use Rattle.its_pcap.specs.Reading.{Passes, MeetsEnd, EndsWhere}
 
 -- The four marks, as numbers read with the highest octet first: a1b2c3d4 and a1b23c4d where the
 -- file's numbers have their highest octet first, and the same octets turned round where the lowest.
-abbrev pub mark_of : Order → Unit → ℕ
-mark_of orders.High units.Micro = 2712847316
-mark_of orders.Low units.Micro = 3569595041
-mark_of orders.High units.Nano = 2712812621
-mark_of orders.Low units.Nano = 1295823521
+abbrev pub mark_of : Endianness → Unit → ℕ
+mark_of orders.Big units.Micro = 2712847316
+mark_of orders.Little units.Micro = 3569595041
+mark_of orders.Big units.Nano = 2712812621
+mark_of orders.Little units.Nano = 1295823521
 
-abbrev pub mark_number : Mark → ℕ
+abbrev pub mark_number : Magic → ℕ
 mark_number m = mark_of m.order m.unit
 
 -- ---- the header
 
--- four octets that are the mark
-abbrev pub HasMark : Mark → List ℕ → Type 0
-HasMark m w = (4 ≤ length w) × (big_number 4 w ≡ mark_number m)
+-- four octets that are the magic
+abbrev pub HasMagic : Magic → List ℕ → Type 0
+HasMagic m w = (4 ≤ length w) × (big_number 4 w ≡ mark_number m)
 
--- after the mark a major version of 2
-abbrev pub HasVersion : Mark → List ℕ → Type 0
-HasVersion m w = HasMark m w × (6 ≤ length w) × (number_in m.order 2 (drop 4 w) ≡ 2)
+-- after the magic a major version of 2
+abbrev pub HasVersion : Magic → List ℕ → Type 0
+HasVersion m w = HasMagic m w × (6 ≤ length w) × (number_in m.order 2 (drop 4 w) ≡ 2)
 
 -- the type of the link layer: the lower 16 bits of the header's last number
-abbrev pub link_type : Mark → List ℕ → ℕ
+abbrev pub link_type : Magic → List ℕ → ℕ
 link_type m w = number_in m.order 4 (drop 20 w) % 65536
 
 -- a whole header, of a link layer that is read
-abbrev pub HasHeader : FileHead → List ℕ → Type 0
+abbrev pub HasHeader : FileHeader → List ℕ → Type 0
 HasHeader h w =
-    HasVersion h.mark w × (24 ≤ length w) × (layer_of (link_type h.mark w) ≡ Some h.layer)
+    HasVersion h.magic w × (24 ≤ length w) × (layer_of (link_type h.magic w) ≡ Some h.layer)
 
 -- the header went, and nothing after it
-pub record ReadsHeader (h : FileHead) (old new : Option (List ℕ)) : Type 0 where
+pub record ReadsHeader (h : FileHeader) (old new : Option (List ℕ)) : Type 0 where
   pub is : IfSome old (HasHeader h)
   pub passes : Passes 24 old new
 
@@ -66,18 +66,18 @@ pub record ReadsHeader (h : FileHead) (old new : Option (List ℕ)) : Type 0 whe
 abbrev pub EndsInHeader : List ℕ → Type 0
 EndsInHeader w =
     (length w < 4)
-    ⊎ (m : Mark) × ((HasMark m w × (length w < 6)) ⊎ (HasVersion m w × (length w < 24)))
+    ⊎ (m : Magic) × ((HasMagic m w × (length w < 6)) ⊎ (HasVersion m w × (length w < 24)))
 
--- no mark, or another major version behind one
+-- no magic, or another major version behind one
 abbrev pub HasWrongHeader : List ℕ → Type 0
 HasWrongHeader w =
-    ((4 ≤ length w) × ((m : Mark) → big_number 4 w ≢ mark_number m))
-    ⊎ (m : Mark) × HasMark m w × (6 ≤ length w) × (number_in m.order 2 (drop 4 w) ≢ 2)
+    ((4 ≤ length w) × ((m : Magic) → big_number 4 w ≢ mark_number m))
+    ⊎ (m : Magic) × HasMagic m w × (6 ≤ length w) × (number_in m.order 2 (drop 4 w) ≢ 2)
 
 -- a header of a link layer that is not read
 abbrev pub HasOtherLink : List ℕ → Type 0
 HasOtherLink w =
-    (m : Mark) × HasVersion m w × (24 ≤ length w) × (layer_of (link_type m w) ≡ None)
+    (m : Magic) × HasVersion m w × (24 ≤ length w) × (layer_of (link_type m w) ≡ None)
 
 -- What a fault says of a file at its start, in the order of its octets.
 abbrev pub IsHeaderFault : Option (List ℕ) → Option (List ℕ) → SourceFault → Type 0
@@ -98,47 +98,47 @@ moment_of units.Micro seconds fraction = 1000 * seconds + fraction / 1000
 moment_of units.Nano seconds fraction = 1000 * seconds + fraction / 1000000
 
 -- the captured length of the record at the head of the octets
-abbrev pub captured_of : Mark → List ℕ → ℕ
+abbrev pub captured_of : Magic → List ℕ → ℕ
 captured_of m w = number_in m.order 4 (drop 8 w)
 
 -- a captured length stands there, and it is one that a record may have
-abbrev pub AnnouncesRecord : Mark → List ℕ → Type 0
+abbrev pub AnnouncesRecord : Magic → List ℕ → Type 0
 AnnouncesRecord m w = (12 ≤ length w) × (captured_of m w ≤ LONGEST_CAPTURED)
 
 -- what is told of the record at the head of the octets
-pub record IsHead (f : FileHead) (w : List ℕ) (h : Head) : Type 0 where
-  pub moment : h.moment ≡ moment_of f.mark.unit (number_in f.mark.order 4 w)
-      (number_in f.mark.order 4 (drop 4 w))
-  pub captured : h.captured ≡ captured_of f.mark w
-  pub wire : h.wire ≡ number_in f.mark.order 4 (drop 12 w)
+pub record IsHead (f : FileHeader) (w : List ℕ) (h : RecordHeader) : Type 0 where
+  pub moment : h.moment ≡ moment_of f.magic.unit (number_in f.magic.order 4 w)
+      (number_in f.magic.order 4 (drop 4 w))
+  pub captured : h.captured ≡ captured_of f.magic w
+  pub wire : h.wire ≡ number_in f.magic.order 4 (drop 12 w)
   pub layer : h.layer ≡ Some f.layer
 
 -- The octets begin with a whole record, of which this is told; the first octets of its frame are
 -- kept, as many as are wanted and there are.
-pub record HasRecord (f : FileHead) (keep : ℕ) (h : Head) (frame w : List ℕ) : Type 0 where
-  pub announces : AnnouncesRecord f.mark w
+pub record HasRecord (f : FileHeader) (keep : ℕ) (h : RecordHeader) (frame w : List ℕ) : Type 0 where
+  pub announces : AnnouncesRecord f.magic w
   pub head : IsHead f w h
   pub whole : 16 + h.captured ≤ length w
   pub kept : frame ≡ take (min h.captured keep) (drop 16 w)
 
 -- the record went, and nothing after it
-pub record ReadsRecord (f : FileHead) (keep : ℕ) (h : Head) (frame : List ℕ)
+pub record ReadsRecord (f : FileHeader) (keep : ℕ) (h : RecordHeader) (frame : List ℕ)
     (old new : Option (List ℕ)) : Type 0 where
   pub is : IfSome old (HasRecord f keep h frame)
   pub passes : Passes (16 + h.captured) old new
 
 -- the file ends in a record: before its captured length, or behind one that is allowed
-abbrev pub EndsInRecord : Mark → List ℕ → Type 0
+abbrev pub EndsInRecord : Magic → List ℕ → Type 0
 EndsInRecord m w =
     (0 < length w)
     × ((length w < 12) ⊎ (AnnouncesRecord m w × (length w < 16 + captured_of m w)))
 
 -- a captured length over 262144
-abbrev pub AnnouncesTooMuch : Mark → List ℕ → Type 0
+abbrev pub AnnouncesTooMuch : Magic → List ℕ → Type 0
 AnnouncesTooMuch m w = (12 ≤ length w) × (LONGEST_CAPTURED < captured_of m w)
 
 -- What a fault says of a file that has a record next.
-abbrev pub IsRecordFault : Mark → Option (List ℕ) → Option (List ℕ) → SourceFault → Type 0
+abbrev pub IsRecordFault : Magic → Option (List ℕ) → Option (List ℕ) → SourceFault → Type 0
 IsRecordFault m old new faults.CutFile = EndsWhere (EndsInRecord m) old new
 IsRecordFault m old new faults.Malformed = IfSome old (AnnouncesTooMuch m) × Passes 12 old new
 IsRecordFault m old new faults.LinkType = ⊥
@@ -174,7 +174,7 @@ layer_at stages.Ended = None
 layer_at stages.Failed = None
 
 -- What a step says of a file that has a record next: a record, or the end.
-abbrev pub IsRecordStep : FileHead → ℕ → List ℕ → Option (List ℕ) → Option (List ℕ) → Step
+abbrev pub IsRecordStep : FileHeader → ℕ → List ℕ → Option (List ℕ) → Option (List ℕ) → Step
     → Type 0
 IsRecordStep f keep frame old new (steps.Record h) = ReadsRecord f keep h frame old new
 IsRecordStep f keep frame old new steps.Passed = ⊥
@@ -185,7 +185,7 @@ IsRecordStep f keep frame old new steps.End = MeetsEnd old new
 abbrev pub IsAnswer : Stage → Stage → ℕ → List ℕ → Option (List ℕ) → Option (List ℕ)
     → Result Step SourceFault → Type 0
 IsAnswer stages.Start after keep frame old new (Ok steps.Passed) =
-    (h : FileHead) × (after ≡ stages.Records h) × ReadsHeader h old new
+    (h : FileHeader) × (after ≡ stages.Records h) × ReadsHeader h old new
 IsAnswer stages.Start after keep frame old new (Ok (steps.Record h)) = ⊥
 IsAnswer stages.Start after keep frame old new (Ok steps.End) = ⊥
 IsAnswer stages.Start after keep frame old new (Err f) =
@@ -196,7 +196,7 @@ IsAnswer (stages.Records head) after keep frame old new (Ok steps.Passed) = ⊥
 IsAnswer (stages.Records head) after keep frame old new (Ok steps.End) =
     (after ≡ stages.Ended) × MeetsEnd old new
 IsAnswer (stages.Records head) after keep frame old new (Err f) =
-    (after ≡ stages.Failed) × IsRecordFault head.mark old new f
+    (after ≡ stages.Failed) × IsRecordFault head.magic old new f
 IsAnswer stages.Ended after keep frame old new answer =
     (answer ≡ Ok steps.End) × (after ≡ stages.Ended) × Consumes old new []
 IsAnswer stages.Failed after keep frame old new answer =

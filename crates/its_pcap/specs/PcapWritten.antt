@@ -9,7 +9,7 @@ use Rattle.its_pcap.specs.declared.put_fault.PutFault.{PutFault}
 use Rattle.its_pcap.specs.declared.put_fault.PutFault.TheVariants as faults
 use Rattle.its_pcap.specs.Writing.{Writing}
 
--- the mark d4c3b2a1, version 2.4, zone 0, accuracy 0, snap length 262144, the link layer
+-- the magic d4c3b2a1, version 2.4, zone 0, accuracy 0, snap length 262144, the link layer
 unfoldable pub file_header : LinkLayer → List ℕ
 file_header l =
     (212 ∷ 195 ∷ 178 ∷ 161 ∷ 2 ∷ 0 ∷ 4 ∷ 0 ∷ 0 ∷ 0 ∷ 0 ∷ 0 ∷ 0 ∷ 0 ∷ 0 ∷ 0 ∷ 0 ∷ 0 ∷ 4 ∷ 0 ∷ [])

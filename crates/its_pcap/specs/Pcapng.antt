@@ -13,8 +13,8 @@ use Rattle.its_pcap.specs.declared.blocks.Kind.TheVariants as kinds
 use Rattle.its_pcap.specs.declared.fault.SourceFault.{SourceFault}
 use Rattle.its_pcap.specs.declared.fault.SourceFault.TheVariants as faults
 use Rattle.its_pcap.specs.declared.interface.Interface.{Interface}
-use Rattle.its_pcap.specs.declared.octets.Order.{Order}
-use Rattle.its_pcap.specs.declared.octets.Order.TheVariants as orders
+use Rattle.its_pcap.specs.declared.octets.Endianness.{Endianness}
+use Rattle.its_pcap.specs.declared.octets.Endianness.TheVariants as orders
 use Rattle.its_pcap.specs.declared.pcapng.Stage.{Stage}
 use Rattle.its_pcap.specs.declared.pcapng.Stage.TheVariants as stages
 use Rattle.its_pcap.specs.declared.record.Step.{Step}
@@ -37,26 +37,26 @@ is_failed stages.Ended = false
 is_failed stages.Failed = true
 
 -- the order of octets that a block is read in: in no section any, as a section header says its own
-abbrev pub order_in : Option Order → Order
-order_in None = orders.High
+abbrev pub order_in : Option Endianness → Endianness
+order_in None = orders.Big
 order_in (Some o) = o
 
 -- what the four octets of a block's type say
-abbrev pub kind_in : Option Order → List ℕ → Kind
+abbrev pub kind_in : Option Endianness → List ℕ → Kind
 kind_in o w = kind_of_block (number_in (order_in o) 4 w)
 
 -- outside of a section only a section header may stand
-abbrev pub MayStand : Option Order → Kind → Type 0
+abbrev pub MayStand : Option Endianness → Kind → Type 0
 MayStand None k = k ≡ kinds.Section
 MayStand (Some o) k = Unit {0}
 
 -- the type of a block
-abbrev pub kind_of_next : Option Order → Layout Kind
+abbrev pub kind_of_next : Option Endianness → Layout Kind
 kind_of_next o =
     field 4 (λ k w. (kind_in o w ≡ k) × MayStand o k) (λ w. ¬ MayStand o (kind_in o w))
 
 -- a block, in a section of this order, if in one, with these interfaces
-unfoldable pub next_block : Option Order → List Interface → ℕ → List ℕ → Layout Block
+unfoldable pub next_block : Option Endianness → List Interface → ℕ → List ℕ → Layout Block
 next_block o is keep kept =
     behind (kind_of_next o) (λ k. block_of (order_in o) is keep kept k)
 
@@ -76,7 +76,7 @@ IsTaken blocks.Other was now old new answer =
     (answer ≡ Ok steps.Passed) × (now ≡ was) × (new ≡ old)
 
 -- The block that stands next was read, and this came of it.
-pub record IsBlockRead (o : Option Order) (was now : PcapngReading) (frame : List ℕ)
+pub record IsBlockRead (o : Option Endianness) (was now : PcapngReading) (frame : List ℕ)
     (answer : Result Step SourceFault) : Type 0 where
   pub block : Block
   pub reads : Reads ((next_block o was.interfaces was.keep frame).Is block) was.rest now.rest
@@ -85,7 +85,7 @@ pub record IsBlockRead (o : Option Order) (was now : PcapngReading) (frame : Lis
 -- What an answer says where blocks are read: a record is that of the next block; `Passed` is a
 -- block without one, which may begin a section or add an interface; a fault is the first of that
 -- block, or that the list of interfaces could not grow.
-abbrev pub IsNext : Option Order → PcapngReading → PcapngReading → List ℕ
+abbrev pub IsNext : Option Endianness → PcapngReading → PcapngReading → List ℕ
     → Result Step SourceFault → Type 0
 IsNext o was now frame (Ok steps.End) =
     (now.stage ≡ stages.Ended) × MeetsEnd was.rest now.rest
@@ -112,7 +112,7 @@ abbrev pub IsAnswer : PcapngReading → PcapngReading → List ℕ → Result St
 IsAnswer was now frame answer = IsAnswerAt was.stage was now frame answer
 
 -- An interface block was read, and nothing behind it: the list of interfaces is to grow by this one.
-abbrev pub ReadsInterface : Option Order → PcapngReading → PcapngReading → Type 0
+abbrev pub ReadsInterface : Option Endianness → PcapngReading → PcapngReading → Type 0
 ReadsInterface o was now =
     (frame : List ℕ) × (i : Interface)
     × Reads ((next_block o was.interfaces was.keep frame).Is (blocks.Interface i)) was.rest now.rest

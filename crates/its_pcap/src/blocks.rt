@@ -16,11 +16,11 @@ use crate::fault::SourceFault;
 use crate::field::{block_length, end_block, half, is_block_length, word};
 use crate::interface::{Interface, MICROS, moment_of};
 use crate::link::link_layer;
-use crate::octets::{Order, half_at, word_at};
+use crate::octets::{Endianness, u16_at, u32_at};
 use crate::options::read_options;
 use crate::pcap::LONGEST_CAPTURED;
-use crate::record::Head;
-use crate::transfer::{fill_whole, read_frame};
+use crate::record::RecordHeader;
+use crate::transfer::{read_exact, read_record_octets};
 use byteorder::{BigEndian, ByteOrder};
 use its_linkframe::Source;
 
@@ -37,10 +37,10 @@ const SIMPLE: u32 = 3;
 const PACKET: u32 = 6;
 
 /// The magic of a section, read with the highest octet first, where that is its order.
-const MAGIC_HIGH: u32 = 0x1a2b_3c4d;
+const MAGIC_BIG: u32 = 0x1a2b_3c4d;
 
 /// The same where the lowest octet comes first.
-const MAGIC_LOW: u32 = 0x4d3c_2b1a;
+const MAGIC_LITTLE: u32 = 0x4d3c_2b1a;
 
 /// The one major version of a section.
 const MAJOR_VERSION: u16 = 1;
@@ -82,11 +82,11 @@ pub(crate) enum Kind {
 #[derive(Clone, Copy)]
 pub(crate) enum Block {
     /// A section begins, with this order of octets.
-    Section(Order),
+    Section(Endianness),
     /// A further interface of the section.
     Interface(Interface),
     /// A record.
-    Record(Head),
+    Record(RecordHeader),
     /// Nothing that is read.
     Other,
 }
@@ -109,7 +109,7 @@ pub(crate) fn kind_of(number: u32) -> Kind
 pub(crate) fn read_block<S: Source>(
     source: &mut S,
     kind: Kind,
-    order: Order,
+    order: Endianness,
     interfaces: &[Interface],
     keep: usize,
     frame: &mut Vec<u8>,
@@ -131,19 +131,19 @@ pub(crate) fn read_block<S: Source>(
 }
 
 /// The order of octets that a magic says.
-fn order_in(magic: u32) -> Option<Order>
-    ensures { MatchOption result ((o : Order) → ¬ (magic ≡ magic_of o)) (λ o. magic ≡ magic_of o) }
+fn order_in(magic: u32) -> Option<Endianness>
+    ensures { MatchOption result ((o : Endianness) → ¬ (magic ≡ magic_of o)) (λ o. magic ≡ magic_of o) }
 {
     match magic {
-        MAGIC_HIGH => Some(Order::High),
-        MAGIC_LOW => Some(Order::Low),
+        MAGIC_BIG => Some(Endianness::Big),
+        MAGIC_LITTLE => Some(Endianness::Little),
         _ => None,
     }
 }
 
 /// The length and the magic of a section header. The magic is checked before the length, whose
 /// octets it orders.
-fn read_section_head<S: Source>(source: &mut S) -> Result<(Order, u32), SourceFault>
+fn read_section_head<S: Source>(source: &mut S) -> Result<(Endianness, u32), SourceFault>
     requires { S.failed source.old < 2 ^ 64 - 1 }
     ensures answer { IsAnswerOf section_head (S.remaining source.old) (S.remaining source.new)
         result }
@@ -152,11 +152,11 @@ fn read_section_head<S: Source>(source: &mut S) -> Result<(Order, u32), SourceFa
     ensures memory { result ≢ Err (faults.Capture captures.NoMemory) }
 {
     let mut head = [0; 8];
-    fill_whole(source, &mut head)?;
+    read_exact(source, &mut head)?;
     let Some(order) = order_in(BigEndian::read_u32(&head[4..])) else {
         return Err(SourceFault::Malformed);
     };
-    let length = word_at(order, &head, 0);
+    let length = u32_at(order, &head, 0);
     if !is_block_length(length, LEAST_SECTION) {
         return Err(SourceFault::Malformed);
     }
@@ -164,7 +164,7 @@ fn read_section_head<S: Source>(source: &mut S) -> Result<(Order, u32), SourceFa
 }
 
 /// The major version of a section. P2 where it is not 1.
-fn read_version<S: Source>(source: &mut S, order: Order) -> Result<u16, SourceFault>
+fn read_version<S: Source>(source: &mut S, order: Endianness) -> Result<u16, SourceFault>
     requires { S.failed source.old < 2 ^ 64 - 1 }
     ensures answer { IsAnswerOf (number_that order 2 (λ version. version ≡ 1))
         (S.remaining source.old) (S.remaining source.new) result }
@@ -192,7 +192,7 @@ fn section_block<S: Source>(source: &mut S) -> Result<Block, SourceFault>
 }
 
 /// The link type and the snap length of an interface.
-fn read_plain<S: Source>(source: &mut S, order: Order) -> Result<Interface, SourceFault>
+fn read_plain<S: Source>(source: &mut S, order: Endianness) -> Result<Interface, SourceFault>
     requires { S.failed source.old < 2 ^ 64 - 1 }
     ensures answer { IsAnswerOf (plain order) (S.remaining source.old) (S.remaining source.new)
         result }
@@ -200,18 +200,18 @@ fn read_plain<S: Source>(source: &mut S, order: Order) -> Result<Interface, Sour
     ensures memory { result ≢ Err (faults.Capture captures.NoMemory) }
 {
     let mut head = [0; 8];
-    fill_whole(source, &mut head)?;
+    read_exact(source, &mut head)?;
     Ok(Interface {
-        layer: link_layer(u32::from(half_at(order, &head, 0))),
-        snap: word_at(order, &head, 4),
+        layer: link_layer(u32::from(u16_at(order, &head, 0))),
+        snap: u32_at(order, &head, 4),
         ticks: MICROS,
-        ahead: 0,
-        behind: 0,
+        offset_added: 0,
+        offset_taken: 0,
     })
 }
 
 /// An interface block, behind its type.
-fn interface_block<S: Source>(source: &mut S, order: Order) -> Result<Block, SourceFault>
+fn interface_block<S: Source>(source: &mut S, order: Endianness) -> Result<Block, SourceFault>
     requires { S.failed source.old < 2 ^ 64 - 1 }
     ensures answer { IsAnswerOf (interface order) (S.remaining source.old) (S.remaining source.new)
         result }
@@ -233,7 +233,7 @@ fn interface_block<S: Source>(source: &mut S, order: Order) -> Result<Block, Sou
 /// The interface of a packet, by its number. P2 where there is none.
 fn read_interface<S: Source>(
     source: &mut S,
-    order: Order,
+    order: Endianness,
     interfaces: &[Interface],
 ) -> Result<Interface, SourceFault>
     requires { S.failed source.old < 2 ^ 64 - 1 }
@@ -252,7 +252,7 @@ fn read_interface<S: Source>(
 /// The moment of a packet, in milliseconds. P2 where it is below 0 or of 2^64 and more.
 fn read_moment<S: Source>(
     source: &mut S,
-    order: Order,
+    order: Endianness,
     interface: &Interface,
 ) -> Result<u64, SourceFault>
     requires { S.failed source.old < 2 ^ 64 - 1 }
@@ -262,8 +262,8 @@ fn read_moment<S: Source>(
     ensures memory { result ≢ Err (faults.Capture captures.NoMemory) }
 {
     let mut octets = [0; 8];
-    fill_whole(source, &mut octets)?;
-    let timestamp = timestamp_of(word_at(order, &octets, 0), word_at(order, &octets, 4));
+    read_exact(source, &mut octets)?;
+    let timestamp = timestamp_of(u32_at(order, &octets, 0), u32_at(order, &octets, 4));
     match moment_of(interface, timestamp) {
         Some(moment) => Ok(moment),
         None => Err(SourceFault::Malformed),
@@ -286,7 +286,11 @@ fn fits_record(captured: u32, room: u32) -> bool
 
 /// The captured length of a packet, for which its block has this room. P2 where it is longer, or
 /// over 262144.
-fn read_captured<S: Source>(source: &mut S, order: Order, room: u32) -> Result<u32, SourceFault>
+fn read_captured<S: Source>(
+    source: &mut S,
+    order: Endianness,
+    room: u32,
+) -> Result<u32, SourceFault>
     requires { S.failed source.old < 2 ^ 64 - 1 }
     ensures answer { IsAnswerOf (number_that order 4 (FitsRecord room)) (S.remaining source.old)
         (S.remaining source.new) result }
@@ -304,7 +308,7 @@ fn read_captured<S: Source>(source: &mut S, order: Order, room: u32) -> Result<u
 /// An enhanced packet block, behind its type: a record.
 fn packet_block<S: Source>(
     source: &mut S,
-    order: Order,
+    order: Endianness,
     interfaces: &[Interface],
     keep: usize,
     frame: &mut Vec<u8>,
@@ -322,9 +326,9 @@ fn packet_block<S: Source>(
     let moment = read_moment(source, order, &interface)?;
     let captured = read_captured(source, order, room)?;
     let wire = word(source, order)?;
-    read_frame(source, captured as usize, keep, frame)?;
+    read_record_octets(source, captured as usize, keep, frame)?;
     end_block(source, order, (room - captured) as usize, length)?;
-    Ok(Block::Record(Head {
+    Ok(Block::Record(RecordHeader {
         moment,
         captured,
         wire,
@@ -347,7 +351,7 @@ fn first_of(interfaces: &[Interface]) -> Result<Interface, SourceFault>
 /// block has this room. P2 where that is too little, or they are over 262144.
 fn read_lengths<S: Source>(
     source: &mut S,
-    order: Order,
+    order: Endianness,
     interface: &Interface,
     room: u32,
 ) -> Result<(u32, u32), SourceFault>
@@ -369,7 +373,7 @@ fn read_lengths<S: Source>(
 /// A simple packet block, behind its type: a record of the first interface, at moment 0.
 fn simple_block<S: Source>(
     source: &mut S,
-    order: Order,
+    order: Endianness,
     interfaces: &[Interface],
     keep: usize,
     frame: &mut Vec<u8>,
@@ -385,9 +389,9 @@ fn simple_block<S: Source>(
     let room = length - LEAST_SIMPLE;
     let interface = first_of(interfaces)?;
     let (wire, captured) = read_lengths(source, order, &interface, room)?;
-    read_frame(source, captured as usize, keep, frame)?;
+    read_record_octets(source, captured as usize, keep, frame)?;
     end_block(source, order, (room - captured) as usize, length)?;
-    Ok(Block::Record(Head {
+    Ok(Block::Record(RecordHeader {
         moment: 0,
         captured,
         wire,
@@ -403,7 +407,7 @@ fn captured_in(wire: u32, snap: u32) -> u32
 }
 
 /// A block of another kind, behind its type: it is passed over.
-fn other_block<S: Source>(source: &mut S, order: Order) -> Result<Block, SourceFault>
+fn other_block<S: Source>(source: &mut S, order: Endianness) -> Result<Block, SourceFault>
     requires { S.failed source.old < 2 ^ 64 - 1 }
     ensures answer { IsAnswerOf (other order) (S.remaining source.old) (S.remaining source.new)
         result }

@@ -9,15 +9,15 @@ ghost use Rattle.its_linkframe.specs.declared.record.CaptureFault.TheVariants as
 ghost use Rattle.its_pcap.specs.declared.fault.SourceFault.TheVariants as faults;
 
 use crate::fault::SourceFault;
-use crate::octets::{Order, half_at, word_at};
-use crate::transfer::{fill_whole, pass_over};
+use crate::octets::{Endianness, u16_at, u32_at};
+use crate::transfer::{read_exact, skip};
 use its_linkframe::Source;
 
 /// The most octets of a block.
 pub(crate) const LONGEST_BLOCK: u32 = 327_680;
 
 /// The next number of 32 bits.
-pub(crate) fn word<S: Source>(source: &mut S, order: Order) -> Result<u32, SourceFault>
+pub(crate) fn word<S: Source>(source: &mut S, order: Endianness) -> Result<u32, SourceFault>
     requires { S.failed source.old < 2 ^ 64 - 1 }
     ensures answer { IsAnswerOf (number order 4) (S.remaining source.old) (S.remaining source.new)
         result }
@@ -25,12 +25,12 @@ pub(crate) fn word<S: Source>(source: &mut S, order: Order) -> Result<u32, Sourc
     ensures memory { result ≢ Err (faults.Capture captures.NoMemory) }
 {
     let mut octets = [0; 4];
-    fill_whole(source, &mut octets)?;
-    Ok(word_at(order, &octets, 0))
+    read_exact(source, &mut octets)?;
+    Ok(u32_at(order, &octets, 0))
 }
 
 /// The next number of 16 bits.
-pub(crate) fn half<S: Source>(source: &mut S, order: Order) -> Result<u16, SourceFault>
+pub(crate) fn half<S: Source>(source: &mut S, order: Endianness) -> Result<u16, SourceFault>
     requires { S.failed source.old < 2 ^ 64 - 1 }
     ensures answer { IsAnswerOf (number order 2) (S.remaining source.old) (S.remaining source.new)
         result }
@@ -38,8 +38,8 @@ pub(crate) fn half<S: Source>(source: &mut S, order: Order) -> Result<u16, Sourc
     ensures memory { result ≢ Err (faults.Capture captures.NoMemory) }
 {
     let mut octets = [0; 2];
-    fill_whole(source, &mut octets)?;
-    Ok(half_at(order, &octets, 0))
+    read_exact(source, &mut octets)?;
+    Ok(u16_at(order, &octets, 0))
 }
 
 /// Whether a block may have so many octets, of which its type always has `least`.
@@ -52,7 +52,7 @@ pub(crate) fn is_block_length(length: u32, least: u32) -> bool
 /// The length of a block, of which its type always has `least` octets. P2 where it is another.
 pub(crate) fn block_length<S: Source>(
     source: &mut S,
-    order: Order,
+    order: Endianness,
     least: u32,
 ) -> Result<u32, SourceFault>
     requires { S.failed source.old < 2 ^ 64 - 1 }
@@ -73,7 +73,7 @@ pub(crate) fn block_length<S: Source>(
 /// where that is another.
 pub(crate) fn end_block<S: Source>(
     source: &mut S,
-    order: Order,
+    order: Endianness,
     rest: usize,
     length: u32,
 ) -> Result<(), SourceFault>
@@ -83,7 +83,7 @@ pub(crate) fn end_block<S: Source>(
     ensures counts { S.failed source.new ≡ S.failed source.old + (if is_io result then 1 else 0) }
     ensures memory { result ≢ Err (faults.Capture captures.NoMemory) }
 {
-    pass_over(source, rest)?;
+    skip(source, rest)?;
     let last = word(source, order)?;
     if last != length {
         return Err(SourceFault::Malformed);

@@ -4,7 +4,7 @@ ghost use Rattle.std.specs.Prelude.{◌≡◌};
 ghost use Rattle.its_pcap.specs.Formats.{IsFormat};
 
 use crate::blocks::SECTION;
-use crate::pcap::mark_in;
+use crate::pcap::magic_in;
 use byteorder::{BigEndian, ByteOrder};
 
 /// The format of a file with records.
@@ -19,7 +19,7 @@ pub enum Format {
 }
 
 /// The format of a file that begins with these octets, by the first four: each file of fewer, and
-/// each that begins with no mark of another format, is a capture.
+/// each that begins with no magic of another format, is a capture.
 pub fn format_of(first: &[u8]) -> Format
     ensures { IsFormat first.now result }
 {
@@ -30,7 +30,7 @@ pub fn format_of(first: &[u8]) -> Format
     if number == SECTION {
         return Format::Pcapng;
     }
-    match mark_in(number) {
+    match magic_in(number) {
         Some(_) => Format::Pcap,
         None => Format::Capture,
     }

@@ -1,8 +1,8 @@
 //! Interfaces of a pcapng file, and the moments that they count.
 
 ghost use Rattle.std.specs.Prelude.{◌≡◌, ◌^◌, ◌<◌, ◌≤◌, MatchOption, IfSome};
-ghost use Rattle.its_pcap.specs.Moments.{ticks_of, IsTooFine, IsMoment, IsNoMoment, ahead_of};
-ghost use Rattle.its_pcap.specs.Moments.{behind_of};
+ghost use Rattle.its_pcap.specs.Moments.{ticks_of, IsTooFine, IsMoment, IsNoMoment, added_of};
+ghost use Rattle.its_pcap.specs.Moments.{taken_of};
 
 use crate::link::LinkLayer;
 
@@ -16,9 +16,9 @@ pub(crate) struct Interface {
     /// How many ticks a second has: `if_tsresol`.
     pub(crate) ticks: u64,
     /// Seconds to be added to each moment: `if_tsoffset` where it is not negative, else 0.
-    pub(crate) ahead: u64,
+    pub(crate) offset_added: u64,
     /// Seconds to be taken from each moment: `if_tsoffset` where it is negative, else 0.
-    pub(crate) behind: u64,
+    pub(crate) offset_taken: u64,
     ghost positive: { 0 < ticks },
 }
 
@@ -75,8 +75,8 @@ fn power_of_ten(exponent: u8) -> Option<u64>
 
 /// The seconds of `if_tsoffset`, which are signed: those to be added, and those to be taken.
 pub(crate) fn seconds_of(offset: u64) -> (u64, u64)
-    ensures ahead { result.0 ≡ ahead_of offset }
-    ensures behind { result.1 ≡ behind_of offset }
+    ensures added { result.0 ≡ added_of offset }
+    ensures taken { result.1 ≡ taken_of offset }
 {
     if offset < 1 << 63 {
         (offset, 0)
@@ -88,12 +88,14 @@ pub(crate) fn seconds_of(offset: u64) -> (u64, u64)
 /// The moment of a timestamp, in milliseconds. Nothing where it is below 0 or of 2^64 and more.
 pub(crate) fn moment_of(interface: &Interface, timestamp: u64) -> Option<u64>
     ensures { MatchOption result
-        (IsNoMoment interface.now.ticks interface.now.ahead interface.now.behind timestamp)
-        (IsMoment interface.now.ticks interface.now.ahead interface.now.behind timestamp) }
+        (IsNoMoment interface.now.ticks interface.now.offset_added
+        interface.now.offset_taken timestamp)
+        (IsMoment interface.now.ticks interface.now.offset_added
+        interface.now.offset_taken timestamp) }
 {
     let whole = u128::from(timestamp) * 1000 / u128::from(interface.ticks);
-    let sum = whole + 1000 * u128::from(interface.ahead);
-    let less = 1000 * u128::from(interface.behind);
+    let sum = whole + 1000 * u128::from(interface.offset_added);
+    let less = 1000 * u128::from(interface.offset_taken);
     if sum < less {
         return None;
     }

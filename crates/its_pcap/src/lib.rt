@@ -1,7 +1,6 @@
 //! Captures of other programs: records of pcap and pcapng files, read and written.
 #![tactic(auto)]
 
-mod begun;
 mod blocks;
 mod ethernet;
 mod fault;
@@ -17,6 +16,7 @@ mod pcap;
 mod pcap_writer;
 mod pcapng;
 mod pcapng_writer;
+mod peeked;
 mod place;
 mod put_fault;
 mod radiotap;
@@ -29,13 +29,13 @@ pub use fault::SourceFault;
 pub use format::{Format, format_of};
 pub use its_linkframe::without_padding;
 pub use link::{LONGEST_RECORD, LinkFault, LinkLayer, frame_start, link_layer};
-pub use octets::Order;
-pub use pcap::{FileHead, LONGEST_CAPTURED, Mark, PcapReader, Unit};
+pub use octets::Endianness;
+pub use pcap::{FileHeader, LONGEST_CAPTURED, Magic, PcapReader, Unit};
 pub use pcap_writer::PcapWriter;
 pub use pcapng::PcapngReader;
 pub use pcapng_writer::PcapngWriter;
 pub use place::{has_place, layer_for};
 pub use put_fault::PutFault;
-pub use record::{Head, RecordFault, Step};
+pub use record::{RecordFault, RecordHeader, Step};
 pub use sink::{AnySink, RecordSink, SinkFault};
 pub use source::{AnySource, CaptureSource, RecordSource};

@@ -13,8 +13,8 @@ ghost use Rattle.its_linkframe.specs.declared.record.CaptureFault.TheVariants as
 
 use crate::fault::SourceFault;
 use crate::interface::{Interface, seconds_of, ticks_in};
-use crate::octets::{Order, half_at, long_at};
-use crate::transfer::{fill_whole, pass_over};
+use crate::octets::{Endianness, u16_at, u64_at};
+use crate::transfer::{read_exact, skip};
 use its_linkframe::Source;
 
 /// The octets of an option before its value: its code, and its size.
@@ -44,7 +44,7 @@ enum OptionKind {
 
 /// What is known behind an option.
 #[derive(Clone, Copy)]
-struct Turn {
+struct OptionStep {
     /// How many octets the options have left.
     left: usize,
     /// The interface, as the options so far say.
@@ -57,7 +57,7 @@ struct Turn {
 /// what they say of the interface. P2 where one goes past its block, or its ticks are too fine.
 pub(crate) fn read_options<S: Source>(
     source: &mut S,
-    order: Order,
+    order: Endianness,
     room: usize,
     interface: Interface,
 ) -> Result<(usize, Interface), SourceFault>
@@ -83,10 +83,10 @@ pub(crate) fn read_options<S: Source>(
 /// An option, where so many octets are left.
 fn read_option<S: Source>(
     source: &mut S,
-    order: Order,
+    order: Endianness,
     left: usize,
     interface: Interface,
-) -> Result<Turn, SourceFault>
+) -> Result<OptionStep, SourceFault>
     requires ready { S.failed source.old < 2 ^ 64 - 1 }
     requires some { HEAD ≤ left }
     ensures answer { IsAnswerOf (one_option order left interface) (S.remaining source.old)
@@ -97,7 +97,7 @@ fn read_option<S: Source>(
 {
     let (kind, room) = read_head(source, order, left - HEAD)?;
     let known = read_value(source, order, kind, room, interface)?;
-    Ok(Turn {
+    Ok(OptionStep {
         left: left - HEAD - room,
         interface: known,
         is_end: ends(kind),
@@ -117,7 +117,7 @@ fn ends(kind: OptionKind) -> bool
 /// The value of an option, which takes so many octets.
 fn read_value<S: Source>(
     source: &mut S,
-    order: Order,
+    order: Endianness,
     kind: OptionKind,
     room: usize,
     interface: Interface,
@@ -148,7 +148,7 @@ fn pass_value<S: Source>(
     ensures counts { S.failed source.new ≡ S.failed source.old + (if is_io result then 1 else 0) }
     ensures memory { result ≢ Err (faults.Capture captures.NoMemory) }
 {
-    pass_over(source, room)?;
+    skip(source, room)?;
     Ok(interface)
 }
 
@@ -156,7 +156,7 @@ fn pass_value<S: Source>(
 /// with its padding. P2 where that is more.
 fn read_head<S: Source>(
     source: &mut S,
-    order: Order,
+    order: Endianness,
     left: usize,
 ) -> Result<(OptionKind, usize), SourceFault>
     requires { S.failed source.old < 2 ^ 64 - 1 }
@@ -167,9 +167,9 @@ fn read_head<S: Source>(
     ensures memory { result ≢ Err (faults.Capture captures.NoMemory) }
 {
     let mut head = [0; HEAD];
-    fill_whole(source, &mut head)?;
-    let code = half_at(order, &head, 0);
-    let size = half_at(order, &head, 2);
+    read_exact(source, &mut head)?;
+    let code = u16_at(order, &head, 0);
+    let size = u16_at(order, &head, 2);
     let room = room_of(code, size);
     if room > left {
         return Err(SourceFault::Malformed);
@@ -228,22 +228,22 @@ fn read_resolution<S: Source>(
     ensures memory { result ≢ Err (faults.Capture captures.NoMemory) }
 {
     let mut octet = [0; 1];
-    fill_whole(source, &mut octet)?;
+    read_exact(source, &mut octet)?;
     let ticks = ticks_said(octet[0])?;
-    pass_over(source, 3)?;
+    skip(source, 3)?;
     Ok(Interface {
         layer: interface.layer,
         snap: interface.snap,
         ticks,
-        ahead: interface.ahead,
-        behind: interface.behind,
+        offset_added: interface.offset_added,
+        offset_taken: interface.offset_taken,
     })
 }
 
 /// `if_tsoffset`.
 fn read_offset<S: Source>(
     source: &mut S,
-    order: Order,
+    order: Endianness,
     interface: Interface,
 ) -> Result<Interface, SourceFault>
     requires { S.failed source.old < 2 ^ 64 - 1 }
@@ -253,13 +253,13 @@ fn read_offset<S: Source>(
     ensures memory { result ≢ Err (faults.Capture captures.NoMemory) }
 {
     let mut octets = [0; 8];
-    fill_whole(source, &mut octets)?;
-    let (ahead, behind) = seconds_of(long_at(order, &octets));
+    read_exact(source, &mut octets)?;
+    let (offset_added, offset_taken) = seconds_of(u64_at(order, &octets));
     Ok(Interface {
         layer: interface.layer,
         snap: interface.snap,
         ticks: interface.ticks,
-        ahead,
-        behind,
+        offset_added,
+        offset_taken,
     })
 }

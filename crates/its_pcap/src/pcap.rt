@@ -11,17 +11,17 @@ ghost use Rattle.its_pcap.specs.declared.pcap.Stage.TheVariants as stages;
 
 use crate::fault::SourceFault;
 use crate::link::{LinkLayer, link_layer};
-use crate::octets::{Order, half_at, word_at};
-use crate::record::{Head, Step};
-use crate::transfer::{fill_whole, read_frame};
+use crate::octets::{Endianness, u16_at, u32_at};
+use crate::record::{RecordHeader, Step};
+use crate::transfer::{read_exact, read_record_octets};
 use byteorder::{BigEndian, ByteOrder};
 use its_linkframe::{CaptureFault, Source, fill};
 use std::marker::Model;
 
-/// The octets of a file's mark.
+/// The octets of a file's magic.
 const MARK: usize = 4;
 
-/// The octets of its major version, behind the mark.
+/// The octets of its major version, behind the magic.
 const VERSION: usize = 2;
 
 /// The octets of its header behind those.
@@ -63,20 +63,20 @@ pub enum Unit {
     Nano,
 }
 
-/// What the mark at the head of a file says of the rest.
+/// What the magic at the head of a file says of the rest.
 #[derive(Clone, Copy, Debug, PartialEq, Eq)]
-pub struct Mark {
+pub struct Magic {
     /// The order of octets in its numbers.
-    pub order: Order,
+    pub order: Endianness,
     /// The unit of its fractions.
     pub unit: Unit,
 }
 
 /// What the header of a file says of its records.
 #[derive(Clone, Copy, Debug, PartialEq, Eq)]
-pub struct FileHead {
-    /// What its mark says.
-    pub mark: Mark,
+pub struct FileHeader {
+    /// What its magic says.
+    pub magic: Magic,
     /// The link layer of all its records.
     pub layer: LinkLayer,
 }
@@ -87,7 +87,7 @@ enum Stage {
     /// At the header of the file.
     Start,
     /// At a record, or at the end.
-    Records(FileHead),
+    Records(FileHeader),
     /// It met the end, and answers it again.
     Ended,
     /// It met a fault, and answers C5.
@@ -186,23 +186,23 @@ impl<R: Source> PcapReader<R> {
     }
 }
 
-/// The mark whose octets, the highest first, are this number.
-pub(crate) fn mark_in(number: u32) -> Option<Mark>
-    ensures { MatchOption result ((m : Mark) → number ≢ mark_number m)
+/// The magic whose octets, the highest first, are this number.
+pub(crate) fn magic_in(number: u32) -> Option<Magic>
+    ensures { MatchOption result ((m : Magic) → number ≢ mark_number m)
         (λ m. number ≡ mark_number m) }
 {
     let (order, unit) = match number {
-        0xa1b2_c3d4 => (Order::High, Unit::Micro),
-        0xd4c3_b2a1 => (Order::Low, Unit::Micro),
-        0xa1b2_3c4d => (Order::High, Unit::Nano),
-        0x4d3c_b2a1 => (Order::Low, Unit::Nano),
+        0xa1b2_c3d4 => (Endianness::Big, Unit::Micro),
+        0xd4c3_b2a1 => (Endianness::Little, Unit::Micro),
+        0xa1b2_3c4d => (Endianness::Big, Unit::Nano),
+        0x4d3c_b2a1 => (Endianness::Little, Unit::Nano),
         _ => return None,
     };
-    Some(Mark { order, unit })
+    Some(Magic { order, unit })
 }
 
 /// The header of a file: what it says of the rest.
-fn read_header<S: Source>(source: &mut S) -> Result<FileHead, SourceFault>
+fn read_header<S: Source>(source: &mut S) -> Result<FileHeader, SourceFault>
     requires { S.failed source.old < 2 ^ 64 - 1 }
     ensures header { IfOk result
         (λ h. ReadsHeader h (S.remaining source.old) (S.remaining source.new)) }
@@ -210,19 +210,19 @@ fn read_header<S: Source>(source: &mut S) -> Result<FileHead, SourceFault>
     ensures counts { S.failed source.new ≡ S.failed source.old + (if is_io result then 1 else 0) }
 {
     let mut first = [0; MARK];
-    fill_whole(source, &mut first)?;
-    let Some(mark) = mark_in(BigEndian::read_u32(&first)) else {
+    read_exact(source, &mut first)?;
+    let Some(magic) = magic_in(BigEndian::read_u32(&first)) else {
         return Err(SourceFault::Malformed);
     };
     let mut version = [0; VERSION];
-    fill_whole(source, &mut version)?;
-    if half_at(mark.order, &version, 0) != MAJOR_VERSION {
+    read_exact(source, &mut version)?;
+    if u16_at(magic.order, &version, 0) != MAJOR_VERSION {
         return Err(SourceFault::Malformed);
     }
     let mut others = [0; OTHERS];
-    fill_whole(source, &mut others)?;
-    match link_layer(word_at(mark.order, &others, LINK_TYPE) % LINK_TYPES) {
-        Some(layer) => Ok(FileHead { mark, layer }),
+    read_exact(source, &mut others)?;
+    match link_layer(u32_at(magic.order, &others, LINK_TYPE) % LINK_TYPES) {
+        Some(layer) => Ok(FileHeader { magic, layer }),
         None => Err(SourceFault::LinkType),
     }
 }
@@ -230,7 +230,7 @@ fn read_header<S: Source>(source: &mut S) -> Result<FileHead, SourceFault>
 /// A record, of which the first octets of the frame go into the buffer, or the end.
 fn read_record<S: Source>(
     source: &mut S,
-    file: FileHead,
+    file: FileHeader,
     keep: usize,
     frame: &mut Vec<u8>,
 ) -> Result<Step, SourceFault>
@@ -238,7 +238,7 @@ fn read_record<S: Source>(
     ensures step { IfOk result (IsRecordStep file keep frame.new.items (S.remaining source.old)
         (S.remaining source.new)) }
     ensures fault { IfErr result
-        (IsRecordFault file.mark (S.remaining source.old) (S.remaining source.new)) }
+        (IsRecordFault file.magic (S.remaining source.old) (S.remaining source.new)) }
     ensures counts { S.failed source.new ≡ S.failed source.old + (if is_io result then 1 else 0) }
     ensures memory { keep ≤ vec_capacity frame.old
         → result ≢ Err (faults.Capture captures.NoMemory) }
@@ -253,20 +253,20 @@ fn read_record<S: Source>(
     if n < HEAD {
         return Err(SourceFault::CutFile);
     }
-    let mark = file.mark;
-    let captured = word_at(mark.order, &head, CAPTURED);
+    let magic = file.magic;
+    let captured = u32_at(magic.order, &head, CAPTURED);
     if captured > LONGEST_CAPTURED {
         return Err(SourceFault::Malformed);
     }
     let mut wire = [0; WIRE];
-    fill_whole(source, &mut wire)?;
-    read_frame(source, captured as usize, keep, frame)?;
-    let seconds = word_at(mark.order, &head, SECONDS);
-    let fraction = word_at(mark.order, &head, FRACTION);
-    Ok(Step::Record(Head {
-        moment: moment_at(mark.unit, seconds, fraction),
+    read_exact(source, &mut wire)?;
+    read_record_octets(source, captured as usize, keep, frame)?;
+    let seconds = u32_at(magic.order, &head, SECONDS);
+    let fraction = u32_at(magic.order, &head, FRACTION);
+    Ok(Step::Record(RecordHeader {
+        moment: moment_at(magic.unit, seconds, fraction),
         captured,
-        wire: word_at(mark.order, &wire, 0),
+        wire: u32_at(magic.order, &wire, 0),
         layer: Some(file.layer),
     }))
 }

@@ -15,7 +15,7 @@ use byteorder::{ByteOrder, LittleEndian};
 use its_linkframe::Sink;
 use std::marker::Model;
 
-/// The mark d4c3b2a1, version 2.4, zone 0, accuracy 0, snap length 262144. The number of the link
+/// The magic d4c3b2a1, version 2.4, zone 0, accuracy 0, snap length 262144. The number of the link
 /// layer follows.
 const FILE_FRONT: [u8; 20] = [
     0xd4, 0xc3, 0xb2, 0xa1, 2, 0, 4, 0, 0, 0, 0, 0, 0, 0, 0, 0, 0, 0, 4, 0,

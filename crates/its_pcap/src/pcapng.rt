@@ -13,7 +13,7 @@ ghost use Rattle.its_pcap.specs.declared.fault.SourceFault.TheVariants as faults
 use crate::blocks::{Block, Kind, kind_of, read_block};
 use crate::fault::SourceFault;
 use crate::interface::Interface;
-use crate::octets::{Order, word_at};
+use crate::octets::{Endianness, u32_at};
 use crate::record::Step;
 use its_linkframe::{CaptureFault, Source, fill};
 use std::alloc::Global;
@@ -28,7 +28,7 @@ enum Stage {
     /// At the first block.
     Start,
     /// At a block of a section, or at the end.
-    Blocks(Order),
+    Blocks(Endianness),
     /// It met the end, and answers it again.
     Ended,
     /// It met a fault, and answers C5.
@@ -134,7 +134,7 @@ impl<R: Source> PcapngReader<R> {
 /// The first block of a file is in no section.
 fn read_next<S: Source>(
     source: &mut S,
-    order: Option<Order>,
+    order: Option<Endianness>,
     interfaces: &[Interface],
     keep: usize,
     frame: &mut Vec<u8>,
@@ -149,14 +149,17 @@ fn read_next<S: Source>(
     let Some(kind) = read_kind(source, order)? else {
         return Ok(None);
     };
-    let in_order = order.unwrap_or(Order::High);
+    let in_order = order.unwrap_or(Endianness::Big);
     let block = read_block(source, kind, in_order, interfaces, keep, frame)?;
     Ok(Some(block))
 }
 
 /// What the next block is, by its type; `None` at the end of the file. P2 where the first block of
 /// a file is no section header.
-fn read_kind<S: Source>(source: &mut S, order: Option<Order>) -> Result<Option<Kind>, SourceFault>
+fn read_kind<S: Source>(
+    source: &mut S,
+    order: Option<Endianness>,
+) -> Result<Option<Kind>, SourceFault>
     requires { S.failed source.old < 2 ^ 64 - 1 }
     ensures answer { IsAnswerOrEnd (kind_of_next order) (S.remaining source.old)
         (S.remaining source.new) result }
@@ -170,7 +173,7 @@ fn read_kind<S: Source>(source: &mut S, order: Option<Order>) -> Result<Option<K
         Some(n) if n < TYPE => return Err(SourceFault::CutFile),
         Some(_) => {}
     }
-    let kind = kind_of(word_at(order.unwrap_or(Order::High), &octets, 0));
+    let kind = kind_of(u32_at(order.unwrap_or(Endianness::Big), &octets, 0));
     if order.is_none() && kind != Kind::Section {
         return Err(SourceFault::Malformed);
     }

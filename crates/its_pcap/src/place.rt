@@ -10,13 +10,13 @@ use crate::format::Format;
 use crate::link::LinkLayer;
 use crate::pcap::LONGEST_CAPTURED;
 use crate::put_fault::PutFault;
-use crate::record::{Head, RecordFault};
+use crate::record::{RecordFault, RecordHeader};
 use its_linkframe::LONGEST_FRAME;
 
 /// The link layer of a record that is written to a file of this one, or of any where none is given.
 ///
 /// `LinkType` for a record of another one, or of one that isn't read, before `CutFrame`.
-pub fn layer_for(head: &Head, only: Option<LinkLayer>) -> Result<LinkLayer, RecordFault>
+pub fn layer_for(head: &RecordHeader, only: Option<LinkLayer>) -> Result<LinkLayer, RecordFault>
     ensures { MatchResult result (IsLayerFor head.now only)
         (λ f. refusal_of head.now only ≡ Some f) }
 {

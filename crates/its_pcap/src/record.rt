@@ -9,7 +9,7 @@ use std::fmt;
 
 /// What is told of a record beside its octets.
 #[derive(Clone, Copy, Debug, PartialEq, Eq)]
-pub struct Head {
+pub struct RecordHeader {
     /// In milliseconds since the epoch of its file; a fraction is cut down.
     pub moment: u64,
     /// How many of the record's octets the file has: at most 262144.
@@ -24,7 +24,7 @@ pub struct Head {
 #[derive(Clone, Copy, Debug, PartialEq, Eq)]
 pub enum Step {
     /// A record; its octets are in the buffer.
-    Record(Head),
+    Record(RecordHeader),
     /// A header or a block without a record was passed over: call again.
     Passed,
     /// The end of the file, answered from then on.
@@ -40,7 +40,7 @@ pub enum RecordFault {
     CutFrame,
 }
 
-impl Head {
+impl RecordHeader {
     /// The first fault of the record: P3 before P4.
     pub fn fault(&self) -> Option<RecordFault>
         ensures { result ≡ fault_of self.now }

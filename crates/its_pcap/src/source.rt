@@ -3,19 +3,19 @@
 ghost use Rattle.std.specs.Prelude.{◌≡◌, ℕ, ◌-◌, ◌^◌, ◌<◌, false, List, Result, IfOk, IfErr};
 ghost use Rattle.std.specs.Prelude.{None, Err, vec_capacity};
 ghost use Rattle.its_linkframe.specs.declared.record.CaptureFault.TheVariants as captures;
-ghost use Rattle.its_pcap.specs.Begun.{left_of};
+ghost use Rattle.its_pcap.specs.Peeked.{left_of};
 ghost use Rattle.its_pcap.specs.Sources.{GivesCaptured, GivesClassic, GivesBlock, Gives};
 ghost use Rattle.its_pcap.specs.Sources.{LacksCaptured, LacksClassic, LacksBlock, Lacks};
 ghost use Rattle.its_pcap.specs.Sources.{format_of_source, layer_of_source, IsAtStart, IsOpened};
 ghost use Rattle.its_pcap.specs.declared.fault.SourceFault.TheVariants as faults;
 
-use crate::begun::Begun;
 use crate::fault::SourceFault;
 use crate::format::{Format, format_of};
 use crate::link::LinkLayer;
 use crate::pcap::PcapReader;
 use crate::pcapng::PcapngReader;
-use crate::record::{Head, Step};
+use crate::peeked::Peeked;
+use crate::record::{RecordHeader, Step};
 use its_linkframe::{CaptureFault, CaptureReader, Source};
 use std::alloc::Global;
 use std::marker::Model;
@@ -104,7 +104,7 @@ impl<R: Source> RecordSource for CaptureSource<R> {
             None => Ok(Step::End),
             Some(moment) => {
                 let size = frame.len() as u32;
-                Ok(Step::Record(Head {
+                Ok(Step::Record(RecordHeader {
                     moment,
                     captured: size,
                     wire: size,
@@ -119,11 +119,11 @@ impl<R: Source> RecordSource for CaptureSource<R> {
 #[derive(Drop)]
 pub enum AnySource<S: Source> {
     /// A capture of this project's own.
-    Capture(CaptureSource<Begun<S>>),
+    Capture(CaptureSource<Peeked<S>>),
     /// Classic pcap.
-    Pcap(PcapReader<Begun<S>>),
+    Pcap(PcapReader<Peeked<S>>),
     /// pcapng.
-    Pcapng(PcapngReader<Begun<S>>),
+    Pcapng(PcapngReader<Peeked<S>>),
 }
 
 impl<S: Source + Drop> AnySource<S> {
@@ -142,19 +142,19 @@ impl<S: Source + Drop> AnySource<S> {
             (λ f. (f ≡ faults.Capture captures.Io) × (format ≡ None)) }
     {
         match format {
-            Some(format) => Ok(AnySource::of(alloc, Begun::new(source), format, keep)),
+            Some(format) => Ok(AnySource::of(alloc, Peeked::new(source), format, keep)),
             None => {
-                let Some(begun) = Begun::look(source) else {
+                let Some(peeked) = Peeked::peek(source) else {
                     return Err(SourceFault::Capture(CaptureFault::Io));
                 };
-                let format = format_of(begun.looked());
-                Ok(AnySource::of(alloc, begun, format, keep))
+                let format = format_of(peeked.peeked());
+                Ok(AnySource::of(alloc, peeked, format, keep))
             }
         }
     }
 
     /// A file of this format.
-    fn of(alloc: Global, source: Begun<S>, format: Format, keep: usize) -> AnySource<S>
+    fn of(alloc: Global, source: Peeked<S>, format: Format, keep: usize) -> AnySource<S>
         requires { S.failed source.source < 2 ^ 64 - 1 }
         ensures format { format_of_source result ≡ format }
         ensures start { IsAtStart keep

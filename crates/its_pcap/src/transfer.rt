@@ -16,7 +16,7 @@ use its_linkframe::{CaptureFault, Source, fill};
 const PIECE: usize = 512;
 
 /// Reads octets until the buffer is full. P1 where the input ends before, C3 where a call fails.
-pub(crate) fn fill_whole<S: Source>(source: &mut S, buf: &mut [u8]) -> Result<(), SourceFault>
+pub(crate) fn read_exact<S: Source>(source: &mut S, buf: &mut [u8]) -> Result<(), SourceFault>
     requires { S.failed source.old < 2 ^ 64 - 1 }
     ensures octets { OnOk result
         (Consumes (S.remaining source.old) (S.remaining source.new) buf.new) }
@@ -33,7 +33,7 @@ pub(crate) fn fill_whole<S: Source>(source: &mut S, buf: &mut [u8]) -> Result<()
 }
 
 /// Passes over that many octets. P1 where the input ends before, C3 where a call fails.
-pub(crate) fn pass_over<S: Source>(source: &mut S, count: usize) -> Result<(), SourceFault>
+pub(crate) fn skip<S: Source>(source: &mut S, count: usize) -> Result<(), SourceFault>
     requires { S.failed source.old < 2 ^ 64 - 1 }
     ensures octets { OnOk result
         (Passes count (S.remaining source.old) (S.remaining source.new)) }
@@ -45,11 +45,11 @@ pub(crate) fn pass_over<S: Source>(source: &mut S, count: usize) -> Result<(), S
     if count == 0 {
         return Ok(());
     }
-    pass_pieces(source, count)
+    skip_pieces(source, count)
 }
 
 /// The same of octets that there are: the room for pieces of them is on the stack, and cleared.
-fn pass_pieces<S: Source>(source: &mut S, count: usize) -> Result<(), SourceFault>
+fn skip_pieces<S: Source>(source: &mut S, count: usize) -> Result<(), SourceFault>
     requires { S.failed source.old < 2 ^ 64 - 1 }
     ensures octets { OnOk result
         (Passes count (S.remaining source.old) (S.remaining source.new)) }
@@ -62,7 +62,7 @@ fn pass_pieces<S: Source>(source: &mut S, count: usize) -> Result<(), SourceFaul
     let mut left = count;
     while left > 0 {
         let size = left.min(PIECE);
-        fill_whole(source, &mut piece[..size])?;
+        read_exact(source, &mut piece[..size])?;
         left -= size;
     }
     Ok(())
@@ -70,7 +70,7 @@ fn pass_pieces<S: Source>(source: &mut S, count: usize) -> Result<(), SourceFaul
 
 /// The frame of a record, of so many octets: the first `keep` of them at most, in place of what the
 /// buffer had; the others are passed over. One allocation where the buffer has too little room.
-pub(crate) fn read_frame<S: Source>(
+pub(crate) fn read_record_octets<S: Source>(
     source: &mut S,
     captured: usize,
     keep: usize,
@@ -89,6 +89,6 @@ pub(crate) fn read_frame<S: Source>(
     if frame.resize(kept, 0).is_err() {
         return Err(SourceFault::Capture(CaptureFault::NoMemory));
     }
-    fill_whole(source, frame.as_mut_slice())?;
-    pass_over(source, captured - kept)
+    read_exact(source, frame.as_mut_slice())?;
+    skip(source, captured - kept)
 }

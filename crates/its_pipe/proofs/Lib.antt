@@ -1,5 +1,6 @@
 pub mod Calls
-pub mod Kept
+pub mod InputLines
 pub mod Neighbours
 pub mod Read
 pub mod Served
+pub mod Own

@@ -1,14 +1,16 @@
 -- What a line asks for by the members of its object.
-use Rattle.std.proofs.Common.{ℕ, Ok, Err, Option, None, Some, refl, ◌≡◌, sym, ◌∙◌}
+use Rattle.std.proofs.Common.{ℕ, Ok, Err, Option, None, Some, refl, ◌≡◌, sym, subst, ◌∙◌}
 use Rattle.std.specs.Prelude.{Result, IfOk, IfErr, IsFalse, IsSome, codes}
 use Rattle.std.specs.declared.alloc.AllocError.{AllocError}
 use Rattle.serde_json.specs.Data.{Data}
 use Rattle.serde_json.specs.Find.{get}
+use Rattle.its_scenario.specs.declared.fault.KeyFault.{KeyFault}
+use Rattle.its_scenario.specs.declared.fault.KeyFault.TheVariants as key_faults
 use Rattle.its_scenario.specs.declared.key.Key.{Key}
 use Rattle.its_scenario.specs.declared.key.Key.TheVariants as keys
 use Rattle.its_pipe.specs.Requests.{Asks, AsksIn, AsksOf, IsBadCallKey, IsBadKey, IsBadOf, IsId}
 use Rattle.its_pipe.specs.Requests.{IsIdFault, IsMomentOf, IsObject, IsOfQuery, IsQueryFault}
-use Rattle.its_pipe.specs.Requests.{IsQueryWord}
+use Rattle.its_pipe.specs.Requests.{IsBadCallKeyOf, IsQueryWord, IsToldAs}
 use Rattle.its_pipe.specs.Lines.{IsBlank, LineText}
 use Rattle.its_pipe.specs.declared.reading.ReadFault.{ReadFault}
 use Rattle.its_pipe.specs.declared.reading.ReadFault.TheVariants as read_faults
@@ -28,6 +30,7 @@ asks_of now members id (asked_by.Query at query) is asks = (is, asks)
 asks_of now members id (asked_by.Bad faults.NotJson) is asks = absurd asks
 asks_of now members id (asked_by.Bad faults.Id) is asks = absurd asks
 asks_of now members id (asked_by.Bad (faults.Key key wrong)) is asks = (is, asks)
+asks_of now members id (asked_by.Bad (faults.Word meant)) is asks = (is, asks)
 asks_of now members id (asked_by.Bad (faults.Query key wrong)) is asks = (is, asks)
 
 -- a bad `id`
@@ -37,6 +40,7 @@ pub asks_no_id : (now : Option ℕ) (members : Data) (fault : LineFault)
 asks_no_id now members faults.NotJson is = absurd is
 asks_no_id now members faults.Id is = (refl, is)
 asks_no_id now members (faults.Key key wrong) is = absurd is
+asks_no_id now members (faults.Word meant) is = absurd is
 asks_no_id now members (faults.Query key wrong) is = absurd is
 
 asks_whole : (now : Option ℕ) (line : LineText) (members : Data) (id : Option Id) (asked : Asked)
@@ -51,6 +55,8 @@ asks_whole now line members id (asked_by.Bad faults.NotJson) asks short some is 
 asks_whole now line members id (asked_by.Bad faults.Id) asks short some is =
     (short, some, members, is, asks)
 asks_whole now line members id (asked_by.Bad (faults.Key key wrong)) asks short some is =
+    (short, some, members, is, asks)
+asks_whole now line members id (asked_by.Bad (faults.Word meant)) asks short some is =
     (short, some, members, is, asks)
 asks_whole now line members id (asked_by.Bad (faults.Query key wrong)) asks short some is =
     (short, some, members, is, asks)
@@ -74,11 +80,32 @@ pub bad_call : (now : Option ℕ) (members : Data) (moment : ℕ) (key : Key)
 bad_call now members moment key is bad =
     record { moment = λ none. absurd (none moment is); call = λ _ _. bad }
 
+-- so, told with a word that may be meant
+pub bad_told : (now : Option ℕ) (members : Data) (moment : ℕ) (fault : KeyFault) (told : ReadFault)
+    → IsMomentOf now members moment → IsBadCallKeyOf members fault → IsToldAs fault told
+    → IsBadOf now members told
+bad_told now members moment key_faults.OutOfMemory told is bad like =
+    subst (IsBadOf now members) (sym like) tt
+bad_told now members moment (key_faults.Refused key wrong) (read_faults.Bad (faults.Key other w))
+    is bad like =
+    bad_call now members moment other is (subst (IsBadCallKey members) (sym like) bad)
+bad_told now members moment (key_faults.Refused key wrong) (read_faults.Bad (faults.Word meant))
+    is bad like =
+    bad_call now members moment keys.Do is (subst (IsBadCallKey members) like bad)
+bad_told now members moment (key_faults.Refused key wrong) (read_faults.Bad faults.NotJson)
+    is bad like = absurd like
+bad_told now members moment (key_faults.Refused key wrong) (read_faults.Bad faults.Id) is bad like =
+    absurd like
+bad_told now members moment (key_faults.Refused key wrong)
+    (read_faults.Bad (faults.Query other w)) is bad like = absurd like
+bad_told now members moment (key_faults.Refused key wrong) read_faults.OutOfMemory is bad like = tt
+
 -- the fault of a key of what is asked
 pub bad_query : (now : Option ℕ) (members : Data) (fault : ReadFault)
     → IsQueryFault members fault → IsBadOf now members fault
 bad_query now members (read_faults.Bad faults.NotJson) is = absurd is.0
 bad_query now members (read_faults.Bad faults.Id) is = absurd is.0
 bad_query now members (read_faults.Bad (faults.Key key wrong)) is = absurd is.0
+bad_query now members (read_faults.Bad (faults.Word meant)) is = absurd is.0
 bad_query now members (read_faults.Bad (faults.Query key wrong)) is = is.1
 bad_query now members read_faults.OutOfMemory is = tt

@@ -1,14 +1,15 @@
 -- One more line after others.
 use Rattle.std.proofs.Common.{◌≡◌, ℕ, List, [], ◌∷◌, ◌++◌, ◌+◌, length, Ok, Err, None}
 use Rattle.std.proofs.Common.{refl, sym, ap, subst, ◌∙◌, arith, length-append}
-use Rattle.std.specs.Prelude.{Result, IfOk, OnOk}
+use Rattle.std.specs.Prelude.{Option, Result, IfOk, OnOk}
 use Rattle.std.proofs.lemmas.List.{append_assoc, append-nil}
 use Rattle.its_pipe.specs.declared.ended.Ended.{Ended}
 use Rattle.its_pipe.specs.declared.ended.Ended.TheVariants as ends
 use Rattle.its_station.specs.State.{StationState}
 use Rattle.its_station.specs.declared.counts.Counts.{Counts}
 use Rattle.its_pipe.specs.Knowing.{Counted}
-use Rattle.its_pipe.specs.Lines.{LineText}
+use Rattle.its_pipe.specs.Lines.{LineText, AreLines}
+use Rattle.its_pipe.proofs.InputLines.{AreBefore, before_none}
 use Rattle.its_pipe.specs.Serving.{IsServed, IsServedLine, TellsLine, TellsLines, ended_of}
 use Rattle.its_pipe.specs.Serving.{RepresentsCounted, then_ended}
 use Rattle.its_pipe.specs.declared.response.Response.{Response}
@@ -86,16 +87,20 @@ line_quiet s n line log station counts ended Took tells was took =
 
 -- so many lines were served, and the next is line n
 pub record Serving (s : Counted) (n : ℕ) (station : StationState) (counts : Counts) (ended : Ended)
-    (Took : List Response → Type 0) : Type 0 where
-  pub served : IsServed s station counts ended Took
+    (Took : List Response → Type 0) (input left : Option (List ℕ)) : Type 0 where
+  pub served : IsServed s station counts ended Took None
   pub count : 1 + length served.lines ≡ n
+  pub so_far : AreBefore input left served.lines
 
-pub serving_none : (s : Counted) (station : StationState) (counts : Counts) (Took : List Response → Type 0)
-    → RepresentsCounted station counts s → Took [] → Serving s 1 station counts ends.Done Took
-serving_none s station counts Took rep took =
+pub serving_none : (s : Counted) (station : StationState) (counts : Counts)
+    (Took : List Response → Type 0) (input : Option (List ℕ))
+    → RepresentsCounted station counts s → Took []
+    → Serving s 1 station counts ends.Done Took input input
+serving_none s station counts Took input rep took =
     record {
       served = record {
         lines = [];
+        lines_are = tt;
         told = [];
         after = s;
         tells = (refl, refl);
@@ -104,18 +109,23 @@ serving_none s station counts Took rep took =
         stands = rep;
       };
       count = refl;
+      so_far = before_none input;
     }
 
-pub serving_more : (s : Counted) (n : ℕ) (station next : StationState) (counts later : Counts) (ended then : Ended)
-    (Took TookThen : List Response → Type 0) (line : LineText)
-    (serving : Serving s n station counts ended Took)
+pub serving_more : (s : Counted) (n : ℕ) (station next : StationState) (counts later : Counts)
+    (ended then : Ended) (Took TookThen : List Response → Type 0) (line : LineText)
+    (input left rest : Option (List ℕ)) (serving : Serving s n station counts ended Took input left)
+    → (AreBefore input left serving.served.lines
+    → AreBefore input rest (serving.served.lines ++ line ∷ []))
     → IsServedLine serving.served.after n line serving.served.told next later then TookThen
-    → Serving s (n + 1) next later then TookThen
-serving_more s n station next counts later ended then Took TookThen line serving one =
+    → Serving s (n + 1) next later then TookThen input rest
+serving_more s n station next counts later ended then Took TookThen line input left rest serving
+    more one =
     let served = serving.served in
     record {
       served = record {
         lines = served.lines ++ line ∷ [];
+        lines_are = tt;
         told = served.told ++ one.told;
         after = one.after;
         tells = lines_last s 1 served.lines served.told served.after line one.told one.after
@@ -127,4 +137,24 @@ serving_more s n station next counts later ended then Took TookThen line serving
         stands = one.stands;
       };
       count = omega (arith, length-append served.lines (line ∷ []), serving.count);
+      so_far = more serving.so_far;
+    }
+
+-- the input has no further line
+pub serving_all : (s : Counted) (n : ℕ) (station : StationState) (counts : Counts) (ended : Ended)
+    (Took : List Response → Type 0) (input left : Option (List ℕ))
+    (serving : Serving s n station counts ended Took input left)
+    → (AreBefore input left serving.served.lines → AreLines input serving.served.lines)
+    → IsServed s station counts ended Took input
+serving_all s n station counts ended Took input left serving all =
+    let served = serving.served in
+    record {
+      lines = served.lines;
+      lines_are = all serving.so_far;
+      told = served.told;
+      after = served.after;
+      tells = served.tells;
+      took = served.took;
+      ended_is = served.ended_is;
+      stands = served.stands;
     }

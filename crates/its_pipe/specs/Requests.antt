@@ -1,16 +1,22 @@
 -- What a line asks for.
 use Rattle.std.specs.Prelude.{◌≡◌, ◌<◌, ◌≤◌, ◌^◌, ℕ, ℤ, pos, List, codes, length, unsigned_abs}
 use Rattle.std.specs.Prelude.{Bool, IsTrue, IsFalse, ◌⊎◌, IsUtf8, Option, Some, None, IsSome, Ok}
+use Rattle.std.specs.Prelude.{is_some}
 use Rattle.std.specs.Option.{option_and_then}
 use Rattle.std.specs.String.{string_bytes}
 use Rattle.hex.specs.Hex.{decode_of}
 use Rattle.serde_json.specs.Data.{Data}
-use Rattle.serde_json.specs.Find.{get, as_i64, as_number, as_object, as_str}
+use Rattle.serde_json.specs.Find.{get, as_bool, as_i64, as_number, as_object, as_str}
 use Rattle.serde_json.specs.Read.{read}
+use Rattle.its_model.specs.Calls.{OwnCall}
+use Rattle.its_model.specs.Calls.Call.{Own}
+use Rattle.its_model.specs.World.What.{Calls}
 use Rattle.its_scenario.specs.declared.key.Key.{Key}
 use Rattle.its_scenario.specs.declared.key.Key.TheVariants as keys
 use Rattle.its_scenario.specs.declared.fault.KeyFault.{KeyFault}
 use Rattle.its_scenario.specs.declared.fault.KeyFault.TheVariants as key_faults
+use Rattle.its_scenario.specs.Reading.{FieldValues, IsBadAt, SaysWhat}
+use Rattle.its_station.specs.Runs.{IsCall}
 use Rattle.its_station.specs.declared.run.Call.{Call}
 use Rattle.its_station.specs.declared.run.Call.TheVariants as calls
 use Rattle.its_pipe.specs.Lines.{LineText, IsBlank}
@@ -80,12 +86,30 @@ IsFrameText members frame =
 abbrev pub IsJitter : Data → ℕ → Type 0
 IsJitter members jitter = integer_at (codes "jitter") members ≡ Some (pos jitter)
 
--- the object asks for this call: by `receive` for a frame that came, by another word for all else
+-- what stands under the words of an object
+abbrev pub values_in : Data → FieldValues
+values_in members =
+    record {
+      has = λ word. is_some (get word members);
+      integer = λ word. integer_at word members;
+      truth = λ word. option_and_then as_bool (get word members);
+      text = λ word. text_at word members;
+    }
+
+-- the object says this call of a station's own applications: the word of it stands under `do`, and
+-- what it is made with under the keys of that word
+abbrev pub SaysCall : Data → Call → Type 0
+SaysCall members call =
+    (own : OwnCall) × SaysWhat (values_in members) (Calls own) × IsCall call (Own own)
+
+-- the object asks for this call: by `receive` for a frame that came, else by the keys of a
+-- scenario's event
 abbrev pub AsksCall : Data → Call → Type 0
 AsksCall members (calls.Receive frame) =
     IsWord members (codes "receive") × IsFrameText members frame.items
 AsksCall members call =
-    (¬ IsWord members (codes "receive")) × ¬ IsWord members (codes "deliver")
+    (¬ IsWord members (codes "receive")) × (¬ IsWord members (codes "deliver"))
+    × SaysCall members call
 
 -- the object asks this of what the station knows
 abbrev pub AsksQuery : Data → Query → Type 0
@@ -103,9 +127,12 @@ IsQueryWord members =
     IsWord members (codes "next_beacon") ⊎ IsWord members (codes "neighbours")
     ⊎ IsWord members (codes "look_up") ⊎ IsWord members (codes "read_frame")
 
--- the first bad key of a call is this one, where its moment is good: never that of the moment
+-- the first bad key of a call is this one, where its moment is good: never that of the moment, and
+-- one under which nothing stands that it takes
 pub record IsBadCallKey (members : Data) (key : Key) : Type 0 where
   pub what : ¬ (key ≡ keys.At)
+  pub own : (¬ IsWord members (codes "receive")) → (¬ IsWord members (codes "deliver"))
+      → IsBadAt (values_in members) key
   pub deliver : IsWord members (codes "deliver") → key ≡ keys.Do
   pub frame : IsWord members (codes "receive")
       → (key ≡ keys.Frame) × ((frame : List ℕ) → ¬ IsFrameText members frame)
@@ -121,6 +148,7 @@ AsksIn now members asks.Nothing = ⊥
 AsksIn now members (asks.Call moment call) = IsMomentOf now members moment × AsksCall members call
 AsksIn now members (asks.Query at query) = IsAskedAt now members at × AsksQuery members query
 AsksIn now members (asks.Bad (faults.Key key wrong)) = IsBadKey now members key
+AsksIn now members (asks.Bad (faults.Word meant)) = IsBadKey now members keys.Do
 AsksIn now members (asks.Bad (faults.Query key wrong)) = IsQueryWord members
 AsksIn now members (asks.Bad fault) = ⊥
 
@@ -185,6 +213,15 @@ IsQueryFault members fault = IsOfQuery fault × IsQueryWord members
 abbrev pub IsBadCallKeyOf : Data → KeyFault → Type 0
 IsBadCallKeyOf members (key_faults.Refused key wrong) = IsBadCallKey members key
 IsBadCallKeyOf members key_faults.OutOfMemory = Unit {0}
+
+-- the fault of a key is told as itself, or where it is that of the word, with one that may be meant;
+-- to look for that may need memory
+abbrev pub IsToldAs : KeyFault → ReadFault → Type 0
+IsToldAs key_faults.OutOfMemory told = told ≡ read_faults.OutOfMemory
+IsToldAs (key_faults.Refused key wrong) (read_faults.Bad (faults.Key other told)) = other ≡ key
+IsToldAs (key_faults.Refused key wrong) (read_faults.Bad (faults.Word meant)) = key ≡ keys.Do
+IsToldAs (key_faults.Refused key wrong) (read_faults.Bad fault) = ⊥
+IsToldAs (key_faults.Refused key wrong) read_faults.OutOfMemory = Unit {0}
 
 -- the fault of the members is that of the first bad one
 abbrev pub IsBadOf : Option ℕ → Data → ReadFault → Type 0

@@ -12,7 +12,7 @@ use Rattle.its_station.specs.declared.run.Call.TheVariants as calls
 use Rattle.its_station.specs.declared.run.Reply.{Reply}
 use Rattle.its_station.specs.State.{StationState, RepresentsStation}
 use Rattle.its_pipe.specs.Knowing.{Counted, TellsQuery}
-use Rattle.its_pipe.specs.Lines.{LineText}
+use Rattle.its_pipe.specs.Lines.{LineText, AreLines}
 use Rattle.its_pipe.specs.Requests.{Asks}
 use Rattle.its_pipe.specs.declared.request.Asked.{Asked}
 use Rattle.its_pipe.specs.declared.request.Asked.TheVariants as asked_by
@@ -127,11 +127,12 @@ pub record IsServedLine (s : Counted) (n : ℕ) (line : LineText) (log : List Re
   pub ended_is : ended ≡ ended_of (log ++ told)
   pub stands : RepresentsCounted station counts after
 
--- A station that was this one has served the lines that were read: what was answered to them, in
+-- A station that was this one has served the lines of the input: what was answered to them, in
 -- order, was taken, and it represents the station of the model after the calls of these lines.
 pub record IsServed (s : Counted) (station : StationState) (counts : Counts) (ended : Ended)
-    (Took : List Response → Type 0) : Type 0 where
+    (Took : List Response → Type 0) (input : Option (List ℕ)) : Type 0 where
   pub lines : List LineText
+  pub lines_are : AreLines input lines
   pub told : List Response
   pub after : Counted
   pub tells : TellsLines s 1 lines told after

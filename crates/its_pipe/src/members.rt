@@ -1,6 +1,6 @@
 //! The members of a JSON object, as the fields that keys are read from.
 
-ghost use Rattle.std.specs.Prelude.{◌≡◌, ◌↔◌, IsTrue, IsSome};
+ghost use Rattle.std.specs.Prelude.{◌≡◌, ◌↔◌, IsTrue, IsSome, is_some};
 ghost use Rattle.std.specs.Option.{option_map, option_and_then};
 ghost use Rattle.serde_json.specs.Find.{get, as_bool, as_i64, as_number, as_str};
 ghost use Rattle.serde_json.specs.View.{view};
@@ -14,8 +14,13 @@ use serde_json::Value;
 pub(crate) struct Members<'a>(pub(crate) &'a Value);
 
 impl Fields for Members<'_> {
+    ghost use Rattle.its_pipe.specs.Requests.{values_in};
+
+    ghost values = { λ members. values_in (view members.0.now) };
+
     fn has(&self, word: &str) -> bool
-        ensures { IsTrue result ↔ IsSome (get word.now (view self.now.0.now)) }
+        ensures value { result ≡ is_some (get word.now (view self.now.0.now)) }
+        ensures some { IsTrue result ↔ IsSome (get word.now (view self.now.0.now)) }
     {
         self.0.get(word).is_some()
     }

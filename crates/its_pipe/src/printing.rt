@@ -7,7 +7,7 @@ use crate::fault::PipeFault;
 use crate::reason::LineReason;
 use crate::request::{Id, LineFault};
 use crate::response::{Done, Known, Response, ResponseSink};
-use its_answer_text::{RefusedReason, delivery_keys, why_word};
+use its_answer_text::{RefusedReason, delivery_keys, words};
 use its_frame_text::{FrameKeys, MessageKeys};
 use its_gnvalue::{GnAddress, LongPv};
 use its_json::{Digits, JsonFault, JsonLine, Octets, Printed};
@@ -60,7 +60,7 @@ pub fn print_response<'l>(
             source,
             reply,
         } => {
-            let head = Head::new(id, Some(*at), reply_word(*done, reply));
+            let head = LineHead::new(id, Some(*at), reply_word(*done, reply));
             line.of(&ReplyLine::new(head, source, reply))
         }
         Response::Known { id, at, known } => print_known(line, id, *at, known),
@@ -79,7 +79,7 @@ pub fn print_response<'l>(
 
 /// What each answer that has a `result` begins with.
 #[derive(Clone, Copy, Serialize)]
-struct Head<'a> {
+struct LineHead<'a> {
     #[serde(skip_serializing_if = "Option::is_none")]
     id: Option<IdText<'a>>,
     #[serde(skip_serializing_if = "Option::is_none")]
@@ -87,9 +87,9 @@ struct Head<'a> {
     result: &'static str,
 }
 
-impl<'a> Head<'a> {
-    fn new(id: &'a Option<Id>, at: Option<u64>, word: &'static str) -> Head<'a> {
-        Head {
+impl<'a> LineHead<'a> {
+    fn new(id: &'a Option<Id>, at: Option<u64>, word: &'static str) -> LineHead<'a> {
+        LineHead {
             id: id.as_ref().map(IdText),
             at,
             result: word,
@@ -116,7 +116,7 @@ impl Serialize for IdText<'_> {
 #[derive(Clone, Copy, Serialize)]
 struct ReplyLine<'a> {
     #[serde(flatten)]
-    head: Head<'a>,
+    head: LineHead<'a>,
     #[serde(skip_serializing_if = "Option::is_none")]
     source: Option<Digits<8>>,
     #[serde(skip_serializing_if = "Option::is_none")]
@@ -132,7 +132,7 @@ struct ReplyLine<'a> {
 }
 
 impl<'a> ReplyLine<'a> {
-    fn new(head: Head<'a>, source: &Option<GnAddress>, reply: &'a Reply) -> ReplyLine<'a> {
+    fn new(head: LineHead<'a>, source: &Option<GnAddress>, reply: &'a Reply) -> ReplyLine<'a> {
         let line = ReplyLine {
             head,
             source: source.as_ref().map(digits_of),
@@ -149,7 +149,7 @@ impl<'a> ReplyLine<'a> {
                 ..line
             },
             Reply::Ignored(why) => ReplyLine {
-                why: Some(why_word(*why)),
+                why: Some(words::why_word(*why)),
                 ..line
             },
             Reply::Accepted { handed, sent } => ReplyLine {
@@ -185,27 +185,30 @@ fn print_known<'l>(
 {
     match known {
         Known::NextBeacon(moment) => line.of(&BeaconLine {
-            head: Head::new(id, at, "next_beacon"),
+            head: LineHead::new(id, at, "next_beacon"),
             moment: *moment,
         }),
         Known::Neighbours { vectors, more } => line.of(&NeighboursLine {
-            head: Head::new(id, at, "neighbours"),
+            head: LineHead::new(id, at, "neighbours"),
             vectors: VectorList(vectors.as_slice()),
             more: *more,
         }),
         Known::Found(vector) => line.of(&FoundLine {
-            head: Head::new(id, at, "found"),
+            head: LineHead::new(id, at, "found"),
             vector: VectorKeys::of(vector),
         }),
-        Known::Unknown => line.of(&Head::new(id, at, "unknown")),
+        Known::Unknown => line.of(&LineHead::new(id, at, "unknown")),
         Known::Frame(octets) => print_frame(line, id, at, octets.as_slice()),
-        Known::NoFrame(fault) => line.of(&NoFrameLine::new(Head::new(id, at, REFUSED), *fault)),
+        Known::NoFrame(fault) => line.of(&NoFrameLine::new(
+            LineHead::new(id, at, words::REFUSED),
+            *fault,
+        )),
         Known::Counts(counts) => line.of(&CountsLine {
-            head: Head::new(id, at, "counts"),
+            head: LineHead::new(id, at, "counts"),
             counts: CountKeys::of(counts),
         }),
         Known::Refused(refused) => line.of(&RefusedLine {
-            head: Head::new(id, at, REFUSED),
+            head: LineHead::new(id, at, words::REFUSED),
             code: Printed(refused.code()),
             reason: Printed(RefusedReason(*refused)),
         }),
@@ -223,27 +226,24 @@ fn print_frame<'l>(
 {
     match read_frame(octets) {
         Ok(frame) => line.of(&FrameLine {
-            head: Head::new(id, at, "read"),
+            head: LineHead::new(id, at, "read"),
             frame: FrameKeys::of(&frame),
         }),
-        Err(fault) => line.of(&NoFrameLine::new(Head::new(id, at, REFUSED), fault)),
+        Err(fault) => line.of(&NoFrameLine::new(LineHead::new(id, at, words::REFUSED), fault)),
     }
 }
-
-/// The word of what isn't done.
-const REFUSED: &str = "refused";
 
 #[derive(Clone, Copy, Serialize)]
 struct BeaconLine<'a> {
     #[serde(flatten)]
-    head: Head<'a>,
+    head: LineHead<'a>,
     moment: u64,
 }
 
 #[derive(Clone, Copy, Serialize)]
 struct NeighboursLine<'a> {
     #[serde(flatten)]
-    head: Head<'a>,
+    head: LineHead<'a>,
     vectors: VectorList<'a>,
     more: bool,
 }
@@ -251,7 +251,7 @@ struct NeighboursLine<'a> {
 #[derive(Clone, Copy, Serialize)]
 struct FoundLine<'a> {
     #[serde(flatten)]
-    head: Head<'a>,
+    head: LineHead<'a>,
     #[serde(flatten)]
     vector: VectorKeys,
 }
@@ -259,7 +259,7 @@ struct FoundLine<'a> {
 #[derive(Clone, Copy, Serialize)]
 struct FrameLine<'a> {
     #[serde(flatten)]
-    head: Head<'a>,
+    head: LineHead<'a>,
     #[serde(flatten)]
     frame: FrameKeys<'a>,
 }
@@ -267,13 +267,13 @@ struct FrameLine<'a> {
 #[derive(Clone, Copy, Serialize)]
 struct NoFrameLine<'a> {
     #[serde(flatten)]
-    head: Head<'a>,
+    head: LineHead<'a>,
     code: Printed<FrameCode>,
     reason: Printed<RefusedReason>,
 }
 
 impl<'a> NoFrameLine<'a> {
-    fn new(head: Head<'a>, fault: FrameFault) -> NoFrameLine<'a> {
+    fn new(head: LineHead<'a>, fault: FrameFault) -> NoFrameLine<'a> {
         NoFrameLine {
             head,
             code: Printed(fault.code()),
@@ -285,7 +285,7 @@ impl<'a> NoFrameLine<'a> {
 #[derive(Clone, Copy, Serialize)]
 struct CountsLine<'a> {
     #[serde(flatten)]
-    head: Head<'a>,
+    head: LineHead<'a>,
     #[serde(flatten)]
     counts: CountKeys,
 }
@@ -293,7 +293,7 @@ struct CountsLine<'a> {
 #[derive(Clone, Copy, Serialize)]
 struct RefusedLine<'a> {
     #[serde(flatten)]
-    head: Head<'a>,
+    head: LineHead<'a>,
     code: Printed<RefusedCode>,
     reason: Printed<RefusedReason>,
 }
@@ -426,16 +426,16 @@ struct FaultLine<'a> {
 fn reply_word(done: Done, reply: &Reply) -> &'static str {
     match reply {
         Reply::Done => match done {
-            Done::Moved => "moved",
-            Done::Opened => "opened",
-            Done::Closed => "closed",
-            Done::Restarted => "restarted",
+            Done::Moved => words::MOVED,
+            Done::Opened => words::OPENED,
+            Done::Closed => words::CLOSED,
+            Done::Restarted => words::RESTARTED,
             Done::Other => "done",
         },
-        Reply::Quiet => "quiet",
-        Reply::Sent(_) => "sent",
-        Reply::Ignored(_) => "ignored",
-        Reply::Accepted { .. } => "accepted",
-        Reply::Refused(_) => REFUSED,
+        Reply::Quiet => words::QUIET,
+        Reply::Sent(_) => words::SENT,
+        Reply::Ignored(_) => words::IGNORED,
+        Reply::Accepted { .. } => words::ACCEPTED,
+        Reply::Refused(_) => words::REFUSED,
     }
 }

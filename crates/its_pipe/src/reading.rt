@@ -2,16 +2,22 @@
 
 ghost use Rattle.std.specs.Prelude.{◌≡◌, ◌↔◌, ◌⊎◌, ℕ, List, IfOk, IfErr, IfSome, IsSome, IfNone};
 ghost use Rattle.std.specs.Prelude.{OnErr, None, Some};
+ghost use Rattle.std.specs.Prelude.{codes};
 ghost use Rattle.serde_json.specs.View.{view};
+ghost use Rattle.its_scenario.specs.Faults.{IsWhatFault};
+ghost use Rattle.its_scenario.specs.Reading.{IsBadOf as IsBadKeyOf};
 ghost use Rattle.its_station.specs.Runs.{IsInRange};
+ghost use Rattle.its_world.specs.Events.{IsOwn};
 ghost use Rattle.its_pipe.specs.Requests.{Asks, AsksCall, AsksIn, AsksOf, AsksQuery, IsAskedIn};
 ghost use Rattle.its_pipe.specs.Requests.{IsAskedAt, IsBadOf, IsBadCallKeyOf, IsFrameKey, IsFrameText, IsId};
 ghost use Rattle.its_pipe.specs.Requests.{IsIdFault, IsJitter, IsJsonObject, IsMomentFault, IsMomentOf, IsObject};
-ghost use Rattle.its_pipe.specs.Requests.{IsOfQuery, IsQueryFault, line_of};
+ghost use Rattle.its_pipe.specs.Requests.{IsOfQuery, IsQueryFault, IsToldAs, IsWord, SaysCall, line_of};
+ghost use Rattle.its_pipe.specs.Requests.{values_in};
 
 use crate::lines::is_blank;
 use crate::members::Members;
 use crate::request::{Asked, Id, LineFault, Query, QueryKey, Request};
+use crate::word::LineWord;
 use its_gnvalue::GnAddress;
 use its_scenario::{Fields, Key, KeyFault, Wrong, read_what};
 use its_station::Call;
@@ -141,6 +147,7 @@ fn read_id(alloc: Global, members: &Members<'_>) -> Result<Option<Id>, ReadFault
 
 /// Reads the moment, `do` and the keys of the word. What is asked of what the station knows needs
 /// no moment.
+#[tactic(auto, using(crate::proofs::Read::bad_told))]
 fn read_asked(alloc: Global, members: &Members<'_>, now: Option<u64>) -> Result<Asked, ReadFault>
     ensures asks { IfOk result (AsksIn now (view members.now.0.now)) }
     ensures range { IfOk result (IsAskedIn IsInRange) }
@@ -151,8 +158,26 @@ fn read_asked(alloc: Global, members: &Members<'_>, now: Option<u64>) -> Result<
         return Ok(Asked::Query(at, query));
     }
     match at {
-        Some(moment) => Ok(Asked::Call(moment, read_call(alloc, members)?)),
+        Some(moment) => match read_call(alloc, members) {
+            Ok(call) => Ok(Asked::Call(moment, call)),
+            Err(fault) => Err(with_word_meant(alloc, members, fault)),
+        },
         None => Err(ReadFault::Bad(LineFault::Key(Key::At, Wrong::Missing))),
+    }
+}
+
+/// The fault of a call. Where it is that of a word that is none of a line's, the word is told with
+/// it that may be meant.
+fn with_word_meant(alloc: Global, members: &Members<'_>, fault: KeyFault) -> ReadFault
+    ensures { IsToldAs fault result }
+{
+    if !matches!(fault, KeyFault::Refused(Key::Do, Wrong::Value)) {
+        return ReadFault::from(fault);
+    }
+    match LineWord::meant_by(alloc, members.text("do").unwrap_or("")) {
+        Ok(Some(meant)) => ReadFault::Bad(LineFault::Word(meant)),
+        Ok(None) => ReadFault::from(fault),
+        Err(AllocError) => ReadFault::OutOfMemory,
     }
 }
 
@@ -269,6 +294,7 @@ fn unlike(members: &Members<'_>, word: &str, key: QueryKey) -> ReadFault
 
 /// Reads the call of a line. It has the keys of a scenario's event but for `deliver`, and beside
 /// these a frame that came.
+#[tactic(auto, using(crate::proofs::Own::asks_own, crate::proofs::Own::bad_own))]
 fn read_call(alloc: Global, members: &Members<'_>) -> Result<Call, KeyFault>
     ensures call { IfOk result (AsksCall (view members.now.0.now)) }
     ensures range { IfOk result IsInRange }
@@ -277,10 +303,23 @@ fn read_call(alloc: Global, members: &Members<'_>) -> Result<Call, KeyFault>
     match members.text("do") {
         Some("receive") => Ok(Call::Receive(read_frame(alloc, members)?)),
         Some("deliver") => Err(KeyFault::Refused(Key::Do, Wrong::Value)),
-        _ => {
-            let call = read_what(alloc, members)?.into_call();
-            call.ok_or(KeyFault::Refused(Key::Do, Wrong::Value))
-        }
+        _ => read_own(alloc, members),
+    }
+}
+
+/// Reads a call of a station's own applications, which has the keys of a scenario's event.
+#[tactic(auto, using(crate::proofs::Own::says_call, crate::proofs::Own::never_delivers))]
+fn read_own(alloc: Global, members: &Members<'_>) -> Result<Call, KeyFault>
+    ensures says { IfOk result (SaysCall (view members.now.0.now)) }
+    ensures own { IfOk result IsOwn }
+    ensures range { IfOk result IsInRange }
+    ensures fault { IfErr result IsWhatFault }
+    ensures bad { (¬ IsWord (view members.now.0.now) (codes "deliver"))
+        → IfErr result (IsBadKeyOf (values_in (view members.now.0.now))) }
+{
+    match read_what(alloc, members)?.into_call() {
+        Some(call) => Ok(call),
+        None => Err(KeyFault::Refused(Key::Do, Wrong::Value)),
     }
 }
 

@@ -26,6 +26,7 @@ impl fmt::Display for LineReason {
                 "not a text of at most 128 octets, nor a whole number between -2^53 and 2^53",
             ),
             LineFault::Key(key, wrong) => explain_key(f, key, wrong),
+            LineFault::Word(meant) => write!(f, "did you mean '{meant}'?"),
             LineFault::Query(key, wrong) => explain_query(f, key, wrong),
         }
     }

@@ -1,5 +1,6 @@
 //! What a line asks for.
 
+use crate::word::LineWord;
 use its_gnvalue::GnAddress;
 use its_scenario::{Key, Wrong};
 use its_station::Call;
@@ -62,6 +63,8 @@ pub enum LineFault {
     Id,
     /// This key of a call is missing, of another kind or out of range.
     Key(Key, Wrong),
+    /// The word under `do` is none of a line's; this one may be meant.
+    Word(LineWord),
     /// So is this key of what is asked.
     Query(QueryKey, Wrong),
 }
@@ -72,6 +75,7 @@ impl fmt::Display for LineFault {
             LineFault::NotJson => f.write_str("not JSON"),
             LineFault::Id => f.write_str("id"),
             LineFault::Key(key, _) => write!(f, "{key}"),
+            LineFault::Word(_) => write!(f, "{}", Key::Do),
             LineFault::Query(key, _) => write!(f, "{key}"),
         }
     }

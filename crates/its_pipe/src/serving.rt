@@ -16,12 +16,12 @@ ghost use Rattle.its_pipe.specs.Serving.{TellsCall, ended_of, then_ended, told_i
 use crate::ended::Ended;
 use crate::fault::PipeFault;
 use crate::knowing::answer_query;
-use crate::line::Line;
 use crate::lines::LONGEST_LINE;
 use crate::reading::read_request;
 use crate::request::{Asked, Id};
 use crate::response::{Done, Response, ResponseSink};
 use its_gnvalue::{GnAddress, NoMemory};
+use its_lines::Line;
 use its_linkframe::read_frame;
 use its_loctable::SortedTable;
 use its_station::{Call, Counts, Reply, Station};
@@ -30,7 +30,9 @@ use std::io::BufRead;
 
 /// Reads the lines of the reader to their end, makes the call for which each asks, or asks what the
 /// station knows, and hands what is answered to the sink before the next line is read: the answer
-/// of that very call. The station represents that of the model after the calls of these lines.
+/// of that very call. The station represents that of the model after the calls of these lines. Of a
+/// reader whose octets are known these are all its lines, in order. Of a line of more than 65536
+/// octets no more are kept: it can't be read.
 ///
 /// `Refused` where a line could not be read. The fault is that a read or the sink failed, or that
 /// memory ran out: then no further line is read.
@@ -42,9 +44,10 @@ pub fn serve<R: BufRead, S: ResponseSink>(
     sink: &mut S,
 ) -> Result<Ended, PipeFault>
     ensures { (s : Counted) → RepresentsCounted station.old counts.old s → S.Took sink.old [] →
-        IfOk result (λ ended. IsServed s station.new counts.new ended (S.Took sink.new)) }
+        IfOk result (λ ended. IsServed s station.new counts.new ended (S.Took sink.new)
+        (R.remaining reader.old)) }
 {
-    let mut line = Line::new(alloc)?;
+    let mut line = Line::new(alloc, LONGEST_LINE)?;
     let mut ended = Ended::Done;
     // The range is there so that the walk ends on any reader.
     for number in 1..u64::MAX {
@@ -76,7 +79,7 @@ fn serve_line<S: ResponseSink>(
         IsServedLine s number (text_of line.now) log station.new counts.new next
         (S.Took sink.new)) }
 {
-    let (octets, longer) = (line.octets(), line.is_longer());
+    let (octets, longer) = (line.start(), line.passed().any);
     match respond(alloc, station, counts, number, octets, longer, None)? {
         Some(response) => hand_on(response, sink, ended),
         None => Ok(ended),

@@ -9,8 +9,7 @@ mod large;
 
 use its_gnvalue::{GnAddress, Place};
 use its_pipe::{Ended, run_station};
-use its_shortage::written;
-use its_vectors::{FIRST, SECOND};
+use its_test_support::{FIRST, SECOND, written};
 use its_world::Config;
 use std::alloc::Global;
 use std::io::{Read, Write};

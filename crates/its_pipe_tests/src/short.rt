@@ -5,8 +5,7 @@ use crate::pipes::{OPEN, OPENED, SECOND_SITE, left_of};
 use crate::scenarios::read;
 use its_pipe::Ended;
 use its_scenario::{Scenario, ScenarioFault};
-use its_shortage::{MOST, STEP, Shortage, written};
-use its_vectors::{GEOBROADCAST, RELAYED, WORKED};
+use its_test_support::{GEOBROADCAST, MOST, RELAYED, STEP, Shortage, WORKED, written};
 use std::alloc::Global;
 use std::test::Fail;
 

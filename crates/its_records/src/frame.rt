@@ -1,16 +1,17 @@
 //! The frame of a record.
 
 use crate::refusal::RecordFault;
+use its_btp::split;
 use its_choosing::Traits;
 use its_linkframe::{FrameFault, FrameView, read_frame};
-use its_pcap::{Head, LinkLayer, frame_start, without_padding};
+use its_pcap::{LinkLayer, RecordHeader, frame_start, without_padding};
 
 /// The frame of a record, or why the record is refused. Its octets are the first ones of the
 /// record, `LONGEST_RECORD` of them where there are so many; a frame that is found is put together
 /// among them. `linked` says that they have the header of their link layer, as in pcap and pcapng:
 /// then that is read first, and what Ethernet filled a short frame up with is left out.
 pub fn frame_of<'a>(
-    head: &Head,
+    head: &RecordHeader,
     octets: &'a mut Vec<u8>,
     linked: bool,
 ) -> Result<FrameView<'a>, RecordFault> {
@@ -45,9 +46,9 @@ fn read(octets: &[u8]) -> Result<FrameView<'_>, RecordFault> {
 
 /// What a frame is chosen by.
 pub fn traits_of(frame: &FrameView<'_>) -> Traits {
-    let port = match frame.packet.payload() {
-        [high, low, ..] => Some(u16::from_be_bytes([*high, *low])),
-        _ => None,
+    let port = match split(frame.packet.payload()) {
+        Ok((port, _, _)) => Some(port),
+        Err(_) => None,
     };
     Traits {
         kind: frame.packet.kind(),

@@ -7,7 +7,7 @@ use crate::frame::{frame_of, traits_of};
 use crate::refusal::{FileFault, RecordFault};
 use its_choosing::Choice;
 use its_linkframe::{Counted, FrameView, Source};
-use its_pcap::{AnySource, Format, Head, LONGEST_RECORD, RecordSource, SourceFault, Step};
+use its_pcap::{AnySource, Format, LONGEST_RECORD, RecordHeader, RecordSource, SourceFault, Step};
 use its_reporting::{Fault, Status, is_standard};
 use std::alloc::{AllocError, Global};
 use std::io::{Read, Write};
@@ -40,7 +40,7 @@ impl Selection {
     /// in this room, where it has to be known.
     pub fn has_record(
         &self,
-        head: &Head,
+        head: &RecordHeader,
         octets: &[u8],
         linked: bool,
         room: &mut Vec<u8>,
@@ -96,7 +96,7 @@ pub struct Place {
 
 impl Place {
     /// The place behind so many records, of which the first has this moment, if there is one.
-    fn of(number: u64, head: &Head, first: Option<u64>) -> Place {
+    fn of(number: u64, head: &RecordHeader, first: Option<u64>) -> Place {
         Place {
             number,
             moment: head.moment,
@@ -261,7 +261,7 @@ fn walk<'a, S: RecordSource, V: RecordVisitor, W: Write>(
 fn visit<'a, V: RecordVisitor, W: Write>(
     selection: &Selection,
     place: Place,
-    head: &Head,
+    head: &RecordHeader,
     octets: &mut Vec<u8>,
     linked: bool,
     visitor: &mut V,

@@ -8,7 +8,7 @@ use Rattle.its_choosing.specs.declared.Choice.{Choice}
 use Rattle.its_choosing.specs.declared.Traits.{Traits}
 use Rattle.its_model.specs.Station.{StationModel}
 use Rattle.its_pcap.specs.declared.fault.SourceFault.{SourceFault}
-use Rattle.its_pcap.specs.declared.record.Head.{Head}
+use Rattle.its_pcap.specs.declared.record.RecordHeader.{RecordHeader}
 use Rattle.its_pcap.specs.declared.record.Step.{Step}
 use Rattle.its_pcap.specs.declared.record.Step.TheVariants as steps
 use Rattle.its_station.specs.State.{StationState, RepresentsStation}
@@ -187,7 +187,7 @@ chosen_grows counts gone.NoRecord le = le
 chosen_grows counts (gone.End fault) le = le
 
 -- a record that isn't chosen
-pub heard_none : (choice : Choice) (linked : Bool) (head : Head) (w : List ℕ) (s : StationModel)
+pub heard_none : (choice : Choice) (linked : Bool) (head : RecordHeader) (w : List ℕ) (s : StationModel)
     (log : List Heard) (station : StationState) (Took : List Heard → Type 0) (traits : Option Traits)
     → is_chosen choice head.moment traits ≡ false → RepresentsStation station s → Took log
     → IsHeard choice linked head w s log station gone.Passed Took
@@ -204,7 +204,7 @@ heard_none choice linked head w s log station Took traits passed rep took =
 -- a step that gave a record
 pub gone_record : {S E : Type 0} (gives : S → S → List ℕ → Result Step SourceFault → Type 0)
     (choice : Choice) (linked : Bool) (file : S) (s : StationModel) (log : List Heard) (left : S)
-    (station : StationState) (result : Result Gone E) (Took : List Heard → Type 0) (head : Head)
+    (station : StationState) (result : Result Gone E) (Took : List Heard → Type 0) (head : RecordHeader)
     (w : List ℕ)
     → gives file left w (Ok (steps.Record head))
     → IfOk result (λ met. IsHeard choice linked head w s log station met Took)

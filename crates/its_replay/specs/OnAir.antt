@@ -5,7 +5,7 @@ use Rattle.its_pcap.specs.LinkLayers.{IsFrameIn, IsLinkFault}
 use Rattle.its_pcap.specs.Records.{fault_of}
 use Rattle.its_pcap.specs.declared.link.LinkLayer.{LinkLayer}
 use Rattle.its_pcap.specs.declared.link.LinkLayer.TheVariants as layers
-use Rattle.its_pcap.specs.declared.record.Head.{Head}
+use Rattle.its_pcap.specs.declared.record.RecordHeader.{RecordHeader}
 use Rattle.its_records.specs.declared.refusal.RecordFault.{RecordFault}
 use Rattle.its_records.specs.declared.refusal.RecordFault.TheVariants as faults
 use Rattle.its_replay.specs.declared.on_air.OnAir.{OnAir}
@@ -33,17 +33,17 @@ IsLayerFault true (Some layer) w (faults.Link fault) = IsLinkFault layer w fault
 IsLayerFault linked layer w fault = ⊥
 
 -- The station hears these octets of the record.
-pub record HasOctets (linked : Bool) (head : Head) (w octets : List ℕ) : Type 0 where
+pub record HasOctets (linked : Bool) (head : RecordHeader) (w octets : List ℕ) : Type 0 where
   pub whole : fault_of head ≡ None
   pub heard : AreHeard linked head.layer w octets
 
 -- It hears nothing: the record isn't of a link layer that is read, or was cut, or has no frame.
-abbrev pub HasNothing : Bool → Head → List ℕ → RecordFault → Type 0
+abbrev pub HasNothing : Bool → RecordHeader → List ℕ → RecordFault → Type 0
 HasNothing linked head w (faults.Record fault) = fault_of head ≡ Some fault
 HasNothing linked head w fault = (fault_of head ≡ None) × IsLayerFault linked head.layer w fault
 
 -- what there is of a record to hear
-abbrev pub IsOnAir : Bool → Head → List ℕ → OnAir → Type 0
+abbrev pub IsOnAir : Bool → RecordHeader → List ℕ → OnAir → Type 0
 IsOnAir linked head w (airs.Octets octets) = HasOctets linked head w octets.items
 IsOnAir linked head w (airs.Nothing fault) = HasNothing linked head w fault
 

@@ -7,7 +7,7 @@ use Rattle.its_choosing.specs.declared.Traits.{Traits}
 use Rattle.its_model.specs.Calls as model
 use Rattle.its_model.specs.Station.{StationModel, station_step}
 use Rattle.its_pcap.specs.declared.fault.SourceFault.{SourceFault}
-use Rattle.its_pcap.specs.declared.record.Head.{Head}
+use Rattle.its_pcap.specs.declared.record.RecordHeader.{RecordHeader}
 use Rattle.its_pcap.specs.declared.record.Step.{Step}
 use Rattle.its_pcap.specs.declared.record.Step.TheVariants as steps
 use Rattle.its_station.specs.Receiving.{IsFrameCall}
@@ -34,12 +34,12 @@ TellsReceived s moment (heards.Received at frame reply) next =
 TellsReceived s moment (heards.Nothing at fault) next = (at ≡ moment) × (next ≡ s)
 
 -- what is told is of the octets that the record has on the air, or of why there are none
-abbrev pub IsOf : Bool → Head → List ℕ → Heard → Type 0
+abbrev pub IsOf : Bool → RecordHeader → List ℕ → Heard → Type 0
 IsOf linked head w (heards.Received at frame reply) = HasOctets linked head w frame.items
 IsOf linked head w (heards.Nothing at fault) = HasNothing linked head w fault
 
 -- The record is chosen, and received at its moment.
-pub record TellsHeard (linked : Bool) (head : Head) (w : List ℕ) (s : StationModel)
+pub record TellsHeard (linked : Bool) (head : RecordHeader) (w : List ℕ) (s : StationModel)
     (told : List Heard) (next : StationModel) : Type 0 where
   pub heard : Heard
   pub told_is : told ≡ heard ∷ []
@@ -55,7 +55,7 @@ pub record TellsPassed (choice : Choice) (moment : ℕ) (s : StationModel) (told
   pub next_is : next ≡ s
 
 -- what is told of a record, and the station afterwards
-abbrev pub TellsRecord : Choice → Bool → Head → List ℕ → StationModel → List Heard → StationModel
+abbrev pub TellsRecord : Choice → Bool → RecordHeader → List ℕ → StationModel → List Heard → StationModel
     → Type 0
 TellsRecord choice linked head w s told next =
     TellsPassed choice head.moment s told next ⊎ TellsHeard linked head w s told next
@@ -171,7 +171,7 @@ pub record IsGone {S : Type 0} (gives : S → S → List ℕ → Result Step Sou
   pub stands : RepresentsStation station next
 
 -- the same of a record
-pub record IsHeard (choice : Choice) (linked : Bool) (head : Head) (w : List ℕ) (s : StationModel)
+pub record IsHeard (choice : Choice) (linked : Bool) (head : RecordHeader) (w : List ℕ) (s : StationModel)
     (log : List Heard) (station : StationState) (met : Gone) (Took : List Heard → Type 0) : Type 0 where
   pub told : List Heard
   pub next : StationModel

@@ -6,7 +6,7 @@ ghost use Rattle.its_choosing.specs.declared.Traits.{Traits};
 ghost use Rattle.its_replay.specs.OnAir.{IsOnAir, IsOnLayer, IsUnfilled};
 
 use its_linkframe::read_frame;
-use its_pcap::{Head, LinkLayer, frame_start, without_padding};
+use its_pcap::{LinkLayer, RecordHeader, frame_start, without_padding};
 use its_records::{Choice, RecordFault, traits_of};
 use std::alloc::{AllocError, Global};
 
@@ -25,7 +25,7 @@ impl OnAir {
     /// filled a short frame up with. What the buffer has afterwards isn't said.
     pub(crate) fn of(
         alloc: Global,
-        head: &Head,
+        head: &RecordHeader,
         octets: &mut Vec<u8>,
         linked: bool,
     ) -> Result<OnAir, AllocError>

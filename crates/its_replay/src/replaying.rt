@@ -11,7 +11,7 @@ use crate::heard::{Heard, HeardSink};
 use crate::on_air::OnAir;
 use its_gnvalue::NoMemory;
 use its_loctable::SortedTable;
-use its_pcap::{Head, LONGEST_RECORD, RecordSource, SourceFault, Step};
+use its_pcap::{LONGEST_RECORD, RecordHeader, RecordSource, SourceFault, Step};
 use its_records::{Choice, Selection};
 use its_reporting::Fault;
 use its_station::{Call, Station};
@@ -149,7 +149,7 @@ fn hear<'f, K: HeardSink>(
     alloc: Global,
     station: &mut Station<SortedTable>,
     choice: &Choice,
-    head: &Head,
+    head: &RecordHeader,
     linked: bool,
     octets: &mut Vec<u8>,
     sink: &mut K,

@@ -1,5 +1,5 @@
-//! What all commands of the program have in common: how they end, what they tell then, the files
-//! that they read and write, and the lines of a text.
+//! What all commands of the program have in common: how they end, what they tell then, and the files
+//! that they read and write.
 #![tactic(auto)]
 
 mod cause;
@@ -7,7 +7,6 @@ mod fault;
 mod files;
 mod frame_file;
 mod left_out;
-mod lines;
 mod options;
 mod outputs;
 mod status;
@@ -17,7 +16,6 @@ pub use fault::{Fault, status_of};
 pub use files::{Opened, create, create_apart, keep_apart, open};
 pub use frame_file::FrameFile;
 pub use left_out::LeftOut;
-pub use lines::{Line, Passed, are_digits};
 pub use options::OutputFormat;
 pub use outputs::{OutputFault, Target, is_standard, refuse_same};
 pub use status::Status;

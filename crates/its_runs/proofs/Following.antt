@@ -5,6 +5,8 @@ use Rattle.its_model.specs.World.{Config, Event}
 use Rattle.its_world.specs.declared.entry.Entry.{Entry}
 use Rattle.its_world.specs.State.{WorldState}
 use Rattle.its_scenario.specs.declared.air.Air.{Air}
+use Rattle.its_scenario.specs.declared.event.AddressedEvent.{AddressedEvent}
+use Rattle.its_scenario.specs.declared.moves.Moves.{Moves}
 use Rattle.its_scenario.specs.declared.scenario.Scenario.{Scenario}
 use Rattle.its_air.specs.AirTimed.{IsTimedRun}
 use Rattle.its_air.specs.Moving.{IsMovedRun}
@@ -46,11 +48,13 @@ run_follows (Some air) s world Before After follows run =
     timed_follows _ _ _ world Before After follows run
 
 -- and of one with moves
-pub moved_follows : (rules : Rules) (configs : List Config) (given : Option ℕ)
-    (world : WorldState) (Before After : List Event → List Entry → Type 0)
+pub moved_follows : (rules : Rules) (configs : List Config) (moves : Moves)
+    (asked : List AddressedEvent) (given : Option ℕ) (world : WorldState)
+    (Before After : List Event → List Entry → Type 0)
     → ((events : List Event) (log : List Entry) → Before events log → After events log)
-    → IsMovedRun rules configs given world Before → IsMovedRun rules configs given world After
-moved_follows rules configs given world Before After follows run =
+    → IsMovedRun rules configs moves asked given world Before
+    → IsMovedRun rules configs moves asked given world After
+moved_follows rules configs moves asked given world Before After follows run =
     record {
       made = run.made;
       file = run.file;
@@ -58,4 +62,5 @@ moved_follows rules configs given world Before After follows run =
       rises = run.rises;
       last = run.last;
       run = timed_follows _ _ _ world Before After follows run.run;
+      outside = run.outside;
     }

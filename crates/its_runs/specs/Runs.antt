@@ -32,7 +32,8 @@ abbrev pub IsMovedStatus : Bool → Scenario → Air → Status → Type 0
 IsMovedStatus strict s air status =
     (world : WorldState)
     × IsMovedRun (rules_of air (all_traffic s.every.items) (end_of air.until []) s.present.items)
-    (map config_of s.stations.items) air.until world (λ events log. status ≡ run_status strict log)
+    (map config_of s.stations.items) s.moves s.addressed.items air.until world
+    (λ events log. status ≡ run_status strict log)
 
 -- the status of what kept a scenario from being run: a bad scenario is refused, and a bad line of
 -- moves, all else failed

@@ -216,7 +216,7 @@ impl Audiences {
             _ => None,
         };
         if let (Some(frame), Some(carried)) = (done.entry.frame(), carried) {
-            self.frames.give(frame, carried)?;
+            self.frames.note_given(frame, carried)?;
         }
         Ok(())
     }

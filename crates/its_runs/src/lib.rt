@@ -33,4 +33,4 @@ pub use options::RunOptions;
 pub use results::ResultFiles;
 pub use simulating::{read_scenario, read_scenario_without_air, simulate, simulate_scenario};
 pub use target::{FrameTarget, frame_target};
-pub use watched::is_done;
+pub use watched::is_refused;

@@ -3,9 +3,10 @@
 use crate::audience::{Audience, Reach};
 use crate::quantile::Quantiles;
 use its_gnvalue::NoMemory;
+use its_headers::Kind;
 use its_simulation::{EventRecord, SimulationFault};
 use its_station::{OwnedGbcRequest, Refused, Why};
-use its_tally::{Presence, SendKind};
+use its_tally::Presence;
 use its_world::{Entry, EntryFault, World};
 use std::alloc::Global;
 use std::collections::HashSet;
@@ -19,7 +20,7 @@ pub(crate) struct OpenSend {
     send: usize,
     moment: u64,
     station: usize,
-    kind: SendKind,
+    kind: Kind,
     port: u16,
     audience: Audience,
     /// The stations at which it was delivered to its port.
@@ -49,7 +50,7 @@ impl OpenSend {
         world: &World,
         presence: &Presence,
         done: &EventRecord<'_>,
-        kind: SendKind,
+        kind: Kind,
         request: &OwnedGbcRequest,
     ) -> Result<OpenSend, NoMemory> {
         Ok(OpenSend {
@@ -133,10 +134,7 @@ impl OpenSend {
     /// Writes its row. `times` are those of its first deliveries.
     fn write_row<W: Write>(&self, times: Quantiles, out: &mut W) -> io::Result<()> {
         let (send, moment, station, port) = (self.send, self.moment, self.station, self.port);
-        let kind = match self.kind {
-            SendKind::Gbc => "gbc",
-            SendKind::Gac => "gac",
-        };
+        let kind = self.kind;
         let (inside, reached) = (self.audience.size(), self.audience.reached(None));
         let (delivered, frames) = (self.delivered.len(), self.frames);
         write!(out, "{send},{moment},{station},{kind},{port},")?;

@@ -5,10 +5,11 @@ use crate::open_send::OpenSend;
 use crate::rows::Rows;
 use crate::waiting_frames::WaitingFrames;
 use its_gnvalue::NoMemory;
+use its_headers::Kind;
 use its_scenario::Scenario;
 use its_simulation::{EventRecord, Note, SimulationFault};
 use its_station::OwnedGbcRequest;
-use its_tally::{CarriedPacket, Presence, SendKind};
+use its_tally::{CarriedPacket, Presence};
 use its_world::{What, World};
 use std::alloc::Global;
 use std::collections::VecDeque;
@@ -76,10 +77,8 @@ impl SendRows {
         done: &EventRecord<'_>,
     ) -> Result<Option<CarriedPacket>, NoMemory> {
         match done.what {
-            What::SendGeobroadcast(request) => {
-                self.count_send(world, done, SendKind::Gbc, request)
-            }
-            What::SendGeoanycast(request) => self.count_send(world, done, SendKind::Gac, request),
+            What::SendGeobroadcast(request) => { self.count_send(world, done, Kind::Gbc, request) }
+            What::SendGeoanycast(request) => self.count_send(world, done, Kind::Gac, request),
             What::Deliver(frame) => self.count_delivery(world, done, *frame),
             _ => Ok(None),
         }
@@ -90,7 +89,7 @@ impl SendRows {
         &mut self,
         world: &World,
         done: &EventRecord<'_>,
-        kind: SendKind,
+        kind: Kind,
         request: &OwnedGbcRequest,
     ) -> Result<Option<CarriedPacket>, NoMemory> {
         if done.entry.frame().is_none() {
@@ -132,8 +131,8 @@ impl SendRows {
     }
 
     /// Takes a frame that was given, with what it carries.
-    fn give(&mut self, frame: usize, carried: CarriedPacket) -> Result<(), NoMemory> {
-        let waiting = self.frames.give(frame, carried)?;
+    fn note_given(&mut self, frame: usize, carried: CarriedPacket) -> Result<(), NoMemory> {
+        let waiting = self.frames.note_given(frame, carried)?;
         if let Some(packet) = self.packet(carried.send) {
             packet.wait(waiting);
         }
@@ -155,7 +154,7 @@ impl Rows for SendRows {
         self.settle(out)?;
         let carried = self.count(world, done)?;
         if let (Some(frame), Some(carried)) = (done.entry.frame(), carried) {
-            self.give(frame, carried)?;
+            self.note_given(frame, carried)?;
         }
         Ok(())
     }

@@ -78,7 +78,11 @@ impl WaitingFrames {
 
     /// Takes a frame that was given with what it carries. Gives how many of the scenario's own
     /// deliveries of it wait.
-    pub(crate) fn give(&mut self, frame: usize, carried: CarriedPacket) -> Result<usize, NoMemory> {
+    pub(crate) fn note_given(
+        &mut self,
+        frame: usize,
+        carried: CarriedPacket,
+    ) -> Result<usize, NoMemory> {
         let waiting = self.own.remove(&frame).unwrap_or(0);
         self.frames
             .insert(frame, WaitingFrame { carried, waiting })?;
@@ -96,7 +100,7 @@ impl WaitingFrames {
     /// Takes the delivery of a frame. Gives what that carries.
     pub(crate) fn deliver(&mut self, frame: usize) -> Option<CarriedPacket> {
         let Some(found) = self.frames.get_mut(&frame) else {
-            self.pass_over(frame);
+            self.skip(frame);
             return None;
         };
         found.waiting = found.waiting.saturating_sub(1);
@@ -105,7 +109,7 @@ impl WaitingFrames {
     }
 
     /// A delivery of the scenario's own comes too early, or of a frame that carries no such packet.
-    fn pass_over(&mut self, frame: usize) {
+    fn skip(&mut self, frame: usize) {
         if let Some(waiting) = self.own.get_mut(&frame) {
             *waiting = waiting.saturating_sub(1);
         }

@@ -1,6 +1,6 @@
 //! A run that is watched for refusals.
 
-ghost use Rattle.std.specs.Prelude.{◌≡◌, List, true};
+ghost use Rattle.std.specs.Prelude.{◌≡◌, List, not, true};
 ghost use Rattle.std.specs.List.{list_all};
 ghost use Rattle.its_world.specs.declared.entry.Entry.{Entry as Told};
 ghost use Rattle.its_world.specs.Entries.{was_done};
@@ -51,7 +51,7 @@ impl<S: EventSink> EventSink for Watched<S> {
 
     fn put(&mut self, world: &World, done: &EventRecord<'_>) -> Result<(), SimulationFault> {
         self.sink.put(world, done)?;
-        self.all_done &= is_done(done.entry);
+        self.all_done &= !is_refused(done.entry);
         Ok(())
     }
 
@@ -60,9 +60,9 @@ impl<S: EventSink> EventSink for Watched<S> {
     }
 }
 
-/// Whether an event was done: it was not refused.
-pub fn is_done(entry: &Entry) -> bool
-    ensures { result ≡ was_done entry.now }
+/// Whether an event was refused.
+pub fn is_refused(entry: &Entry) -> bool
+    ensures { result ≡ not (was_done entry.now) }
 {
-    !matches!(entry, Entry::Refused(_))
+    matches!(entry, Entry::Refused(_))
 }

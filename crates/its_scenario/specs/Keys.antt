@@ -1,7 +1,58 @@
--- The ranges of the numbers of a scenario, by their keys.
-use Rattle.std.specs.Prelude.{ℤ, pos, negsuc, ◌-ℤ◌, ◌≤ℤ◌}
+-- The words of the keys of a scenario, and the ranges of their numbers.
+use Rattle.std.specs.Prelude.{ℕ, ℤ, pos, negsuc, ◌-ℤ◌, ◌≤ℤ◌, List, codes}
 use Rattle.its_scenario.specs.declared.key.Key.{Key}
 use Rattle.its_scenario.specs.declared.key.Key.TheVariants as keys
+
+-- the word of a key in the document
+abbrev pub word_of : Key → List ℕ
+word_of keys.Address = codes "address"
+word_of keys.Lat = codes "lat"
+word_of keys.Lon = codes "lon"
+word_of keys.Capacity = codes "capacity"
+word_of keys.Remember = codes "remember"
+word_of keys.Absent = codes "absent"
+word_of keys.Station = codes "station"
+word_of keys.Id = codes "id"
+word_of keys.At = codes "at"
+word_of keys.Do = codes "do"
+word_of keys.Pai = codes "pai"
+word_of keys.Speed = codes "speed"
+word_of keys.Heading = codes "heading"
+word_of keys.Port = codes "port"
+word_of keys.Jitter = codes "jitter"
+word_of keys.Info = codes "info"
+word_of keys.Tc = codes "tc"
+word_of keys.Payload = codes "payload"
+word_of keys.Lt = codes "lt"
+word_of keys.Hops = codes "hops"
+word_of keys.Shape = codes "shape"
+word_of keys.Alat = codes "alat"
+word_of keys.Alon = codes "alon"
+word_of keys.A = codes "a"
+word_of keys.B = codes "b"
+word_of keys.Angle = codes "angle"
+word_of keys.Number = codes "number"
+word_of keys.Frame = codes "frame"
+word_of keys.Range = codes "range"
+word_of keys.Delay = codes "delay"
+word_of keys.Loss = codes "loss"
+word_of keys.Seed = codes "seed"
+word_of keys.Beacons = codes "beacons"
+word_of keys.Until = codes "until"
+word_of keys.Period = codes "period"
+word_of keys.Octets = codes "octets"
+word_of keys.Send = codes "send"
+word_of keys.Reached = codes "reached"
+word_of keys.Within = codes "within"
+word_of keys.Begin = codes "begin"
+word_of keys.Gone = codes "gone"
+word_of keys.Mid = codes "mid"
+word_of keys.Ports = codes "ports"
+word_of keys.Event = codes "event"
+word_of keys.Air = codes "air"
+word_of keys.Every = codes "every"
+word_of keys.Moves = codes "moves"
+word_of keys.Expect = codes "expect"
 
 -- the least number that a key takes
 abbrev pub least_of : Key → ℤ

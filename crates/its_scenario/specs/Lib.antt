@@ -2,6 +2,9 @@ pub mod Events
 pub mod Documents
 pub mod Faults
 pub mod Keys
+pub mod Verbs
+pub mod Reading
+pub mod Tables
 pub mod Airs
 pub mod Nearest
 pub mod Centres

@@ -37,6 +37,10 @@ impl<'a, F: Fields> InAir<'a, F> {
 }
 
 impl<'a, F: Fields> Fields for InAir<'a, F> {
+    ghost use Rattle.its_scenario.specs.Tables.{air_values};
+
+    ghost values = { λ air. air_values air.round_station (F.values air.fields.now) };
+
     fn has(&self, word: &str) -> bool {
         self.fields.has(word)
     }

@@ -5,6 +5,12 @@ ghost use Rattle.its_moves.specs.Rows.{IsId};
 ghost use Rattle.its_scenario.specs.Airs.{moment_of};
 ghost use Rattle.its_scenario.specs.Events.{FitsEvent, FitsFileEvent, FitsWhat, station_in};
 ghost use Rattle.its_scenario.specs.Faults.{IsWhatFault};
+ghost use Rattle.its_scenario.specs.Reading.{IsBadOf, IsText, SaysKeys, SaysShb, SaysWhat};
+ghost use Rattle.its_scenario.specs.Verbs.{verb_of, verb_word};
+ghost use Rattle.its_scenario.specs.declared.key.Key.TheVariants as keys;
+ghost use Rattle.its_scenario.specs.declared.verb.Verb.TheVariants as verbs;
+ghost use Rattle.its_station.specs.Requests.{owned_shb};
+ghost use Rattle.its_world.specs.Events.{what_of};
 
 use crate::centre::InAir;
 use crate::fault::{KeyFault, Wrong};
@@ -12,7 +18,7 @@ use crate::fields::Fields;
 use crate::geocast::read_geocast;
 use crate::key::Key;
 use crate::keys::{number, octet, octets, place, text, truth, whole};
-use crate::verb::Verbs;
+use crate::verb::{Verb, Verbs};
 use its_gnvalue::TrafficClass;
 use its_moves::is_id;
 use its_station::OwnedShbRequest;
@@ -110,7 +116,7 @@ fn read_filed<F: Fields>(
     requires moment { moment < 2 ^ 63 }
     ensures { IfOk result (λ read. FitsFileEvent read.filed) }
 {
-    if fields.text(Key::Do.word()) == Some("leave") {
+    if matches!(verb_under(fields), Some(Verb::Leave)) {
         return Ok(Filed {
             filed: FileEvent::Leaves { station, moment },
             round_station: false,
@@ -160,7 +166,7 @@ pub(crate) fn read_addressed<F: Fields>(
         None => read_own_station(fields, stations)?,
     };
     let moment = read_moment(fields)?;
-    if fields.text(Key::Do.word()) == Some("deliver") {
+    if matches!(verb_under(fields), Some(Verb::Deliver)) {
         return Err(KeyFault::Refused(Key::Do, Wrong::Value));
     }
     let read = read_filed(alloc, fields, station, moment, Verbs::WithMoves)?;
@@ -208,6 +214,13 @@ fn read_own_station<F: Fields>(fields: &F, stations: usize) -> Result<usize, Key
     }
 }
 
+/// What a station does by the word under `do`, where that is one of these words.
+fn verb_under<F: Fields>(fields: &F) -> Option<Verb>
+    ensures { IfSome result (λ verb. IsText (F.values fields.now) keys.Do (verb_word verb)) }
+{
+    Verb::named(fields.text(Key::Do.word())?)
+}
+
 /// Reads what a station does, as `read_what` does. Where the word is none that is known, the one of
 /// these is told that may be meant.
 fn read_one_of<F: Fields>(alloc: Global, fields: &F, verbs: Verbs) -> Result<What, KeyFault>
@@ -234,28 +247,35 @@ fn unknown_verb<F: Fields>(alloc: Global, fields: &F, verbs: Verbs) -> KeyFault 
 /// order.
 ///
 /// The first key that is missing, of another kind or out of range is refused.
+#[tactic(auto, using(crate::proofs::Bad::bad_of, crate::proofs::Bad::bad_word, crate::proofs::Bad::bad_leave))]
 pub fn read_what<F: Fields>(alloc: Global, fields: &F) -> Result<What, KeyFault>
+    ensures says { IfOk result (λ what. SaysWhat (F.values fields.now) (what_of what)) }
     ensures fits { IfOk result FitsWhat }
     ensures fault { IfErr result IsWhatFault }
+    ensures bad { IfErr result (IsBadOf (F.values fields.now)) }
 {
-    match text(fields, Key::Do)? {
-        "move" => read_move(fields),
-        "open" => Ok(What::Open(number(fields, Key::Port)?)),
-        "close" => Ok(What::Close(number(fields, Key::Port)?)),
-        "tick" => Ok(What::Tick(number(fields, Key::Jitter)?)),
-        "shb" => Ok(What::SendShb(read_single_hop(alloc, fields)?)),
-        "gbc" => Ok(What::SendGeobroadcast(read_geocast(alloc, fields)?)),
-        "gac" => Ok(What::SendGeoanycast(read_geocast(alloc, fields)?)),
-        "restart" => Ok(What::Restart(number(fields, Key::Number)?)),
-        "deliver" => Ok(What::Deliver(whole(fields, Key::Frame)? as usize)),
-        _ => Err(KeyFault::Refused(Key::Do, Wrong::Value)),
+    match Verb::named(text(fields, Key::Do)?) {
+        Some(Verb::Move) => read_move(fields),
+        Some(Verb::Open) => Ok(What::Open(number(fields, Key::Port)?)),
+        Some(Verb::Close) => Ok(What::Close(number(fields, Key::Port)?)),
+        Some(Verb::Tick) => Ok(What::Tick(number(fields, Key::Jitter)?)),
+        Some(Verb::Shb) => Ok(What::SendShb(read_single_hop(alloc, fields)?)),
+        Some(Verb::Gbc) => Ok(What::SendGeobroadcast(read_geocast(alloc, fields)?)),
+        Some(Verb::Gac) => Ok(What::SendGeoanycast(read_geocast(alloc, fields)?)),
+        Some(Verb::Restart) => Ok(What::Restart(number(fields, Key::Number)?)),
+        Some(Verb::Deliver) => Ok(What::Deliver(whole(fields, Key::Frame)? as usize)),
+        Some(Verb::Leave) | None => Err(KeyFault::Refused(Key::Do, Wrong::Value)),
     }
 }
 
 /// Reads a move: `lat`, `lon`, `pai`, `speed`, `heading`, checked in this order.
+#[tactic(auto, using(crate::proofs::Bad::bad_of))]
 fn read_move<F: Fields>(fields: &F) -> Result<What, KeyFault>
+    ensures verb { IfOk result (λ what. verb_of (what_of what) ≡ verbs.Move) }
+    ensures says { IfOk result (λ what. SaysKeys (F.values fields.now) (what_of what)) }
     ensures fits { IfOk result FitsWhat }
     ensures fault { IfErr result IsWhatFault }
+    ensures bad { IfErr result (IsBadOf (F.values fields.now)) }
 {
     Ok(What::MoveTo {
         place: place(fields, Key::Lat, Key::Lon)?,
@@ -266,8 +286,11 @@ fn read_move<F: Fields>(fields: &F) -> Result<What, KeyFault>
 }
 
 /// Reads a single-hop broadcast: `port`, `info`, `tc`, `payload`, checked in this order.
+#[tactic(auto, using(crate::proofs::Bad::bad_of))]
 fn read_single_hop<F: Fields>(alloc: Global, fields: &F) -> Result<OwnedShbRequest, KeyFault>
+    ensures says { IfOk result (λ r. SaysShb (F.values fields.now) (owned_shb r)) }
     ensures fault { IfErr result IsWhatFault }
+    ensures bad { IfErr result (IsBadOf (F.values fields.now)) }
 {
     Ok(OwnedShbRequest {
         port: number(fields, Key::Port)?,

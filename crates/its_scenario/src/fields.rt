@@ -1,46 +1,63 @@
 //! What a scenario's events are read from.
 
+ghost use Rattle.std.specs.Prelude.{◌≡◌};
+ghost use Rattle.std.specs.Option.{option_map};
+ghost use Rattle.toml.specs.Data.{get_member};
+ghost use Rattle.toml.specs.View.{table_view, view};
+ghost use Rattle.its_scenario.specs.Reading.{FieldValues};
+
 use toml::{Table, Value};
 
 /// Values under words: a table of TOML, or an object of another notation with the same keys.
 pub trait Fields {
+    /// What stands under each word.
+    ghost values: { Self → FieldValues };
+
     /// Whether there is a value under a word, of whatever kind.
-    fn has(&self, word: &str) -> bool;
+    fn has(&self, word: &str) -> bool
+        ensures { result ≡ (values self.now).has word.now };
 
     /// The whole number under a word. `None` where there is none, and for one that doesn't fit
     /// 64 bits with a sign.
-    fn integer(&self, word: &str) -> Option<i64>;
+    fn integer(&self, word: &str) -> Option<i64>
+        ensures { result ≡ (values self.now).integer word.now };
 
     /// True or false under a word.
-    fn truth(&self, word: &str) -> Option<bool>;
+    fn truth(&self, word: &str) -> Option<bool>
+        ensures { result ≡ (values self.now).truth word.now };
 
     /// The text under a word.
-    fn text(&self, word: &str) -> Option<&str>;
+    fn text(&self, word: &str) -> Option<&str>
+        ensures { option_map (λ text. text.now) result ≡ (values self.now).text word.now };
 }
 
 impl Fields for Table {
+    ghost use Rattle.its_scenario.specs.Tables.{table_values};
+
+    ghost values = { λ table. table_values (table_view table) };
+
     fn has(&self, word: &str) -> bool {
-        self.get(word).is_some()
+        value_of(self, word).is_some()
     }
 
     fn integer(&self, word: &str) -> Option<i64> {
-        match self.get(word) {
-            Some(Value::Integer(number)) => Some(*number),
-            _ => None,
-        }
+        value_of(self, word)?.as_integer()
     }
 
     fn truth(&self, word: &str) -> Option<bool> {
-        match self.get(word) {
-            Some(Value::Boolean(truth)) => Some(*truth),
-            _ => None,
-        }
+        value_of(self, word)?.as_bool()
     }
 
     fn text(&self, word: &str) -> Option<&str> {
-        match self.get(word) {
-            Some(Value::String(text)) => Some(text.as_str()),
-            _ => None,
-        }
+        value_of(self, word)?.as_str()
     }
+}
+
+/// What stands under a word of a table.
+#[tactic(auto, using(toml::proofs::Views::table_get))]
+fn value_of<'a>(table: &'a Table, word: &str) -> Option<&'a Value>
+    ensures { option_map (λ value. view value.now) result
+        ≡ get_member word.now (table_view table.now) }
+{
+    table.get(word)
 }

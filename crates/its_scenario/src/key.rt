@@ -1,7 +1,7 @@
 //! The keys of a scenario and of its tables: the one table of their words and ranges.
 
 ghost use Rattle.std.specs.Prelude.{◌≡◌};
-ghost use Rattle.its_scenario.specs.Keys.{least_of, most_of};
+ghost use Rattle.its_scenario.specs.Keys.{least_of, most_of, word_of};
 
 use std::fmt;
 
@@ -183,7 +183,9 @@ pub(crate) const EXPECTATION_KEYS: [Key; 3] = [Key::Send, Key::Reached, Key::Wit
 
 impl Key {
     /// The word in the document.
-    pub(crate) fn word(self) -> &'static str {
+    pub(crate) fn word(self) -> &'static str
+        ensures { result.now ≡ word_of self }
+    {
         match self {
             Key::Address => "address",
             Key::Lat => "lat",

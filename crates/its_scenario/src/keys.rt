@@ -1,8 +1,10 @@
 //! The values of keys.
 
-ghost use Rattle.std.specs.Prelude.{◌≤ℤ◌, ◌⊎◌, pos, negsuc, IfOk, IfErr};
+ghost use Rattle.std.specs.Prelude.{◌≡◌, ◌≤ℤ◌, ◌⊎◌, pos, negsuc, Bool, ℕ, List, IfOk, IfErr, OnErr};
 ghost use Rattle.its_scenario.specs.Faults.{IsFaultOf};
 ghost use Rattle.its_scenario.specs.Keys.{IsTakenBy, least_of, most_of};
+ghost use Rattle.its_scenario.specs.Reading.{AreOctets, IsNumber, IsPlace, IsText, IsTruth};
+ghost use Rattle.its_scenario.specs.Reading.{IsUntaken, IsWhole};
 
 use crate::fault::{KeyFault, Wrong};
 use crate::fields::Fields;
@@ -25,7 +27,9 @@ pub(crate) fn unlike<F: Fields>(fields: &F, key: Key) -> KeyFault
 /// The whole number under a key, in the range of that key.
 pub(crate) fn whole<F: Fields>(fields: &F, key: Key) -> Result<i64, KeyFault>
     ensures taken { IfOk result (IsTakenBy key) }
+    ensures stands { IfOk result (IsWhole (F.values fields.now) key) }
     ensures fault { IfErr result (IsFaultOf key) }
+    ensures bad { OnErr result (IsUntaken (F.values fields.now) key) }
 {
     match fields.integer(key.word()) {
         Some(number) if key.least() <= number && number <= key.most() => Ok(number),
@@ -38,7 +42,9 @@ pub(crate) fn whole<F: Fields>(fields: &F, key: Key) -> Result<i64, KeyFault>
 pub(crate) fn number<F: Fields>(fields: &F, key: Key) -> Result<u16, KeyFault>
     requires { (pos 0 ≤ℤ least_of key) × (most_of key ≤ℤ pos 65535) }
     ensures taken { IfOk result (λ n. IsTakenBy key (pos n)) }
+    ensures stands { IfOk result (IsNumber (F.values fields.now) key) }
     ensures fault { IfErr result (IsFaultOf key) }
+    ensures bad { OnErr result (IsUntaken (F.values fields.now) key) }
 {
     Ok(whole(fields, key)? as u16)
 }
@@ -47,7 +53,9 @@ pub(crate) fn number<F: Fields>(fields: &F, key: Key) -> Result<u16, KeyFault>
 pub(crate) fn octet<F: Fields>(fields: &F, key: Key) -> Result<u8, KeyFault>
     requires { (pos 0 ≤ℤ least_of key) × (most_of key ≤ℤ pos 255) }
     ensures taken { IfOk result (λ n. IsTakenBy key (pos n)) }
+    ensures stands { IfOk result (IsNumber (F.values fields.now) key) }
     ensures fault { IfErr result (IsFaultOf key) }
+    ensures bad { OnErr result (IsUntaken (F.values fields.now) key) }
 {
     Ok(whole(fields, key)? as u8)
 }
@@ -67,6 +75,8 @@ pub(crate) fn whole_or<F: Fields>(fields: &F, key: Key, other: i64) -> Result<i6
 
 /// True or false under a key.
 pub(crate) fn truth<F: Fields>(fields: &F, key: Key) -> Result<bool, KeyFault>
+    ensures stands { IfOk result (IsTruth (F.values fields.now) key) }
+    ensures bad { OnErr result ((truth : Bool) → ¬ IsTruth (F.values fields.now) key truth) }
     ensures fault { IfErr result (IsFaultOf key) }
 {
     fields.truth(key.word()).ok_or_else(|| unlike(fields, key))
@@ -74,6 +84,8 @@ pub(crate) fn truth<F: Fields>(fields: &F, key: Key) -> Result<bool, KeyFault>
 
 /// The text under a key.
 pub(crate) fn text<'a, F: Fields>(fields: &'a F, key: Key) -> Result<&'a str, KeyFault>
+    ensures stands { IfOk result (λ text. IsText (F.values fields.now) key text.now) }
+    ensures bad { OnErr result ((text : List ℕ) → ¬ IsText (F.values fields.now) key text) }
     ensures fault { IfErr result (IsFaultOf key) }
 {
     match fields.text(key.word()) {
@@ -84,6 +96,9 @@ pub(crate) fn text<'a, F: Fields>(fields: &'a F, key: Key) -> Result<&'a str, Ke
 
 /// The octets of the hexadecimal digits under a key, in either letter case.
 pub(crate) fn octets<F: Fields>(alloc: Global, fields: &F, key: Key) -> Result<Vec<u8>, KeyFault>
+    ensures stand { IfOk result (λ octets. AreOctets (F.values fields.now) key octets.items) }
+    ensures bad { IfErr result (λ fault. (fault ≡ KeyFault.OutOfMemory)
+        ⊎ ((octets : List ℕ) → ¬ AreOctets (F.values fields.now) key octets)) }
     ensures fault { IfErr result (IsFaultOf key) }
 {
     match hex::decode(alloc, text(fields, key)?) {
@@ -98,9 +113,24 @@ pub(crate) fn octets<F: Fields>(alloc: Global, fields: &F, key: Key) -> Result<V
 pub(crate) fn place<F: Fields>(fields: &F, lat_key: Key, lon_key: Key) -> Result<Place, KeyFault>
     requires latitude { (negsuc 899999999 ≤ℤ least_of lat_key) × (most_of lat_key ≤ℤ pos 900000000) }
     requires longitude { (negsuc 1799999999 ≤ℤ least_of lon_key) × (most_of lon_key ≤ℤ pos 1800000000) }
+    ensures stands { IfOk result (IsPlace (F.values fields.now) lat_key lon_key) }
     ensures fault { IfErr result (λ fault. IsFaultOf lat_key fault ⊎ IsFaultOf lon_key fault) }
+    ensures bad { IfErr result (λ fault.
+        (IsFaultOf lat_key fault × IsUntaken (F.values fields.now) lat_key)
+        ⊎ (IsFaultOf lon_key fault × IsUntaken (F.values fields.now) lon_key)) }
 {
-    let lat = whole(fields, lat_key)? as i32;
-    let lon = whole(fields, lon_key)? as i32;
-    Place::new(lat, lon).map_err(|_| KeyFault::Refused(lon_key, Wrong::Value))
+    let lat = coordinate(fields, lat_key)?;
+    let lon = coordinate(fields, lon_key)?;
+    Ok(Place::within(lat, lon))
+}
+
+/// The latitude or the longitude under a key, in tenths of a microdegree.
+fn coordinate<F: Fields>(fields: &F, key: Key) -> Result<i32, KeyFault>
+    requires { (negsuc 1799999999 ≤ℤ least_of key) × (most_of key ≤ℤ pos 1800000000) }
+    ensures taken { IfOk result (IsTakenBy key) }
+    ensures stands { IfOk result (IsWhole (F.values fields.now) key) }
+    ensures fault { IfErr result (IsFaultOf key) }
+    ensures bad { OnErr result (IsUntaken (F.values fields.now) key) }
+{
+    Ok(whole(fields, key)? as i32)
 }

@@ -1,5 +1,8 @@
 //! Values of the air that stand in place of a scenario's.
 
+ghost use Rattle.std.specs.Prelude.{◌≡◌};
+ghost use Rattle.its_scenario.specs.Tables.{set_number, set_truth};
+
 use crate::fault::KeyFault;
 use crate::fields::Fields;
 use crate::key::Key;
@@ -60,7 +63,9 @@ impl AirSettings {
     }
 
     /// The whole number of a key.
-    fn number(&self, word: &str) -> Option<i64> {
+    fn number(&self, word: &str) -> Option<i64>
+        ensures { result ≡ set_number self.now word.now }
+    {
         match word {
             "range" => self.range,
             "delay" => self.delay,
@@ -72,7 +77,9 @@ impl AirSettings {
     }
 
     /// The truth of a key.
-    fn truth(&self, word: &str) -> Option<bool> {
+    fn truth(&self, word: &str) -> Option<bool>
+        ensures { result ≡ set_truth self.now word.now }
+    {
         match word {
             "beacons" => self.beacons,
             _ => None,
@@ -97,44 +104,68 @@ fn set_truth(kept: &mut Option<bool>, setting: &Setting<'_>) -> Result<(), KeyFa
 struct Setting<'a> {
     word: &'a str,
     value: Option<&'a str>,
+    /// The whole number of the value, where it is decimal digits.
+    number: Option<i64>,
+    /// The truth of the value, where it is one.
+    truth: Option<bool>,
 }
 
 impl<'a> Setting<'a> {
     /// Those of `KEY=VALUE`.
     fn of(text: &'a str) -> Setting<'a> {
-        match text.split_once('=') {
-            Some((word, value)) => Setting {
-                word,
-                value: Some(value),
-            },
-            None => Setting {
-                word: text,
-                value: None,
-            },
+        let (word, value) = match text.split_once('=') {
+            Some((word, value)) => (word, Some(value)),
+            None => (text, None),
+        };
+        Setting {
+            word,
+            value,
+            number: value.and_then(number_in),
+            truth: value.and_then(truth_in),
         }
     }
 }
 
+/// The whole number of decimal digits.
+fn number_in(digits: &str) -> Option<i64> {
+    if digits.bytes().all(|octet| octet.is_ascii_digit()) {
+        digits.parse().ok()
+    } else {
+        None
+    }
+}
+
+/// The truth of its word.
+fn truth_in(word: &str) -> Option<bool> {
+    match word {
+        "true" => Some(true),
+        "false" => Some(false),
+        _ => None,
+    }
+}
+
 impl Fields for Setting<'_> {
+    ghost use Rattle.std.specs.Prelude.{◌&&◌, is_some, nat_eq};
+    ghost use Rattle.std.specs.Cmp.Lexicographic.{pointwise};
+    ghost use Rattle.std.specs.Option.{option_copied};
+
+    ghost values = { λ setting. record {
+      has = λ word. pointwise nat_eq word setting.word.now && is_some setting.value;
+      integer = λ _. setting.number;
+      truth = λ _. setting.truth;
+      text = λ _. option_copied setting.value;
+    } };
+
     fn has(&self, word: &str) -> bool {
         word == self.word && self.value.is_some()
     }
 
     fn integer(&self, _word: &str) -> Option<i64> {
-        let digits = self.value?;
-        if digits.bytes().all(|octet| octet.is_ascii_digit()) {
-            digits.parse().ok()
-        } else {
-            None
-        }
+        self.number
     }
 
     fn truth(&self, _word: &str) -> Option<bool> {
-        match self.value? {
-            "true" => Some(true),
-            "false" => Some(false),
-            _ => None,
-        }
+        self.truth
     }
 
     fn text(&self, _word: &str) -> Option<&str> {
@@ -150,6 +181,11 @@ pub(crate) struct SetAir<'a> {
 }
 
 impl Fields for SetAir<'_> {
+    ghost use Rattle.toml.specs.View.{table_view};
+    ghost use Rattle.its_scenario.specs.Tables.{set_values, table_values};
+
+    ghost values = { λ air. set_values air.settings.now (table_values (table_view air.table.now)) };
+
     fn has(&self, word: &str) -> bool {
         let is_set = self.settings.number(word).is_some() || self.settings.truth(word).is_some();
         is_set || self.table.has(word)

@@ -1,6 +1,12 @@
-//! The words for what a station does.
+//! The words for what a station does: the one table of them.
+
+ghost use Rattle.std.specs.Prelude.{◌≡◌, IfNone, IfSome};
+ghost use Rattle.its_scenario.specs.Verbs.{call_verb, verb_of, verb_word};
+ghost use Rattle.its_world.specs.Events.{what_of};
 
 use crate::meant::nearest;
+use its_station::Call;
+use its_world::What;
 use std::alloc::{AllocError, Global};
 use std::fmt;
 
@@ -55,8 +61,64 @@ pub(crate) enum Verbs {
 }
 
 impl Verb {
+    /// The one of this word; `None` where it is the word of none of them.
+    pub fn named(word: &str) -> Option<Verb>
+        ensures word { IfSome result (λ verb. word.now ≡ verb_word verb) }
+        ensures none { IfNone result ((verb : Verb) → ¬ (word.now ≡ verb_word verb)) }
+    {
+        match word {
+            "deliver" => Some(Verb::Deliver),
+            "move" => Some(Verb::Move),
+            "open" => Some(Verb::Open),
+            "close" => Some(Verb::Close),
+            "tick" => Some(Verb::Tick),
+            "shb" => Some(Verb::Shb),
+            "gbc" => Some(Verb::Gbc),
+            "gac" => Some(Verb::Gac),
+            "restart" => Some(Verb::Restart),
+            "leave" => Some(Verb::Leave),
+            _ => None,
+        }
+    }
+
+    /// That of what happens in a world.
+    pub fn of(what: &What) -> Verb
+        ensures { result ≡ verb_of (what_of what.now) }
+    {
+        match what {
+            What::MoveTo { .. } => Verb::Move,
+            What::Open(_) => Verb::Open,
+            What::Close(_) => Verb::Close,
+            What::Tick(_) => Verb::Tick,
+            What::SendShb(_) => Verb::Shb,
+            What::SendGeobroadcast(_) => Verb::Gbc,
+            What::SendGeoanycast(_) => Verb::Gac,
+            What::Restart(_) => Verb::Restart,
+            What::Deliver(_) => Verb::Deliver,
+        }
+    }
+
+    /// That of a call of a station. `None` for a frame that came, which has no word here.
+    pub fn of_call(call: &Call) -> Option<Verb>
+        ensures { result ≡ call_verb call.now }
+    {
+        match call {
+            Call::MoveTo { .. } => Some(Verb::Move),
+            Call::Open(_) => Some(Verb::Open),
+            Call::Close(_) => Some(Verb::Close),
+            Call::Tick(_) => Some(Verb::Tick),
+            Call::SendShb(_) => Some(Verb::Shb),
+            Call::SendGeobroadcast(_) => Some(Verb::Gbc),
+            Call::SendGeoanycast(_) => Some(Verb::Gac),
+            Call::Restart(_) => Some(Verb::Restart),
+            Call::Receive(_) => None,
+        }
+    }
+
     /// The word.
-    fn word(self) -> &'static str {
+    pub fn word(self) -> &'static str
+        ensures { result.now ≡ verb_word self }
+    {
         match self {
             Verb::Deliver => "deliver",
             Verb::Move => "move",

@@ -8,23 +8,7 @@ use Rattle.its_world.specs.Entries.{TellsEntry}
 use Rattle.its_world.specs.Events.{what_of}
 use Rattle.its_world.specs.Frames.{frame_in}
 use Rattle.its_world.specs.State.{WorldState}
-use Rattle.its_world.specs.declared.event.What.{What}
-use Rattle.its_world.specs.declared.event.What.TheVariants as whats
-use Rattle.its_simulation.specs.declared.action.Action.{Action}
-use Rattle.its_simulation.specs.declared.action.Action.TheVariants as actions
 use Rattle.its_simulation.specs.declared.record.EventRecord.{EventRecord}
-
--- what an event does, as far as a line tells it
-abbrev pub action_of : What → Action
-action_of (whats.MoveTo place pai speed heading) = actions.Move place
-action_of (whats.Open port) = actions.Open
-action_of (whats.Close port) = actions.Close
-action_of (whats.Tick jitter) = actions.Tick
-action_of (whats.SendShb r) = actions.SendShb
-action_of (whats.SendGeobroadcast r) = actions.SendGeobroadcast
-action_of (whats.SendGeoanycast r) = actions.SendGeoanycast
-action_of (whats.Restart number) = actions.Restart
-action_of (whats.Deliver k) = actions.Deliver k
 
 -- the event that a record is of
 abbrev pub happening_in : EventRecord → Event

@@ -1,6 +1,7 @@
 //! What is told of an entry.
 
 use crate::reason::EntryReason;
+use its_answer_text::words::{CLOSED, MOVED, OPENED, QUIET, RESTARTED};
 use its_answer_text::{AnswerKeys, PrintedAnswer};
 use its_world::{Entry, EntryCode};
 use std::fmt;
@@ -11,11 +12,11 @@ pub(crate) type EntryKeys<'a> = PrintedAnswer<'a, EntryCode, EntryReason>;
 /// What is told of this entry.
 pub(crate) fn entry_keys(entry: &Entry) -> EntryKeys<'_> {
     match entry {
-        Entry::Moved => AnswerKeys::word("moved"),
-        Entry::Opened => AnswerKeys::word("opened"),
-        Entry::Closed => AnswerKeys::word("closed"),
-        Entry::Restarted => AnswerKeys::word("restarted"),
-        Entry::Quiet => AnswerKeys::word("quiet"),
+        Entry::Moved => AnswerKeys::word(MOVED),
+        Entry::Opened => AnswerKeys::word(OPENED),
+        Entry::Closed => AnswerKeys::word(CLOSED),
+        Entry::Restarted => AnswerKeys::word(RESTARTED),
+        Entry::Quiet => AnswerKeys::word(QUIET),
         Entry::Sent(frame) => AnswerKeys::sent(*frame as u64),
         Entry::Ignored(why) => AnswerKeys::ignored(*why),
         Entry::Accepted { handed, sent } => {

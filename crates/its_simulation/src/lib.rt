@@ -3,7 +3,6 @@
 #![tactic(auto)]
 
 mod action;
-mod doing;
 mod entry;
 mod fault;
 mod json_lines;
@@ -12,16 +11,16 @@ mod reason;
 mod record;
 mod simulation;
 mod sink;
+mod step;
 mod text_lines;
 
-pub use action::Action;
-pub use doing::do_event;
 pub use entry::EntryText;
 pub use fault::SimulationFault;
 pub use json_lines::JsonLines;
 pub use note::Note;
 pub use reason::EntryReason;
 pub use record::EventRecord;
-pub use simulation::{simulate, simulate_into};
+pub use simulation::simulate_into;
 pub use sink::EventSink;
+pub use step::do_event;
 pub use text_lines::TextLines;

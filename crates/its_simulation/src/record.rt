@@ -4,9 +4,9 @@ ghost use Rattle.std.specs.Prelude.{◌≡◌};
 ghost use Rattle.its_world.specs.Events.{event_of};
 ghost use Rattle.its_simulation.specs.Records.{happening_in, IsRecordOf};
 
-use crate::action::Action;
 use crate::entry::{EntryKeys, entry_keys};
 use its_json::Octets;
+use its_scenario::Verb;
 use its_world::{Entry, Event, What, World};
 use serde::Serialize;
 
@@ -76,17 +76,16 @@ pub(crate) struct EventLine<'a> {
 
 impl<'a> EventLine<'a> {
     pub(crate) fn of(done: &EventRecord<'a>) -> EventLine<'a> {
-        let action = Action::of(done.what);
-        let (frame, lat, lon) = match action {
-            Action::Deliver(frame) => (Some(frame), None, None),
-            Action::Move(place) => (None, Some(place.lat()), Some(place.lon())),
+        let (frame, lat, lon) = match done.what {
+            What::Deliver(frame) => (Some(*frame), None, None),
+            What::MoveTo { place, .. } => (None, Some(place.lat()), Some(place.lon())),
             _ => (None, None, None),
         };
         EventLine {
             event: done.number,
             moment: done.moment,
             station: done.station,
-            word: action.word(),
+            word: Verb::of(done.what).word(),
             frame,
             lat,
             lon,

@@ -1,36 +1,16 @@
 //! The run of a scenario, event by event.
 
-ghost use Rattle.std.specs.Prelude.{◌≡◌, ◌≤◌, [], IfOk, map, vec_len};
+ghost use Rattle.std.specs.Prelude.{◌≤◌, [], IfOk, map, vec_len};
 ghost use Rattle.its_world.specs.Events.{config_of, event_of};
-ghost use Rattle.its_simulation.specs.Simulated.{IsSimulated, IsSimulation};
+ghost use Rattle.its_simulation.specs.Simulated.{IsSimulated};
 
-use crate::doing::do_event;
 use crate::fault::SimulationFault;
 use crate::sink::EventSink;
-use crate::text_lines::TextLines;
+use crate::step::do_event;
 use its_model::laws::every_schedule;
 use its_scenario::Scenario;
 use its_world::World;
 use std::alloc::Global;
-use std::io::Write;
-
-/// Runs the events of a scenario of at most 65535 stations, and writes a line for each, as
-/// `2 1010 1 accepted port 2002 info 0 6869 sent 1`: its place among the events, from 0, its moment
-/// in milliseconds, its station and what is told of it. A refused event has its line too. Gives the
-/// world that the last event left.
-///
-/// Where an allocation failed, the lines of the events before are written, and no other.
-pub fn simulate<W: Write>(
-    alloc: Global,
-    scenario: &Scenario,
-    out: &mut W,
-) -> Result<World, SimulationFault>
-    requires { vec_len scenario.now.stations ≤ 65535 }
-    ensures { IfOk result (IsSimulation (map config_of scenario.now.stations.items)
-        (map event_of scenario.now.events.items)) }
-{
-    simulate_into(alloc, scenario, &mut TextLines::new(out, false))
-}
 
 /// Runs the events of a scenario of at most 65535 stations, and hands each to a sink as it is done.
 /// Gives the world that the last event left. The scenario's air is left alone.

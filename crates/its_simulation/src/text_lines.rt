@@ -63,7 +63,7 @@ impl<W: Write> EventSink for TextLines<'_, W> {
         } = *done;
         write!(self.out, "{number} {moment} {station} ")?;
         if self.actions {
-            write!(self.out, "{} ", Action::of(what))?;
+            write!(self.out, "{} ", Action(what))?;
         }
         let explain = self.explain;
         writeln!(self.out, "{}", EntryText { entry, explain })?;

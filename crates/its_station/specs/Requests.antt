@@ -5,6 +5,8 @@ use Rattle.its_gnvalue.specs.Values.{PositionVector}
 use Rattle.its_model.specs.Packet.{Pdu, Transmission, AreaKind, geobroadcast, geoanycast, area_body}
 use Rattle.its_model.specs.Calls as model
 use Rattle.its_model.specs.Calls.{Answer, GbcRequest as ModelGbc, ShbRequest as ModelShb}
+use Rattle.its_headers.specs.declared.kind.Kind.{Kind}
+use Rattle.its_headers.specs.declared.kind.Kind.TheVariants as kinds
 use Rattle.its_linkframe.specs.Frames.{EncodesFrame}
 use Rattle.its_station.specs.declared.requests.GbcRequest.{GbcRequest}
 use Rattle.its_station.specs.declared.requests.ShbRequest.{ShbRequest}
@@ -53,6 +55,11 @@ owned_shb r = record {
 abbrev pub kind_of_cast : AreaCast → AreaKind
 kind_of_cast casts.Geobroadcast = geobroadcast
 kind_of_cast casts.Geoanycast = geoanycast
+
+-- the same, as the kind of its packets
+abbrev pub kind_cast : AreaCast → Kind
+kind_cast casts.Geobroadcast = kinds.Gbc
+kind_cast casts.Geoanycast = kinds.Gac
 
 -- the packet of a station with this vector, mobile or not, for an area
 abbrev pub area_pdu : PositionVector → Bool → ℕ → AreaKind → ModelGbc → Pdu

@@ -66,11 +66,11 @@
 #![tactic(auto)]
 
 mod counts;
-mod knowledge;
 pub mod laws;
 mod neighbours;
 mod outcome;
 mod ports;
+mod queries;
 mod receive;
 mod refused;
 mod requests;
@@ -85,5 +85,5 @@ pub use outcome::{Handed, Outcome, Why};
 pub use refused::{Refused, RefusedCode};
 pub use requests::{GbcRequest, OwnedGbcRequest, OwnedShbRequest, ShbRequest};
 pub use run::{Call, Delivery, Ran, Reply};
-pub use sending::MAX_PAYLOAD;
+pub use sending::{AreaCast, MAX_PAYLOAD};
 pub use station::{LAST_MOMENT, Station};

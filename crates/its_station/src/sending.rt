@@ -18,7 +18,7 @@ ghost use Rattle.its_loctable.specs.Content.{Represents};
 ghost use Rattle.its_station.specs.State.{model_of, RepresentsStation};
 ghost use Rattle.its_station.specs.Beside.{send_shb_for_step, shb_for, shb_refusal};
 ghost use Rattle.its_station.specs.Steps.{IsStepOf};
-ghost use Rattle.its_station.specs.Requests.{gbc_request, shb_request, kind_of_cast, area_pdu};
+ghost use Rattle.its_station.specs.Requests.{gbc_request, shb_request, kind_cast, kind_of_cast, area_pdu};
 ghost use Rattle.its_station.specs.Requests.{TellsSent, TellsTick};
 
 use crate::refused::Refused;
@@ -28,7 +28,7 @@ use its_btp::{HEADER_LENGTH, join_into};
 use its_forwarding::{Choice, choose};
 use its_geometry::Area;
 use its_gnvalue::{Hops, Lifetime, Mac, NoMemory, TrafficClass};
-use its_headers::{AreaPacket, Header, Packet, Payload, SingleHopBroadcast};
+use its_headers::{AreaPacket, Header, Kind, Packet, Payload, SingleHopBroadcast};
 use its_linkframe::write_frame;
 use its_loctable::LocationStore;
 use std::alloc::Global;
@@ -46,10 +46,24 @@ const BEACON_WAIT: u64 = 3000;
 const SHORT_LIFETIME: u8 = 0x1a;
 
 /// The kinds of packet for an area.
-#[derive(Clone, Copy)]
-pub(crate) enum AreaCast {
+#[derive(Clone, Copy, Debug, PartialEq, Eq)]
+pub enum AreaCast {
+    /// To all stations in the area.
     Geobroadcast,
+    /// To any one station in it.
     Geoanycast,
+}
+
+impl AreaCast {
+    /// The kind of its packets.
+    pub fn kind(self) -> Kind
+        ensures { result ≡ kind_cast self }
+    {
+        match self {
+            AreaCast::Geobroadcast => Kind::Gbc,
+            AreaCast::Geoanycast => Kind::Gac,
+        }
+    }
 }
 
 impl<S: LocationStore> Station<S> {
@@ -76,7 +90,7 @@ impl<S: LocationStore> Station<S> {
             return Ok(None);
         }
         let frame = self.beacon_frame()?;
-        self.set_sent(now);
+        self.mark_sent(now);
         Ok(Some(frame))
     }
 
@@ -116,7 +130,7 @@ impl<S: LocationStore> Station<S> {
             return Err(Refused::PayloadTooLong);
         }
         let frame = self.shb_frame(r, lifetime)?;
-        self.set_sent(now);
+        self.mark_sent(now);
         Ok(frame)
     }
 
@@ -151,7 +165,9 @@ impl<S: LocationStore> Station<S> {
         self.send_to_area(now, AreaCast::Geoanycast, r)
     }
 
-    fn send_to_area(
+    /// The frame of either kind of packet for an area: what `send_geobroadcast` and
+    /// `send_geoanycast` do.
+    pub fn send_to_area(
         &mut self,
         now: u64,
         cast: AreaCast,
@@ -174,7 +190,7 @@ impl<S: LocationStore> Station<S> {
             return Err(Refused::HopLimitZero);
         }
         let frame = self.area_frame(now, cast, r)?;
-        self.set_numbered(now);
+        self.mark_area_sent(now);
         Ok(frame)
     }
 
@@ -184,7 +200,7 @@ impl<S: LocationStore> Station<S> {
         self.beacon_from + u64::from(jitter) <= now
     }
 
-    fn set_sent(&mut self, now: u64)
+    fn mark_sent(&mut self, now: u64)
         requires { now ≤ 2 ^ 62 }
         ensures { self.new ≡ record self.old { clock = now; beacon_from = now + 3000 } }
     {
@@ -192,7 +208,7 @@ impl<S: LocationStore> Station<S> {
         self.beacon_from = now + BEACON_WAIT;
     }
 
-    fn set_numbered(&mut self, now: u64)
+    fn mark_area_sent(&mut self, now: u64)
         requires { now ≤ 2 ^ 62 }
         ensures { self.new ≡ record self.old {
           clock = now;

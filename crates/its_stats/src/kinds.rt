@@ -4,7 +4,7 @@ ghost use Rattle.std.specs.Prelude.{◌<◌};
 
 use crate::table::Table;
 use its_faults::{FaultKind, FrameFault};
-use its_headers::Kind;
+use its_headers::{KINDS, Kind};
 use its_pcap::LinkFault;
 use its_records::RecordFault;
 use serde::{Case, Described, Serialize, Serializer};
@@ -13,11 +13,22 @@ use std::alloc::{AllocError, Global};
 /// How many rows there are.
 const ROWS: usize = 22;
 
-/// Their names, in the order in which they are printed.
-const NAMES: [&str; ROWS] = [
-    "beacon", "shb", "gbc", "gac", "P3", "P4", "L1", "L2", "L3", "L4", "L5 G1", "L5 G2", "L5 G3",
-    "L5 G4", "L5 G5", "L5 G6", "L5 G7", "L5 G8", "L5 G9", "L5 G10", "L5 G11", "L5 G12",
+/// The names of those behind the kinds of packet, in the order in which they are printed.
+const CODES: [&str; 18] = [
+    "P3", "P4", "L1", "L2", "L3", "L4", "L5 G1", "L5 G2", "L5 G3", "L5 G4", "L5 G5", "L5 G6",
+    "L5 G7", "L5 G8", "L5 G9", "L5 G10", "L5 G11", "L5 G12",
 ];
+
+/// The name of a row.
+fn name_of(row: usize) -> &'static str
+    requires { row < 22 }
+{
+    if row < KINDS.len() {
+        KINDS[row].word()
+    } else {
+        CODES[row - KINDS.len()]
+    }
+}
 
 /// How many records there are in each row.
 #[derive(Clone, Copy, Debug, PartialEq, Eq)]
@@ -51,10 +62,10 @@ impl Kinds {
     /// The table of the rows that occur.
     pub(crate) fn table(&self, alloc: Global) -> Result<Table, AllocError> {
         let mut table = Table::new(alloc, &["kind", "records"])?;
-        for (name, count) in NAMES.iter().zip(self.counts.iter()) {
-            if *count > 0 {
-                table.add(name)?;
-                table.add(count)?;
+        for row in 0..ROWS {
+            if self.counts[row] > 0 {
+                table.add(&name_of(row))?;
+                table.add(&self.counts[row])?;
             }
         }
         Ok(table)
@@ -66,10 +77,10 @@ impl Described for Kinds {}
 impl Serialize for Kinds {
     fn serialize<S: Serializer>(&self, out: &mut S) -> Result<(), S::Error> {
         out.begin_map(None)?;
-        for (name, count) in NAMES.iter().zip(self.counts.iter()) {
-            if *count > 0 {
-                out.key_cased(name, Case::AsIs)?;
-                out.u64(*count)?;
+        for row in 0..ROWS {
+            if self.counts[row] > 0 {
+                out.key_cased(name_of(row), Case::AsIs)?;
+                out.u64(self.counts[row])?;
             }
         }
         out.end_map()

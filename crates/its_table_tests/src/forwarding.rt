@@ -6,7 +6,7 @@ use its_forwarding::{Choice, choose};
 use its_geometry::{Area, contains, distance2};
 use its_gnvalue::{GnAddress, LongPv, Mac, Place};
 use its_loctable::{Heard, LocationStore, OrderedTable, SortedTable, Verdict};
-use its_vectors::{FIRST, SECOND, THIRD};
+use its_test_support::{FIRST, SECOND, THIRD};
 use std::alloc::{AllocError, Global};
 use std::test::Fail;
 

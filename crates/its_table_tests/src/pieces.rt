@@ -7,7 +7,7 @@ use its_forwarding::{Choice, choose};
 use its_geometry::{Area, Centre, Nearer};
 use its_gnvalue::{GnAddress, LongPv, Place};
 use its_loctable::{Heard, LocationStore, OrderedTable, Piece, SortedTable};
-use its_vectors::FIRST;
+use its_test_support::FIRST;
 use std::alloc::Global;
 use std::test::Fail;
 

@@ -11,7 +11,8 @@ use Rattle.its_tally.specs.Totals.{capped, counted, gave_frame, delivered, was_d
 use Rattle.its_tally.specs.Totals.{was_ignored, was_refused, AreTotals, with_entry}
 use Rattle.its_tally.specs.Totals.{packets_sent, is_area_send, was_sent}
 
-by_one : (b : Bool) (n m total : ℕ) → n ≡ capped m → total ≡ cond b 1 0 + m
+-- a count with one more, if it is one, stays that of the total
+pub by_one : (b : Bool) (n m total : ℕ) → n ≡ capped m → total ≡ cond b 1 0 + m
     → counted b n ≡ capped total
 by_one true n m total is more =
     ap (λ x. capped (x + 1)) is ∙ capped_more m ∙ ap capped (omega arith)
@@ -28,7 +29,7 @@ one_more : (p : Entry → Bool) (n : ℕ) (log : List Entry) (entry : Entry)
 one_more p n log entry is =
     by_one (p entry) n (count_by p log) (count_by p (log ++ entry ∷ [])) is (count_snoc p log entry)
 
-length_more : {X : Type 0} (xs : List X) (x : X) → length (xs ++ x ∷ []) ≡ length xs + 1
+pub length_more : {X : Type 0} (xs : List X) (x : X) → length (xs ++ x ∷ []) ≡ length xs + 1
 length_more xs x = length-append xs (x ∷ [])
 
 -- the totals with one entry more are those of one event more

@@ -1,2 +1,4 @@
 pub mod Counts
 pub mod Starts
+pub mod Summaries
+pub mod Tallies

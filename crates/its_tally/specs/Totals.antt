@@ -99,3 +99,7 @@ with_frame one t = record t { frames = counted one t.frames }
 abbrev pub with_accepted : Bool → Bool → Totals → Totals
 with_accepted handed relayed t =
     record t { deliveries = counted handed t.deliveries; frames = counted relayed t.frames }
+
+-- the totals with a payload that was delivered, if one was
+abbrev pub with_handed : Bool → Totals → Totals
+with_handed one t = record t { deliveries = counted one t.deliveries }

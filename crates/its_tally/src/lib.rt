@@ -7,5 +7,5 @@ mod summary;
 mod tally;
 
 pub use presence::Presence;
-pub use summary::{SendKind, SendSummary, Totals};
+pub use summary::{SendSummary, Totals};
 pub use tally::{CarriedPacket, Tally};

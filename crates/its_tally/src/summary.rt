@@ -1,18 +1,12 @@
 //! What came of the packets for an area of a run.
 
+ghost use Rattle.std.specs.Prelude.{◌≡◌};
+ghost use Rattle.its_tally.specs.Packets.{with_one_frame, delivered_to};
+
+use its_headers::Kind;
+use its_json::Printed;
 use serde::Serialize;
 use std::fmt;
-
-/// The kind of a packet for an area.
-#[derive(Clone, Copy, Debug, PartialEq, Eq, Serialize)]
-pub enum SendKind {
-    /// A geobroadcast.
-    #[serde(rename = "gbc")]
-    Gbc,
-    /// A geoanycast.
-    #[serde(rename = "gac")]
-    Gac,
-}
 
 /// What came of one packet for an area. It prints as its line.
 #[derive(Clone, Copy, Debug, PartialEq, Eq, Serialize)]
@@ -23,9 +17,9 @@ pub struct SendSummary {
     pub moment: u64,
     /// The station that sent it.
     pub station: usize,
-    /// Its kind.
+    /// Its kind: a geobroadcast or a geoanycast.
     #[serde(rename = "do")]
-    pub kind: SendKind,
+    pub kind: Printed<Kind>,
     /// The destination port.
     pub port: u16,
     /// How many other stations stood in the area then, with the port open.
@@ -40,13 +34,38 @@ pub struct SendSummary {
     pub last: u64,
 }
 
+impl SendSummary {
+    /// With one frame more.
+    pub(crate) fn with_frame(self) -> SendSummary
+        ensures { result ≡ with_one_frame self }
+    {
+        SendSummary {
+            frames: self.frames.saturating_add(1),
+            ..self
+        }
+    }
+
+    /// With one delivery more, after so many hops, which is the first at its station or not.
+    pub(crate) fn with_delivery(self, hops: usize, first: bool, moment: u64) -> SendSummary
+        ensures { result ≡ delivered_to hops first moment self }
+    {
+        let hops = self.hops.max(hops);
+        if !first {
+            return SendSummary { hops, ..self };
+        }
+        SendSummary {
+            hops,
+            delivered: self.delivered.saturating_add(1),
+            last: self.last.max(moment.saturating_sub(self.moment)),
+            ..self
+        }
+    }
+}
+
 impl fmt::Display for SendSummary {
     fn fmt<W: fmt::Write>(&self, f: &mut fmt::Formatter<W>) -> fmt::Result {
         let (send, moment, station, port) = (self.send, self.moment, self.station, self.port);
-        let kind = match self.kind {
-            SendKind::Gbc => "gbc",
-            SendKind::Gac => "gac",
-        };
+        let Printed(kind) = self.kind;
         write!(f, "send {send} {moment} {station} {kind} port {port}")?;
         let (inside, delivered, frames) = (self.inside, self.delivered, self.frames);
         let (hops, last) = (self.hops, self.last);

@@ -2,6 +2,9 @@
 
 ghost use Rattle.std.specs.Prelude.{◌≡◌, ◌≤◌, ◌++◌, IfSome, length};
 
+use its_headers::Kind;
+use std::str;
+
 /// What a line is of.
 #[derive(Clone, Copy, Debug, PartialEq, Eq)]
 pub enum Painter {
@@ -70,15 +73,14 @@ fn refusal_of(line: &[u8], painter: Painter) -> Option<usize>
     None
 }
 
-/// The colour of a kind of packet.
+/// The colour of a kind of packet, where a word is that of one.
 fn color_of(word: &[u8]) -> Option<&'static str> {
-    match word {
-        b"beacon" => Some("\x1b[36m"),
-        b"shb" => Some("\x1b[32m"),
-        b"gbc" => Some("\x1b[33m"),
-        b"gac" => Some("\x1b[35m"),
-        _ => None,
-    }
+    Some(match Kind::named(str::from_utf8(word).ok()?)? {
+        Kind::Beacon => "\x1b[36m",
+        Kind::Shb => "\x1b[32m",
+        Kind::Gbc => "\x1b[33m",
+        Kind::Gac => "\x1b[35m",
+    })
 }
 
 /// A line in three parts, cut at these two places.

@@ -10,7 +10,7 @@ use its_geometry::Area;
 use its_gnvalue::{Lifetime, TrafficClass};
 use its_loctable::LocationStore;
 use its_station::{GbcRequest, Handed, Outcome, Refused, Reply, Station, Why};
-use its_vectors::{LINK, PORT};
+use its_test_support::{LINK, PORT};
 pub use rows::{Cast, HI, Known, Other, Row, Step, first_other, frames_of};
 pub use site::{CLOSED, FAR, NEAR, SENDER, Site, circle, receiver, station_at};
 

@@ -6,7 +6,7 @@ use crate::{BEACON, Fate, SINGLE_HOP, deliver, fate_of, request_of};
 use its_gnvalue::TrafficClass;
 use its_loctable::LocationStore;
 use its_station::{Refused, ShbRequest, Station};
-use its_vectors::{GEOBROADCAST, PORT, RELAYED};
+use its_test_support::{GEOBROADCAST, PORT, RELAYED};
 use std::alloc::Global;
 
 /// A payload for `PORT`, with info 0, to the stations in a circle.
@@ -77,9 +77,9 @@ pub enum Known {
     Beacon,
     /// `SINGLE_HOP`.
     SingleHop,
-    /// `GEOBROADCAST` of `its_vectors`.
+    /// `GEOBROADCAST` of `its_test_support`.
     Geobroadcast,
-    /// `RELAYED` of `its_vectors`.
+    /// `RELAYED` of `its_test_support`.
     Relayed,
 }
 

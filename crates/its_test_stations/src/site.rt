@@ -4,7 +4,7 @@ use its_geometry::Area;
 use its_gnvalue::{GnAddress, Place};
 use its_loctable::LocationStore;
 use its_station::Station;
-use its_vectors::{FIRST, PORT, SECOND};
+use its_test_support::{FIRST, PORT, SECOND};
 use std::alloc::Global;
 
 /// A station to which nothing happened yet.

@@ -1,6 +1,6 @@
 //! The budgets of memory that tests leave.
 
-use its_shortage::{MOST, STEP, Shortage};
+use its_test_support::{MOST, STEP, Shortage};
 use std::test::Fail;
 
 #[test]

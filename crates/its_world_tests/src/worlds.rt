@@ -12,7 +12,7 @@ mod schedules;
 use its_geometry::Area;
 use its_gnvalue::{GnAddress, Lifetime, Place, TrafficClass};
 use its_station::{OwnedGbcRequest, Why};
-use its_vectors::PORT;
+use its_test_support::PORT;
 use its_world::{Config, Entry, EntryFault, Event, Run, What, World, WorldFault};
 use std::alloc::Global;
 use std::test::Fail;

@@ -3,8 +3,7 @@
 use super::short;
 use crate::run::{Command, run};
 use its_reporting::Status;
-use its_shortage::{MOST, Shortage};
-use its_test_devices::{LineCount, Repeated};
+use its_test_support::{LineCount, MOST, Repeated, Shortage};
 use std::alloc::Global;
 use std::test::Fail;
 

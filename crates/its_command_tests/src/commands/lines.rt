@@ -4,8 +4,7 @@
 use crate::short::import_a_file;
 use its_commands::read_lines;
 use its_reporting::{OutputFormat, Status};
-use its_shortage::{Shortage, written};
-use its_vectors::put;
+use its_test_support::{Shortage, put, written};
 use std::alloc::{AllocError, Global};
 use std::io::{BufRead, BufReader, Read};
 use std::test::Fail;

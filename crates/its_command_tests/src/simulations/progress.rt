@@ -2,7 +2,7 @@
 
 use its_reporting::Status;
 use its_runs::{RunOptions, simulate};
-use its_shortage::written;
+use its_test_support::written;
 use std::alloc::Global;
 
 /// Four stations in a row, each some 400 m from the next. Station 3 opens port 2002, and station 0

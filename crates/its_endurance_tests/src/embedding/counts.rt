@@ -8,7 +8,7 @@ use its_headers::Kind;
 use its_loctable::SortedTable;
 use its_station::{Call, Counts, GbcRequest, IgnoredCounts, RefusedCounts, SentCounts, Station};
 use its_test_stations::{circle, receiver, request};
-use its_vectors::PORT;
+use its_test_support::PORT;
 use std::test::Fail;
 
 type Unit = Station<SortedTable>;

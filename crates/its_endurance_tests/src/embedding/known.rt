@@ -6,7 +6,7 @@ use its_linkframe::{FrameView, read_frame};
 use its_loctable::{LocationStore, OrderedTable, SortedTable};
 use its_station::{GbcRequest, Outcome, Station};
 use its_test_stations::{Fate, circle, fate_of, receiver, request};
-use its_vectors::{FIRST, PORT, SECOND};
+use its_test_support::{FIRST, PORT, SECOND};
 use std::alloc::Global;
 use std::test::Fail;
 

@@ -5,7 +5,7 @@ use its_gnvalue::TrafficClass;
 use its_loctable::{LocationStore, OrderedTable, SortedTable};
 use its_station::{GbcRequest, ShbRequest, Station};
 use its_test_stations::{circle, deliver, receiver, request};
-use its_vectors::{LINK, PORT};
+use its_test_support::{LINK, PORT};
 use std::alloc::Global;
 use std::test::Fail;
 

@@ -9,7 +9,7 @@ use its_test_stations::Step::SendGeobroadcast;
 use its_test_stations::{
     DUPLICATE, Fate, HI, Row, SENDER, deliver, fate_of, frames_of, receiver, relay_of,
 };
-use its_vectors::{LINK, put};
+use its_test_support::{LINK, put};
 use std::alloc::Global;
 use std::process::Abort;
 use std::test::Fail;

@@ -11,7 +11,7 @@ use its_test_stations::Step::{Junk, Open, Receive, Tick};
 use its_test_stations::{
     CLOSED, DUPLICATE, Fate, Row, SHORT, Site, fate_of_reply, first_other, frames_of, station_at,
 };
-use its_vectors::{PORT, THIRD};
+use its_test_support::{PORT, THIRD};
 use std::alloc::{AllocError, Global};
 use std::process::Abort;
 use std::test::Fail;

@@ -1,7 +1,6 @@
 //! Stations with every budget of memory from none to enough.
 
 use its_loctable::{OrderedTable, SortedTable};
-use its_shortage::{MOST, STEP, Shortage};
 use its_station::{Refused, Station, Why};
 use its_test_stations::Fate::{DeliveredAndRelayed, Sent};
 use its_test_stations::Row::{Call, Copy, Put};
@@ -9,6 +8,7 @@ use its_test_stations::Step::{SendGeoanycast, SendGeobroadcast, Tick};
 use its_test_stations::{
     Cast, DUPLICATE, Fate, HI, Row, SENDER, SHORT, fate_of, frames_of, receiver,
 };
+use its_test_support::{MOST, STEP, Shortage};
 use std::alloc::Global;
 use std::test::Fail;
 

@@ -4,7 +4,7 @@ use super::{BEFORE, DELIVER, LINES, OPEN, SEND, STATIONS, left_of, scenario};
 use crate::scripted::{Scripted, Trouble};
 use its_mesh::{MeshOptions, Received, Sent, Sockets, mesh_over};
 use its_reporting::Status;
-use its_shortage::{MOST, STEP, Shortage, written};
+use its_test_support::{MOST, STEP, Shortage, written};
 use std::io;
 use std::test::Fail;
 

@@ -7,7 +7,7 @@ use its_headers::{
     AreaPacket, DecodeFault, Fault, Header, Kind, Packet, PacketView, Payload, SingleHopBroadcast,
     decode,
 };
-use its_vectors::put;
+use its_test_support::put;
 use std::alloc::Global;
 use std::process::Abort;
 use std::test::Fail;

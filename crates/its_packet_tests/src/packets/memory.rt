@@ -2,7 +2,7 @@
 
 use super::{BEACON, GBC};
 use its_headers::{DecodeFault, decode};
-use its_shortage::{STEP, Shortage};
+use its_test_support::{STEP, Shortage};
 use std::test::Fail;
 
 /// Under rising budgets `decode` answers H1 and then the packet; a beacon needs none.

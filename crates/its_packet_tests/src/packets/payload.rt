@@ -3,7 +3,7 @@
 use super::Vector::{Gac, Gbc, Shb};
 use super::{Vector, octets_of};
 use its_headers::{FaultKind, LONGEST_PAYLOAD, PacketView, Payload, SHORTEST_PAYLOAD};
-use its_vectors::put;
+use its_test_support::put;
 use std::alloc::{AllocError, Global};
 use std::test::Fail;
 

@@ -3,7 +3,7 @@
 use super::{GAC, GBC, before_sevens};
 use its_gnvalue::NoRoom;
 use its_headers::{PacketView, relay_into};
-use its_vectors::put;
+use its_test_support::put;
 use std::test::Fail;
 
 /// What the relaying of a packet answers that has so much room, 80 octets at most, and what stands

@@ -2,7 +2,7 @@
 
 use super::Vector::{Beacon, Ends, Gac, Gbc, Shb};
 use super::{Vector, octets_of, returns};
-use its_vectors::put;
+use its_test_support::put;
 use std::test::Fail;
 
 /// A packet, and what stands at a place of it instead.

@@ -3,7 +3,7 @@
 use super::Vector::{Beacon, Ends, Gac, Gbc, Shb};
 use super::{Vector, fault_of, octets_of};
 use its_headers::{FaultKind, Kind, PacketView};
-use its_vectors::put;
+use its_test_support::put;
 use std::alloc::{AllocError, Global};
 use std::process::Abort;
 use std::test::Fail;

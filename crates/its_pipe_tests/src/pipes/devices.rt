@@ -2,7 +2,7 @@
 
 use super::{FIRST_SITE, OPEN, OPENED, SMALL_SITE, left_of, run};
 use its_pipe::Ended;
-use its_test_devices::{Failing, Full};
+use its_test_support::{Failing, Full};
 use std::alloc::Global;
 use std::io;
 

@@ -2,8 +2,7 @@
 
 use super::{OPEN, SMALL_SITE, run};
 use its_pipe::Ended;
-use its_shortage::{MOST, Shortage};
-use its_test_devices::{LineCount, Repeated};
+use its_test_support::{LineCount, MOST, Repeated, Shortage};
 use std::alloc::Global;
 use std::test::Fail;
 

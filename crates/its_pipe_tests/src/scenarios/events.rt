@@ -1,7 +1,7 @@
 //! Events: each action with its keys.
 
 use super::{DIGITS, Part, expect_told, told};
-use its_vectors::WORKED;
+use its_test_support::WORKED;
 use std::alloc::Global;
 use std::test::Fail;
 

@@ -1,7 +1,7 @@
 //! Stations, keys that may be missing, and keys that are passed over.
 
 use super::{DIGITS, Part, expect_told};
-use its_vectors::WORKED;
+use its_test_support::WORKED;
 use std::test::Fail;
 
 /// The stations of the worked scenario.

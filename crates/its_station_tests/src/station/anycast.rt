@@ -8,7 +8,7 @@ use its_test_stations::Known::{Beacon, Geobroadcast};
 use its_test_stations::Row::{AreSame, Call, Frame, Has, Put};
 use its_test_stations::Step::{Receive, Restart, SendGeoanycast, SendGeobroadcast};
 use its_test_stations::{CLOSED, DUPLICATE, FAR, Fate, HI, NEAR, Row, SENDER};
-use its_vectors::LINK;
+use its_test_support::LINK;
 use std::test::Fail;
 
 /// The first geoanycast of the first station.

@@ -5,7 +5,7 @@ use its_test_stations::Fate::{DeliveredAndRelayed, Sent};
 use its_test_stations::Row::{AreSame, Call, Has};
 use its_test_stations::Step::{Receive, SendGeobroadcast};
 use its_test_stations::{DUPLICATE, Fate, HI, NEAR, Row, SENDER, Site};
-use its_vectors::LINK;
+use its_test_support::LINK;
 use std::alloc::{AllocError, Global};
 use std::process::Abort;
 use std::test::Fail;

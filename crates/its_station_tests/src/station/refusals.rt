@@ -10,7 +10,7 @@ use its_test_stations::Step::{
     Close, Junk, Move, Open, OpenBelow, Receive, Restart, SendGeoanycast, SendShb, Tick,
 };
 use its_test_stations::{CLOSED, Cast, Fate, HI, NEAR, Row, SENDER, Step};
-use its_vectors::PORT;
+use its_test_support::PORT;
 use std::test::Fail;
 
 const OPEN_TWICE: Refused = Refused::Port(PortFault::AlreadyOpen);

@@ -6,7 +6,7 @@ use its_test_stations::Fate::{DeliveredAndRelayed, Done, Relayed, Sent};
 use its_test_stations::Row::Call;
 use its_test_stations::Step::{Move, Open, Receive, Restart, SendGeobroadcast};
 use its_test_stations::{DUPLICATE, FAR, Fate, HI, NEAR, Row, SENDER, Step};
-use its_vectors::PORT;
+use its_test_support::PORT;
 use std::test::Fail;
 
 /// One station opens its port again, the other doesn't.

@@ -10,7 +10,7 @@ use its_test_stations::Step::{Move, Open, Receive, SendGeobroadcast, SendShb, Ti
 use its_test_stations::{
     CLOSED, Cast, DUPLICATE, FAR, Fate, HI, Known, NEAR, Row, SENDER, Site, Step,
 };
-use its_vectors::{LINK, PORT, SECOND, THIRD};
+use its_test_support::{LINK, PORT, SECOND, THIRD};
 use std::test::Fail;
 
 static ONE_GEOBROADCAST: [Row; 7] = [

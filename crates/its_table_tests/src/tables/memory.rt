@@ -8,7 +8,7 @@ use super::{Asked, FIRST, LookUps, accept, heard_at, look_up_all, store_of};
 use its_duplicates::Recent;
 use its_gnvalue::GnAddress;
 use its_loctable::{Heard, LocationStore, OrderedTable, SortedTable, StoreRefused, Verdict};
-use its_shortage::{STEP, Shortage};
+use its_test_support::{STEP, Shortage};
 use std::alloc::Global;
 
 /// The first source that isn't among those that were taken in.

@@ -5,8 +5,7 @@ ghost use Rattle.std.specs.Prelude.{◌≤◌, All, IfOk, length};
 ghost use Rattle.its_world.specs.Events.{IsConfig, IsInRange};
 
 use super::{Fate, config, deliver, fate_of, new_world, open, run, send};
-use its_shortage::Shortage;
-use its_vectors::{FIRST, GEOBROADCAST, RELAYED, SECOND};
+use its_test_support::{FIRST, GEOBROADCAST, RELAYED, SECOND, Shortage};
 use its_world::{Config, Event, Run, World, WorldFault};
 use std::alloc::Global;
 use std::process::Abort;

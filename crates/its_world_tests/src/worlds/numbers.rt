@@ -4,7 +4,7 @@ ghost use Rattle.std.specs.Prelude.{◌≤◌};
 
 use super::{Fate, config, deliver, fate_in, new_world, open, run, send};
 use its_station::Why;
-use its_vectors::{FIRST, SECOND};
+use its_test_support::{FIRST, SECOND};
 use its_world::World;
 use std::alloc::Global;
 use std::process::Abort;

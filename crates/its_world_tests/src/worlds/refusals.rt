@@ -2,7 +2,7 @@
 
 use super::{Fate, config, deliver, fate_in, new_world, open, send};
 use its_station::{Refused, Why};
-use its_vectors::{FIRST, SECOND};
+use its_test_support::{FIRST, SECOND};
 use its_world::{EntryFault, World, WorldFault};
 use std::alloc::Global;
 use std::process::Abort;

@@ -1,7 +1,7 @@
 //! Frames that are let go: the others keep their numbers and octets.
 
 use super::{Fate, config, deliver, fate_in, new_world, open, run, send};
-use its_vectors::{FIRST, GEOBROADCAST, SECOND};
+use its_test_support::{FIRST, GEOBROADCAST, SECOND};
 use its_world::{EntryFault, World};
 use std::alloc::Global;
 use std::process::Abort;

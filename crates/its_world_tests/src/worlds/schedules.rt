@@ -2,7 +2,7 @@
 
 use super::{Fate, config, deliver, fate_of, new_world, open, run, send};
 use its_station::Why;
-use its_vectors::{FIRST, GEOBROADCAST, LINK, SECOND, THIRD, put};
+use its_test_support::{FIRST, GEOBROADCAST, LINK, SECOND, THIRD, put};
 use its_world::{EntryFault, Run, World};
 use std::alloc::Global;
 use std::process::Abort;

@@ -4,7 +4,8 @@ use Rattle.its_world.specs.Events.{config_of}
 use Rattle.its_air.specs.AirTimed.{rules_of}
 use Rattle.its_air.specs.Standings.{AreStandingsOf}
 use Rattle.its_air.specs.Traffics.{all_traffic}
-use Rattle.its_air.specs.UnderRows.{IsUnderSome}
+use Rattle.its_air.specs.Outside.{IsByMoment}
+use Rattle.its_air.specs.UnderRows.{IsUnderSome, asked_in}
 use Rattle.its_air.proofs.moving.run_moves.Given as goal
 
 -- stations stand where the world has them, and a run with rows is under way
@@ -13,6 +14,8 @@ invariant-loop g l =
     record {
       standings : AreStandingsOf l.moving.run.world.stations l.moving.run.standings.order.items;
       until : l.moving.until ≡ l.air.until;
+      moves : l.moving.moves.now ≡ l.scenario.moves;
+      asked : IsByMoment l.scenario.addressed.items (asked_in l.moving);
       under : g.S.EventSink.Took l.fn.sink [] []
           → IsUnderSome (rules_of l.air (all_traffic l.scenario.every.items)
           (end_of l.air.until []) l.scenario.present.items)

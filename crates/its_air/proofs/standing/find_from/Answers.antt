@@ -9,9 +9,9 @@ use Rattle.its_air.proofs.standing.find_from.Goals as goal
 pub returns-clause-found : goal.returns-clause-found
 returns-clause-found c = λ d.
     let xs = c.args.order.now in
-    let south = c.partition_point-south.result in
+    let sooner = c.partition_point-sooner.result in
     let at = c.in_ok-at.at in
-    ap (λ (s : Standing). s.number) (sym (get_or-drop south xs at d))
-    ∙ found_at (drop south xs) c.args.number at
+    ap (λ (s : Standing). s.number) (sym (get_or-drop sooner xs at d))
+    ∙ found_at (drop sooner xs) c.args.number at
     (ap (position (λ (s : Standing). s.number == c.args.number)) (sym c.split_at.ensures.back)
     ∙ sym c.place_in.ensures ∙ c.in_ok-at.was) d

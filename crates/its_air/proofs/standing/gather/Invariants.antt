@@ -1,12 +1,9 @@
-use Rattle.std.proofs.Common.{◌≡◌, map, filter, take}
+use Rattle.std.proofs.Common.{◌≡◌, ◌++◌, map, filter, take}
 use Rattle.its_air.specs.Reach.{hears_there}
 use Rattle.its_air.proofs.standing.gather.Given as goal
 
--- of the first standings those that hear were found
+-- of the first standings those that hear were found, behind what was found before
 abbrev pub invariant-loop-standing : goal.invariant-loop-standing
 invariant-loop-standing l =
-    record {
-      found : l.found.items ≡ map (λ s. s.number)
-          (filter (hears_there l.range l.giver l.fn.place) (take l.standing-index l.near));
-      centre : l.centre.place ≡ l.fn.place;
-    }
+    l.found.items ≡ l.initial.found.items ++ map (λ s. s.number)
+    (filter (hears_there l.range l.giver l.centre.place) (take l.standing-index l.near))

@@ -1,22 +1,22 @@
 use Rattle.std.proofs.Common.{rules, subst}
 use Rattle.its_model.specs.Calls.{Own, GbcRequest, area_call}
 use Rattle.its_model.specs.Station.{station_step}
-use Rattle.its_station.specs.Requests.{TellsSent, gbc_request}
+use Rattle.its_station.specs.Requests.{TellsSent, gbc_request, kind_of_cast}
 use Rattle.its_station.specs.Steps.{IsStepOf}
-use Rattle.its_c.specs.Arguments.{IsAreaOf, kind_of_cast}
+use Rattle.its_c.specs.Arguments.{IsAreaOf}
 use Rattle.its_c.proofs.Opens.{held_model, stays_open}
 use Rattle.its_c.proofs.to_area.send_to_area.Goals as goal
 
 pub invariant_of-s : goal.invariant_of-s
 invariant_of-s c =
     record {
-      represents = stays_open (TellsSent) c.frame_for_area-said.result c.deref_mut.result.now
-          c.frame_for_area-said.new.station
+      represents = stays_open (TellsSent) c.send_to_area-said.result c.deref_mut.result.now
+          c.send_to_area-said.new.self
           (λ m. station_step m c.args.now (Own (area_call (kind_of_cast c.args.cast)
           (gbc_request c.area_request-r.result))))
           c.args.s.now.held.station
-          c.put.new.self.station c.frame_for_area-said.ensures.step
-          c.frame_for_area-said.ensures.unchanged
+          c.put.new.self.station c.send_to_area-said.ensures.step
+          c.send_to_area-said.ensures.unchanged
           (search rules) (search rules) c.args.s.now.represents;
     }
 
@@ -25,15 +25,15 @@ returns-clause-step c = λ m long model fine.
     let rep = held_model c.args.s.now.held.station c.deref_mut.result.now m (search rules) model in
     let area = c.in-Some.area in
     let made : IsAreaOf c.args.request.now area = search rules in
-    let done = subst (λ (k : GbcRequest). IsStepOf TellsSent c.frame_for_area-said.result
-    c.frame_for_area-said.new.station
+    let done = subst (λ (k : GbcRequest). IsStepOf TellsSent c.send_to_area-said.result
+    c.send_to_area-said.new.self
     (station_step m c.args.now (Own (area_call (kind_of_cast c.args.cast) k))))
-    c.area_request-r.ensures (c.frame_for_area-said.ensures.step m rep) in (
+    c.area_request-r.ensures (c.send_to_area-said.ensures.step m rep) in (
       area,
       made,
       record {
-        said = c.frame_for_area-said.result;
-        after = c.frame_for_area-said.new.station;
+        said = c.send_to_area-said.result;
+        after = c.send_to_area-said.new.self;
         held = search rules;
         done = done;
         code = search rules;

@@ -33,15 +33,15 @@ returns-in_err-wire-clause-answer g c =
     (behind-fault _ _ c.in_ok-interface.interface _ _ _ _ (first-read _ _ _ c.in_ok-interface.ensures)
     (first-fault _ _ _ _ _ c.in_err-wire.ensures.answer)))
 
-pub returns-in_err-read_frame-clause-answer : goal.returns-in_err-read_frame-clause-answer
+pub returns-in_err-read_record_octets-clause-answer : goal.returns-in_err-read_record_octets-clause-answer
 unfolding simple
-returns-in_err-read_frame-clause-answer g c =
-    let p = err_from_is_err_and c.from_residual-in_err-read_frame.result c.from_residual-in_err-read_frame.ensures.1 in
+returns-in_err-read_record_octets-clause-answer g c =
+    let p = err_from_is_err_and c.from_residual-in_err-read_record_octets.result c.from_residual-in_err-read_record_octets.ensures.1 in
     rw (p.1, p.2)
     (behind-fault _ _ c.in_ok-length.length _ _ _ _ c.in_ok-length.ensures.answer
     (behind-fault _ _ c.in_ok-interface.interface _ _ _ _ (first-read _ _ _ c.in_ok-interface.ensures)
     (behind-fault _ _ (c.in_ok-wire.wire, c.in_ok-wire.captured) _ _ _ _ c.in_ok-wire.ensures.answer
-    (first-fault _ _ _ _ _ (frame-cut c.in_ok-wire.captured c.args.keep c.read_frame.new.frame.items _ _ _ c.in_err-read_frame.ensures.fault)))))
+    (first-fault _ _ _ _ _ (frame-cut c.in_ok-wire.captured c.args.keep c.read_record_octets.new.frame.items _ _ _ c.in_err-read_record_octets.ensures.fault)))))
 
 pub returns-in_err-end_block-clause-answer : goal.returns-in_err-end_block-clause-answer
 unfolding simple
@@ -51,7 +51,7 @@ returns-in_err-end_block-clause-answer g c =
     (behind-fault _ _ c.in_ok-length.length _ _ _ _ c.in_ok-length.ensures.answer
     (behind-fault _ _ c.in_ok-interface.interface _ _ _ _ (first-read _ _ _ c.in_ok-interface.ensures)
     (behind-fault _ _ (c.in_ok-wire.wire, c.in_ok-wire.captured) _ _ _ _ c.in_ok-wire.ensures.answer
-    (behind-fault _ _ tt _ _ _ _ (frame-read _ _ _ _ _ c.in_ok-read_frame.ensures.frame)
+    (behind-fault _ _ tt _ _ _ _ (frame-read _ _ _ _ _ c.in_ok-read_record_octets.ensures.frame)
     (first-fault _ _ _ _ _ c.in_err-end_block.ensures.answer)))))
 
 pub returns-clause-answer : goal.returns-clause-answer
@@ -60,7 +60,7 @@ returns-clause-answer g c =
     (behind-answer _ _ c.in_ok-length.length (Ok _) _ _ _ c.in_ok-length.ensures.answer
     (behind-answer _ _ c.in_ok-interface.interface (Ok _) _ _ _ (first-read _ _ _ c.in_ok-interface.ensures)
     (behind-answer _ _ (c.in_ok-wire.wire, c.in_ok-wire.captured) (Ok _) _ _ _ c.in_ok-wire.ensures.answer
-    (behind-answer _ _ tt (Ok _) _ _ _ (frame-read _ _ _ _ _ c.in_ok-read_frame.ensures.frame)
+    (behind-answer _ _ tt (Ok _) _ _ _ (frame-read _ _ _ _ _ c.in_ok-read_record_octets.ensures.frame)
     (behind-answer _ _ tt (Ok _) _ _ _ c.in_ok-end_block.ensures.answer
     (gives-value {A = Block} (blocks.Record (record {
       moment = 0;

@@ -7,15 +7,15 @@ use Rattle.its_pcap.specs.Interfaces.{passed}
 use Rattle.its_pcap.specs.Layouts.{octets}
 use Rattle.its_pcap.proofs.options.pass_value.Goals as goal
 
-pub returns-in_err-pass_over-clause-answer : goal.returns-in_err-pass_over-clause-answer
+pub returns-in_err-skip-clause-answer : goal.returns-in_err-skip-clause-answer
 unfolding passed
-returns-in_err-pass_over-clause-answer g c =
+returns-in_err-skip-clause-answer g c =
     let p = err_from_is_err_and c.from_residual.result c.from_residual.ensures.1 in
     rw (p.1, p.2)
-    (first-fault _ _ _ _ _ (part-cut (octets c.args.room) c.args.room _ _ _ (λ w few. few) c.in_err-pass_over.ensures.fault))
+    (first-fault _ _ _ _ _ (part-cut (octets c.args.room) c.args.room _ _ _ (λ w few. few) c.in_err-skip.ensures.fault))
 
 pub returns-clause-answer : goal.returns-clause-answer
 unfolding passed
 returns-clause-answer g c =
-    (behind-answer _ _ tt (Ok _) _ _ _ (octets-read c.args.room _ _ c.in_ok-pass_over.ensures.octets)
+    (behind-answer _ _ tt (Ok _) _ _ _ (octets-read c.args.room _ _ c.in_ok-skip.ensures.octets)
     (gives-value c.args.interface _))

@@ -8,15 +8,15 @@ use Rattle.its_pcap.specs.Interfaces.{offset}
 use Rattle.its_pcap.specs.Layouts.{number}
 use Rattle.its_pcap.proofs.options.read_offset.Goals as goal
 
-pub returns-in_err-fill_whole-clause-answer : goal.returns-in_err-fill_whole-clause-answer
+pub returns-in_err-read_exact-clause-answer : goal.returns-in_err-read_exact-clause-answer
 unfolding offset
-returns-in_err-fill_whole-clause-answer g c =
+returns-in_err-read_exact-clause-answer g c =
     let p = err_from_is_err_and c.from_residual.result c.from_residual.ensures.1 in
     rw (p.1, p.2)
-    (first-fault _ _ _ _ _ (part-cut (number c.args.order 8) 8 _ _ _ (λ w few. few) c.in_err-fill_whole.ensures.fault))
+    (first-fault _ _ _ _ _ (part-cut (number c.args.order 8) 8 _ _ _ (λ w few. few) c.in_err-read_exact.ensures.fault))
 
 pub returns-clause-answer : goal.returns-clause-answer
 unfolding offset
 returns-clause-answer g c =
-    (behind-answer _ _ c.long_at.result (Ok _) _ _ _ (reads ((number c.args.order 8).Is c.long_at.result) _ _ c.fill_whole.new.buf (omega arith, (sym c.long_at.ensures, tt)) c.in_ok-fill_whole.ensures.octets)
-    (has-offset c.args.interface _ _ _ c.seconds_of-ahead.ensures.ahead c.seconds_of-ahead.ensures.behind refl refl refl))
+    (behind-answer _ _ c.u64_at.result (Ok _) _ _ _ (reads ((number c.args.order 8).Is c.u64_at.result) _ _ c.read_exact.new.buf (omega arith, (sym c.u64_at.ensures, tt)) c.in_ok-read_exact.ensures.octets)
+    (has-offset c.args.interface _ _ _ c.seconds_of-offset_added.ensures.added c.seconds_of-offset_added.ensures.taken refl refl refl))

@@ -8,31 +8,31 @@ use Rattle.its_pcap.specs.Interfaces.{resolution}
 use Rattle.its_pcap.specs.Layouts.{number_that, octets}
 use Rattle.its_pcap.specs.Moments.{IsTooFine}
 use Rattle.its_pcap.specs.Octets.{number_in}
-use Rattle.its_pcap.specs.declared.octets.Order.TheVariants.{High}
+use Rattle.its_pcap.specs.declared.octets.Endianness.TheVariants.{Big}
 use Rattle.std.proofs.Common.{subst}
 use Rattle.its_pcap.specs.declared.fault.SourceFault.TheVariants as faults
 use Rattle.its_pcap.proofs.options.read_resolution.Goals as goal
 
-pub returns-in_err-fill_whole-clause-answer : goal.returns-in_err-fill_whole-clause-answer
+pub returns-in_err-read_exact-clause-answer : goal.returns-in_err-read_exact-clause-answer
 unfolding resolution
-returns-in_err-fill_whole-clause-answer g c =
+returns-in_err-read_exact-clause-answer g c =
     let p = err_from_is_err_and c.from_residual.result c.from_residual.ensures.1 in
     rw (p.1, p.2)
-    (first-fault _ _ _ _ _ (part-cut (number_that High 1 (λ r. ¬ IsTooFine r)) 1 _ _ _ (λ w few. few) c.in_err-fill_whole.ensures.fault))
+    (first-fault _ _ _ _ _ (part-cut (number_that Big 1 (λ r. ¬ IsTooFine r)) 1 _ _ _ (λ w few. few) c.in_err-read_exact.ensures.fault))
 
-pub returns-in_err-pass_over-clause-answer : goal.returns-in_err-pass_over-clause-answer
+pub returns-in_err-skip-clause-answer : goal.returns-in_err-skip-clause-answer
 unfolding resolution
-returns-in_err-pass_over-clause-answer g c =
-    let p = err_from_is_err_and c.from_residual-in_err-pass_over.result c.from_residual-in_err-pass_over.ensures.1 in
+returns-in_err-skip-clause-answer g c =
+    let p = err_from_is_err_and c.from_residual-in_err-skip.result c.from_residual-in_err-skip.ensures.1 in
     rw (p.1, p.2)
-    (behind-fault _ _ (get_or c.fill_whole.new.buf 0 0) _ _ _ _ (reads ((number_that High 1 (λ r. ¬ IsTooFine r)).Is (get_or c.fill_whole.new.buf 0 0)) _ _ c.fill_whole.new.buf (omega arith, (omega arith, c.in_ok-ticks.ensures.ticks.1)) c.in_ok-fill_whole.ensures.octets)
-    (first-fault _ _ _ _ _ (part-cut (octets 3) 3 _ _ _ (λ w few. few) c.in_err-pass_over.ensures.fault)))
+    (behind-fault _ _ (get_or c.read_exact.new.buf 0 0) _ _ _ _ (reads ((number_that Big 1 (λ r. ¬ IsTooFine r)).Is (get_or c.read_exact.new.buf 0 0)) _ _ c.read_exact.new.buf (omega arith, (omega arith, c.in_ok-ticks.ensures.ticks.1)) c.in_ok-read_exact.ensures.octets)
+    (first-fault _ _ _ _ _ (part-cut (octets 3) 3 _ _ _ (λ w few. few) c.in_err-skip.ensures.fault)))
 
 pub returns-clause-answer : goal.returns-clause-answer
 unfolding resolution
 returns-clause-answer g c =
-    (behind-answer _ _ (get_or c.fill_whole.new.buf 0 0) (Ok _) _ _ _ (reads ((number_that High 1 (λ r. ¬ IsTooFine r)).Is (get_or c.fill_whole.new.buf 0 0)) _ _ c.fill_whole.new.buf (omega arith, (omega arith, c.in_ok-ticks.ensures.ticks.1)) c.in_ok-fill_whole.ensures.octets)
-    (behind-answer _ _ tt (Ok _) _ _ _ (octets-read 3 _ _ c.in_ok-pass_over.ensures.octets)
+    (behind-answer _ _ (get_or c.read_exact.new.buf 0 0) (Ok _) _ _ _ (reads ((number_that Big 1 (λ r. ¬ IsTooFine r)).Is (get_or c.read_exact.new.buf 0 0)) _ _ c.read_exact.new.buf (omega arith, (omega arith, c.in_ok-ticks.ensures.ticks.1)) c.in_ok-read_exact.ensures.octets)
+    (behind-answer _ _ tt (Ok _) _ _ _ (octets-read 3 _ _ c.in_ok-skip.ensures.octets)
     (has-ticks c.args.interface _ _ _ c.in_ok-ticks.ensures.ticks.0 refl refl refl refl)))
 
 pub returns-in_err-ticks-clause-answer : goal.returns-in_err-ticks-clause-answer
@@ -41,9 +41,9 @@ returns-in_err-ticks-clause-answer g c =
     let p = err_from_is_err_and c.from_residual-in_err-ticks.result
     c.from_residual-in_err-ticks.ensures.1 in
     let h = c.in_err-ticks.ensures.ticks in
-    let same : number_in High 1 c.fill_whole.new.buf ≡ get_or c.fill_whole.new.buf 0 0 =
+    let same : number_in Big 1 c.read_exact.new.buf ≡ get_or c.read_exact.new.buf 0 0 =
     omega arith in
     rw (p.1, p.2, h.0)
     (first-fault _ _ faults.Malformed _ _
-    (reads ((number_that High 1 (λ r. ¬ IsTooFine r)).Wrong) _ _ c.fill_whole.new.buf
-    (omega arith, λ fine. fine (subst IsTooFine (sym same) h.1)) c.in_ok-fill_whole.ensures.octets))
+    (reads ((number_that Big 1 (λ r. ¬ IsTooFine r)).Wrong) _ _ c.read_exact.new.buf
+    (omega arith, λ fine. fine (subst IsTooFine (sym same) h.1)) c.in_ok-read_exact.ensures.octets))

@@ -1,12 +1,12 @@
 use Rattle.std.proofs.Common.{◌≡◌, Option, None, Some, Ok, refl, ◌∙◌, unwrap_or}
 use Rattle.std.proofs.lemmas.Result.{err_from_is_err_and}
 use Rattle.its_pcap.specs.Pcapng.{next_block, order_in}
-use Rattle.its_pcap.specs.declared.octets.Order.{Order}
-use Rattle.its_pcap.specs.declared.octets.Order.TheVariants as orders
+use Rattle.its_pcap.specs.declared.octets.Endianness.{Endianness}
+use Rattle.its_pcap.specs.declared.octets.Endianness.TheVariants as orders
 use Rattle.its_pcap.proofs.Layouts.{behind-fault, behind-answer, first-fault}
 use Rattle.its_pcap.proofs.pcapng.read_next.Goals as goal
 
-order_is : (o : Option Order) → unwrap_or o orders.High ≡ order_in o
+order_is : (o : Option Endianness) → unwrap_or o orders.Big ≡ order_in o
 order_is None = refl
 order_is (Some o) = refl
 

@@ -1,4 +1,5 @@
-use Rattle.std.proofs.Common.{Option, None, subst, sym, ◌≡◌, refl, ap, ◌∙◌}
+use Rattle.std.proofs.Common.{Option, None, subst, ◌≡◌, ap, ◌∙◌}
+use Rattle.its_lines.specs.declared.passed.Passed.{Passed}
 use Rattle.its_pipe.specs.Knowing.{Counted}
 use Rattle.its_pipe.specs.Lines.{LineText, text_of}
 use Rattle.its_pipe.specs.Requests.{line_of}
@@ -9,9 +10,9 @@ use Rattle.its_pipe.proofs.serving.serve_line.Goals as goal
 
 pub returns-in-Some : goal.returns-in-Some
 returns-in-Some g c = λ s log rep took was.
-    let line : line_of c.octets-octets.result.now c.is_longer-longer.result ≡ text_of c.args.line.now =
-    ap (λ o. line_of o c.is_longer-longer.result) c.octets-octets.ensures
-    ∙ ap (λ l. line_of (text_of c.args.line.now).octets l) c.is_longer-longer.ensures in
+    let line : line_of c.start-octets.result.now c.passed.result.any ≡ text_of c.args.line.now =
+    ap (λ o. line_of o c.passed.result.any) c.start-octets.ensures.octets
+    ∙ ap (λ (p : Passed). line_of (text_of c.args.line.now).octets p.any) c.passed.ensures in
     line_told c.hand_on.result s c.args.number (text_of c.args.line.now) log c.in-Some.response
     c.respond.new.station c.respond.new.counts c.args.ended (g.S.ResponseSink.Took c.hand_on.new.sink)
     (subst (λ (o : Option Response). (next : Counted)
@@ -25,9 +26,9 @@ returns-in-Some g c = λ s log rep took was.
 
 pub returns-in-None : goal.returns-in-None
 returns-in-None g c = λ s log rep took was.
-    let line : line_of c.octets-octets.result.now c.is_longer-longer.result ≡ text_of c.args.line.now =
-    ap (λ o. line_of o c.is_longer-longer.result) c.octets-octets.ensures
-    ∙ ap (λ l. line_of (text_of c.args.line.now).octets l) c.is_longer-longer.ensures in
+    let line : line_of c.start-octets.result.now c.passed.result.any ≡ text_of c.args.line.now =
+    ap (λ o. line_of o c.passed.result.any) c.start-octets.ensures.octets
+    ∙ ap (λ (p : Passed). line_of (text_of c.args.line.now).octets p.any) c.passed.ensures in
     line_quiet s c.args.number (text_of c.args.line.now) log c.respond.new.station
     c.respond.new.counts c.args.ended (g.S.ResponseSink.Took c.args.sink.now)
     (subst (λ (o : Option Response). (next : Counted)

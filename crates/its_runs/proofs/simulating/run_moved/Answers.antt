@@ -12,7 +12,7 @@ pub returns-clause-run : goal.returns-clause-run
 returns-clause-run g c =
     let start : c.args.watched.now.all_done ≡ list_all was_done [] = search rules in (
       c.in_ok-run_moves.field-0,
-      moved_follows _ _ _ c.in_ok-run_moves.field-0
+      moved_follows _ _ _ _ _ c.in_ok-run_moves.field-0
           (λ (events : List Event) (log : List Entry).
           c.run_moves.new.sink.all_done ≡ list_all was_done log)
           (λ (events : List Event) (log : List Entry).

@@ -1,11 +1,11 @@
 use Rattle.std.proofs.Common.{◌≡◌, ◌<◌, ◌≤◌, ◌+◌, ◌⊎◌, inl, inr, ℕ, List}
 use Rattle.std.proofs.Common.{HoldsAt, None, length, subst, sym, rules}
 use Rattle.std.specs.List.{position}
-use Rattle.std.specs.Prelude.{◌==◌}
+use Rattle.std.specs.Prelude.{◌==◌, count_by}
 use Rattle.std.specs.List.Sorted.{IsNonDecreasingBy, IsPartitionPoint}
 use Rattle.its_air.specs.declared.standing.Standing.{Standing}
-use Rattle.its_air.specs.Standings.{northing, AreStandingsOf}
-use Rattle.its_air.proofs.Counts.{stand_new, stand_same, rising_moved}
+use Rattle.its_air.specs.Standings.{row_key, is_off, AreStandingsOf}
+use Rattle.its_air.proofs.Counts.{stand_new, stand_same, rising_moved, none_off_replaced}
 use Rattle.its_air.proofs.standing.Standings.move_station.Goals.{then-from-end, else-from-end}
 use Rattle.its_air.proofs.standing.Standings.move_station.Goals as goal
 
@@ -18,12 +18,12 @@ returns-in_default c = λ old new stand same at.
 
 pub invariant_of-self-2 : goal.invariant_of-self-2
 invariant_of-self-2 c =
-    let key : Standing → ℕ = λ s. northing s.place in
+    let key : Standing → ℕ = λ s. row_key c.args.self.now.range s.place in
     let xs = c.args.self.now.order.items in
     let i = c.in-Some.from in
     let to = c.if-from-end.to in
     let end = c.end_for-end.result in
-    let north = c.northing.result in
+    let at = c.row_key.result in
     let y : Standing = record { place = c.args.place; number = c.args.number } in
     let within : i < length xs = search rules in
     let up : IsNonDecreasingBy key xs = c.args.self.now.rising in
@@ -32,12 +32,16 @@ invariant_of-self-2 c =
       | then-from-end w ↦ inl (w.if-from-end.true, search rules)
       | else-from-end w ↦ inr (w.if-from-end.false, search rules)
     ] in
-    let placed = rising_moved xs i to end north y within (search rules)
-    (sym c.northing.ensures.value) up
-    (subst (λ (l : List Standing). IsPartitionPoint (λ s. northing s.place ≤ north)
-    (λ s. north ≤ northing s.place) l end) c.deref-3.ensures.value c.end_for-end.ensures.point)
-    side in
-    record { rising = subst (IsNonDecreasingBy key) (sym c.replace_at.ensures) placed }
+    let placed = rising_moved key xs i to end at y within (search rules)
+    (sym c.row_key.ensures.value) up
+    (subst (λ (l : List Standing). IsPartitionPoint (λ s. key s ≤ at) (λ s. at ≤ key s) l end)
+    c.deref-3.ensures.value c.end_for-end.ensures.point) side in
+    record {
+      rising = subst (IsNonDecreasingBy key) (sym c.replace_at.ensures) placed;
+      longitudes = subst (λ (l : List Standing). count_by is_off l ≡ 0) (sym c.replace_at.ensures)
+          (none_off_replaced xs i to y within c.row_key.ensures.longitude
+          c.args.self.now.longitudes);
+    }
 
 pub returns : goal.returns
 returns c = λ old new stand same at.

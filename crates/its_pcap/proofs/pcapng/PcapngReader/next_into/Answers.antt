@@ -1,7 +1,7 @@
 use Rattle.std.proofs.Common.{◌≡◌, None, Some, inl, inr, subst}
 use Rattle.std.specs.Prelude.{◌⊎◌}
 use Rattle.its_pcap.specs.Pcapng.{PcapngReading, IsAnswer, ReadsInterfaceAt}
-use Rattle.its_pcap.specs.declared.octets.Order.{Order}
+use Rattle.its_pcap.specs.declared.octets.Endianness.{Endianness}
 use Rattle.its_pcap.specs.declared.pcapng.Stage.TheVariants as stages
 use Rattle.its_pcap.proofs.Steps.{taken, at_stage, taken_memory, interface_at}
 use Rattle.its_pcap.proofs.pcapng.PcapngReader.next_into.Goals.{in-Start, in-Blocks}
@@ -28,7 +28,7 @@ returns-in-Ok-Some-clause-answer g c =
       failures = g.R.Source.failed c.read_next.new.source;
     } in
     let at : ((stage ≡ stages.Start) × (c.match-self.order ≡ None))
-    ⊎ ((order : Order) × (stage ≡ stages.Blocks order) × (c.match-self.order ≡ Some order)) =
+    ⊎ ((order : Endianness) × (stage ≡ stages.Blocks order) × (c.match-self.order ≡ Some order)) =
     elim c.match-self.branch [
       | in-Start w ↦ inl (w.in-Start.is, w.order-is)
       | in-Blocks w ↦ inr (w.in-Blocks.order, w.in-Blocks.is, w.order-is)
@@ -61,7 +61,7 @@ returns-in-Ok-Some-clause-memory g c = λ enough is.
       failures = g.R.Source.failed c.read_next.new.source;
     } in
     let at : ((stage ≡ stages.Start) × (c.match-self.order ≡ None))
-    ⊎ ((order : Order) × (stage ≡ stages.Blocks order) × (c.match-self.order ≡ Some order)) =
+    ⊎ ((order : Endianness) × (stage ≡ stages.Blocks order) × (c.match-self.order ≡ Some order)) =
     elim c.match-self.branch [
       | in-Start w ↦ inl (w.in-Start.is, w.order-is)
       | in-Blocks w ↦ inr (w.in-Blocks.order, w.in-Blocks.is, w.order-is)

@@ -36,12 +36,12 @@ returns-then-r-gt-MAX_PAYLOAD-clause-step g c =
 pub returns-clause-step : goal.returns-clause-step
 returns-clause-step g c =
     let r = shb_request c.args.r.now in
-    done_step TellsSent c.in_ok-frame.frame c.args.self.now c.set_sent.new.self _
+    done_step TellsSent c.in_ok-frame.frame c.args.self.now c.mark_sent.new.self _
     (λ m. shb_refusal m c.args.now r)
     (λ m. record {
       answer = model.Answer.Sent (shb_for m c.args.lifetime r);
       station = after_sending m c.args.now;
-    }) c.set_sent.ensures
+    }) c.mark_sent.ensures
     (λ ports history. λ i. first (c.in_ok-check_moment.ensures.refusal ports history i)
     (cond (sym (le-ltb 1394 (length c.args.r.now.payload.now) c.if-r-gt-MAX_PAYLOAD.false) i)
     (Some model.Refusal.PayloadTooLong) None))

@@ -66,10 +66,10 @@ returns-clause-step g c =
     let kind = kind_of_cast c.args.cast in
     let st = c.args.self.now in
     let body = area_body kind st.next_number r.area r.message in
-    own_done_step TellsSent c.in_ok-frame.frame st c.set_numbered.new.self _ c.args.now
+    own_done_step TellsSent c.in_ok-frame.frame st c.mark_area_sent.new.self _ c.args.now
     (area_call kind r)
     (λ ports history. model.Answer.Sent (area_packet (model_of st ports history) c.args.now r body))
-    (λ ports. ports) (λ history. history) c.set_numbered.ensures
+    (λ ports. ports) (λ history. history) c.mark_area_sent.ensures
     c.in_ok-check_moment.ensures.refusal
     (λ ports history past. refusal_area kind (model_of st ports history) r
     ∙ allowed r c.if-r-gt-MAX_PAYLOAD.false c.if-r-eq0.false)

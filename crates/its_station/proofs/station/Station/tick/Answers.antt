@@ -55,10 +55,10 @@ pub returns-clause-step : goal.returns-clause-step
 returns-clause-step g c =
     let now = c.args.now in
     let due = sym c.is_beacon_due.ensures ∙ c.if-not-is_beacon_due.false in
-    own_done_step TellsTick (Some c.in_ok-frame.frame) c.args.self.now c.set_sent.new.self _ now
+    own_done_step TellsTick (Some c.in_ok-frame.frame) c.args.self.now c.mark_sent.new.self _ now
     (Tick c.args.jitter)
     (λ ports history. model.Answer.Sent (beacon_of (model_of c.args.self.now ports history)))
-    (λ ports. ports) (λ history. history) c.set_sent.ensures c.in_ok-check_moment.ensures.refusal
+    (λ ports. ports) (λ history. history) c.mark_sent.ensures c.in_ok-check_moment.ensures.refusal
     (λ ports history past. λ i.
     cond (le-ltb 750 c.args.jitter c.if-jitter-gt-MAX_JITTER.false i)
     (Some model.Refusal.JitterRange) None)

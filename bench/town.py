@@ -1,0 +1,48 @@
+"""A town for `geostation sim`: `town.py STATIONS SECONDS` prints its scenario.
+
+160 stations a square kilometre stand in disorder, of one seed. Each sends beacons and, once a
+second, a single-hop message of 50 octets; five geobroadcasts go out beside these.
+"""
+
+import math
+import random
+import sys
+
+DENSITY = 160
+RANGE = 400
+PORT = 2002
+LAT, LON = 481_000_000, 115_000_000
+NORTH = 1.1132 / 100
+EAST = NORTH * math.cos(math.radians(LAT / 10_000_000))
+WARNINGS = 5
+FIRST = 0x1400020000000001
+
+
+def main(stations, seconds):
+    draws = random.Random(stations)
+    side = 1000 * math.sqrt(stations / DENSITY)
+
+    def place():
+        lat = LAT + int(side * draws.random() / NORTH)
+        lon = LON + int(side * draws.random() / EAST)
+        return lat, lon
+
+    until = 1000 * seconds - 1
+    print(f"[air]\nrange = {RANGE}\nseed = 1\nbeacons = true\nuntil = {until}")
+    print(f"[[every]]\nperiod = 1000\nport = {PORT}\ninfo = 0\ntc = 0\noctets = 50")
+    for number in range(stations):
+        lat, lon = place()
+        print(f'[[station]]\naddress = "{FIRST + number:016x}"\nlat = {lat}\nlon = {lon}')
+        print("capacity = 256")
+    for number in range(stations):
+        print(f'[[event]]\nstation = {number}\nat = 0\ndo = "open"\nport = {PORT}')
+    for warning in range(1, WARNINGS + 1):
+        lat, lon = place()
+        station = int(stations * draws.random())
+        moment = until * warning // (WARNINGS + 1)
+        print(f'[[event]]\nstation = {station}\nat = {moment}\ndo = "gbc"\nport = {PORT}')
+        print(f'info = 0\ntc = 0\nlt = 26\nhops = 10\nshape = "circle"\nalat = {lat}')
+        print(f'alon = {lon}\na = 300\nb = 0\nangle = 0\npayload = "696365"')
+
+
+main(int(sys.argv[1]), int(sys.argv[2]))

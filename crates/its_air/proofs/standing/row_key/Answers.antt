@@ -1,0 +1,7 @@
+use Rattle.its_air.specs.Standings.{row_key}
+use Rattle.std.proofs.Common.{rules}
+use Rattle.its_air.proofs.standing.row_key.Goals as goal
+
+pub returns-clause-value : goal.returns-clause-value
+unfolding row_key
+returns-clause-value c = search rules

@@ -1,0 +1,4 @@
+-- Lemmas of this crate.
+mod Kept
+pub mod Pieces
+pub mod Texts

@@ -1,0 +1,75 @@
+//! The words that a line takes under `do`.
+
+use its_scenario::{Verb, nearest};
+use std::alloc::{AllocError, Global};
+use std::fmt;
+
+/// What a line asks for, by its word. It prints as that word.
+#[derive(Clone, Copy, Debug, PartialEq, Eq)]
+pub enum LineWord {
+    /// A call of the station's own applications.
+    Own(Verb),
+    /// A frame came.
+    Receive,
+    /// When the next beacon is due.
+    NextBeacon,
+    /// Which sources are neighbours.
+    Neighbours,
+    /// What is known of a source.
+    LookUp,
+    /// What a frame is.
+    ReadFrame,
+    /// How often what came of the calls.
+    Counts,
+}
+
+/// All that a line takes: of those of a scenario no delivery, and nobody leaves.
+const WORDS: [LineWord; 14] = [
+    LineWord::Own(Verb::Move),
+    LineWord::Own(Verb::Open),
+    LineWord::Own(Verb::Close),
+    LineWord::Own(Verb::Tick),
+    LineWord::Own(Verb::Shb),
+    LineWord::Own(Verb::Gbc),
+    LineWord::Own(Verb::Gac),
+    LineWord::Own(Verb::Restart),
+    LineWord::Receive,
+    LineWord::NextBeacon,
+    LineWord::Neighbours,
+    LineWord::LookUp,
+    LineWord::ReadFrame,
+    LineWord::Counts,
+];
+
+impl LineWord {
+    /// The word.
+    pub fn word(self) -> &'static str {
+        match self {
+            LineWord::Own(verb) => verb.word(),
+            LineWord::Receive => "receive",
+            LineWord::NextBeacon => "next_beacon",
+            LineWord::Neighbours => "neighbours",
+            LineWord::LookUp => "look_up",
+            LineWord::ReadFrame => "read_frame",
+            LineWord::Counts => "counts",
+        }
+    }
+
+    /// The one that may be meant by a word that is none of them.
+    pub(crate) fn meant_by(alloc: Global, word: &str) -> Result<Option<LineWord>, AllocError> {
+        let mut words = Vec::with_capacity(alloc, WORDS.len())?;
+        for known in &WORDS {
+            words.push(known.word())?;
+        }
+        match nearest(alloc, word, words.as_slice())? {
+            Some(place) => Ok(WORDS.get(place).copied()),
+            None => Ok(None),
+        }
+    }
+}
+
+impl fmt::Display for LineWord {
+    fn fmt<W: fmt::Write>(&self, f: &mut fmt::Formatter<W>) -> fmt::Result {
+        f.write_str(self.word())
+    }
+}
