@@ -188,13 +188,14 @@ def test_clients():
         d, (end,) = net.station(0, "--port", 2002, "--listen", path), net.ends()
         assert os.stat(path).st_mode & 0o777 == 0o660
         (_, quick), (_, slow), (busy, _) = (connect(path) for _ in range(3))
+        # (who isn't taken in yet has nothing of what comes)
         has({"event": "ready"}, json.loads(quick.readline()))
+        has({"event": "ready"}, json.loads(slow.readline()))
         for k in range(2000):
             end.send(frames.gbc(OTHER, stamp(), k, struct.pack(">H", k) * 100))
             line = json.loads(quick.readline())
             assert line["payload"][:4] == f"{k:04x}", line
             d.event("delivered")
-        found = json.loads(slow.readline())
         read, lost = 0, 0
         while read + lost < 2000:
             found = json.loads(slow.readline())
