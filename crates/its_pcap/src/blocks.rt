@@ -13,7 +13,7 @@ ghost use Rattle.its_pcap.specs.declared.fault.SourceFault.TheVariants as faults
 ghost use Rattle.its_linkframe.specs.declared.record.CaptureFault.TheVariants as captures;
 
 use crate::fault::SourceFault;
-use crate::field::{block_length, end_block, half, is_block_length, word};
+use crate::field::{block_length, end_block, is_block_length, read_u16, read_u32};
 use crate::interface::{Interface, MICROS, moment_of};
 use crate::link::link_layer;
 use crate::octets::{Endianness, u16_at, u32_at};
@@ -171,7 +171,7 @@ fn read_version<S: Source>(source: &mut S, order: Endianness) -> Result<u16, Sou
     ensures counts { S.failed source.new ≡ S.failed source.old + (if is_io result then 1 else 0) }
     ensures memory { result ≢ Err (faults.Capture captures.NoMemory) }
 {
-    let version = half(source, order)?;
+    let version = read_u16(source, order)?;
     if version != MAJOR_VERSION {
         return Err(SourceFault::Malformed);
     }
@@ -242,7 +242,7 @@ fn read_interface<S: Source>(
     ensures counts { S.failed source.new ≡ S.failed source.old + (if is_io result then 1 else 0) }
     ensures memory { result ≢ Err (faults.Capture captures.NoMemory) }
 {
-    let number = word(source, order)?;
+    let number = read_u32(source, order)?;
     match interfaces.get(number as usize) {
         Some(interface) => Ok(*interface),
         None => Err(SourceFault::Malformed),
@@ -298,7 +298,7 @@ fn read_captured<S: Source>(
     ensures counts { S.failed source.new ≡ S.failed source.old + (if is_io result then 1 else 0) }
     ensures memory { result ≢ Err (faults.Capture captures.NoMemory) }
 {
-    let captured = word(source, order)?;
+    let captured = read_u32(source, order)?;
     if !fits_record(captured, room) {
         return Err(SourceFault::Malformed);
     }
@@ -325,7 +325,7 @@ fn packet_block<S: Source>(
     let interface = read_interface(source, order, interfaces)?;
     let moment = read_moment(source, order, &interface)?;
     let captured = read_captured(source, order, room)?;
-    let wire = word(source, order)?;
+    let wire = read_u32(source, order)?;
     read_record_octets(source, captured as usize, keep, frame)?;
     end_block(source, order, (room - captured) as usize, length)?;
     Ok(Block::Record(RecordHeader {
@@ -362,7 +362,7 @@ fn read_lengths<S: Source>(
     ensures counts { S.failed source.new ≡ S.failed source.old + (if is_io result then 1 else 0) }
     ensures memory { result ≢ Err (faults.Capture captures.NoMemory) }
 {
-    let wire = word(source, order)?;
+    let wire = read_u32(source, order)?;
     let captured = captured_in(wire, interface.snap);
     if !fits_record(captured, room) {
         return Err(SourceFault::Malformed);

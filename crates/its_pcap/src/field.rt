@@ -17,7 +17,7 @@ use its_linkframe::Source;
 pub(crate) const LONGEST_BLOCK: u32 = 327_680;
 
 /// The next number of 32 bits.
-pub(crate) fn word<S: Source>(source: &mut S, order: Endianness) -> Result<u32, SourceFault>
+pub(crate) fn read_u32<S: Source>(source: &mut S, order: Endianness) -> Result<u32, SourceFault>
     requires { S.failed source.old < 2 ^ 64 - 1 }
     ensures answer { IsAnswerOf (number order 4) (S.remaining source.old) (S.remaining source.new)
         result }
@@ -30,7 +30,7 @@ pub(crate) fn word<S: Source>(source: &mut S, order: Endianness) -> Result<u32, 
 }
 
 /// The next number of 16 bits.
-pub(crate) fn half<S: Source>(source: &mut S, order: Endianness) -> Result<u16, SourceFault>
+pub(crate) fn read_u16<S: Source>(source: &mut S, order: Endianness) -> Result<u16, SourceFault>
     requires { S.failed source.old < 2 ^ 64 - 1 }
     ensures answer { IsAnswerOf (number order 2) (S.remaining source.old) (S.remaining source.new)
         result }
@@ -62,7 +62,7 @@ pub(crate) fn block_length<S: Source>(
     ensures counts { S.failed source.new ≡ S.failed source.old + (if is_io result then 1 else 0) }
     ensures memory { result ≢ Err (faults.Capture captures.NoMemory) }
 {
-    let length = word(source, order)?;
+    let length = read_u32(source, order)?;
     if !is_block_length(length, least) {
         return Err(SourceFault::Malformed);
     }
@@ -84,7 +84,7 @@ pub(crate) fn end_block<S: Source>(
     ensures memory { result ≢ Err (faults.Capture captures.NoMemory) }
 {
     skip(source, rest)?;
-    let last = word(source, order)?;
+    let last = read_u32(source, order)?;
     if last != length {
         return Err(SourceFault::Malformed);
     }
