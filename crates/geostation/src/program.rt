@@ -213,7 +213,9 @@ where
             Err(status) => status,
         },
         Ok(Subcommand::Station(station)) => serve(rt.alloc(), &station, input, out, err),
-        Ok(Subcommand::BadSetting { fault, explain }) => refuse_setting(fault, explain, err),
+        Ok(Subcommand::BadSetting { fault, explain }) => {
+            refuse_setting(rt.alloc(), fault, explain, err)
+        }
         Err(error) => explain(&error, out, err),
     }
 }
@@ -269,10 +271,24 @@ fn config_of<E: Write>(station: &StationArguments<'_>, err: &mut E) -> Result<Co
 }
 
 /// Refuses a value of the air that was given beside a scenario.
-fn refuse_setting<E: Write>(fault: SettingFault<'_>, explain: bool, err: &mut E) -> Status {
-    let reason = if explain { fault.wrong } else { None };
-    let _ = writeln!(err, "geostation: {fault}{}", Explanation(reason));
-    Status::BadArguments
+fn refuse_setting<E: Write>(
+    alloc: Global,
+    fault: SettingFault<'_>,
+    explain: bool,
+    err: &mut E,
+) -> Status {
+    let reason = if explain {
+        fault.reason(alloc)
+    } else {
+        Ok(None)
+    };
+    match reason {
+        Ok(reason) => {
+            let _ = writeln!(err, "geostation: {fault}{}", Explanation(reason));
+            Status::BadArguments
+        }
+        Err(error) => Fault::OutOfMemory(error).report(err),
+    }
 }
 
 /// Answers arguments that named no command: help on standard output, a refusal on standard error.

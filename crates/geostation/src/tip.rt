@@ -22,28 +22,16 @@ pub(crate) fn tip_of(
     match bad {
         BadArgument::Value("kind", list, _) => {
             match list.split(',').find(|word| Kind::named(word).is_none()) {
-                Some(word) => tip_among(alloc, word, &KINDS.map(Kind::word)),
+                Some(word) => nearest(alloc, word, &KINDS.map(Kind::word)),
                 None => Ok(None),
             }
         }
         BadArgument::Value("fields", list, _) => {
             match list.split(',').find(|word| Field::named(word).is_none()) {
-                Some(word) => tip_among(alloc, word, FIELDS),
+                Some(word) => nearest(alloc, word, FIELDS),
                 None => Ok(None),
             }
         }
         _ => Ok(None),
-    }
-}
-
-/// The one of these words that may be meant.
-fn tip_among(
-    alloc: Global,
-    word: &str,
-    known: &[&'static str],
-) -> Result<Option<&'static str>, AllocError> {
-    match nearest(alloc, word, known)? {
-        Some(place) => Ok(known.get(place).copied()),
-        None => Ok(None),
     }
 }

@@ -1,6 +1,5 @@
 -- What is answered to a call.
 use Rattle.std.proofs.Common.{◌≡◌, ◌∷◌, [], ℕ, Option, Ok, refl, ap, ◌∙◌}
-use Rattle.its_gnvalue.specs.Values.{IsIndividual}
 use Rattle.its_model.specs.Calls.{Call as ModelCall}
 use Rattle.its_model.specs.Station.{StationModel, station_step}
 use Rattle.its_station.specs.Counting.{counted_call, counted_reply, kind_sent}

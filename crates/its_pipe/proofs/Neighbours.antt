@@ -1,13 +1,11 @@
 -- The first neighbours above an address, one after the other.
-use Rattle.std.proofs.Common.{◌≡◌, ℕ, zero, suc, ◌≤◌, ◌<◌, ◌+◌, ◌-◌, ◌++◌, ◌∷◌, [], List, Option}
-use Rattle.std.proofs.Common.{Some, None, refl, sym, ap, ◌∙◌, subst, arith}
+use Rattle.std.proofs.Common.{◌≡◌, ℕ, suc, ◌<◌, ◌+◌, ◌-◌, ◌++◌, ◌∷◌, [], List, Option}
+use Rattle.std.proofs.Common.{Some, refl, sym, subst, arith}
 use Rattle.std.proofs.lemmas.List.{append_assoc, append-nil}
-use Rattle.std.specs.Option.{option_map}
-use Rattle.std.specs.Prelude.{◌⊎◌}
 use Rattle.its_gnvalue.specs.Values.{PositionVector}
 use Rattle.its_model.specs.History.{Known as KnownStation, Reception}
 use Rattle.its_model.specs.Station.{StationModel}
-use Rattle.its_model.specs.Stations.{next_neighbour, stations_at}
+use Rattle.its_model.specs.Stations.{stations_at}
 use Rattle.its_loctable.specs.Content.{Entry, Represents}
 use Rattle.its_station.specs.State.{StationState, RepresentsStation}
 use Rattle.its_station.proofs.Stations.{at_model, Represents-later}

@@ -1,5 +1,5 @@
 -- Calls of a station's own applications, by the members of an object.
-use Rattle.std.proofs.Common.{◌≡◌, ℕ, List, Option, Some, None, codes, refl, sym, subst, ◌∙◌}
+use Rattle.std.proofs.Common.{◌≡◌, ℕ, Option, Some, None, codes, refl, sym, subst, ◌∙◌}
 use Rattle.std.proofs.lemmas.Option.{none-some}
 use Rattle.std.specs.Prelude.{IsSomeAnd}
 use Rattle.serde_json.specs.Data.{Data}
@@ -8,11 +8,10 @@ use Rattle.its_model.specs.Calls.Call.{Own}
 use Rattle.its_model.specs.World.{What}
 use Rattle.its_model.specs.World.What.{Calls, Deliver}
 use Rattle.its_scenario.specs.Faults.{IsWhatFault}
-use Rattle.its_scenario.specs.Reading.{IsBadAt, SaysWhat}
+use Rattle.its_scenario.specs.Reading.{SaysWhat}
 use Rattle.its_scenario.specs.Reading.{IsBadOf as IsBadKeyOf}
 use Rattle.its_scenario.specs.declared.fault.KeyFault.{KeyFault}
 use Rattle.its_scenario.specs.declared.fault.KeyFault.TheVariants as key_faults
-use Rattle.its_scenario.specs.declared.key.Key.TheVariants as keys
 use Rattle.its_station.specs.Runs.{IsCall}
 use Rattle.its_station.specs.declared.run.Call.{Call}
 use Rattle.its_station.specs.declared.run.Call.TheVariants as calls

@@ -1,28 +1,27 @@
 -- What a line asks for by the members of its object.
-use Rattle.std.proofs.Common.{ℕ, Ok, Err, Option, None, Some, refl, ◌≡◌, sym, subst, ◌∙◌}
-use Rattle.std.specs.Prelude.{Result, IfOk, IfErr, IsFalse, IsSome, codes}
+use Rattle.std.proofs.Common.{ℕ, Ok, Err, Option, None, refl, sym, subst}
+use Rattle.std.specs.Prelude.{Result, IfOk, IsFalse}
 use Rattle.std.specs.declared.alloc.AllocError.{AllocError}
 use Rattle.serde_json.specs.Data.{Data}
-use Rattle.serde_json.specs.Find.{get}
 use Rattle.its_scenario.specs.declared.fault.KeyFault.{KeyFault}
 use Rattle.its_scenario.specs.declared.fault.KeyFault.TheVariants as key_faults
 use Rattle.its_scenario.specs.declared.key.Key.{Key}
 use Rattle.its_scenario.specs.declared.key.Key.TheVariants as keys
 use Rattle.its_pipe.specs.Requests.{Asks, AsksIn, AsksOf, IsBadCallKey, IsBadKey, IsBadOf, IsId}
-use Rattle.its_pipe.specs.Requests.{IsIdFault, IsMomentOf, IsObject, IsOfQuery, IsQueryFault}
-use Rattle.its_pipe.specs.Requests.{IsBadCallKeyOf, IsQueryWord, IsToldAs}
+use Rattle.its_pipe.specs.Requests.{IsIdFault, IsMomentOf, IsObject, IsQueryFault}
+use Rattle.its_pipe.specs.Requests.{IsBadCallKeyOf, IsToldAs}
 use Rattle.its_pipe.specs.Lines.{IsBlank, LineText}
 use Rattle.its_pipe.specs.declared.reading.ReadFault.{ReadFault}
 use Rattle.its_pipe.specs.declared.reading.ReadFault.TheVariants as read_faults
-use Rattle.its_pipe.specs.declared.request.Asked.{Asked}
-use Rattle.its_pipe.specs.declared.request.Asked.TheVariants as asked_by
+use Rattle.its_pipe.specs.declared.request.Request.{Request}
+use Rattle.its_pipe.specs.declared.request.Request.TheVariants as asked_by
 use Rattle.its_pipe.specs.declared.request.Id.{Id}
 use Rattle.its_pipe.specs.declared.request.LineFault.{LineFault}
 use Rattle.its_pipe.specs.declared.request.LineFault.TheVariants as faults
-use Rattle.its_pipe.specs.declared.request.Request.{Request}
+use Rattle.its_pipe.specs.declared.request.LineRequest.{LineRequest}
 
 -- what is asked for, beside an `id` that is read
-pub asks_of : (now : Option ℕ) (members : Data) (id : Option Id) (asked : Asked)
+pub asks_of : (now : Option ℕ) (members : Data) (id : Option Id) (asked : Request)
     → IsId members id → AsksIn now members asked → AsksOf now members id asked
 asks_of now members id asked_by.Nothing is asks = absurd asks
 asks_of now members id (asked_by.Call moment call) is asks = (is, asks)
@@ -43,7 +42,7 @@ asks_no_id now members (faults.Key key wrong) is = absurd is
 asks_no_id now members (faults.Word meant) is = absurd is
 asks_no_id now members (faults.Query key wrong) is = absurd is
 
-asks_whole : (now : Option ℕ) (line : LineText) (members : Data) (id : Option Id) (asked : Asked)
+asks_whole : (now : Option ℕ) (line : LineText) (members : Data) (id : Option Id) (asked : Request)
     → AsksOf now members id asked → IsFalse line.longer → ¬ IsBlank line.octets
     → IsObject line.octets members → Asks now line id asked
 asks_whole now line members id asked_by.Nothing asks short some is = absurd asks.1
@@ -61,12 +60,12 @@ asks_whole now line members id (asked_by.Bad (faults.Word meant)) asks short som
 asks_whole now line members id (asked_by.Bad (faults.Query key wrong)) asks short some is =
     (short, some, members, is, asks)
 
-pub asks_members : (r : Result Request AllocError) (now : Option ℕ) (line : LineText)
-    (members : Data) → IfOk r (λ q. AsksOf now members q.id q.asked) → IsFalse line.longer
-    → ¬ IsBlank line.octets → IsObject line.octets members → IfOk r (λ q. Asks now line q.id q.asked)
+pub asks_members : (r : Result LineRequest AllocError) (now : Option ℕ) (line : LineText)
+    (members : Data) → IfOk r (λ q. AsksOf now members q.id q.request) → IsFalse line.longer
+    → ¬ IsBlank line.octets → IsObject line.octets members → IfOk r (λ q. Asks now line q.id q.request)
 asks_members (Err e) now line members asks short some is = tt
 asks_members (Ok q) now line members asks short some is =
-    asks_whole now line members q.id q.asked asks short some is
+    asks_whole now line members q.id q.request asks short some is
 
 -- where there is no moment, the first bad key is that
 pub bad_moment : (now : Option ℕ) (members : Data)

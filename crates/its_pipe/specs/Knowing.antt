@@ -1,6 +1,6 @@
 -- What is known of what a line asks.
 use Rattle.std.specs.Prelude.{◌≡◌, ◌≤◌, ◌<◌, ◌^◌, ◌↔◌, ◌⊎◌, ◌∷◌, [], ℕ, zero, suc, List, Option}
-use Rattle.std.specs.Prelude.{Some, None, IsTrue, IsSome, Ok, Err}
+use Rattle.std.specs.Prelude.{Some, None, IsTrue, IsSome}
 use Rattle.std.specs.Option.{option_map}
 use Rattle.its_gnvalue.specs.Values.{PositionVector}
 use Rattle.its_model.specs.Calls.{Own}

@@ -20,8 +20,8 @@ use Rattle.its_station.specs.Runs.{IsCall}
 use Rattle.its_station.specs.declared.run.Call.{Call}
 use Rattle.its_station.specs.declared.run.Call.TheVariants as calls
 use Rattle.its_pipe.specs.Lines.{LineText, IsBlank}
-use Rattle.its_pipe.specs.declared.request.Asked.{Asked}
-use Rattle.its_pipe.specs.declared.request.Asked.TheVariants as asks
+use Rattle.its_pipe.specs.declared.request.Request.{Request}
+use Rattle.its_pipe.specs.declared.request.Request.TheVariants as asks
 use Rattle.its_pipe.specs.declared.request.Id.{Id}
 use Rattle.its_pipe.specs.declared.request.Id.TheVariants as ids
 use Rattle.its_pipe.specs.declared.request.LineFault.TheVariants as faults
@@ -143,7 +143,7 @@ pub record IsBadKey (now : Option ℕ) (members : Data) (key : Key) : Type 0 whe
   pub call : (moment : ℕ) → IsMomentOf now members moment → IsBadCallKey members key
 
 -- the members of an object ask for this: a call, what the station knows, or they have a bad key
-abbrev pub AsksIn : Option ℕ → Data → Asked → Type 0
+abbrev pub AsksIn : Option ℕ → Data → Request → Type 0
 AsksIn now members asks.Nothing = ⊥
 AsksIn now members (asks.Call moment call) = IsMomentOf now members moment × AsksCall members call
 AsksIn now members (asks.Query at query) = IsAskedAt now members at × AsksQuery members query
@@ -153,13 +153,13 @@ AsksIn now members (asks.Bad (faults.Query key wrong)) = IsQueryWord members
 AsksIn now members (asks.Bad fault) = ⊥
 
 -- so, and they have this `id`: a bad one is told first
-abbrev pub AsksOf : Option ℕ → Data → Option Id → Asked → Type 0
+abbrev pub AsksOf : Option ℕ → Data → Option Id → Request → Type 0
 AsksOf now members id (asks.Bad faults.Id) = (id ≡ None) × IsSome (get (codes "id") members)
 AsksOf now members id asked = IsId members id × AsksIn now members asked
 
 -- The line asks for this: nothing where it is blank; a longer line than is kept and one that is no
 -- JSON object can't be read, and have no `id`.
-abbrev pub Asks : Option ℕ → LineText → Option Id → Asked → Type 0
+abbrev pub Asks : Option ℕ → LineText → Option Id → Request → Type 0
 Asks now line id asks.Nothing = (id ≡ None) × IsFalse line.longer × IsBlank line.octets
 Asks now line id (asks.Bad faults.NotJson) =
     (id ≡ None) × (IsTrue line.longer ⊎ ((¬ IsBlank line.octets) × ¬ IsJsonObject line.octets))
@@ -172,7 +172,7 @@ abbrev pub line_of : List ℕ → Bool → LineText
 line_of octets longer = record { octets = octets; longer = longer }
 
 -- if a call is asked for, this holds of it
-abbrev pub IsAskedIn : (Call → Type 0) → Asked → Type 0
+abbrev pub IsAskedIn : (Call → Type 0) → Request → Type 0
 IsAskedIn P (asks.Call moment call) = P call
 IsAskedIn P asked = Unit {0}
 

@@ -3,8 +3,8 @@ use Rattle.std.specs.Prelude.{◌≡◌, ◌++◌, ◌∷◌, ◌+◌, [], ℕ, 
 use Rattle.its_pipe.specs.declared.ended.Ended.{Ended}
 use Rattle.its_pipe.specs.declared.ended.Ended.TheVariants as ends
 use Rattle.its_model.specs.Calls as model
-use Rattle.its_model.specs.Station.{station_step}
-use Rattle.its_station.specs.Counting.{counted_call, counted_reply, kind_sent}
+use Rattle.its_model.specs.Station.{new_station, station_step}
+use Rattle.its_station.specs.Counting.{counted_call, counted_reply, kind_sent, nothing}
 use Rattle.its_station.specs.Runs.{IsCall, TellsReply}
 use Rattle.its_station.specs.declared.counts.Counts.{Counts}
 use Rattle.its_station.specs.declared.run.Call.{Call}
@@ -14,8 +14,8 @@ use Rattle.its_station.specs.State.{StationState, RepresentsStation}
 use Rattle.its_pipe.specs.Knowing.{Counted, TellsQuery}
 use Rattle.its_pipe.specs.Lines.{LineText, AreLines}
 use Rattle.its_pipe.specs.Requests.{Asks}
-use Rattle.its_pipe.specs.declared.request.Asked.{Asked}
-use Rattle.its_pipe.specs.declared.request.Asked.TheVariants as asked_by
+use Rattle.its_pipe.specs.declared.request.Request.{Request}
+use Rattle.its_pipe.specs.declared.request.Request.TheVariants as asked_by
 use Rattle.its_pipe.specs.declared.request.Id.{Id}
 use Rattle.its_pipe.specs.declared.request.Query.{Query}
 use Rattle.its_pipe.specs.declared.response.Done.{Done}
@@ -23,6 +23,7 @@ use Rattle.its_pipe.specs.declared.response.Done.TheVariants as does
 use Rattle.its_pipe.specs.declared.response.Known.{Known}
 use Rattle.its_pipe.specs.declared.response.Response.{Response}
 use Rattle.its_pipe.specs.declared.response.Response.TheVariants as responses
+use Rattle.its_world.specs.declared.config.Config.{Config}
 
 -- what a call does that is answered by a word alone
 abbrev pub done_by : Call → Done
@@ -66,7 +67,7 @@ pub record TellsKnown (s : Counted) (id : Option Id) (at : Option ℕ) (query : 
 
 -- what is answered to line n that asks for this, and the station afterwards, which only a call
 -- changes
-abbrev pub TellsAsked : Counted → ℕ → Option Id → Asked → List Response → Counted → Type 0
+abbrev pub TellsAsked : Counted → ℕ → Option Id → Request → List Response → Counted → Type 0
 TellsAsked s n id asked_by.Nothing told next = (told ≡ []) × (next ≡ s)
 TellsAsked s n id (asked_by.Call moment call) told next = TellsCall s id moment call told next
 TellsAsked s n id (asked_by.Query at query) told next = TellsKnown s id at query told next
@@ -77,7 +78,7 @@ TellsAsked s n id (asked_by.Bad fault) told next =
 pub record TellsLine (now : Option ℕ) (s : Counted) (n : ℕ) (line : LineText)
     (told : List Response) (next : Counted) : Type 0 where
   pub id : Option Id
-  pub asked : Asked
+  pub asked : Request
   pub asks : Asks now line id asked
   pub tells : TellsAsked s n id asked told next
 
@@ -139,3 +140,21 @@ pub record IsServed (s : Counted) (station : StationState) (counts : Counts) (en
   pub took : Took told
   pub ended_is : ended ≡ ended_of told
   pub stands : RepresentsCounted station counts after
+
+-- a station that begins as the config says, of which nothing is counted yet
+abbrev pub beginning : Config → Counted
+beginning config =
+    record {
+      station = new_station config.address config.place config.capacity config.remember;
+      counts = nothing;
+    }
+
+-- A station that began as the config says has served the lines of the input, and ended by what was
+-- answered to them, in order.
+pub record ServesInput (config : Config) (ended : Ended) (input : Option (List ℕ)) : Type 0 where
+  pub lines : List LineText
+  pub lines_are : AreLines input lines
+  pub told : List Response
+  pub after : Counted
+  pub tells : TellsLines (beginning config) 1 lines told after
+  pub ended_is : ended ≡ ended_of told

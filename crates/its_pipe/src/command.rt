@@ -1,9 +1,10 @@
 //! The command.
 
-ghost use Rattle.std.specs.Prelude.{IfOk};
+ghost use Rattle.std.specs.Prelude.{◌≡◌, IfOk};
 ghost use Rattle.its_model.specs.Station.{new_station};
 ghost use Rattle.its_station.specs.State.{RepresentsStation};
 ghost use Rattle.its_world.specs.Events.{IsConfig};
+ghost use Rattle.its_pipe.specs.Serving.{ServesInput};
 
 use crate::ended::Ended;
 use crate::fault::PipeFault;
@@ -16,8 +17,9 @@ use its_world::Config;
 use std::alloc::Global;
 use std::io::{BufReader, Read, Write};
 
-/// Runs one station, which begins as the config says, on the lines of the input. What is answered to a
-/// line is written on `out` as one line, and flushed, before the next is read.
+/// Runs one station, which begins as the config says, on the lines of the input. What is answered
+/// to a line is written on `out` as one line, and flushed, before the next is read. Where the octets
+/// of the input are known the lines are all of its own, in order.
 ///
 /// `Refused` where a line could not be read, `Failed` where the input could not be read, `out` not
 /// be written, or memory ran out. The line of a fault is written on `err`.
@@ -29,6 +31,7 @@ pub fn run_station<R: Read + Drop, W: Write, E: Write>(
     err: &mut E,
 ) -> Ended
     requires { IsConfig config.now }
+    ensures { ¬ (result ≡ Ended.Failed) → ServesInput config.now result (R.remaining input) }
 {
     match serve_input(alloc, config, input, out) {
         Ok(ended) => ended,
@@ -39,6 +42,7 @@ pub fn run_station<R: Read + Drop, W: Write, E: Write>(
     }
 }
 
+/// So, of a run in which nothing failed.
 fn serve_input<R: Read + Drop, W: Write>(
     alloc: Global,
     config: &Config,
@@ -46,6 +50,7 @@ fn serve_input<R: Read + Drop, W: Write>(
     out: &mut W,
 ) -> Result<Ended, PipeFault>
     requires { IsConfig config.now }
+    ensures { IfOk result (λ ended. ServesInput config.now ended (R.remaining input)) }
 {
     let mut station = begin(alloc, config)?;
     let mut reader = BufReader::new(alloc, input).map_err(|error| PipeFault::of_read(&error))?;

@@ -16,7 +16,7 @@ ghost use Rattle.its_pipe.specs.Requests.{values_in};
 
 use crate::lines::is_blank;
 use crate::members::Members;
-use crate::request::{Asked, Id, LineFault, Query, QueryKey, Request};
+use crate::request::{Id, LineFault, LineRequest, Query, QueryKey, Request};
 use crate::word::LineWord;
 use its_gnvalue::GnAddress;
 use its_scenario::{Fields, Key, KeyFault, Wrong, read_what};
@@ -58,27 +58,27 @@ pub(crate) fn read_request(
     octets: &[u8],
     longer: bool,
     now: Option<u64>,
-) -> Result<Request, AllocError>
-    ensures asks { IfOk result (λ r. Asks now (line_of octets.now longer) r.id r.asked) }
-    ensures range { IfOk result (λ r. IsAskedIn IsInRange r.asked) }
+) -> Result<LineRequest, AllocError>
+    ensures asks { IfOk result (λ r. Asks now (line_of octets.now longer) r.id r.request) }
+    ensures range { IfOk result (λ r. IsAskedIn IsInRange r.request) }
 {
     if longer {
-        return Ok(Request {
+        return Ok(LineRequest {
             id: None,
-            asked: Asked::Bad(LineFault::NotJson),
+            request: Request::Bad(LineFault::NotJson),
         });
     }
     if is_blank(octets) {
-        return Ok(Request {
+        return Ok(LineRequest {
             id: None,
-            asked: Asked::Nothing,
+            request: Request::Nothing,
         });
     }
     match read_object(alloc, octets)? {
         Some(object) => read_members(alloc, &Members(&object), now),
-        None => Ok(Request {
+        None => Ok(LineRequest {
             id: None,
-            asked: Asked::Bad(LineFault::NotJson),
+            request: Request::Bad(LineFault::NotJson),
         }),
     }
 }
@@ -102,22 +102,22 @@ fn read_members(
     alloc: Global,
     members: &Members<'_>,
     now: Option<u64>,
-) -> Result<Request, AllocError>
-    ensures asks { IfOk result (λ r. AsksOf now (view members.now.0.now) r.id r.asked) }
-    ensures range { IfOk result (λ r. IsAskedIn IsInRange r.asked) }
+) -> Result<LineRequest, AllocError>
+    ensures asks { IfOk result (λ r. AsksOf now (view members.now.0.now) r.id r.request) }
+    ensures range { IfOk result (λ r. IsAskedIn IsInRange r.request) }
 {
     match read_id(alloc, members) {
-        Ok(id) => match read_asked(alloc, members, now) {
-            Ok(asked) => Ok(Request { id, asked }),
-            Err(ReadFault::Bad(fault)) => Ok(Request {
+        Ok(id) => match read_call_or_query(alloc, members, now) {
+            Ok(request) => Ok(LineRequest { id, request }),
+            Err(ReadFault::Bad(fault)) => Ok(LineRequest {
                 id,
-                asked: Asked::Bad(fault),
+                request: Request::Bad(fault),
             }),
             Err(ReadFault::OutOfMemory) => Err(AllocError),
         },
-        Err(ReadFault::Bad(fault)) => Ok(Request {
+        Err(ReadFault::Bad(fault)) => Ok(LineRequest {
             id: None,
-            asked: Asked::Bad(fault),
+            request: Request::Bad(fault),
         }),
         Err(ReadFault::OutOfMemory) => Err(AllocError),
     }
@@ -148,18 +148,22 @@ fn read_id(alloc: Global, members: &Members<'_>) -> Result<Option<Id>, ReadFault
 /// Reads the moment, `do` and the keys of the word. What is asked of what the station knows needs
 /// no moment.
 #[tactic(auto, using(crate::proofs::Read::bad_told))]
-fn read_asked(alloc: Global, members: &Members<'_>, now: Option<u64>) -> Result<Asked, ReadFault>
+fn read_call_or_query(
+    alloc: Global,
+    members: &Members<'_>,
+    now: Option<u64>,
+) -> Result<Request, ReadFault>
     ensures asks { IfOk result (AsksIn now (view members.now.0.now)) }
     ensures range { IfOk result (IsAskedIn IsInRange) }
     ensures fault { IfErr result (IsBadOf now (view members.now.0.now)) }
 {
     let at = read_moment(members, now)?;
     if let Some(query) = read_query(alloc, members)? {
-        return Ok(Asked::Query(at, query));
+        return Ok(Request::Query(at, query));
     }
     match at {
         Some(moment) => match read_call(alloc, members) {
-            Ok(call) => Ok(Asked::Call(moment, call)),
+            Ok(call) => Ok(Request::Call(moment, call)),
             Err(fault) => Err(with_word_meant(alloc, members, fault)),
         },
         None => Err(ReadFault::Bad(LineFault::Key(Key::At, Wrong::Missing))),

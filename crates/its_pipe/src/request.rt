@@ -83,7 +83,7 @@ impl fmt::Display for LineFault {
 
 /// What a line asks for.
 #[derive(Drop)]
-pub(crate) enum Asked {
+pub(crate) enum Request {
     /// Nothing: it is blank.
     Nothing,
     /// This call, at this moment.
@@ -96,7 +96,7 @@ pub(crate) enum Asked {
 
 /// What a line asks for, and its `id`, where it has one that is none of the bad ones.
 #[derive(Drop)]
-pub(crate) struct Request {
+pub(crate) struct LineRequest {
     pub(crate) id: Option<Id>,
-    pub(crate) asked: Asked,
+    pub(crate) request: Request,
 }

@@ -18,7 +18,7 @@ use crate::fault::PipeFault;
 use crate::knowing::answer_query;
 use crate::lines::LONGEST_LINE;
 use crate::reading::read_request;
-use crate::request::{Asked, Id};
+use crate::request::{Id, Request};
 use crate::response::{Done, Response, ResponseSink};
 use its_gnvalue::{GnAddress, NoMemory};
 use its_lines::Line;
@@ -120,16 +120,16 @@ fn respond(
         × RepresentsCounted station.new counts.new next) }
     ensures unchanged { OnErr result (station.new ≡ station.old) }
 {
-    let request = read_request(alloc, octets, longer, now)?;
-    let id = request.id;
-    match request.asked {
-        Asked::Nothing => Ok(None),
-        Asked::Call(at, call) => Ok(Some(make_call(station, counts, id, at, &call)?)),
-        Asked::Query(at, query) => {
+    let line = read_request(alloc, octets, longer, now)?;
+    let id = line.id;
+    match line.request {
+        Request::Nothing => Ok(None),
+        Request::Call(at, call) => Ok(Some(make_call(station, counts, id, at, &call)?)),
+        Request::Query(at, query) => {
             let known = answer_query(alloc, station, counts, at, query)?;
             Ok(Some(Response::Known { id, at, known }))
         }
-        Asked::Bad(fault) => Ok(Some(Response::Fault {
+        Request::Bad(fault) => Ok(Some(Response::Fault {
             id,
             line: number,
             fault,

@@ -1,6 +1,9 @@
 //! The words that a line takes under `do`.
 
-use its_scenario::{Verb, nearest};
+ghost use Rattle.std.specs.Prelude.{◌≡◌};
+ghost use Rattle.its_pipe.specs.Words.{line_word};
+
+use its_scenario::{Spelled, Verb, nearest};
 use std::alloc::{AllocError, Global};
 use std::fmt;
 
@@ -43,7 +46,9 @@ const WORDS: [LineWord; 14] = [
 
 impl LineWord {
     /// The word.
-    pub fn word(self) -> &'static str {
+    pub fn word(self) -> &'static str
+        ensures { result.now ≡ line_word self }
+    {
         match self {
             LineWord::Own(verb) => verb.word(),
             LineWord::Receive => "receive",
@@ -57,14 +62,15 @@ impl LineWord {
 
     /// The one that may be meant by a word that is none of them.
     pub(crate) fn meant_by(alloc: Global, word: &str) -> Result<Option<LineWord>, AllocError> {
-        let mut words = Vec::with_capacity(alloc, WORDS.len())?;
-        for known in &WORDS {
-            words.push(known.word())?;
-        }
-        match nearest(alloc, word, words.as_slice())? {
-            Some(place) => Ok(WORDS.get(place).copied()),
-            None => Ok(None),
-        }
+        nearest(alloc, word, &WORDS)
+    }
+}
+
+impl Spelled for LineWord {
+    ghost spelling_of = { line_word };
+
+    fn spelling(self) -> &'static str {
+        self.word()
     }
 }
 

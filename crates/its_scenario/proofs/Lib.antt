@@ -1,2 +1,5 @@
 pub mod Near
 pub mod Bad
+pub mod Digits
+pub mod Said
+pub mod Round

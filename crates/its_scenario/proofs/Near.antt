@@ -1,26 +1,14 @@
 -- Words that are nearest among the first so many.
-use Rattle.std.proofs.Common.{◌≡◌, ℕ, zero, suc, ◌+◌, ◌<◌, ◌≤◌, List, [], ◌∷◌, length}
-use Rattle.std.proofs.Common.{Option, Some, None, get_or, refl, ap, subst, arith}
+use Rattle.std.proofs.Common.{◌≡◌, ℕ, ◌+◌, ◌<◌, ◌≤◌, List, length}
+use Rattle.std.proofs.Common.{Option, Some, None, refl, subst, arith}
 use Rattle.std.specs.Prelude.{IfNone, IfSome, slice_get}
-use Rattle.its_scenario.specs.Nearest.{changes, words, IsNearest, IsNearestBelow, IsFar, IsFarBelow}
-use denote.Ref.{Bor}
+use Rattle.its_scenario.specs.Nearest.{changes, IsNearest, IsNearestBelow, IsFar, IsFarBelow}
 
 -- what is known of the first so many: the nearest, or that there is none
 abbrev pub IsSoFar : ℕ → List ℕ → List (List ℕ) → Option ℕ → ℕ → Type 0
 IsSoFar count word known (Some place) fewest =
     (h : IsNearestBelow count word known place) × (fewest ≡ changes word h.near)
 IsSoFar count word known None fewest = IsFarBelow count word known × (fewest ≡ 3)
-
-pub length_words : (known : List (Bor (List ℕ))) → length (words known) ≡ length known
-length_words [] = refl
-length_words (x ∷ known) = ap suc (length_words known)
-
--- the word of a place
-pub word_at : (known : List (Bor (List ℕ))) (place : ℕ) (other : Bor (List ℕ))
-    → place < length known → slice_get (words known) place ≡ Some (get_or known place other).now
-word_at [] place other lt = absurd (omega (arith, lt))
-word_at (x ∷ known) zero other lt = refl
-word_at (x ∷ known) (suc place) other lt = word_at known place other (omega (arith, lt))
 
 -- one more word, which is nearer
 pub nearer : (word : List ℕ) (known : List (List ℕ)) (n fewest : ℕ) (found : Option ℕ)

@@ -1,4 +1,5 @@
 -- Areas of an air that lie round a station.
+use Rattle.std.specs.Prelude.{◌≡◌, ◌⊎◌, ◌<◌, ℕ, Bool, true, false, List, length, slice_index_or}
 use Rattle.its_geometry.specs.Area.{GeoArea}
 use Rattle.its_gnvalue.specs.Values.{Position}
 use Rattle.its_scenario.specs.declared.event.FileEvent.{FileEvent}
@@ -44,3 +45,16 @@ centred (files.Happens e) place =
     files.Happens
     (record { station = e.station; moment = e.moment; what = centred_what e.what place })
 centred (files.Leaves station moment) place = files.Leaves station moment
+
+-- what waits is as it was or, where its area lies round its station, has some centre
+abbrev pub IsCentred : Bool → FileEvent → FileEvent → Type 0
+IsCentred round_station filed now =
+    (now ≡ filed)
+    ⊎ ((round_station ≡ true) × ((place : Position) × (now ≡ centred filed place)))
+
+-- the same of each line of a file
+abbrev pub AllCentred : List Bool → List FileEvent → List FileEvent → Type 0
+AllCentred round_station filed now =
+    (k : ℕ) (d : FileEvent) → k < length filed →
+    IsCentred (slice_index_or round_station k false) (slice_index_or filed k d)
+    (slice_index_or now k d)

@@ -1,5 +1,5 @@
 -- The words of the keys of a scenario, and the ranges of their numbers.
-use Rattle.std.specs.Prelude.{ℕ, ℤ, pos, negsuc, ◌-ℤ◌, ◌≤ℤ◌, List, codes}
+use Rattle.std.specs.Prelude.{ℕ, ℤ, pos, negsuc, ◌≤ℤ◌, List, [], ◌∷◌, codes}
 use Rattle.its_scenario.specs.declared.key.Key.{Key}
 use Rattle.its_scenario.specs.declared.key.Key.TheVariants as keys
 
@@ -53,6 +53,11 @@ word_of keys.Air = codes "air"
 word_of keys.Every = codes "every"
 word_of keys.Moves = codes "moves"
 word_of keys.Expect = codes "expect"
+
+-- the keys of the air
+abbrev pub air_keys : List Key
+air_keys =
+    keys.Range ∷ keys.Delay ∷ keys.Loss ∷ keys.Seed ∷ keys.Beacons ∷ keys.Until ∷ []
 
 -- the least number that a key takes
 abbrev pub least_of : Key → ℤ

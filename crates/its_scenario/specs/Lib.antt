@@ -5,6 +5,11 @@ pub mod Keys
 pub mod Verbs
 pub mod Reading
 pub mod Tables
+pub mod Saying
+pub mod Items
+pub mod Moves
+pub mod Scenarios
 pub mod Airs
 pub mod Nearest
+pub mod Settings
 pub mod Centres

@@ -2,15 +2,10 @@
 use Rattle.std.specs.Prelude.{◌≡◌, ◌≤◌, ◌<◌, ℕ, List, Some, length, map, nat_eq, slice_get}
 use Rattle.std.specs.Str.{chars}
 use Rattle.strsim.specs.Edits.{levenshtein_row}
-use denote.Ref.{Bor}
 
 -- how many changes of a letter lead from one word to another
 abbrev pub changes : List ℕ → List ℕ → ℕ
 changes from to = levenshtein_row nat_eq (chars from) (chars to) (length (chars to))
-
--- the words of a list of references
-abbrev pub words : List (Bor (List ℕ)) → List (List ℕ)
-words known = map (λ (w : Bor (List ℕ)). w.now) known
 
 -- The word at this place is one of the first so many that are known, at most two changes away, and
 -- none of these is fewer; none before it is as few.
@@ -37,3 +32,8 @@ IsFarBelow count word known = (other : ℕ) (w : List ℕ) → other < count →
 -- the same of all that are known
 abbrev pub IsFar : List ℕ → List (List ℕ) → Type 0
 IsFar word known = IsFarBelow (length known) word known
+
+-- this one of a list is the nearest to a word, by the words of its members
+abbrev pub IsMeant : {T : Type 0} → (T → List ℕ) → List ℕ → List T → T → Type 0
+IsMeant spelling word known one =
+    (place : ℕ) × (slice_get known place ≡ Some one) × IsNearest word (map spelling known) place

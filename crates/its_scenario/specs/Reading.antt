@@ -1,5 +1,5 @@
 -- What the keys of a table, or of an object of another notation, say.
-use Rattle.std.specs.Prelude.{◌≡◌, ℕ, ℤ, pos, Bool, List, Option, Some, None, Ok, codes}
+use Rattle.std.specs.Prelude.{◌≡◌, ℕ, ℤ, pos, Bool, List, Option, Some, Ok, codes}
 use Rattle.hex.specs.Hex.{decode_of}
 use Rattle.its_geometry.specs.Area.{GeoArea}
 use Rattle.its_geometry.specs.declared.area.Shape.{Shape}

@@ -1,14 +1,10 @@
 //! The air of a scenario.
 
-ghost use Rattle.std.specs.Prelude.{◌≡◌, ◌≤◌, ◌<◌, ◌^◌, ◌+◌, All, IfOk, IfSome};
+ghost use Rattle.std.specs.Prelude.{◌≡◌, ◌≤◌, ◌<◌, ◌^◌, ◌+◌, All, IfSome};
 ghost use Rattle.std.proofs.Props.{props};
 ghost use Rattle.its_scenario.specs.Airs.{end_of, greatest_moment, moment_of};
 
 use crate::event::FileEvent;
-use crate::fault::KeyFault;
-use crate::fields::Fields;
-use crate::key::Key;
-use crate::keys::{number, truth, whole, whole_or};
 
 /// How frames go from station to station by themselves.
 #[derive(Clone, Copy, Debug, PartialEq, Eq)]
@@ -60,47 +56,4 @@ fn greatest(file: &[FileEvent]) -> u64
         last = last.max(waiting.moment());
     }
     last
-}
-
-/// Reads an air: `range`, `delay`, `loss`, `seed`, `beacons`, `until`, checked in this order. All
-/// but `range` may be missing.
-pub(crate) fn read_air<F: Fields>(fields: &F) -> Result<Air, KeyFault> {
-    let range = number(fields, Key::Range)?;
-    let delay = whole_or(fields, Key::Delay, 1)? as u16;
-    let loss = read_loss(fields)?;
-    let seed = read_seed(fields)?;
-    let beacons = fields.has(Key::Beacons.word()) && truth(fields, Key::Beacons)?;
-    let until = read_until(fields)?;
-    Ok(Air {
-        range,
-        delay,
-        loss,
-        seed,
-        beacons,
-        until,
-    })
-}
-
-/// How many deliveries of a hundred are lost: none, where nothing is given.
-fn read_loss<F: Fields>(fields: &F) -> Result<u8, KeyFault>
-    ensures { IfOk result (λ percent. percent ≤ 100) }
-{
-    Ok(whole_or(fields, Key::Loss, 0)? as u8)
-}
-
-/// What the draws begin with: 0, where nothing is given.
-fn read_seed<F: Fields>(fields: &F) -> Result<u64, KeyFault>
-    ensures { IfOk result (λ seed. seed < 2 ^ 63) }
-{
-    Ok(whole_or(fields, Key::Seed, 0)? as u64)
-}
-
-/// The last moment that is run, where it is given.
-fn read_until<F: Fields>(fields: &F) -> Result<Option<u64>, KeyFault>
-    ensures { IfOk result (λ until. IfSome until (λ moment. moment ≤ 2 ^ 62)) }
-{
-    if !fields.has(Key::Until.word()) {
-        return Ok(None);
-    }
-    Ok(Some(whole(fields, Key::Until)? as u64))
 }

@@ -1,9 +1,11 @@
 //! Areas of an air that lie round the station that sends for them.
 
-ghost use Rattle.std.specs.Prelude.{◌≡◌, All, length};
+ghost use Rattle.std.specs.Prelude.{◌≡◌, ◌&&◌, All, false, length, slice_index_or};
 ghost use Rattle.its_scenario.specs.Airs.{moment_of};
-ghost use Rattle.its_scenario.specs.Centres.{centred, centred_area, centred_what};
+ghost use Rattle.its_scenario.specs.Centres.{AllCentred, IsCentred, centred, centred_area};
+ghost use Rattle.its_scenario.specs.Centres.{centred_what};
 ghost use Rattle.its_scenario.specs.Events.{FitsFileEvent};
+ghost use Rattle.its_scenario.specs.Saying.{is_geocast, lacks_centre};
 
 use crate::event::FileEvent;
 use crate::fields::Fields;
@@ -23,7 +25,10 @@ pub(crate) struct InAir<'a, F> {
 }
 
 impl<'a, F: Fields> InAir<'a, F> {
-    pub(crate) fn of(fields: &'a F) -> InAir<'a, F> {
+    pub(crate) fn of(fields: &'a F) -> InAir<'a, F>
+        ensures fields { result.fields.now ≡ fields.now }
+        ensures centre { result.round_station ≡ lacks_centre (F.values fields.now) }
+    {
         InAir {
             fields,
             round_station: !fields.has(Key::Alat.word()) && !fields.has(Key::Alon.word()),
@@ -31,7 +36,9 @@ impl<'a, F: Fields> InAir<'a, F> {
     }
 
     /// Whether this area, if what is done has one, lies round the station.
-    pub(crate) fn is_round_station(&self, what: &What) -> bool {
+    pub(crate) fn is_round_station(&self, what: &What) -> bool
+        ensures { result ≡ (self.now.round_station && is_geocast what.now) }
+    {
         self.round_station && matches!(what, What::SendGeobroadcast(_) | What::SendGeoanycast(_))
     }
 }
@@ -100,28 +107,39 @@ struct Line {
     number: usize,
 }
 
-/// Has the area of each event of these numbers, which rise, lie round where its station stands then:
-/// where the last move of it before has put it, else where it begins.
+/// Has the area of each event that is told to, in its order, lie round where its station stands
+/// then: where the last move of it before has put it, else where it begins.
 pub(crate) fn centre_areas(
     alloc: Global,
     stations: &[Config],
     file: &mut [FileEvent],
-    round_station: &[usize],
+    round_station: &[bool],
 ) -> Result<(), AllocError>
     ensures count { length file.new ≡ length file.old }
+    ensures centred { AllCentred round_station.now file.old file.new }
     ensures ranges { All FitsFileEvent file.old → All FitsFileEvent file.new }
 {
-    if round_station.is_empty() {
+    if !round_station.contains(&true) {
         return Ok(());
     }
     let mut places = places_of(alloc, stations)?;
     for line in in_order(alloc, file)? {
-        let is_round = round_station.binary_search(&line.number).is_ok();
+        let is_round = is_set(round_station, line.number);
         if line.number < file.len() {
             pass(places.as_mut_slice(), &mut file[line.number], is_round);
         }
     }
     Ok(())
+}
+
+/// Whether this place is true. Past the end none is.
+fn is_set(truths: &[bool], place: usize) -> bool
+    ensures { result ≡ slice_index_or truths.now place false }
+{
+    match truths.get(place) {
+        Some(truth) => *truth,
+        None => false,
+    }
 }
 
 /// Where these stations begin.
@@ -146,7 +164,8 @@ fn in_order(alloc: Global, file: &[FileEvent]) -> Result<Vec<Line>, AllocError> 
 
 /// Follows the move of a station, or has an area lie round where its station stands.
 fn pass(places: &mut [Place], filed: &mut FileEvent, is_round: bool)
-    ensures { FitsFileEvent filed.old → FitsFileEvent filed.new }
+    ensures centred { IsCentred is_round filed.old filed.new }
+    ensures fits { FitsFileEvent filed.old → FitsFileEvent filed.new }
 {
     let Some(event) = filed.event() else {
         return;

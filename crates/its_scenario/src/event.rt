@@ -1,11 +1,14 @@
 //! The events of a scenario.
 
-ghost use Rattle.std.specs.Prelude.{◌≡◌, ◌<◌, ◌^◌, IfOk, IfErr, IfSome, string_bytes};
+ghost use Rattle.std.specs.Prelude.{◌≡◌, ◌<◌, ◌^◌, IfOk, IfErr, IfSome, MatchOption, string_bytes};
 ghost use Rattle.its_moves.specs.Rows.{IsId};
 ghost use Rattle.its_scenario.specs.Airs.{moment_of};
 ghost use Rattle.its_scenario.specs.Events.{FitsEvent, FitsFileEvent, FitsWhat, station_in};
 ghost use Rattle.its_scenario.specs.Faults.{IsWhatFault};
-ghost use Rattle.its_scenario.specs.Reading.{IsBadOf, IsText, SaysKeys, SaysShb, SaysWhat};
+ghost use Rattle.its_scenario.specs.Reading.{IsBadOf, IsNumber, IsText, SaysKeys, SaysShb};
+ghost use Rattle.its_scenario.specs.Reading.{SaysWhat};
+ghost use Rattle.its_scenario.specs.Saying.{IsAddressee, SaysAddressed, SaysDone, SaysEvent};
+ghost use Rattle.its_scenario.specs.Saying.{IsMissing, SaysFiled};
 ghost use Rattle.its_scenario.specs.Verbs.{verb_of, verb_word};
 ghost use Rattle.its_scenario.specs.declared.key.Key.TheVariants as keys;
 ghost use Rattle.its_scenario.specs.declared.verb.Verb.TheVariants as verbs;
@@ -96,7 +99,9 @@ pub(crate) struct Filed {
 /// Reads what waits in an air: a leave, `do = "leave"`, which has no further keys, or an event.
 /// `station`, `at` and `do` are checked in this order.
 pub(crate) fn read_file_event<F: Fields>(alloc: Global, fields: &F) -> Result<Filed, KeyFault>
-    ensures { IfOk result (λ read. FitsFileEvent read.filed) }
+    ensures says { IfOk result (λ read.
+        SaysFiled (F.values fields.now) read.filed read.round_station) }
+    ensures fits { IfOk result (λ read. FitsFileEvent read.filed) }
 {
     let station = number(fields, Key::Station)? as usize;
     let moment = read_moment(fields)?;
@@ -114,7 +119,11 @@ fn read_filed<F: Fields>(
 ) -> Result<Filed, KeyFault>
     requires station { station < 2 ^ 16 }
     requires moment { moment < 2 ^ 63 }
-    ensures { IfOk result (λ read. FitsFileEvent read.filed) }
+    ensures says { IfOk result (λ read.
+        SaysDone (F.values fields.now) read.filed read.round_station) }
+    ensures station { IfOk result (λ read. station_in read.filed ≡ station) }
+    ensures moment { IfOk result (λ read. moment_of read.filed ≡ moment) }
+    ensures fits { IfOk result (λ read. FitsFileEvent read.filed) }
 {
     if matches!(verb_under(fields), Some(Verb::Leave)) {
         return Ok(Filed {
@@ -138,7 +147,8 @@ fn read_filed<F: Fields>(
 /// then what is done there, checked in this order. There may be no such station, and for `deliver`
 /// no such frame.
 pub(crate) fn read_event<F: Fields>(alloc: Global, fields: &F) -> Result<Event, KeyFault>
-    ensures { IfOk result FitsEvent }
+    ensures says { IfOk result (SaysEvent (F.values fields.now)) }
+    ensures fits { IfOk result FitsEvent }
 {
     let station = number(fields, Key::Station)?;
     let moment = read_moment(fields)?;
@@ -157,14 +167,11 @@ pub(crate) fn read_addressed<F: Fields>(
     fields: &F,
     stations: usize,
 ) -> Result<AddressedEvent, KeyFault>
+    ensures says { IfOk result (SaysAddressed (F.values fields.now)) }
     ensures range { IfOk result (λ event. FitsFileEvent event.filed) }
     ensures id { IfOk result (λ event. IfSome event.id (λ id. IsId (string_bytes id))) }
 {
-    let id = read_id(alloc, fields)?;
-    let station = match &id {
-        Some(_) => 0,
-        None => read_own_station(fields, stations)?,
-    };
+    let (id, station) = read_addressee(alloc, fields, stations)?;
     let moment = read_moment(fields)?;
     if matches!(verb_under(fields), Some(Verb::Deliver)) {
         return Err(KeyFault::Refused(Key::Do, Wrong::Value));
@@ -177,16 +184,35 @@ pub(crate) fn read_addressed<F: Fields>(
     })
 }
 
+/// The id of a station, where it is there, and 0; else the number of one that is one of so many.
+fn read_addressee<F: Fields>(
+    alloc: Global,
+    fields: &F,
+    stations: usize,
+) -> Result<(Option<String>, usize), KeyFault>
+    ensures says { IfOk result (λ read. IsAddressee (F.values fields.now) read.0 read.1) }
+    ensures range { IfOk result (λ read. read.1 < 2 ^ 16) }
+    ensures id { IfOk result (λ read. IfSome read.0 (λ id. IsId (string_bytes id))) }
+{
+    match read_id(alloc, fields)? {
+        Some(id) => Ok((Some(id), 0)),
+        None => Ok((None, read_own_station(fields, stations)?)),
+    }
+}
+
 /// The moment of an event or a leave, in milliseconds.
 fn read_moment<F: Fields>(fields: &F) -> Result<u64, KeyFault>
-    ensures { IfOk result (λ moment. moment < 2 ^ 63) }
+    ensures says { IfOk result (IsNumber (F.values fields.now) keys.At) }
+    ensures range { IfOk result (λ moment. moment < 2 ^ 63) }
 {
     Ok(whole(fields, Key::At)? as u64)
 }
 
 /// The id of a station, where it is there.
 fn read_id<F: Fields>(alloc: Global, fields: &F) -> Result<Option<String>, KeyFault>
-    ensures { IfOk result (λ id. IfSome id (λ id. IsId (string_bytes id))) }
+    ensures says { IfOk result (λ id. MatchOption id (IsMissing (F.values fields.now) keys.Id)
+        (λ id. IsText (F.values fields.now) keys.Id (string_bytes id))) }
+    ensures id { IfOk result (λ id. IfSome id (λ id. IsId (string_bytes id))) }
 {
     if !fields.has(Key::Id.word()) {
         return Ok(None);
@@ -203,6 +229,7 @@ fn read_id<F: Fields>(alloc: Global, fields: &F) -> Result<Option<String>, KeyFa
 
 /// The number of a station that is one of so many.
 fn read_own_station<F: Fields>(fields: &F, stations: usize) -> Result<usize, KeyFault>
+    ensures says { IfOk result (IsNumber (F.values fields.now) keys.Station) }
     ensures range { IfOk result (λ station. station < 2 ^ 16) }
     ensures own { IfOk result (λ station. station < stations) }
 {
@@ -224,7 +251,8 @@ fn verb_under<F: Fields>(fields: &F) -> Option<Verb>
 /// Reads what a station does, as `read_what` does. Where the word is none that is known, the one of
 /// these is told that may be meant.
 fn read_one_of<F: Fields>(alloc: Global, fields: &F, verbs: Verbs) -> Result<What, KeyFault>
-    ensures { IfOk result FitsWhat }
+    ensures says { IfOk result (λ what. SaysWhat (F.values fields.now) (what_of what)) }
+    ensures fits { IfOk result FitsWhat }
 {
     match read_what(alloc, fields) {
         Ok(what) => Ok(what),

@@ -1,5 +1,9 @@
 //! What a scenario expects of its run.
 
+ghost use Rattle.std.specs.Prelude.{IfOk};
+ghost use Rattle.its_scenario.specs.Saying.{IsNumberIf, SaysExpectation, SaysReached};
+ghost use Rattle.its_scenario.specs.declared.key.Key.TheVariants as keys;
+
 use crate::fault::KeyFault;
 use crate::fields::Fields;
 use crate::key::Key;
@@ -27,7 +31,9 @@ pub struct Expectation {
 
 /// Reads what is expected: `send`, `reached`, `within`, checked in this order. The last may be
 /// missing.
-pub(crate) fn read_expectation<F: Fields>(fields: &F) -> Result<Expectation, KeyFault> {
+pub(crate) fn read_expectation<F: Fields>(fields: &F) -> Result<Expectation, KeyFault>
+    ensures { IfOk result (SaysExpectation (F.values fields.now)) }
+{
     Ok(Expectation {
         send: whole(fields, Key::Send)? as usize,
         reached: read_reached(fields)?,
@@ -36,7 +42,9 @@ pub(crate) fn read_expectation<F: Fields>(fields: &F) -> Result<Expectation, Key
 }
 
 /// At how many stations a packet has to be delivered: a number, or `all`.
-fn read_reached<F: Fields>(fields: &F) -> Result<Reached, KeyFault> {
+fn read_reached<F: Fields>(fields: &F) -> Result<Reached, KeyFault>
+    ensures { IfOk result (SaysReached (F.values fields.now)) }
+{
     match fields.text(Key::Reached.word()) {
         Some("all") => Ok(Reached::All),
         _ => Ok(Reached::AtLeast(number(fields, Key::Reached)?)),
@@ -44,7 +52,9 @@ fn read_reached<F: Fields>(fields: &F) -> Result<Reached, KeyFault> {
 }
 
 /// In how many milliseconds, where that is given.
-fn read_within<F: Fields>(fields: &F) -> Result<Option<u64>, KeyFault> {
+fn read_within<F: Fields>(fields: &F) -> Result<Option<u64>, KeyFault>
+    ensures { IfOk result (IsNumberIf (F.values fields.now) keys.Within) }
+{
     if !fields.has(Key::Within.word()) {
         return Ok(None);
     }

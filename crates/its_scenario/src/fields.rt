@@ -1,9 +1,10 @@
 //! What a scenario's events are read from.
 
-ghost use Rattle.std.specs.Prelude.{◌≡◌};
+ghost use Rattle.std.specs.Prelude.{◌≡◌, IfSome};
 ghost use Rattle.std.specs.Option.{option_map};
 ghost use Rattle.toml.specs.Data.{get_member};
-ghost use Rattle.toml.specs.View.{table_view, view};
+ghost use Rattle.toml.specs.View.{items_view, table_view, view};
+ghost use Rattle.its_scenario.specs.Items.{items_of_found};
 ghost use Rattle.its_scenario.specs.Reading.{FieldValues};
 
 use toml::{Table, Value};
@@ -55,9 +56,21 @@ impl Fields for Table {
 
 /// What stands under a word of a table.
 #[tactic(auto, using(toml::proofs::Views::table_get))]
-fn value_of<'a>(table: &'a Table, word: &str) -> Option<&'a Value>
+pub(crate) fn value_of<'a>(table: &'a Table, word: &str) -> Option<&'a Value>
     ensures { option_map (λ value. view value.now) result
         ≡ get_member word.now (table_view table.now) }
 {
     table.get(word)
+}
+
+/// The items of the array under a word of a table: none where the word is missing, `None` where its
+/// value is no array.
+pub(crate) fn items_of<'a>(table: &'a Table, word: &str) -> Option<&'a [Value]>
+    ensures { IfSome result (λ items.
+        items_of_found (get_member word.now (table_view table.now)) ≡ Some (items_view items.now)) }
+{
+    match value_of(table, word) {
+        None => Some(&[]),
+        Some(value) => Some(value.as_array()?.as_slice()),
+    }
 }

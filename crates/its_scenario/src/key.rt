@@ -3,6 +3,7 @@
 ghost use Rattle.std.specs.Prelude.{◌≡◌};
 ghost use Rattle.its_scenario.specs.Keys.{least_of, most_of, word_of};
 
+use crate::meant::Spelled;
 use std::fmt;
 
 /// A key of a scenario or of one of its tables. It prints as its word in the document.
@@ -304,6 +305,14 @@ impl Key {
             Key::Ports => Some("at most 64 different ports"),
             _ => None,
         }
+    }
+}
+
+impl Spelled for Key {
+    ghost spelling_of = { word_of };
+
+    fn spelling(self) -> &'static str {
+        self.word()
     }
 }
 

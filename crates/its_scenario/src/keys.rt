@@ -5,6 +5,7 @@ ghost use Rattle.its_scenario.specs.Faults.{IsFaultOf};
 ghost use Rattle.its_scenario.specs.Keys.{IsTakenBy, least_of, most_of};
 ghost use Rattle.its_scenario.specs.Reading.{AreOctets, IsNumber, IsPlace, IsText, IsTruth};
 ghost use Rattle.its_scenario.specs.Reading.{IsUntaken, IsWhole};
+ghost use Rattle.its_scenario.specs.Saying.{IsTruthOr, IsWholeOr};
 
 use crate::fault::{KeyFault, Wrong};
 use crate::fields::Fields;
@@ -64,6 +65,7 @@ pub(crate) fn octet<F: Fields>(fields: &F, key: Key) -> Result<u8, KeyFault>
 pub(crate) fn whole_or<F: Fields>(fields: &F, key: Key, other: i64) -> Result<i64, KeyFault>
     requires { IsTakenBy key other }
     ensures taken { IfOk result (IsTakenBy key) }
+    ensures says { IfOk result (IsWholeOr (F.values fields.now) key other) }
     ensures fault { IfErr result (IsFaultOf key) }
 {
     if fields.has(key.word()) {

@@ -3,7 +3,9 @@
 #![tactic(auto)]
 
 mod air;
+mod air_keys;
 mod centre;
+mod document;
 mod event;
 mod expectation;
 mod fault;
@@ -13,12 +15,14 @@ mod key;
 mod keys;
 mod meant;
 mod moves;
+mod moves_keys;
 mod position;
 mod reason;
 mod scenario;
 mod settings;
 mod station;
 mod traffic;
+mod traffic_keys;
 mod unknown;
 mod verb;
 
@@ -28,12 +32,12 @@ pub use expectation::{Expectation, Reached};
 pub use fault::{KeyFault, ScenarioFault, Wrong};
 pub use fields::Fields;
 pub use key::Key;
-pub use meant::nearest;
+pub use meant::{Spelled, nearest};
 pub use moves::Moves;
 pub use position::TomlFault;
 pub use reason::{Reason, WrongOf};
 pub use scenario::{Reading, Scenario};
-pub use settings::{AirSettings, SettingFault};
+pub use settings::{AirSettings, SettingFault, SettingReason};
 pub use station::read_station;
 pub use traffic::Traffic;
 pub use unknown::{Owner, UnknownKey};

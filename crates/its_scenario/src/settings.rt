@@ -1,13 +1,19 @@
 //! Values of the air that stand in place of a scenario's.
 
-ghost use Rattle.std.specs.Prelude.{◌≡◌};
+ghost use Rattle.std.specs.Prelude.{◌≡◌, Some, None, IfNone, IfOk, IfSome, map};
+ghost use Rattle.its_scenario.specs.Keys.{air_keys, word_of};
+ghost use Rattle.its_scenario.specs.Nearest.{IsFar};
+ghost use Rattle.its_scenario.specs.Settings.{IsTip};
 ghost use Rattle.its_scenario.specs.Tables.{set_number, set_truth};
 
 use crate::fault::KeyFault;
 use crate::fields::Fields;
-use crate::key::Key;
+use crate::key::{AIR_KEYS, Key};
 use crate::keys::{truth, whole};
+use crate::meant::nearest;
 use crate::reason::WrongOf;
+use std::alloc::{AllocError, Global};
+use std::fmt;
 use thiserror::Error;
 use toml::Table;
 
@@ -32,6 +38,46 @@ pub struct SettingFault<'a> {
     pub word: &'a str,
     /// What is wrong with its value, where it is one of the air's.
     pub wrong: Option<WrongOf>,
+}
+
+/// What is wrong with a setting, as words.
+#[derive(Clone, Copy, Debug, PartialEq, Eq)]
+pub enum SettingReason {
+    /// Its key is none of the air's; this one may be meant.
+    Meant(Key),
+    /// Its value isn't taken.
+    Value(WrongOf),
+}
+
+impl fmt::Display for SettingReason {
+    fn fmt<W: fmt::Write>(&self, f: &mut fmt::Formatter<W>) -> fmt::Result {
+        match self {
+            SettingReason::Meant(key) => write!(f, "did you mean '{key}'?"),
+            SettingReason::Value(wrong) => write!(f, "{wrong}"),
+        }
+    }
+}
+
+impl SettingFault<'_> {
+    /// What is wrong with it: of its value or, where its key is none of the air's, the key of the
+    /// air that may be meant, the first of those that are the fewest changes of a letter away.
+    /// `None` where each is more than two away.
+    pub fn reason(&self, alloc: Global) -> Result<Option<SettingReason>, AllocError>
+        ensures value { IfSome self.now.wrong (λ wrong. IfOk result (λ reason.
+            reason ≡ Some (SettingReason.Value wrong))) }
+        ensures key { self.now.wrong ≡ None → IfOk result (λ reason.
+            IfSome reason (IsTip self.now.word.now)) }
+        ensures none { self.now.wrong ≡ None → IfOk result (λ reason.
+            IfNone reason (IsFar self.now.word.now (map word_of air_keys))) }
+    {
+        match self.wrong {
+            Some(wrong) => Ok(Some(SettingReason::Value(wrong))),
+            None => match nearest(alloc, self.word, &AIR_KEYS)? {
+                Some(key) => Ok(Some(SettingReason::Meant(key))),
+                None => Ok(None),
+            },
+        }
+    }
 }
 
 impl AirSettings {

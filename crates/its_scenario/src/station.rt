@@ -1,6 +1,9 @@
 //! The stations of a scenario.
 
-ghost use Rattle.std.specs.Prelude.{IfOk};
+ghost use Rattle.std.specs.Prelude.{◌≡◌, IfOk, length};
+ghost use Rattle.its_scenario.specs.Reading.{AreOctets};
+ghost use Rattle.its_scenario.specs.Saying.{IsAddress, SaysPresent, SaysStation};
+ghost use Rattle.its_scenario.specs.declared.key.Key.TheVariants as keys;
 ghost use Rattle.its_world.specs.Events.{IsConfig};
 
 use crate::fault::{KeyFault, Wrong};
@@ -21,7 +24,8 @@ const USUAL_NUMBERS: i64 = 8;
 ///
 /// The first key that is missing, of another kind or out of range is refused.
 pub fn read_station<F: Fields>(fields: &F) -> Result<Config, KeyFault>
-    ensures { IfOk result IsConfig }
+    ensures says { IfOk result (SaysStation (F.values fields.now)) }
+    ensures ranges { IfOk result IsConfig }
 {
     let address = read_address(fields)?;
     let place = place(fields, Key::Lat, Key::Lon)?;
@@ -36,16 +40,33 @@ pub fn read_station<F: Fields>(fields: &F) -> Result<Config, KeyFault>
 }
 
 /// Whether a station is present at the start: `absent` is checked where it is there, else it is.
-pub(crate) fn read_present<F: Fields>(fields: &F) -> Result<bool, KeyFault> {
+pub(crate) fn read_present<F: Fields>(fields: &F) -> Result<bool, KeyFault>
+    ensures { IfOk result (SaysPresent (F.values fields.now)) }
+{
     Ok(!fields.has(Key::Absent.word()) || !truth(fields, Key::Absent)?)
 }
 
 /// The address of 16 hexadecimal digits, whose MID is no group.
-fn read_address<F: Fields>(fields: &F) -> Result<GnAddress, KeyFault> {
-    let mut octets = [0u8; 8];
-    let refused = KeyFault::Refused(Key::Address, Wrong::Value);
-    if hex::decode_to_slice(text(fields, Key::Address)?, &mut octets).is_err() {
-        return Err(refused);
+fn read_address<F: Fields>(fields: &F) -> Result<GnAddress, KeyFault>
+    ensures { IfOk result (IsAddress (F.values fields.now)) }
+{
+    let octets = address_octets(fields)?;
+    match GnAddress::from_u64(u64::from_be_bytes(octets)) {
+        Ok(address) => Ok(address),
+        Err(_) => Err(KeyFault::Refused(Key::Address, Wrong::Value)),
     }
-    GnAddress::from_u64(u64::from_be_bytes(octets)).map_err(|_| refused)
+}
+
+/// The octets of 16 hexadecimal digits.
+#[tactic(auto, using(crate::proofs::Digits::octets_of))]
+fn address_octets<F: Fields>(fields: &F) -> Result<[u8; 8], KeyFault>
+    ensures stand { IfOk result (AreOctets (F.values fields.now) keys.Address) }
+    ensures count { IfOk result (λ octets. length octets ≡ 8) }
+{
+    let digits = text(fields, Key::Address)?;
+    let mut octets = [0u8; 8];
+    match hex::decode_to_slice(digits, &mut octets) {
+        Ok(()) => Ok(octets),
+        Err(_) => Err(KeyFault::Refused(Key::Address, Wrong::Value)),
+    }
 }

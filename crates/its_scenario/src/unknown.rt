@@ -49,7 +49,7 @@ impl UnknownKey {
         Ok(UnknownKey {
             owner,
             name: String::from_str(alloc, name)?,
-            nearest: nearest_key(alloc, name, known)?,
+            nearest: nearest(alloc, name, known)?,
         })
     }
 
@@ -75,24 +75,6 @@ impl fmt::Display for UnknownKey {
             Owner::Expectation(number) => write!(f, "expect {number}: {name}"),
         }
     }
-}
-
-/// The key that may be meant by a name that is none of these.
-fn nearest_key(alloc: Global, name: &str, known: &[Key]) -> Result<Option<Key>, AllocError> {
-    let words = words_of(alloc, known)?;
-    match nearest(alloc, name, words.as_slice())? {
-        Some(place) => Ok(known.get(place).copied()),
-        None => Ok(None),
-    }
-}
-
-/// The words of these keys.
-fn words_of(alloc: Global, keys: &[Key]) -> Result<Vec<&'static str>, AllocError> {
-    let mut words = Vec::with_capacity(alloc, keys.len())?;
-    for key in keys {
-        words.push(key.word())?;
-    }
-    Ok(words)
 }
 
 /// Whether a name is one of these words.

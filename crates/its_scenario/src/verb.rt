@@ -4,7 +4,7 @@ ghost use Rattle.std.specs.Prelude.{◌≡◌, IfNone, IfSome};
 ghost use Rattle.its_scenario.specs.Verbs.{call_verb, verb_of, verb_word};
 ghost use Rattle.its_world.specs.Events.{what_of};
 
-use crate::meant::nearest;
+use crate::meant::{Spelled, nearest};
 use its_station::Call;
 use its_world::What;
 use std::alloc::{AllocError, Global};
@@ -134,6 +134,16 @@ impl Verb {
     }
 }
 
+impl Spelled for Verb {
+    ghost use Rattle.its_scenario.specs.Verbs.{verb_word};
+
+    ghost spelling_of = { verb_word };
+
+    fn spelling(self) -> &'static str {
+        self.word()
+    }
+}
+
 impl fmt::Display for Verb {
     fn fmt<W: fmt::Write>(&self, f: &mut fmt::Formatter<W>) -> fmt::Result {
         f.write_str(self.word())
@@ -152,20 +162,6 @@ impl Verbs {
 
     /// The one that may be meant by a word that is none of them.
     pub(crate) fn meant_by(self, alloc: Global, word: &str) -> Result<Option<Verb>, AllocError> {
-        let verbs = self.all();
-        let words = words_of(alloc, verbs)?;
-        match nearest(alloc, word, words.as_slice())? {
-            Some(place) => Ok(verbs.get(place).copied()),
-            None => Ok(None),
-        }
+        nearest(alloc, word, self.all())
     }
-}
-
-/// The words of these.
-fn words_of(alloc: Global, verbs: &[Verb]) -> Result<Vec<&'static str>, AllocError> {
-    let mut words = Vec::with_capacity(alloc, verbs.len())?;
-    for verb in verbs {
-        words.push(verb.word())?;
-    }
-    Ok(words)
 }

@@ -1,4 +1,4 @@
-use Rattle.std.proofs.Common.{◌≡◌, ℕ, Result, subst, sym, ◌∙◌, ap}
+use Rattle.std.proofs.Common.{Result, subst, ◌∙◌, ap}
 use Rattle.std.specs.Prelude.{IfOk}
 use Rattle.its_gnvalue.specs.declared.fault.NoMemory.{NoMemory}
 use Rattle.its_model.specs.Calls.{Call as ModelCall}

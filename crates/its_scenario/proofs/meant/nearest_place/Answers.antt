@@ -1,24 +1,32 @@
-use Rattle.std.proofs.Common.{◌≡◌, ◌+◌, ◌<◌, ◌≤◌, ◌∙◌, ℕ, List, [], Option, Some, refl}
-use Rattle.std.proofs.Common.{sym, subst, arith, rules, length, get_or}
-use Rattle.its_scenario.specs.Nearest.{changes, words}
-use Rattle.its_scenario.proofs.Near.{IsSoFar, length_words, word_at, nearer, no_nearer}
-use Rattle.its_scenario.proofs.Near.{some_nearest, none_near}
-use Rattle.its_scenario.proofs.meant.nearest.Goals as goal
-use Rattle.its_scenario.proofs.meant.nearest.Goals.{then-changes-fewest, else-changes-fewest}
-use denote.Ref.{Bor}
+use Rattle.std.proofs.Common.{◌≡◌, ◌+◌, ◌<◌, ◌≤◌, ◌∙◌, ℕ, List, Option, Some, refl, ap}
+use Rattle.std.proofs.Common.{sym, subst, arith, rules, length, map}
+use Rattle.std.proofs.lemmas.List.{length-map}
+use Rattle.std.proofs.lemmas.Option.{slice_get-map, slice_get_read}
+use Rattle.std.specs.Option.{option_map}
+use Rattle.std.specs.Prelude.{slice_get}
+use Rattle.its_scenario.specs.Nearest.{changes}
+use Rattle.its_scenario.proofs.Near.{IsSoFar, nearer, no_nearer, some_nearest, none_near}
+use Rattle.its_scenario.proofs.meant.nearest_place.Goals as goal
+use Rattle.its_scenario.proofs.meant.nearest_place.Goals.{then-changes-fewest, else-changes-fewest}
 
 pub loop-place-init : goal.loop-place-init
-loop-place-init c = (λ k w lt is. absurd (omega (arith, lt)), refl)
+loop-place-init g c = (λ k w lt is. absurd (omega (arith, lt)), refl)
 
 pub loop-place-preserved : goal.loop-place-preserved
-loop-place-preserved c =
+loop-place-preserved g c =
     let word : List ℕ = c.args.word.now in
-    let known : List (List ℕ) = words c.args.known.now in
+    let spelling = g.T.Spelled.spelling_of in
+    let known : List (List ℕ) = map spelling c.args.known.now in
     let n : ℕ = c.loop-place.place in
-    let none : Bor (List ℕ) = record { ref_ptr = (0, 0); now = [] } in
-    let meant : List ℕ = (get_or c.args.known.now n none).now in
-    let is = word_at c.args.known.now n none c.loop-place-test.true in
-    let apart : c.in_ok-changes.changes ≡ changes word meant = c.in_ok-changes.ensures.value in
+    let one = c.index-known-place.result in
+    let meant : List ℕ = spelling one in
+    let is : slice_get known n ≡ Some meant =
+    slice_get-map spelling c.args.known.now n
+    ∙ ap (option_map spelling)
+    (slice_get_read c.args.known.now (length c.args.known.now) n one refl c.loop-place-test.true
+    c.index-known-place.is) in
+    let apart : c.in_ok-changes.changes ≡ changes word meant =
+    c.in_ok-changes.ensures.value ∙ ap (changes word) c.spelling.ensures in
     elim c.if-changes-fewest.branch [
       | then-changes-fewest w ↦
           subst (λ (o : Option ℕ). IsSoFar (n + 1) word known o c.if-changes-fewest.fewest)
@@ -37,15 +45,17 @@ loop-place-preserved c =
     ]
 
 pub returns-clause-some : goal.returns-clause-some
-returns-clause-some c =
+returns-clause-some g c =
     let known = c.args.known.now in
+    let spelling = g.T.Spelled.spelling_of in
     let all : c.loop-place.place ≡ length known = search rules in
-    some_nearest c.loop-place.place c.loop-place.fewest c.args.word.now (words known)
-    c.loop-place.found (all ∙ sym (length_words known)) c.loop-place.invariant
+    some_nearest c.loop-place.place c.loop-place.fewest c.args.word.now (map spelling known)
+    c.loop-place.found (all ∙ sym (length-map known spelling)) c.loop-place.invariant
 
 pub returns-clause-none : goal.returns-clause-none
-returns-clause-none c =
+returns-clause-none g c =
     let known = c.args.known.now in
+    let spelling = g.T.Spelled.spelling_of in
     let all : c.loop-place.place ≡ length known = search rules in
-    none_near c.loop-place.place c.loop-place.fewest c.args.word.now (words known)
-    c.loop-place.found (all ∙ sym (length_words known)) c.loop-place.invariant
+    none_near c.loop-place.place c.loop-place.fewest c.args.word.now (map spelling known)
+    c.loop-place.found (all ∙ sym (length-map known spelling)) c.loop-place.invariant

@@ -1,0 +1,15 @@
+use Rattle.std.proofs.Common.{◌≡◌, All, take, vec_len}
+use Rattle.its_scenario.specs.Events.{FitsEvent}
+use Rattle.its_scenario.specs.Saying.{SaysEvent}
+use Rattle.its_scenario.specs.Items.{SayItems}
+use Rattle.its_scenario.proofs.document.read_events.Given as goal
+use Rattle.toml.specs.View.{items_view}
+
+-- one event for each item so far, which says it, with its numbers in range
+abbrev pub invariant-loop-number : goal.invariant-loop-number
+invariant-loop-number l =
+    record {
+      count : vec_len l.events ≡ l.number-counter;
+      says : SayItems SaysEvent (items_view (take l.number-counter l.items)) l.events.items;
+      ranges : All FitsEvent l.events.items;
+    }

@@ -1,0 +1,149 @@
+-- What the tables of a scenario say: its stations, its air, its traffic and its events.
+use Rattle.std.specs.Prelude.{◌≡◌, ℕ, ℤ, pos, Bool, true, false, not, ◌&&◌, List, Option, Some}
+use Rattle.std.specs.Prelude.{None, codes, cond, length, string_bytes, String}
+use Rattle.std.specs.Int.{w64, from_be_bytes}
+use Rattle.std.specs.declared.alloc.Global.{Global}
+use Rattle.its_scenario.specs.Airs.{moment_of}
+use Rattle.its_scenario.specs.Events.{station_in}
+use Rattle.its_scenario.specs.Keys.{word_of}
+use Rattle.its_scenario.specs.Reading.{FieldValues, AreOctets, IsNumber, IsPlace, IsText, SaysWhat}
+use Rattle.its_scenario.specs.Tables.{air_values}
+use Rattle.its_scenario.specs.Verbs.{verb_word}
+use Rattle.its_scenario.specs.declared.air.Air.{Air}
+use Rattle.its_scenario.specs.declared.event.AddressedEvent.{AddressedEvent}
+use Rattle.its_scenario.specs.declared.event.FileEvent.{FileEvent}
+use Rattle.its_scenario.specs.declared.event.FileEvent.TheVariants as files
+use Rattle.its_scenario.specs.declared.expectation.Expectation.{Expectation}
+use Rattle.its_scenario.specs.declared.expectation.Reached.{Reached}
+use Rattle.its_scenario.specs.declared.expectation.Reached.TheVariants as reaches
+use Rattle.its_scenario.specs.declared.key.Key.{Key}
+use Rattle.its_scenario.specs.declared.key.Key.TheVariants as keys
+use Rattle.its_scenario.specs.declared.traffic.Traffic.{Traffic}
+use Rattle.its_scenario.specs.declared.verb.Verb.TheVariants as verbs
+use Rattle.its_world.specs.Events.{what_of}
+use Rattle.its_world.specs.declared.config.Config.{Config}
+use Rattle.its_world.specs.declared.event.Event.{Event}
+use Rattle.its_world.specs.declared.event.What.{What}
+use Rattle.its_world.specs.declared.event.What.TheVariants as whats
+
+-- nothing stands under the key
+abbrev pub IsMissing : FieldValues → Key → Type 0
+IsMissing values key = values.has (word_of key) ≡ false
+
+-- the number is the whole number under the key, or this other one where nothing stands there
+abbrev pub IsWholeOr : FieldValues → Key → ℤ → ℤ → Type 0
+IsWholeOr values key other number =
+    cond (values.has (word_of key)) (values.integer (word_of key)) (Some other) ≡ Some number
+
+-- the same of numbers that aren't below 0
+abbrev pub IsNumberOr : FieldValues → Key → ℕ → ℕ → Type 0
+IsNumberOr values key other number = IsWholeOr values key (pos other) (pos number)
+
+-- the same of a truth
+abbrev pub IsTruthOr : FieldValues → Key → Bool → Bool → Type 0
+IsTruthOr values key other truth =
+    cond (values.has (word_of key)) (values.truth (word_of key)) (Some other) ≡ Some truth
+
+-- this number stands under the key; or nothing does, where there is none
+abbrev pub IsNumberIf : FieldValues → Key → Option ℕ → Type 0
+IsNumberIf values key (Some number) = IsNumber values key number
+IsNumberIf values key None = IsMissing values key
+
+-- the digits under `address` are those of the address' 8 octets, the highest first
+abbrev pub IsAddress : FieldValues → ℕ → Type 0
+IsAddress values address =
+    (octets : List ℕ) × AreOctets values keys.Address octets × (length octets ≡ 8)
+    × (address ≡ from_be_bytes w64 octets)
+
+-- the keys say how a station begins: where nothing is said, there is room for 64 sources, and 8
+-- numbers of each are remembered
+abbrev pub SaysStation : FieldValues → Config → Type 0
+SaysStation values config =
+    IsAddress values config.address
+    × IsPlace values keys.Lat keys.Lon config.place
+    × IsNumberOr values keys.Capacity 64 config.capacity
+    × IsNumberOr values keys.Remember 8 config.remember
+
+-- whether a station is present at the start: it is, where nothing is said
+abbrev pub SaysPresent : FieldValues → Bool → Type 0
+SaysPresent values present = IsTruthOr values keys.Absent false (not present)
+
+-- the keys say this air: where nothing is said, frames take 1 ms, none is lost, the draws begin
+-- with 0, no station ticks by itself, and it isn't said how long it runs
+abbrev pub SaysAir : FieldValues → Air → Type 0
+SaysAir values air =
+    IsNumber values keys.Range air.range
+    × IsNumberOr values keys.Delay 1 air.delay
+    × IsNumberOr values keys.Loss 0 air.loss
+    × IsNumberOr values keys.Seed 0 air.seed
+    × IsTruthOr values keys.Beacons false air.beacons
+    × IsNumberIf values keys.Until air.until
+
+-- the keys say this traffic
+abbrev pub SaysTraffic : FieldValues → Traffic → Type 0
+SaysTraffic values traffic =
+    IsNumber values keys.Period traffic.period
+    × IsNumber values keys.Port traffic.port
+    × IsNumber values keys.Info traffic.info
+    × IsNumber values keys.Tc traffic.class
+    × IsNumber values keys.Octets traffic.octets
+
+-- the keys say this event of a scenario without an air
+abbrev pub SaysEvent : FieldValues → Event → Type 0
+SaysEvent values event =
+    IsNumber values keys.Station event.station
+    × IsNumber values keys.At event.moment
+    × SaysWhat values (what_of event.what)
+
+-- both coordinates of an area's centre are left out
+abbrev pub lacks_centre : FieldValues → Bool
+lacks_centre values =
+    not (values.has (word_of keys.Alat)) && not (values.has (word_of keys.Alon))
+
+-- whether a packet is sent for an area
+abbrev pub is_geocast : What → Bool
+is_geocast (whats.SendGeobroadcast request) = true
+is_geocast (whats.SendGeoanycast request) = true
+is_geocast what = false
+
+-- The keys beside those of the station and the moment say that this waits in an air, and whether
+-- its area lies round its station: a leave; or what happens, where the coordinates of a centre that
+-- is left out are 0.
+abbrev pub SaysDone : FieldValues → FileEvent → Bool → Type 0
+SaysDone values (files.Leaves station moment) round_station =
+    IsText values keys.Do (verb_word verbs.Leave) × (round_station ≡ false)
+SaysDone values (files.Happens event) round_station =
+    SaysWhat (air_values (lacks_centre values) values) (what_of event.what)
+    × (round_station ≡ (lacks_centre values && is_geocast event.what))
+
+-- the keys say that this waits in an air, and whether its area lies round its station
+abbrev pub SaysFiled : FieldValues → FileEvent → Bool → Type 0
+SaysFiled values filed round_station =
+    IsNumber values keys.Station (station_in filed)
+    × IsNumber values keys.At (moment_of filed)
+    × SaysDone values filed round_station
+
+-- this id stands under `id`, and the station's number is 0; or nothing does, and the number of the
+-- station stands under `station`
+abbrev pub IsAddressee : FieldValues → Option (String Global) → ℕ → Type 0
+IsAddressee values (Some id) station = IsText values keys.Id (string_bytes id) × (station ≡ 0)
+IsAddressee values None station = IsMissing values keys.Id × IsNumber values keys.Station station
+
+-- the keys say this line of the events of a scenario that is run with moves
+abbrev pub SaysAddressed : FieldValues → AddressedEvent → Type 0
+SaysAddressed values addressed =
+    IsAddressee values addressed.id (station_in addressed.filed)
+    × IsNumber values keys.At (moment_of addressed.filed)
+    × SaysDone values addressed.filed addressed.round_station
+
+-- at how many stations a packet has to be delivered: all of them by that word, else so many
+abbrev pub SaysReached : FieldValues → Reached → Type 0
+SaysReached values reaches.All = IsText values keys.Reached (codes "all")
+SaysReached values (reaches.AtLeast count) = IsNumber values keys.Reached count
+
+-- the keys say this of what is expected
+abbrev pub SaysExpectation : FieldValues → Expectation → Type 0
+SaysExpectation values expected =
+    IsNumber values keys.Send expected.send
+    × SaysReached values expected.reached
+    × IsNumberIf values keys.Within expected.within
