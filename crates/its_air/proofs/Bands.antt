@@ -10,7 +10,7 @@ use Rattle.its_geometry.specs.Offsets.{northward, eastward, wrap_longitude, long
 use Rattle.its_geometry.specs.Offsets.{squared_distance}
 use Rattle.its_geometry.proofs.SignedLemmas.{unsigned_abs-northward, unsigned_abs-eastward}
 use Rattle.its_air.specs.Reach.{is_within}
-use Rattle.its_air.specs.Standings.{northing, easting, row_of, Covers}
+use Rattle.its_air.specs.PlaceIndexes.{northing, easting, row_of, Covers}
 
 -- signed numbers are no farther apart than their lengths
 longer : (a b : ℤ) → unsigned_abs (a +ℤ b) ≤ unsigned_abs a + unsigned_abs b

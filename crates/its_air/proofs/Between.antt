@@ -10,7 +10,7 @@ use Rattle.std.proofs.lemmas.List.Elements.{filter-append, recursion_from_All}
 use Rattle.std.proofs.lemmas.List.Elements.{All-from_recursion, All-take}
 use Rattle.std.specs.List.{AllWithin, AllByRecursion}
 use Rattle.std.specs.List.Sorted.{IsPartitionPoint}
-use Rattle.its_air.specs.declared.standing.Standing.{Standing}
+use Rattle.its_air.specs.declared.place_index.Standing.{Standing}
 
 -- what is true of a part is true of it taken alone
 all_take : (P : Standing → Type 0) (xs : List Standing) (i : ℕ) → AllWithin P xs 0 i

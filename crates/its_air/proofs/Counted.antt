@@ -11,9 +11,9 @@ use Rattle.std.proofs.lemmas.List.{get_or_append_left, get_or-append_right, get_
 use Rattle.std.proofs.lemmas.List.{length-replicate}
 use Rattle.std.proofs.lemmas.List.Sorted.{sum_by_pushed, sum_by_popped}
 use Rattle.std.proofs.lemmas.Nat.{mul-add-lt}
-use Rattle.its_air.specs.declared.waiting.Own.{Own}
-use Rattle.its_air.specs.declared.waiting.Own.TheVariants as owns
-use Rattle.its_air.specs.declared.waiting.Waiting.{Waiting}
+use Rattle.its_air.specs.declared.waiting.AirAction.{AirAction}
+use Rattle.its_air.specs.declared.waiting.AirAction.TheVariants as owns
+use Rattle.its_air.specs.declared.waiting.Scheduled.{Scheduled}
 use Rattle.its_air.specs.Queues.{is_tick_at, is_send_at, own_of}
 use Rattle.its_air.specs.Timetable.{is_tick, is_numbered}
 use Rattle.its_air.specs.Traffics.{traffic_in}
@@ -41,12 +41,12 @@ one_place kinds a b k l lk ll e = by (cases_order a b)
         absurd (omega (arith, less, flip, e))
 
 -- it is of its own kind, at its own station, and of no other
-of_own : (w : Waiting) (k kind station : ℕ) → kind_in w.own ≡ Some k → k ≡ kind
+of_own : (w : Scheduled) (k kind station : ℕ) → kind_in w.own ≡ Some k → k ≡ kind
     → w.station ≡ station → is_kind_at kind station w ≡ true
 of_own w k kind station is same at =
     rw (is, eq-eqb k kind same, eq-eqb w.station station at) refl
 
-of_other : (w : Waiting) (k kind station : ℕ) → kind_in w.own ≡ Some k
+of_other : (w : Scheduled) (k kind station : ℕ) → kind_in w.own ≡ Some k
     → (k ≡ kind → w.station ≡ station → ⊥) → is_kind_at kind station w ≡ false
 of_other w k kind station is differ = rw is (by (cases_eq k kind) (cases_eq w.station station))
   where
@@ -61,7 +61,7 @@ of_other w k kind station is differ = rw is (by (cases_eq k kind) (cases_eq w.st
     by (inr apart) at = rw (ne_eqb k kind apart) refl
 
 -- where this one is counted, so it is at this place, and elsewhere it isn't
-here_or_not : (kinds : ℕ) (w : Waiting) (at kind station at' : ℕ) → IsCountedAt kinds w at
+here_or_not : (kinds : ℕ) (w : Scheduled) (at kind station at' : ℕ) → IsCountedAt kinds w at
     → IsPlaceOf kinds kind station at'
     → ((at' ≡ at) × (is_kind_at kind station w ≡ true))
     ⊎ ((at' ≢ at) × (is_kind_at kind station w ≡ false))
@@ -82,7 +82,7 @@ here_or_not kinds w at kind station at' (k, is, (lk, there, fits)) (lt, there', 
               ∙ sym there)),
         )
 
-pub counted_more : (kinds : ℕ) (counts : List ℕ) (own new : List Waiting) (w : Waiting) (at : ℕ)
+pub counted_more : (kinds : ℕ) (counts : List ℕ) (own new : List Scheduled) (w : Scheduled) (at : ℕ)
     → IsCountedAt kinds w at → at < length counts → AreCounted kinds counts own
     → IsPermutation (w ∷ own) new
     → AreCounted kinds (set counts at (get_or counts at 0 + 1)) new
@@ -109,7 +109,7 @@ counted_more kinds counts own new w at place within all more kind station at' pl
         get_or-set_other counts at at' (get_or counts at 0 + 1) 0 apart
         ∙ omega (arith, before, pushed, none)
 
-pub counted_less : (kinds : ℕ) (counts : List ℕ) (own new : List Waiting) (w : Waiting) (at : ℕ)
+pub counted_less : (kinds : ℕ) (counts : List ℕ) (own new : List Scheduled) (w : Scheduled) (at : ℕ)
     → IsCountedAt kinds w at → at < length counts → AreCounted kinds counts own
     → IsPermutation own (w ∷ new)
     → AreCounted kinds (set counts at (get_or counts at 0 - 1)) new
@@ -137,7 +137,7 @@ counted_less kinds counts own new w at place within all less kind station at' pl
         ∙ omega (arith, before, popped, none)
 
 -- one that waits is counted at a place that there is
-pub counted_within : (kinds : ℕ) (counts : List ℕ) (own new : List Waiting) (w : Waiting) (at : ℕ)
+pub counted_within : (kinds : ℕ) (counts : List ℕ) (own new : List Scheduled) (w : Scheduled) (at : ℕ)
     → IsCountedAt kinds w at → length counts ≤ at → AreCounted kinds counts own
     → IsPermutation own (w ∷ new) → ⊥
 counted_within kinds counts own new w at (k, is, place) past all less =
@@ -148,7 +148,7 @@ counted_within kinds counts own new w at (k, is, place) past all less =
     absurd (omega (arith, popped, before, none, one))
 
 -- where one is counted nowhere, it adds to no count
-uncounted_bit : (kinds : ℕ) (w : Waiting) → IsUncounted kinds w → (kind station at : ℕ)
+uncounted_bit : (kinds : ℕ) (w : Scheduled) → IsUncounted kinds w → (kind station at : ℕ)
     → IsPlaceOf kinds kind station at → bit (is_kind_at kind station w) ≡ 0
 uncounted_bit kinds w never kind station at place = by (kind_in w.own) refl
   where
@@ -161,7 +161,7 @@ uncounted_bit kinds w never kind station at place = by (kind_in w.own) refl
           subst (λ n. IsPlaceOf kinds kind n at) (sym f) place,
         )))
 
-pub uncounted_more : (kinds : ℕ) (counts : List ℕ) (own new : List Waiting) (w : Waiting)
+pub uncounted_more : (kinds : ℕ) (counts : List ℕ) (own new : List Scheduled) (w : Scheduled)
     → IsUncounted kinds w → AreCounted kinds counts own → IsPermutation (w ∷ own) new
     → AreCounted kinds counts new
 uncounted_more kinds counts own new w never all more kind station at place =
@@ -169,7 +169,7 @@ uncounted_more kinds counts own new w never all more kind station at place =
     let none = uncounted_bit kinds w never kind station at place in
     let before = all kind station at place in omega (arith, pushed, none, before)
 
-pub uncounted_less : (kinds : ℕ) (counts : List ℕ) (own new : List Waiting) (w : Waiting)
+pub uncounted_less : (kinds : ℕ) (counts : List ℕ) (own new : List Scheduled) (w : Scheduled)
     → IsUncounted kinds w → AreCounted kinds counts own → IsPermutation own (w ∷ new)
     → AreCounted kinds counts new
 uncounted_less kinds counts own new w never all less kind station at place =
@@ -178,11 +178,11 @@ uncounted_less kinds counts own new w never all less kind station at place =
     let before = all kind station at place in omega (arith, popped, none, before)
 
 -- the first kind are the ticks, and those behind it the sends of each traffic
-pub counted_ticks : (station : ℕ) (own : List Waiting)
+pub counted_ticks : (station : ℕ) (own : List Scheduled)
     → count_by (is_kind_at 0 station) own ≡ count_by (is_tick_at station) own
 counted_ticks station own = ap (λ p. count_by p own) (λ i w. same w i)
   where
-    by : (o : Own) (b : Bool)
+    by : (o : AirAction) (b : Bool)
         → is_kind 0 (kind_in o) && b ≡ is_tick (own_of o) && b
     by (owns.Tick jitter) b = refl
     by (owns.Deliver frame) b = refl
@@ -190,10 +190,10 @@ counted_ticks station own = ap (λ p. count_by p own) (λ i w. same w i)
         ap (λ c. c && b) (ne_eqb (number + 1) 0
         (λ e. let e' : number + 1 ≡ 0 = e in absurd (omega (arith, e'))))
 
-    same : (w : Waiting) → is_kind_at 0 station w ≡ is_tick_at station w
+    same : (w : Scheduled) → is_kind_at 0 station w ≡ is_tick_at station w
     same w = by w.own (w.station == station)
 
-pub counted_sends : (number station : ℕ) (own : List Waiting)
+pub counted_sends : (number station : ℕ) (own : List Scheduled)
     → count_by (is_kind_at (number + 1) station) own ≡ count_by (is_send_at number station) own
 counted_sends number station own = ap (λ p. count_by p own) (λ i w. same w i)
   where
@@ -205,7 +205,7 @@ counted_sends number station own = ap (λ p. count_by p own) (λ i w. same w i)
         (λ e. let e' : n + 1 ≡ number + 1 = e in differ (omega (arith, e')))
         ∙ sym (ne_eqb n number differ)
 
-    by : (o : Own) (b : Bool)
+    by : (o : AirAction) (b : Bool)
         → is_kind (number + 1) (kind_in o) && b ≡ is_numbered number (traffic_in o) && b
     by (owns.Tick jitter) b =
         ap (λ c. c && b) (ne_eqb 0 (number + 1)
@@ -213,7 +213,7 @@ counted_sends number station own = ap (λ p. count_by p own) (λ i w. same w i)
     by (owns.Deliver frame) b = refl
     by (owns.Send n x) b = ap (λ c. c && b) (next n (cases_eq n number))
 
-    same : (w : Waiting) → is_kind_at (number + 1) station w ≡ is_send_at number station w
+    same : (w : Scheduled) → is_kind_at (number + 1) station w ≡ is_send_at number station w
     same w = by w.own (w.station == station)
 
 -- zeros behind the counts change none
@@ -234,7 +234,7 @@ with_zeros counts n k = by (cases_lt k (length counts))
         ∙ zero_at (k - length counts) (cases_lt (k - length counts) n)
         ∙ sym (get_or_past counts k zero ge)
 
-pub counted_grown : (kinds : ℕ) (counts grown : List ℕ) (own : List Waiting) (m n : ℕ)
+pub counted_grown : (kinds : ℕ) (counts grown : List ℕ) (own : List Scheduled) (m n : ℕ)
     → length counts ≤ m → grown ≡ take m counts ++ replicate n zero → AreCounted kinds counts own
     → AreCounted kinds grown own
 counted_grown kinds counts grown own m n short is all kind station at place =

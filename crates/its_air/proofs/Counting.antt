@@ -5,7 +5,7 @@ use Rattle.std.specs.Prelude.{count_by, nat_le, ◌==◌}
 use Rattle.std.specs.BinaryHeap.{heap_items}
 use Rattle.std.proofs.lemmas.List.Sums.{sum_by-cons, sum_by_push}
 use Rattle.its_air.specs.declared.waiting.Queue.{Queue}
-use Rattle.its_air.specs.declared.waiting.Waiting.{Waiting}
+use Rattle.its_air.specs.declared.waiting.Scheduled.{Scheduled}
 use Rattle.its_air.specs.Keeps.{Keeps}
 use Rattle.its_air.specs.Queues.{is_tick_at, is_send_at}
 use Rattle.its_air.specs.Timetable.{Pending, Filed, Timetable, at, of_file, put, put_all}
@@ -57,8 +57,8 @@ count_file kind none (e ∷ es) =
     let c = count_file kind none es in omega (arith, a, b, c)
 
 -- those of the air's own
-count_own : (kind : Pending → Bool) (one : Waiting → Bool)
-    → ((w : Waiting) → kind (pending_of w) ≡ one w) → (own : List Waiting)
+count_own : (kind : Pending → Bool) (one : Scheduled → Bool)
+    → ((w : Scheduled) → kind (pending_of w) ≡ one w) → (own : List Scheduled)
     → count_by kind (map pending_of own) ≡ count_by one own
 count_own kind one same [] = refl
 count_own kind one same (w ∷ own) =
@@ -68,10 +68,10 @@ count_own kind one same (w ∷ own) =
     let d = count_own kind one same own in omega (arith, a, b, c, d)
 
 -- as many wait as are in the heap
-counted : (kind : Pending → Bool) (one : Waiting → Bool)
-    → ((w : Waiting) → kind (pending_of w) ≡ one w)
+counted : (kind : Pending → Bool) (one : Scheduled → Bool)
+    → ((w : Scheduled) → kind (pending_of w) ≡ one w)
     → ((e : Filed) → kind (of_file e) ≡ false)
-    → (due : List Filed) (heap : List Waiting) (count until : ℕ) (ws : List Pending)
+    → (due : List Filed) (heap : List Scheduled) (count until : ℕ) (ws : List Pending)
     → Waits due heap count until ws → count_by kind ws ≡ count_by one heap
 counted kind one same none due heap count until ws h =
     let file = map of_file (due ++ h.late) in

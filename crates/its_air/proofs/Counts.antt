@@ -24,9 +24,9 @@ use Rattle.std.proofs.lemmas.List.Sorted.{sum_by-IsPermutation}
 use Rattle.its_gnvalue.specs.Values.{Position}
 use Rattle.its_station.specs.State.{StationState}
 use Rattle.its_world.specs.Steps.{AreSameBut}
-use Rattle.its_air.specs.declared.standing.Standing.{Standing}
+use Rattle.its_air.specs.declared.place_index.Standing.{Standing}
 use Rattle.its_air.specs.Reach.{is_within, hears, hearers, numbers_from, hears_there}
-use Rattle.its_air.specs.Standings.{hears_from, is_off, count_at, times_at, AreStandingsOf}
+use Rattle.its_air.specs.PlaceIndexes.{hears_from, is_off, count_at, times_at, AreStandingsOf}
 
 -- once or never
 abbrev bit : Bool → ℕ

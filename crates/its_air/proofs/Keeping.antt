@@ -30,8 +30,8 @@ use Rattle.its_station.specs.State.{StationState, RepresentsStation}
 use Rattle.its_world.specs.State.{RepresentStations}
 use Rattle.its_world.proofs.Worlds.{get_station}
 use Rattle.its_scenario.specs.declared.event.FileEvent.{FileEvent as Told}
-use Rattle.its_air.specs.declared.waiting.Own.TheVariants as owns
-use Rattle.its_air.specs.declared.waiting.Waiting.{Waiting}
+use Rattle.its_air.specs.declared.waiting.AirAction.TheVariants as owns
+use Rattle.its_air.specs.declared.waiting.Scheduled.{Scheduled}
 use Rattle.its_air.specs.declared.waiting.Queue.{Queue}
 use Rattle.its_air.specs.Draws.{draws_at}
 use Rattle.its_air.specs.Files.{SameFile, filed_due}
@@ -52,7 +52,7 @@ use Rattle.its_air.specs.Waits.{Waits, put_of}
 use Rattle.its_air.proofs.Waits.{waits_put}
 
 -- the same, told otherwise
-pub waits_at : (due due' : List Filed) (heap : List Waiting) (n n' until until' : ℕ)
+pub waits_at : (due due' : List Filed) (heap : List Scheduled) (n n' until until' : ℕ)
     (ws : List Pending) → due' ≡ due → n' ≡ n → until' ≡ until → Waits due heap n until ws
     → Waits due' heap n' until' ws
 waits_at due due' heap n n' until until' ws d e u h =
@@ -68,35 +68,35 @@ left_same old new same =
     ∙ ap (λ (d : Vec (Bor Told) Global). drop old.taken (filed_in d.items)) same.due
 
 -- one more was put, by one draw
-pub keeps_put : (old new : Queue) (before after : List ℕ) (t : Timetable) (x : Waiting) (p : Put)
+pub keeps_put : (old new : Queue) (before after : List ℕ) (t : Timetable) (x : Scheduled) (p : Put)
     → SameFile old new → IsPermutation (x ∷ heap_items old.own) (heap_items new.own)
-    → new.put ≡ old.put + 1 → x.place ≡ old.put → put_of x ≡ p
+    → new.pushed ≡ old.pushed + 1 → x.place ≡ old.pushed → put_of x ≡ p
     → draws_at after ≡ (next_u64 (draws_at before)).1
     → Keeps old before t → Keeps new after (draw_and_put p t)
 keeps_put old new before after t x p same moves count place is drawn h =
     record {
       waits = subst (λ (q : Put). Waits (drop new.taken (filed_due new))
-          (heap_items new.own) new.put new.until (draw_and_put q t).waiting) is
-          (waits_at (drop old.taken (filed_due old)) _ (heap_items new.own) (old.put + 1) _
+          (heap_items new.own) new.pushed new.until (draw_and_put q t).waiting) is
+          (waits_at (drop old.taken (filed_due old)) _ (heap_items new.own) (old.pushed + 1) _
           old.until _ _ (left_same old new same) count same.until
           (waits_put (drop old.taken (filed_due old)) (heap_items old.own)
-          (heap_items new.own) old.put old.until t.waiting x moves place h.waits));
+          (heap_items new.own) old.pushed old.until t.waiting x moves place h.waits));
       draws = ap (λ (s : Stream). (next_u64 s).1) h.draws ∙ sym drawn;
     }
 
 -- one more was put, and none was drawn
-pub keeps_put_alone : (old new : Queue) (words : List ℕ) (t : Timetable) (x : Waiting) (p : Put)
+pub keeps_put_alone : (old new : Queue) (words : List ℕ) (t : Timetable) (x : Scheduled) (p : Put)
     → SameFile old new → IsPermutation (x ∷ heap_items old.own) (heap_items new.own)
-    → new.put ≡ old.put + 1 → x.place ≡ old.put → put_of x ≡ p
+    → new.pushed ≡ old.pushed + 1 → x.place ≡ old.pushed → put_of x ≡ p
     → Keeps old words t → Keeps new words (put_alone p t)
 keeps_put_alone old new words t x p same moves count place is h =
     record {
       waits = subst (λ (q : Put). Waits (drop new.taken (filed_due new))
-          (heap_items new.own) new.put new.until (put_alone q t).waiting) is
-          (waits_at (drop old.taken (filed_due old)) _ (heap_items new.own) (old.put + 1) _
+          (heap_items new.own) new.pushed new.until (put_alone q t).waiting) is
+          (waits_at (drop old.taken (filed_due old)) _ (heap_items new.own) (old.pushed + 1) _
           old.until _ _ (left_same old new same) count same.until
           (waits_put (drop old.taken (filed_due old)) (heap_items old.own)
-          (heap_items new.own) old.put old.until t.waiting x moves place h.waits));
+          (heap_items new.own) old.pushed old.until t.waiting x moves place h.waits));
       draws = h.draws;
     }
 
@@ -163,9 +163,9 @@ keeps_lost queue before after t loss frame moment station drawn lost h =
 
 pub keeps_sent : (old new : Queue) (before after : List ℕ) (t : Timetable)
     (loss frame moment station : ℕ) → SameFile old new
-    → IsPermutation (record { moment = moment; place = old.put; station = station; own = owns.Deliver frame }
+    → IsPermutation (record { moment = moment; place = old.pushed; station = station; own = owns.Deliver frame }
     ∷ heap_items old.own) (heap_items new.own)
-    → new.put ≡ old.put + 1 → draws_at after ≡ (next_u64 (draws_at before)).1
+    → new.pushed ≡ old.pushed + 1 → draws_at after ≡ (next_u64 (draws_at before)).1
     → ((next_u64 (draws_at before)).0 % 100 < loss → ⊥) → Keeps old before t
     → Keeps new after (send loss frame moment station t)
 keeps_sent old new before after t loss frame moment station same moves count drawn kept h =
@@ -174,7 +174,7 @@ keeps_sent old new before after t loss frame moment station same moves count dra
     ∙ no_less ((next_u64 (draws_at before)).0 % 100) loss kept in
     subst (λ (b : Bool). Keeps new after (cond b (draw_alone t)
     (draw_and_put (delivery frame moment station) t))) (sym is)
-    (keeps_put old new before after t (record { moment = moment; place = old.put; station = station; own = owns.Deliver frame })
+    (keeps_put old new before after t (record { moment = moment; place = old.pushed; station = station; own = owns.Deliver frame })
     (delivery frame moment station) same moves count refl refl drawn h)
   where
     no_less : (a b : ℕ) → (a < b → ⊥) → nat_lt a b ≡ false

@@ -43,7 +43,7 @@ use Rattle.its_air.specs.Timetable.Pending.{Does, Departs}
 use Rattle.its_air.specs.Waits.{Waits, pending_of, put_of}
 use Rattle.its_air.specs.declared.run.Run.{Run}
 use Rattle.its_air.specs.declared.waiting.Queue.{Queue}
-use Rattle.its_air.specs.declared.waiting.Waiting.{Waiting}
+use Rattle.its_air.specs.declared.waiting.Scheduled.{Scheduled}
 use Rattle.its_air.proofs.BesideFrames.{frame_is_new, next_frame}
 use Rattle.its_air.proofs.BesideOpening.{reached_opening}
 use Rattle.its_air.proofs.BesideOrder.{all_by, all_put}
@@ -109,7 +109,7 @@ none_in_front [] late is = refl
 none_in_front (f ∷ due) late is = let no : ⊥ = cc in absurd no
 
 -- of the air's own alone the last moment is of no account
-alone : (configs : List Config) (due : List Filed) (heap : List Waiting) (count until last : ℕ)
+alone : (configs : List Config) (due : List Filed) (heap : List Scheduled) (count until last : ℕ)
     (waiting : List Pending) → AllByRecursion (IsOwnOf configs) waiting
     → Waits due heap count until waiting
     → Waits [] heap count last waiting × (due ≡ [])
@@ -133,28 +133,28 @@ alone configs due heap count until last waiting own h =
 
 -- the first of the air's own is taken
 pub takes_alone : (configs : List Config) (old new : Queue) (words : List ℕ) (t : Timetable)
-    (w : Waiting) → new.due ≡ old.due → new.taken ≡ old.taken → new.until ≡ old.until
-    → new.put ≡ old.put → IsPermutation (heap_items old.own) (w ∷ heap_items new.own)
+    (w : Scheduled) → new.due ≡ old.due → new.taken ≡ old.taken → new.until ≡ old.until
+    → new.pushed ≡ old.pushed → IsPermutation (heap_items old.own) (w ∷ heap_items new.own)
     → IsUpperBound waiting_cmp w (heap_items new.own)
     → AllByRecursion (IsOwnOf configs) t.waiting → Keeps old words t
     → (rest : List Pending) × (t.waiting ≡ pending_of w ∷ rest)
     × Keeps new words (record { waiting = rest; draws = t.draws })
 takes_alone configs old new words t w due taken until put moves first own h =
     let left = drop old.taken (filed_due old) in
-    let here = alone configs left (heap_items old.own) old.put old.until w.moment t.waiting own
+    let here = alone configs left (heap_items old.own) old.pushed old.until w.moment t.waiting own
     h.waits in
-    let got = waits_own w [] (heap_items old.own) (heap_items new.own) old.put w.moment t.waiting
+    let got = waits_own w [] (heap_items old.own) (heap_items new.own) old.pushed w.moment t.waiting
     moves first (omega arith) tt here.0 in
     let rest : AllByRecursion (IsOwnOf configs) got.0 =
     (subst (AllByRecursion (IsOwnOf configs)) got.1 own).1 in
-    let there = alone configs [] (heap_items new.own) old.put w.moment old.until got.0 rest got.2 in
+    let there = alone configs [] (heap_items new.own) old.pushed w.moment old.until got.0 rest got.2 in
     let same : drop new.taken (filed_due new) ≡ [] =
     ap (λ k. drop k (filed_due new)) taken
     ∙ ap (λ (d : Vec (Bor FileEvent) Global). drop old.taken (filed_in d.items)) due ∙ here.1 in (
       got.0,
       got.1,
       record {
-        waits = waits_at [] _ (heap_items new.own) old.put _ old.until _ got.0 same put until
+        waits = waits_at [] _ (heap_items new.own) old.pushed _ old.until _ got.0 same put until
             there.0;
         draws = h.draws;
       },
@@ -162,7 +162,7 @@ takes_alone configs old new words t w due taken until put moves first own h =
 
 -- none is taken: what waits is kept as before
 pub keeps_alone : (old new : Queue) (words : List ℕ) (t : Timetable) → new.due ≡ old.due
-    → new.taken ≡ old.taken → new.until ≡ old.until → new.put ≡ old.put
+    → new.taken ≡ old.taken → new.until ≡ old.until → new.pushed ≡ old.pushed
     → heap_items new.own ≡ heap_items old.own → Keeps old words t → Keeps new words t
 keeps_alone old new words t due taken until put heap h =
     let left = drop old.taken (filed_due old) in
@@ -170,9 +170,9 @@ keeps_alone old new words t due taken until put heap h =
     ap (λ k. drop k (filed_due new)) taken
     ∙ ap (λ (d : Vec (Bor FileEvent) Global). drop old.taken (filed_in d.items)) due in
     record {
-      waits = subst (λ (hs : List Waiting). Waits (drop new.taken (filed_due new)) hs new.put
+      waits = subst (λ (hs : List Scheduled). Waits (drop new.taken (filed_due new)) hs new.pushed
           new.until t.waiting) (sym heap)
-          (waits_at left _ (heap_items old.own) old.put _ old.until _ t.waiting same put until
+          (waits_at left _ (heap_items old.own) old.pushed _ old.until _ t.waiting same put until
           h.waits);
       draws = h.draws;
     }
@@ -194,18 +194,18 @@ pub waits_from : (configs : List Config) (old : Queue) (words : List ℕ) (t : T
 waits_from configs old words t zero late own order h =
     all_by (IsOwnOf configs) (λ p. 0 ≤ at p) t.waiting (λ p any. omega arith) own
 waits_from configs old words t (suc m) late own order h =
-    all_from_first m t.waiting order (waits_none (heap_items old.own) old.put m t.waiting
+    all_from_first m t.waiting order (waits_none (heap_items old.own) old.pushed m t.waiting
     (λ k d lt. let le = late k d lt in omega (arith, le))
-    (alone configs (drop old.taken (filed_due old)) (heap_items old.own) old.put old.until m
+    (alone configs (drop old.taken (filed_due old)) (heap_items old.own) old.pushed old.until m
     t.waiting own h.waits).0)
 
 pub none_waits_after : (configs : List Config) (old : Queue) (words : List ℕ) (t : Timetable)
     (end : ℕ) → All (λ w. end + 1 ≤ w.moment) (heap_items old.own)
     → AllByRecursion (IsOwnOf configs) t.waiting → Keeps old words t → NoneWaits end t.waiting
 none_waits_after configs old words t end late own h =
-    waits_none (heap_items old.own) old.put end t.waiting
+    waits_none (heap_items old.own) old.pushed end t.waiting
     (λ k d lt. let le = late k d lt in omega (arith, le))
-    (alone configs (drop old.taken (filed_due old)) (heap_items old.own) old.put old.until end
+    (alone configs (drop old.taken (filed_due old)) (heap_items old.own) old.pushed old.until end
     t.waiting own h.waits).0
 
 -- ---- the deliveries that wait
@@ -427,7 +427,7 @@ none_at moment run A = λ rules configs made past end counted by within h.
     (sym (append-nil past)) h
 
 -- the first of the air's own is done
-pub own_taken : (w : Waiting) (old new : Run) (A B : List Event → List Entry → Type 0)
+pub own_taken : (w : Scheduled) (old new : Run) (A B : List Event → List Entry → Type 0)
     → new.world.released ≡ old.world.released
     → ((r : Rules) (cs : List Config) (a : AirModel) → IsTimed r cs a old A
     → IsTimed r cs (take_one r cs a (pending_of w) a.timetable) new B)
@@ -462,7 +462,7 @@ own_taken w old new A B released does = λ rules configs made past from end coun
     }
 
 -- where it was done well
-pub own_well : {X E : Type 0} (result : Result X E) (w : Waiting) (old new : Run)
+pub own_well : {X E : Type 0} (result : Result X E) (w : Scheduled) (old new : Run)
     (A B : List Event → List Entry → Type 0) → new.world.released ≡ old.world.released
     → ((r : Rules) (cs : List Config) (a : AirModel) → IsTimed r cs a old A
     → OnOk result (IsTimed r cs (take_one r cs a (pending_of w) a.timetable) new B))
@@ -472,7 +472,7 @@ own_well (Err e) w old new A B released does = tt
 
 -- its station is there
 taken_there : (rules : Rules) (configs made : List Config) (past : List Filed)
-    (from end counted by : ℕ) (w : Waiting)
+    (from end counted by : ℕ) (w : Scheduled)
     (run : Run) (A : List Event → List Entry → Type 0)
     → IsTaken rules configs made past from end counted by w run A
     → w.station < length run.world.stations
@@ -488,7 +488,7 @@ kept_of released counted by latest moment (Calls call) h = tt
 kept_of released counted by latest moment (Deliver k) h = h.0
 
 -- and the frame that it delivers is kept, so it can be done
-pub always_done : (w : Waiting) (can : Bool) (run : Run) (A B : List Event → List Entry → Type 0)
+pub always_done : (w : Scheduled) (can : Bool) (run : Run) (A B : List Event → List Entry → Type 0)
     → (w.station < length run.world.stations → IsKept run.world.released (own_of w.own)
     → can ≡ true)
     → can ≡ false → DoesTaken w run A run B
@@ -511,10 +511,10 @@ frames_in_all world w h =
 -- the first of the air's own was taken from what waits, and isn't done yet
 pub is_taken : (rules : Rules) (configs made : List Config) (past : List Filed)
     (last from end counted by : ℕ)
-    (old new : Run) (A : List Event → List Entry → Type 0) (w : Waiting) → new.air ≡ old.air
+    (old new : Run) (A : List Event → List Entry → Type 0) (w : Scheduled) → new.air ≡ old.air
     → new.every ≡ old.every → new.world ≡ old.world → new.present ≡ old.present
     → new.draws ≡ old.draws → new.queue.due ≡ old.queue.due → new.queue.taken ≡ old.queue.taken
-    → new.queue.until ≡ old.queue.until → new.queue.put ≡ old.queue.put
+    → new.queue.until ≡ old.queue.until → new.queue.pushed ≡ old.queue.pushed
     → IsPermutation (heap_items old.queue.own) (w ∷ heap_items new.queue.own)
     → IsUpperBound waiting_cmp w (heap_items new.queue.own) → w.moment ≤ end
     → IsMoving rules configs made past last from end counted by old A
@@ -567,7 +567,7 @@ is_taken rules configs made past last from end counted by old new A w air every 
 -- frames were let go while it was taken
 pub still_taken : (rules : Rules) (configs made : List Config) (past : List Filed)
     (from end counted by counted' by' : ℕ)
-    (old new : Run) (A : List Event → List Entry → Type 0) (w : Waiting) → new.air ≡ old.air
+    (old new : Run) (A : List Event → List Entry → Type 0) (w : Scheduled) → new.air ≡ old.air
     → new.every ≡ old.every → new.queue ≡ old.queue → new.draws ≡ old.draws
     → new.present ≡ old.present
     → ((x : WorldModel) → RepresentsWorld old.world x → RepresentsWorld new.world x)
@@ -638,7 +638,7 @@ pub is_next : (rules : Rules) (configs made : List Config) (past : List Filed)
     (old new : Run) (A : List Event → List Entry → Type 0) → new.air ≡ old.air
     → new.every ≡ old.every → new.world ≡ old.world → new.present ≡ old.present
     → new.draws ≡ old.draws → new.queue.due ≡ old.queue.due → new.queue.taken ≡ old.queue.taken
-    → new.queue.until ≡ old.queue.until → new.queue.put ≡ old.queue.put
+    → new.queue.until ≡ old.queue.until → new.queue.pushed ≡ old.queue.pushed
     → heap_items new.queue.own ≡ heap_items old.queue.own
     → All (λ w. moment ≤ w.moment) (heap_items old.queue.own) → from ≤ moment
     → IsMoving rules configs made past last from end counted by old A

@@ -12,7 +12,7 @@ use Rattle.its_world.specs.declared.entry.Entry.{Entry}
 use Rattle.its_scenario.specs.Airs.{moment_of as told_moment}
 use Rattle.its_scenario.specs.declared.event.FileEvent.{FileEvent as Told}
 use Rattle.its_simulation.specs.Simulated.{IsSimulated}
-use Rattle.its_air.specs.declared.waiting.Waiting.{Waiting}
+use Rattle.its_air.specs.declared.waiting.Scheduled.{Scheduled}
 use Rattle.its_air.specs.declared.waiting.Queue.{Queue}
 use Rattle.its_air.specs.declared.run.Run.{Run}
 use Rattle.its_air.specs.AirRun.{AreDue}
@@ -59,17 +59,17 @@ file_is_later (x ∷ due) (suc n) m h = file_is_later due n m h
 
 pub takes_file : (old new : Queue) (words : List ℕ) (t : Timetable) (e : Bor Told)
     → slice_get old.due.items old.taken ≡ Some e → new.due ≡ old.due
-    → new.taken ≡ old.taken + 1 → new.until ≡ old.until → new.put ≡ old.put
+    → new.taken ≡ old.taken + 1 → new.until ≡ old.until → new.pushed ≡ old.pushed
     → heap_items new.own ≡ heap_items old.own
     → All (λ w. told_moment e.now ≤ w.moment) (heap_items new.own) → Keeps old words t
     → (rest : List Pending) × (t.waiting ≡ of_file (filed_of e.now) ∷ rest)
     × Keeps new words (record { waiting = rest; draws = t.draws })
 takes_file old new words t e is due taken until put heap first h =
     let left = drop (suc old.taken) (filed_in old.due.items) in
-    let got = waits_file (filed_of e.now) left (heap_items old.own) old.put old.until t.waiting
-    (subst (λ k. All (λ (w : Waiting). k ≤ w.moment) (heap_items old.own))
-    (sym (same_moment e.now)) (subst (All (λ (w : Waiting). told_moment e.now ≤ w.moment)) heap first))
-    (subst (λ (l : List Filed). Waits l (heap_items old.own) old.put old.until t.waiting)
+    let got = waits_file (filed_of e.now) left (heap_items old.own) old.pushed old.until t.waiting
+    (subst (λ k. All (λ (w : Scheduled). k ≤ w.moment) (heap_items old.own))
+    (sym (same_moment e.now)) (subst (All (λ (w : Scheduled). told_moment e.now ≤ w.moment)) heap first))
+    (subst (λ (l : List Filed). Waits l (heap_items old.own) old.pushed old.until t.waiting)
     (drop_next old.due.items old.taken e is) h.waits) in
     let next : new.taken ≡ suc old.taken = omega (arith, taken) in
     let same : drop new.taken (filed_due new) ≡ left =
@@ -78,15 +78,15 @@ takes_file old new words t e is due taken until put heap first h =
       got.0,
       got.1,
       record {
-        waits = subst (λ (hs : List Waiting). Waits (drop new.taken (filed_due new)) hs new.put
+        waits = subst (λ (hs : List Scheduled). Waits (drop new.taken (filed_due new)) hs new.pushed
             new.until got.0) (sym heap)
-            (waits_at left _ (heap_items old.own) old.put _ old.until _ got.0 same put until got.2);
+            (waits_at left _ (heap_items old.own) old.pushed _ old.until _ got.0 same put until got.2);
         draws = h.draws;
       },
     )
 
-pub takes_own : (old new : Queue) (words : List ℕ) (t : Timetable) (w : Waiting)
-    → new.due ≡ old.due → new.taken ≡ old.taken → new.until ≡ old.until → new.put ≡ old.put
+pub takes_own : (old new : Queue) (words : List ℕ) (t : Timetable) (w : Scheduled)
+    → new.due ≡ old.due → new.taken ≡ old.taken → new.until ≡ old.until → new.pushed ≡ old.pushed
     → IsPermutation (heap_items old.own) (w ∷ heap_items new.own)
     → IsUpperBound waiting_cmp w (heap_items new.own) → w.moment ≤ old.until
     → ((e : Bor Told) → slice_get old.due.items old.taken ≡ Some e → w.moment < told_moment e.now)
@@ -95,7 +95,7 @@ pub takes_own : (old new : Queue) (words : List ℕ) (t : Timetable) (w : Waitin
     × Keeps new words (record { waiting = rest; draws = t.draws })
 takes_own old new words t w due taken until put moves first le later h =
     let left = drop old.taken (filed_in old.due.items) in
-    let got = waits_own w left (heap_items old.own) (heap_items new.own) old.put old.until t.waiting
+    let got = waits_own w left (heap_items old.own) (heap_items new.own) old.pushed old.until t.waiting
     moves first le (file_is_later old.due.items old.taken w.moment later) h.waits in
     let same : drop new.taken (filed_due new) ≡ left =
     ap (λ k. drop k (filed_due new)) taken
@@ -103,14 +103,14 @@ takes_own old new words t w due taken until put moves first le later h =
       got.0,
       got.1,
       record {
-        waits = waits_at left _ (heap_items new.own) old.put _ old.until _ got.0 same put until got.2;
+        waits = waits_at left _ (heap_items new.own) old.pushed _ old.until _ got.0 same put until got.2;
         draws = h.draws;
       },
     )
 
 pub takes_none : (old new : Queue) (words : List ℕ) (t : Timetable)
     → length old.due.items ≤ old.taken → new.due ≡ old.due → new.taken ≡ old.taken
-    → new.until ≡ old.until → new.put ≡ old.put → heap_items new.own ≡ heap_items old.own
+    → new.until ≡ old.until → new.pushed ≡ old.pushed → heap_items new.own ≡ heap_items old.own
     → All (λ w. old.until < w.moment) (heap_items old.own) → Keeps old words t
     → NoneWaits old.until t.waiting × Keeps new words t
 takes_none old new words t all due taken until put heap late h =
@@ -118,13 +118,13 @@ takes_none old new words t all due taken until put heap late h =
     let same : drop new.taken (filed_due new) ≡ left =
     ap (λ k. drop k (filed_due new)) taken
     ∙ ap (λ (d : Vec (Bor Told) Global). drop old.taken (filed_in d.items)) due in (
-      waits_none (heap_items old.own) old.put old.until t.waiting late
-          (subst (λ (l : List Filed). Waits l (heap_items old.own) old.put old.until t.waiting)
+      waits_none (heap_items old.own) old.pushed old.until t.waiting late
+          (subst (λ (l : List Filed). Waits l (heap_items old.own) old.pushed old.until t.waiting)
           (drop_past old.due.items old.taken all) h.waits),
       record {
-        waits = subst (λ (hs : List Waiting). Waits (drop new.taken (filed_due new)) hs new.put
+        waits = subst (λ (hs : List Scheduled). Waits (drop new.taken (filed_due new)) hs new.pushed
             new.until t.waiting) (sym heap)
-            (waits_at left _ (heap_items old.own) old.put _ old.until _ t.waiting same put until
+            (waits_at left _ (heap_items old.own) old.pushed _ old.until _ t.waiting same put until
             h.waits);
         draws = h.draws;
       },
@@ -170,7 +170,7 @@ timed_one rules configs a p rest new After is le timed =
     (sym (step_first rules configs a p rest is le)) timed
 
 -- what follows an event of the air's own
-pub follows : (w : Waiting) (after : WorldModel) (t : Timetable) (b : Bool)
+pub follows : (w : Scheduled) (after : WorldModel) (t : Timetable) (b : Bool)
     → was_refused after.log ≡ b
     → follow_own w b (slice_get after.stations w.station) t
     ≡ send_again (happening_of w) (traffic_in w.own) (follow_tick (put_of w) after t)
@@ -180,14 +180,14 @@ follows w after t b refused =
 -- nothing was taken yet
 pub keeps_opening : (queue : Queue) (words : List ℕ) (file : List Filed) (until seed : ℕ)
     → AreDue file until (filed_due queue) → queue.taken ≡ 0 → heap_items queue.own ≡ []
-    → queue.put ≡ 0 → queue.until ≡ until → draws_at words ≡ draws_of seed
+    → queue.pushed ≡ 0 → queue.until ≡ until → draws_at words ≡ draws_of seed
     → Keeps queue words (record { waiting = put_all (map of_file file) []; draws = draws_of seed })
 keeps_opening queue words file until seed due taken heap put last drawn =
     let all : drop queue.taken (filed_due queue) ≡ filed_due queue =
     ap (λ k. drop k (filed_due queue)) taken in
     record {
-      waits = subst (λ (hs : List Waiting). Waits (drop queue.taken (filed_due queue)) hs
-          queue.put queue.until (put_all (map of_file file) [])) (sym heap)
+      waits = subst (λ (hs : List Scheduled). Waits (drop queue.taken (filed_due queue)) hs
+          queue.pushed queue.until (put_all (map of_file file) [])) (sym heap)
           (waits_at (filed_due queue) _ [] 0 _ until _ (put_all (map of_file file) []) all put
           last (waits_opening file (filed_due queue) until due));
       draws = sym drawn;
@@ -208,7 +208,7 @@ filed_event rules configs a e new After goes told keeps present =
     record { goes_by = goes; told = told; keeps = keeps; present = present }
 
 -- one of the air's own was done
-pub own_done : (rules : Rules) (configs : List Config) (a : AirModel) (w : Waiting) (new : Run)
+pub own_done : (rules : Rules) (configs : List Config) (a : AirModel) (w : Scheduled) (new : Run)
     (After : List Event → List Entry → Type 0) → is_passed_over a.present (put_of w) ≡ false
     → GoesBy rules new → IsSimulated configs (a.done ++ happening_of w ∷ []) new.world After
     → Keeps new.queue new.draws
@@ -225,7 +225,7 @@ own_done rules configs a w new After run goes told keeps present =
     (record { goes_by = goes; told = told; keeps = keeps; present = present })
 
 -- one of the air's own was passed over
-pub own_passed_over : (rules : Rules) (configs : List Config) (a : AirModel) (w : Waiting)
+pub own_passed_over : (rules : Rules) (configs : List Config) (a : AirModel) (w : Scheduled)
     (run : Run) (Took : List Event → List Entry → Type 0)
     → is_passed_over a.present (put_of w) ≡ true → IsTimed rules configs a run Took
     → IsTimed rules configs (take_one rules configs a (pending_of w) a.timetable) run Took

@@ -12,9 +12,9 @@ use Rattle.std.proofs.lemmas.List.Sums.{sum_by-cons, sum_by_push, sum_by-append}
 use Rattle.std.proofs.lemmas.List.Sorted.{sum_by-IsPermutation}
 use Rattle.std.proofs.Props.{props}
 use Rattle.its_scenario.specs.declared.traffic.Traffic.{Traffic as Flow}
-use Rattle.its_air.specs.declared.waiting.Own.{Own}
-use Rattle.its_air.specs.declared.waiting.Own.TheVariants as owns
-use Rattle.its_air.specs.declared.waiting.Waiting.{Waiting}
+use Rattle.its_air.specs.declared.waiting.AirAction.{AirAction}
+use Rattle.its_air.specs.declared.waiting.AirAction.TheVariants as owns
+use Rattle.its_air.specs.declared.waiting.Scheduled.{Scheduled}
 use Rattle.its_air.specs.Queues.{waiting_cmp}
 use Rattle.its_air.specs.Timetable.{of_file, put, put_all, NoneWaits}
 use Rattle.its_air.specs.AirRun.{moment_in}
@@ -78,13 +78,13 @@ are_same_self x =
     (and_from _ _ (eq-eqb x.info x.info refl) (and_from _ _ (eq-eqb x.class x.class refl)
     (eq-eqb x.octets x.octets refl))))
 
-abbrev same_own : Own → Own → Bool
+abbrev same_own : AirAction → AirAction → Bool
 same_own (owns.Tick a) (owns.Tick b) = a == b
 same_own (owns.Deliver a) (owns.Deliver b) = a == b
 same_own (owns.Send n x) (owns.Send m y) = (n == m) && are_same x y
 same_own a b = false
 
-same_own_is : (a b : Own) → same_own a b ≡ true → a ≡ b
+same_own_is : (a b : AirAction) → same_own a b ≡ true → a ≡ b
 same_own_is (owns.Tick a) (owns.Tick b) h = ap owns.Tick (eqb-true a b h)
 same_own_is (owns.Tick a) (owns.Deliver b) h = cc
 same_own_is (owns.Tick a) (owns.Send n b) h = cc
@@ -97,27 +97,27 @@ same_own_is (owns.Send n a) (owns.Send m b) h =
     let both = and_parts (n == m) _ h in
     ap (λ k. owns.Send k a) (eqb-true n m both.0) ∙ ap (owns.Send m) (are_same_is a b both.1)
 
-same_own_self : (a : Own) → same_own a a ≡ true
+same_own_self : (a : AirAction) → same_own a a ≡ true
 same_own_self (owns.Tick a) = eq-eqb a a refl
 same_own_self (owns.Deliver a) = eq-eqb a a refl
 same_own_self (owns.Send n a) =
     and_from _ _ (eq-eqb n n refl) (are_same_self a)
 
-abbrev is_same : Waiting → Waiting → Bool
+abbrev is_same : Scheduled → Scheduled → Bool
 is_same w v =
     (w.moment == v.moment) && ((w.place == v.place)
     && ((w.station == v.station) && same_own w.own v.own))
 
-is_same_self : (w : Waiting) → is_same w w ≡ true
+is_same_self : (w : Scheduled) → is_same w w ≡ true
 is_same_self w =
     and_from _ _ (eq-eqb w.moment w.moment refl) (and_from _ _ (eq-eqb w.place w.place refl)
     (and_from _ _ (eq-eqb w.station w.station refl) (same_own_self w.own)))
 
-abbrev make : ℕ → ℕ → ℕ → Own → Waiting
+abbrev make : ℕ → ℕ → ℕ → AirAction → Scheduled
 make moment place station own =
     record { moment = moment; place = place; station = station; own = own }
 
-is_same_is : (w v : Waiting) → is_same w v ≡ true → w ≡ v
+is_same_is : (w v : Scheduled) → is_same w v ≡ true → w ≡ v
 is_same_is w v h =
     let a = and_parts (w.moment == v.moment) _ h in
     let b = and_parts (w.place == v.place) _ a.1 in
@@ -131,20 +131,20 @@ is_same_is w v h =
 
 -- ---- what is true of all
 
-abbrev AllTrue : (Waiting → Bool) → List Waiting → Type 0
+abbrev AllTrue : (Scheduled → Bool) → List Scheduled → Type 0
 AllTrue p xs = AllByRecursion (λ x. p x ≡ true) xs
 
-abbrev fails : (Waiting → Bool) → Waiting → ℕ
+abbrev fails : (Scheduled → Bool) → Scheduled → ℕ
 fails p w = cond (p w) 0 1
 
-none_fails : (p : Waiting → Bool) (xs : List Waiting) → AllTrue p xs → sum_by (fails p) xs ≡ 0
+none_fails : (p : Scheduled → Bool) (xs : List Scheduled) → AllTrue p xs → sum_by (fails p) xs ≡ 0
 none_fails p [] h = refl
 none_fails p (x ∷ xs) h =
     let more = sum_by-cons (fails p) x xs in
     let none : fails p x ≡ 0 = ap (λ (b : Bool). cond b 0 1) h.0 in
     let rest = none_fails p xs h.1 in omega (arith, more, none, rest)
 
-all_pass : (p : Waiting → Bool) (xs : List Waiting) → sum_by (fails p) xs ≡ 0 → AllTrue p xs
+all_pass : (p : Scheduled → Bool) (xs : List Scheduled) → sum_by (fails p) xs ≡ 0 → AllTrue p xs
 all_pass p [] h = tt
 all_pass p (x ∷ xs) h =
     by (λ none. all_pass p xs none) (p x) refl
@@ -159,62 +159,62 @@ all_pass p (x ∷ xs) h =
         absurd (omega (arith, more, h, one))
 
 -- two lists with the same elements
-abbrev Same : List Waiting → List Waiting → Type 0
-Same xs ys = (f : Waiting → ℕ) → sum_by f xs ≡ sum_by f ys
+abbrev Same : List Scheduled → List Scheduled → Type 0
+Same xs ys = (f : Scheduled → ℕ) → sum_by f xs ≡ sum_by f ys
 
-all_same : (p : Waiting → Bool) (xs ys : List Waiting) → Same xs ys → AllTrue p ys → AllTrue p xs
+all_same : (p : Scheduled → Bool) (xs ys : List Scheduled) → Same xs ys → AllTrue p ys → AllTrue p xs
 all_same p xs ys same h = all_pass p xs (same (fails p) ∙ none_fails p ys h)
 
-weaker : (P Q : Waiting → Type 0) → ((w : Waiting) → P w → Q w) → (xs : List Waiting)
+weaker : (P Q : Scheduled → Type 0) → ((w : Scheduled) → P w → Q w) → (xs : List Scheduled)
     → AllByRecursion P xs → AllByRecursion Q xs
 weaker P Q imp [] h = tt
 weaker P Q imp (x ∷ xs) h = (imp x h.0, weaker P Q imp xs h.1)
 
-both : (P Q R : Waiting → Type 0) → ((w : Waiting) → P w → Q w → R w) → (xs : List Waiting)
+both : (P Q R : Scheduled → Type 0) → ((w : Scheduled) → P w → Q w → R w) → (xs : List Scheduled)
     → AllByRecursion P xs → AllByRecursion Q xs → AllByRecursion R xs
 both P Q R imp [] h g = tt
 both P Q R imp (x ∷ xs) h g = (imp x h.0 g.0, both P Q R imp xs h.1 g.1)
 
-all_push : (P : Waiting → Type 0) (xs : List Waiting) (x : Waiting) → AllByRecursion P xs → P x
+all_push : (P : Scheduled → Type 0) (xs : List Scheduled) (x : Scheduled) → AllByRecursion P xs → P x
     → AllByRecursion P (xs ++ x ∷ [])
 all_push P [] x h p = (p, tt)
 all_push P (y ∷ xs) x h p = (h.0, all_push P xs x h.1 p)
 
-all_front : (P : Waiting → Type 0) (us vs : List Waiting) → AllByRecursion P (us ++ vs)
+all_front : (P : Scheduled → Type 0) (us vs : List Scheduled) → AllByRecursion P (us ++ vs)
     → AllByRecursion P us
 all_front P [] vs h = tt
 all_front P (a ∷ us) vs h = (h.0, all_front P us vs h.1)
 
-all_back : (P : Waiting → Type 0) (us vs : List Waiting) → AllByRecursion P (us ++ vs)
+all_back : (P : Scheduled → Type 0) (us vs : List Scheduled) → AllByRecursion P (us ++ vs)
     → AllByRecursion P vs
 all_back P [] vs h = h
 all_back P (a ∷ us) vs h = all_back P us vs h.1
 
-all_without : (P : Waiting → Type 0) (us : List Waiting) (w : Waiting) (vs : List Waiting)
+all_without : (P : Scheduled → Type 0) (us : List Scheduled) (w : Scheduled) (vs : List Scheduled)
     → AllByRecursion P (us ++ w ∷ vs) → AllByRecursion P (us ++ vs)
 all_without P [] w vs h = h.1
 all_without P (a ∷ us) w vs h = (h.0, all_without P us w vs h.1)
 
-all_put : (P : Pending → Type 0) (xs : List Waiting) → AllByRecursion (λ w. P (pending_of w)) xs
+all_put : (P : Pending → Type 0) (xs : List Scheduled) → AllByRecursion (λ w. P (pending_of w)) xs
     → AllByRecursion P (map pending_of xs)
 all_put P [] h = tt
 all_put P (x ∷ xs) h = (h.0, all_put P xs h.1)
 
 -- ---- places
 
-rise_push : (xs : List Waiting) (x : Waiting) → PlacesRise xs
+rise_push : (xs : List Scheduled) (x : Scheduled) → PlacesRise xs
     → AllByRecursion (λ w. w.place < x.place) xs → PlacesRise (xs ++ x ∷ [])
 rise_push [] x h all = (tt, tt)
 rise_push (y ∷ xs) x h all =
     (all_push (λ v. y.place < v.place) xs x h.0 all.0, rise_push xs x h.1 all.1)
 
-rise_without : (us : List Waiting) (w : Waiting) (vs : List Waiting) → PlacesRise (us ++ w ∷ vs)
+rise_without : (us : List Scheduled) (w : Scheduled) (vs : List Scheduled) → PlacesRise (us ++ w ∷ vs)
     → PlacesRise (us ++ vs)
 rise_without [] w vs h = h.1
 rise_without (a ∷ us) w vs h =
     (all_without (λ v. a.place < v.place) us w vs h.0, rise_without us w vs h.1)
 
-rise_before : (us : List Waiting) (w : Waiting) (vs : List Waiting) → PlacesRise (us ++ w ∷ vs)
+rise_before : (us : List Scheduled) (w : Scheduled) (vs : List Scheduled) → PlacesRise (us ++ w ∷ vs)
     → AllByRecursion (λ a. a.place < w.place) us
 rise_before [] w vs h = tt
 rise_before (a ∷ us) w vs h =
@@ -224,43 +224,43 @@ rise_before (a ∷ us) w vs h =
     before g = g.0
 
 -- 1 where it is the same
-abbrev one_same : Waiting → Waiting → ℕ
+abbrev one_same : Scheduled → Scheduled → ℕ
 one_same w v = cond (is_same w v) 1 0
 
 -- where it stands in the list
-find : (w : Waiting) (xs : List Waiting) → 0 < count_by (is_same w) xs
-    → (us : List Waiting) × (vs : List Waiting) × (xs ≡ us ++ w ∷ vs)
+find : (w : Scheduled) (xs : List Scheduled) → 0 < count_by (is_same w) xs
+    → (us : List Scheduled) × (vs : List Scheduled) × (xs ≡ us ++ w ∷ vs)
 find w [] h = absurd (omega arith)
 find w (x ∷ xs) h = by (λ lt. find w xs lt) (is_same w x) refl
   where
     by : (0 < count_by (is_same w) xs
-        → (us : List Waiting) × (vs : List Waiting) × (xs ≡ us ++ w ∷ vs))
+        → (us : List Scheduled) × (vs : List Scheduled) × (xs ≡ us ++ w ∷ vs))
         → (b : Bool) → is_same w x ≡ b
-        → (us : List Waiting) × (vs : List Waiting) × (x ∷ xs ≡ us ++ w ∷ vs)
-    by more true is = ([], xs, ap (λ (v : Waiting). v ∷ xs) (sym (is_same_is w x is)))
+        → (us : List Scheduled) × (vs : List Scheduled) × (x ∷ xs ≡ us ++ w ∷ vs)
+    by more true is = ([], xs, ap (λ (v : Scheduled). v ∷ xs) (sym (is_same_is w x is)))
     by on false is =
         let more = sum_by-cons (one_same w) x xs in
         let none : one_same w x ≡ 0 = ap (λ (b : Bool). cond b 1 0) is in
         let rest = on (omega (arith, more, h, none)) in
-        (x ∷ rest.0, rest.1, ap (λ (l : List Waiting). x ∷ l) rest.2)
+        (x ∷ rest.0, rest.1, ap (λ (l : List Scheduled). x ∷ l) rest.2)
 
 -- ---- the order
 
 -- w comes before y, or they are of one moment and place
-abbrev comes_first : Waiting → Waiting → Bool
+abbrev comes_first : Scheduled → Scheduled → Bool
 comes_first w y = not (lt_by_cmp waiting_cmp w y)
 
-first_no_later : (w y : Waiting) → comes_first w y ≡ true → w.moment ≤ y.moment
+first_no_later : (w y : Scheduled) → comes_first w y ≡ true → w.moment ≤ y.moment
 first_no_later w y h = grind (arith, tests)
 
-first_of_later : (w y : Waiting) → comes_first w y ≡ true → y.place < w.place
+first_of_later : (w y : Scheduled) → comes_first w y ≡ true → y.place < w.place
     → w.moment < y.moment
 first_of_later w y h lt = grind (arith, tests)
 
-first_self : (w : Waiting) → comes_first w w ≡ true
+first_self : (w : Scheduled) → comes_first w w ≡ true
 first_self w = grind (arith, tests)
 
-bounded : (w : Waiting) (xs : List Waiting) → IsUpperBound waiting_cmp w xs
+bounded : (w : Scheduled) (xs : List Scheduled) → IsUpperBound waiting_cmp w xs
     → AllTrue (comes_first w) xs
 bounded w [] h = tt
 bounded w (x ∷ xs) h = (ap not h.0, bounded w xs h.1)
@@ -268,8 +268,8 @@ bounded w (x ∷ xs) h = (ap not h.0, bounded w xs h.1)
 -- ---- what waits
 
 -- one of the air's own was put
-pub waits_put : (due : List Filed) (heap new : List Waiting) (count until : ℕ)
-    (waiting : List Pending) (x : Waiting) → IsPermutation (x ∷ heap) new → x.place ≡ count
+pub waits_put : (due : List Filed) (heap new : List Scheduled) (count until : ℕ)
+    (waiting : List Pending) (x : Scheduled) → IsPermutation (x ∷ heap) new → x.place ≡ count
     → Waits due heap count until waiting → Waits due new (count + 1) until (put (pending_of x) waiting)
 waits_put due heap new count until waiting x moves place h =
     record {
@@ -294,14 +294,14 @@ waits_put due heap new count until waiting x moves place h =
     }
 
 -- the first event of the file is taken
-pub waits_file : (e : Filed) (due : List Filed) (heap : List Waiting) (count until : ℕ)
+pub waits_file : (e : Filed) (due : List Filed) (heap : List Scheduled) (count until : ℕ)
     (waiting : List Pending) → All (λ w. (moment_in e) ≤ w.moment) heap
     → Waits (e ∷ due) heap count until waiting
     → (rest : List Pending) × (waiting ≡ of_file e ∷ rest) × Waits due heap count until rest
 waits_file e due heap count until waiting first h =
     let ws = map of_file (due ++ h.late) in
     let ps = map pending_of h.own in
-    let p : Waiting → Bool = λ w. nat_le (moment_in e) w.moment in
+    let p : Scheduled → Bool = λ w. nat_le (moment_in e) w.moment in
     let all : AllTrue p h.own = all_same p h.own heap h.same
     (weaker (λ w. (moment_in e) ≤ w.moment) (λ w. p w ≡ true) (λ w le. le-leb (moment_in e) w.moment le) heap
     (recursion_from_All (λ w. (moment_in e) ≤ w.moment) heap first)) in
@@ -335,7 +335,7 @@ file_later m until [] (e ∷ late) h le past =
     let gt : until < (moment_in e) = past.0 in omega (arith, le, gt)
 
 -- the first of the air's own is taken
-pub waits_own : (w : Waiting) (due : List Filed) (heap new : List Waiting) (count until : ℕ)
+pub waits_own : (w : Scheduled) (due : List Filed) (heap new : List Scheduled) (count until : ℕ)
     (waiting : List Pending) → IsPermutation heap (w ∷ new) → IsUpperBound waiting_cmp w new
     → w.moment ≤ until → FileIsLater w.moment due → Waits due heap count until waiting
     → (rest : List Pending) × (waiting ≡ pending_of w ∷ rest) × Waits due new count until rest
@@ -363,7 +363,7 @@ waits_own w due heap new count until waiting moves first le later h =
     (weaker (λ y. comes_first w y ≡ true) (λ y. w.moment ≤ y.moment) (λ y. first_no_later w y) vs
     (tail (λ y. comes_first w y ≡ true) w vs (all_back (λ y. comes_first w y ≡ true) us (w ∷ vs) all))) in (
       put_all (map pending_of (us ++ vs)) ws,
-      h.is ∙ ap (λ (l : List Waiting). put_all (map pending_of l) ws) at'.2
+      h.is ∙ ap (λ (l : List Scheduled). put_all (map pending_of l) ws) at'.2
           ∙ ap (λ (l : List Pending). put_all l ws) (map-append pending_of us (w ∷ vs))
           ∙ put_all_first (map pending_of us) (pending_of w) (map pending_of vs) ws above behind
           (file_later w.moment until due h.late later le h.past)
@@ -387,16 +387,16 @@ waits_own w due heap new count until waiting moves first le later h =
       },
     )
   where
-    tail : (P : Waiting → Type 0) (x : Waiting) (xs : List Waiting) → AllByRecursion P (x ∷ xs)
+    tail : (P : Scheduled → Type 0) (x : Scheduled) (xs : List Scheduled) → AllByRecursion P (x ∷ xs)
         → AllByRecursion P xs
     tail P x xs g = g.1
 
 -- nothing is taken
-pub waits_none : (heap : List Waiting) (count until : ℕ) (waiting : List Pending)
+pub waits_none : (heap : List Scheduled) (count until : ℕ) (waiting : List Pending)
     → All (λ w. until < w.moment) heap → Waits [] heap count until waiting
     → NoneWaits until waiting
 waits_none heap count until waiting past h =
-    let p : Waiting → Bool = λ w. nat_lt until w.moment in
+    let p : Scheduled → Bool = λ w. nat_lt until w.moment in
     let all : AllTrue p h.own = all_same p h.own heap h.same
     (weaker (λ w. until < w.moment) (λ w. p w ≡ true) (λ w lt. lt-ltb until w.moment lt) heap
     (recursion_from_All (λ w. until < w.moment) heap past)) in

@@ -2,13 +2,13 @@
 use Rattle.std.specs.Prelude.{◌≡◌, ◌<◌, ◌+◌, ◌*◌, ◌^◌, ℕ, List, Bool, false, ◌&&◌, ◌==◌}
 use Rattle.std.specs.Prelude.{Some, None, get_or, count_by}
 use Rattle.std.specs.declared.option.Option.{Option}
-use Rattle.its_air.specs.declared.waiting.Own.{Own}
-use Rattle.its_air.specs.declared.waiting.Own.TheVariants as owns
-use Rattle.its_air.specs.declared.waiting.Waiting.{Waiting}
+use Rattle.its_air.specs.declared.waiting.AirAction.{AirAction}
+use Rattle.its_air.specs.declared.waiting.AirAction.TheVariants as owns
+use Rattle.its_air.specs.declared.waiting.Scheduled.{Scheduled}
 
 -- the kind of one of the air's own events that is counted: a tick is of the first, a send of the
 -- one behind the number of its traffic
-abbrev pub kind_in : Own → Option ℕ
+abbrev pub kind_in : AirAction → Option ℕ
 kind_in (owns.Tick jitter) = Some 0
 kind_in (owns.Deliver frame) = None
 kind_in (owns.Send number x) = Some (number + 1)
@@ -17,7 +17,7 @@ abbrev pub is_kind : ℕ → Option ℕ → Bool
 is_kind kind None = false
 is_kind kind (Some k) = k == kind
 
-abbrev pub is_kind_at : ℕ → ℕ → Waiting → Bool
+abbrev pub is_kind_at : ℕ → ℕ → Scheduled → Bool
 is_kind_at kind station w = is_kind kind (kind_in w.own) && (w.station == station)
 
 -- where the count of a kind at a station stands, if it does
@@ -26,18 +26,18 @@ IsPlaceOf kinds kind station at =
     (kind < kinds) × (at ≡ station * kinds + kind) × (at + 1 < 2 ^ 64)
 
 -- this one is counted there
-abbrev pub IsCountedAt : ℕ → Waiting → ℕ → Type 0
+abbrev pub IsCountedAt : ℕ → Scheduled → ℕ → Type 0
 IsCountedAt kinds w at =
     (kind : ℕ) × (kind_in w.own ≡ Some kind) × IsPlaceOf kinds kind w.station at
 
 -- of each station the counts stand side by side, by kinds, as far as they have an index; where they
 -- end, they are 0
-abbrev pub AreCounted : ℕ → List ℕ → List Waiting → Type 0
+abbrev pub AreCounted : ℕ → List ℕ → List Scheduled → Type 0
 AreCounted kinds counts own = (kind station at : ℕ) → IsPlaceOf kinds kind station at
     → get_or counts at 0 ≡ count_by (is_kind_at kind station) own
 
 -- this one is counted nowhere
-abbrev pub IsUncounted : ℕ → Waiting → Type 0
+abbrev pub IsUncounted : ℕ → Scheduled → Type 0
 IsUncounted kinds w = (at : ℕ) → IsCountedAt kinds w at → ⊥
 
 -- the count of a kind at a station stands nowhere

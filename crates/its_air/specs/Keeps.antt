@@ -18,16 +18,16 @@ use Rattle.its_air.specs.Traffics.{all_traffic, traffic_in}
 use Rattle.its_air.specs.Waits.{Waits}
 use Rattle.its_air.specs.declared.run.Run.{Run}
 use Rattle.its_air.specs.declared.waiting.Queue.{Queue}
-use Rattle.its_air.specs.declared.waiting.Waiting.{Waiting}
+use Rattle.its_air.specs.declared.waiting.Scheduled.{Scheduled}
 
 -- what waits in the queue, and what a generator with these words will draw, are the timetable's
 pub record Keeps (queue : Queue) (words : List ℕ) (t : Timetable) : Type 0 where
-  pub waits : Waits (drop queue.taken (filed_due queue)) (heap_items queue.own) queue.put
+  pub waits : Waits (drop queue.taken (filed_due queue)) (heap_items queue.own) queue.pushed
       queue.until t.waiting
   pub draws : t.draws ≡ draws_at words
 
 -- what follows an event of the air's own, which was refused or not
-abbrev pub follow_own : Waiting → Bool → Option StationModel → Timetable → Timetable
+abbrev pub follow_own : Scheduled → Bool → Option StationModel → Timetable → Timetable
 follow_own w refused s t =
     send_again (happening_of w) (traffic_in w.own)
     (cond (is_tick (own_of w.own) && not refused) (tick_again (happening_of w) s t) t)

@@ -1,6 +1,6 @@
 pub mod Draws
 pub mod Reach
-pub mod Standings
+pub mod PlaceIndexes
 pub mod AirRun
 pub mod Queues
 pub mod Runs

@@ -18,7 +18,7 @@ use Rattle.its_air.specs.Timetable.{AirModel, Filed, Pending, Rules, at}
 use Rattle.its_air.specs.Timetable.Pending.{Does, Departs}
 use Rattle.its_air.specs.Waits.{pending_of}
 use Rattle.its_air.specs.declared.run.Run.{Run}
-use Rattle.its_air.specs.declared.waiting.Waiting.{Waiting}
+use Rattle.its_air.specs.declared.waiting.Scheduled.{Scheduled}
 
 -- Stations were made beside these, which were absent at the start. Of all of them it is the run of
 -- an air by these rules, up to a last moment, which is the given one, if one is given. Its file is
@@ -80,7 +80,7 @@ without_first a rest =
 
 -- The same, where the first that waits was taken and isn't done yet.
 pub record IsTaken (rules : Rules) (configs made : List Config) (past : List Filed)
-    (from end counted by : ℕ) (taken : Waiting) (run : Run) (Took : List Event → List Entry →
+    (from end counted by : ℕ) (taken : Scheduled) (run : Run) (Took : List Event → List Entry →
     Type 0) : Type 0 where
   pub all : List Config
   pub now : Rules
@@ -122,7 +122,7 @@ pub record DoesFiled (moment : ℕ) (filed : Filed) (old : Run)
   pub does : DoesAt moment came old Before new After
 
 -- what was taken is done
-abbrev pub DoesTaken : Waiting → Run → (List Event → List Entry → Type 0) → Run
+abbrev pub DoesTaken : Scheduled → Run → (List Event → List Entry → Type 0) → Run
     → (List Event → List Entry → Type 0) → Type 0
 DoesTaken taken old Before new After =
     (rules : Rules) (configs made : List Config) (past : List Filed)

@@ -14,21 +14,21 @@ use Rattle.its_scenario.specs.declared.event.FileEvent.{FileEvent as Told}
 use Rattle.its_scenario.specs.declared.event.FileEvent.TheVariants as told
 use Rattle.its_air.specs.Timetable.{Filed, is_tick, is_numbered}
 use Rattle.its_air.specs.Timetable.Filed.{Happens, Leaves}
-use Rattle.its_air.specs.declared.waiting.Own.{Own}
-use Rattle.its_air.specs.declared.waiting.Own.TheVariants as owns
-use Rattle.its_air.specs.declared.waiting.Waiting.{Waiting}
+use Rattle.its_air.specs.declared.waiting.AirAction.{AirAction}
+use Rattle.its_air.specs.declared.waiting.AirAction.TheVariants as owns
+use Rattle.its_air.specs.declared.waiting.Scheduled.{Scheduled}
 use Rattle.its_air.specs.declared.waiting.Next.{Next}
 use Rattle.its_air.specs.declared.waiting.Next.TheVariants as nexts
 use Rattle.its_air.specs.Traffics.{request_of, traffic_in}
 
 -- what an air does by itself, in the model
-abbrev pub own_of : Own → What
+abbrev pub own_of : AirAction → What
 own_of (owns.Tick jitter) = Calls (Ticks jitter)
 own_of (owns.Deliver frame) = Delivers frame
 own_of (owns.Send number x) = Calls (SendShb (request_of x))
 
 -- an event of the air's own
-abbrev pub happening_of : Waiting → Event
+abbrev pub happening_of : Scheduled → Event
 happening_of w = record { station = w.station; moment = w.moment; what = own_of w.own }
 
 -- what is taken is the next of these of the file, of which so many were taken before and after, or
@@ -57,20 +57,20 @@ IsFiledInRange (told.Happens e) = IsInRange e.what
 IsFiledInRange (told.Leaves station moment) = Unit {0}
 
 -- one of the air's own is a tick at this station, or a send of the traffic of this number by it
-abbrev pub is_tick_at : ℕ → Waiting → Bool
+abbrev pub is_tick_at : ℕ → Scheduled → Bool
 is_tick_at station w = is_tick (own_of w.own) && (w.station == station)
 
-abbrev pub is_send_at : ℕ → ℕ → Waiting → Bool
+abbrev pub is_send_at : ℕ → ℕ → Scheduled → Bool
 is_send_at number station w = is_numbered number (traffic_in w.own) && (w.station == station)
 
 -- the order of the air's own events: the one that comes first is the greatest
-abbrev pub waiting_cmp : Waiting → Waiting → Ordering
+abbrev pub waiting_cmp : Scheduled → Scheduled → Ordering
 waiting_cmp =
     then_cmp (flip_args (on (λ w. w.moment) nat_cmp)) (flip_args (on (λ w. w.place) nat_cmp))
 
 -- what is taken comes before all of the air's own events that are left: of one moment an event of
 -- the file goes before each of those
-abbrev pub ComesFirst : Next → List Waiting → Type 0
+abbrev pub ComesFirst : Next → List Scheduled → Type 0
 ComesFirst (nexts.OfFile e) own = All (λ w. told_moment e.now ≤ w.moment) own
 ComesFirst (nexts.Own w) own = IsUpperBound waiting_cmp w own
 

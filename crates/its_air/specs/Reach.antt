@@ -4,7 +4,7 @@ use Rattle.std.specs.Prelude.{nat_le}
 use Rattle.its_gnvalue.specs.Values.{Position}
 use Rattle.its_geometry.specs.Offsets.{squared_distance}
 use Rattle.its_station.specs.State.{StationState}
-use Rattle.its_air.specs.declared.standing.Standing.{Standing}
+use Rattle.its_air.specs.declared.place_index.Standing.{Standing}
 
 -- this place is at most so many metres from the giver's: distances are in centimetres
 abbrev pub is_within : ℕ → Position → Position → Bool

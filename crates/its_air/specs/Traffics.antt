@@ -3,8 +3,8 @@ use Rattle.std.specs.Prelude.{ℕ, suc, List, [], ◌∷◌, Option, Some, None,
 use Rattle.its_model.specs.Calls.{ShbRequest}
 use Rattle.its_scenario.specs.declared.traffic.Traffic.{Traffic as Told}
 use Rattle.its_air.specs.Timetable.{Traffic}
-use Rattle.its_air.specs.declared.waiting.Own.{Own}
-use Rattle.its_air.specs.declared.waiting.Own.TheVariants as owns
+use Rattle.its_air.specs.declared.waiting.AirAction.{AirAction}
+use Rattle.its_air.specs.declared.waiting.AirAction.TheVariants as owns
 
 -- what is sent: so many octets 0
 abbrev pub request_of : Told → ShbRequest
@@ -27,7 +27,7 @@ abbrev pub all_traffic : List Told → List Traffic
 all_traffic every = traffic_from 0 every
 
 -- what an event of the air's own is a send of, if it is one
-abbrev pub traffic_in : Own → Option Traffic
+abbrev pub traffic_in : AirAction → Option Traffic
 traffic_in (owns.Tick jitter) = None
 traffic_in (owns.Deliver frame) = None
 traffic_in (owns.Send number x) = Some (traffic_of number x)

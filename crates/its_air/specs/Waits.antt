@@ -2,7 +2,7 @@
 use Rattle.std.specs.Prelude.{◌≡◌, ℕ, ◌<◌, List, [], ◌∷◌, ◌++◌, map, sum_by, true}
 use Rattle.std.specs.List.{AllByRecursion}
 use Rattle.std.specs.List.Sorted.{IsPermutation}
-use Rattle.its_air.specs.declared.waiting.Waiting.{Waiting}
+use Rattle.its_air.specs.declared.waiting.Scheduled.{Scheduled}
 use Rattle.its_air.specs.declared.waiting.Next.{Next}
 use Rattle.its_air.specs.declared.waiting.Next.TheVariants as nexts
 use Rattle.its_air.specs.Queues.{happening_of}
@@ -12,32 +12,32 @@ use Rattle.its_air.specs.AirRun.{moment_in}
 use Rattle.its_air.specs.Traffics.{traffic_in}
 
 -- what is put for one of the air's own
-abbrev pub put_of : Waiting → Put
+abbrev pub put_of : Scheduled → Put
 put_of w = record { event = happening_of w; own = true; traffic = traffic_in w.own }
 
 -- each was put later than those before it
-abbrev pub PlacesRise : List Waiting → Type 0
+abbrev pub PlacesRise : List Scheduled → Type 0
 PlacesRise [] = Unit {0}
 PlacesRise (w ∷ own) = AllByRecursion (λ v. w.place < v.place) own × PlacesRise own
 
 -- as it waits
-abbrev pub pending_of : Waiting → Pending
+abbrev pub pending_of : Scheduled → Pending
 pending_of w = Does (put_of w)
 
 -- What waits are the file's events and leaves that are due, and later ones that no run reaches, and
 -- the air's own that are in the heap, of which so many were put: they are put in the order of their
 -- places.
-pub record Waits (due : List Filed) (heap : List Waiting) (count until : ℕ)
+pub record Waits (due : List Filed) (heap : List Scheduled) (count until : ℕ)
     (waiting : List Pending) : Type 0 where
-  pub own : List Waiting
+  pub own : List Scheduled
   pub late : List Filed
   pub past : AllByRecursion (λ filed. until < moment_in filed) late
-  pub same : (f : Waiting → ℕ) → sum_by f own ≡ sum_by f heap
+  pub same : (f : Scheduled → ℕ) → sum_by f own ≡ sum_by f heap
   pub rise : PlacesRise own
   pub below : AllByRecursion (λ w. w.place < count) own
   pub is : waiting ≡ put_all (map pending_of own) (map of_file (due ++ late))
 
 -- what is taken is no longer in the heap, if it was there
-abbrev pub IsLeft : Next → List Waiting → List Waiting → Type 0
+abbrev pub IsLeft : Next → List Scheduled → List Scheduled → Type 0
 IsLeft (nexts.OfFile e) old new = new ≡ old
 IsLeft (nexts.Own w) old new = IsPermutation old (w ∷ new)

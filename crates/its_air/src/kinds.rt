@@ -7,7 +7,7 @@ ghost use Rattle.its_air.specs.Counted.{AreCounted, IsCountedAt, IsUncounted, Is
 ghost use Rattle.its_air.specs.Counted.{HasNoPlace, is_kind_at};
 
 use crate::fault::AirFault;
-use crate::waiting::Waiting;
+use crate::waiting::Scheduled;
 use std::alloc::{AllocError, Global};
 
 /// How many of the air's own events wait: of each station those of each kind, side by side. Of the
@@ -34,7 +34,7 @@ impl Counts {
 
     /// How many of a kind wait at a station, if these are counted.
     pub(crate) fn get(&self, kind: usize, station: usize) -> Option<usize>
-        ensures { (own : List Waiting) → AreCounted self.now.kinds self.now.each.items own →
+        ensures { (own : List Scheduled) → AreCounted self.now.kinds self.now.each.items own →
             IfSome result (λ count. count ≡ count_by (is_kind_at kind station) own) }
     {
         let at = self.place(kind, station)?;
@@ -46,12 +46,12 @@ impl Counts {
     }
 
     /// Counts one that is put.
-    pub(crate) fn add(&mut self, waiting: &Waiting) -> Result<(), AirFault>
-        ensures added { (own new : List Waiting) →
+    pub(crate) fn add(&mut self, waiting: &Scheduled) -> Result<(), AirFault>
+        ensures added { (own new : List Scheduled) →
             AreCounted self.old.kinds self.old.each.items own →
             IsPermutation (waiting.now ∷ own) new →
             OnOk result (AreCounted self.new.kinds self.new.each.items new) }
-        ensures failed { (own : List Waiting) → AreCounted self.old.kinds self.old.each.items own →
+        ensures failed { (own : List Scheduled) → AreCounted self.old.kinds self.old.each.items own →
             OnErr result (AreCounted self.new.kinds self.new.each.items own) }
     {
         let Some(at) = self.place_of(waiting) else {
@@ -66,8 +66,8 @@ impl Counts {
     }
 
     /// Counts one no more, which is taken.
-    pub(crate) fn remove(&mut self, waiting: &Waiting)
-        ensures { (own new : List Waiting) →
+    pub(crate) fn remove(&mut self, waiting: &Scheduled)
+        ensures { (own new : List Scheduled) →
             AreCounted self.old.kinds self.old.each.items own →
             IsPermutation own (waiting.now ∷ new) →
             AreCounted self.new.kinds self.new.each.items new }
@@ -84,7 +84,7 @@ impl Counts {
     fn grow(&mut self, at: usize) -> Result<(), AllocError>
         requires { at + 1 < 2 ^ 64 }
         ensures kinds { self.new.kinds ≡ self.old.kinds }
-        ensures same { (own : List Waiting) → AreCounted self.old.kinds self.old.each.items own →
+        ensures same { (own : List Scheduled) → AreCounted self.old.kinds self.old.each.items own →
             AreCounted self.new.kinds self.new.each.items own }
         ensures room { OnOk result (at < length self.new.each.items) }
     {
@@ -95,7 +95,7 @@ impl Counts {
     }
 
     /// Where one is counted, if it is.
-    fn place_of(&self, waiting: &Waiting) -> Option<usize>
+    fn place_of(&self, waiting: &Scheduled) -> Option<usize>
         ensures counted { IfSome result (IsCountedAt self.now.kinds waiting.now) }
         ensures uncounted { IfNone result (IsUncounted self.now.kinds waiting.now) }
     {

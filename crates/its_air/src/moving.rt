@@ -22,7 +22,7 @@ ghost use Rattle.its_air.specs.FitsRun.{FitsRun};
 ghost use Rattle.its_air.specs.Keeps.{GoesBy, Keeps};
 ghost use Rattle.its_air.specs.Moving.{Awaits, IsMovedRun};
 ghost use Rattle.its_air.specs.Queues.{IsFiledInRange};
-ghost use Rattle.its_air.specs.Standings.{AreStandingsOf};
+ghost use Rattle.its_air.specs.PlaceIndexes.{AreStandingsOf};
 ghost use Rattle.its_air.specs.Outside.{Came, IsByMoment, row_move};
 ghost use Rattle.its_air.specs.Timetable.{Filed, Pending, Rules, air_opening, at};
 ghost use Rattle.its_air.specs.Traffics.{all_traffic};
@@ -232,7 +232,7 @@ impl<'a> MovingRun<'a> {
         let end = self.end();
         let coming = self.next_until(end);
         let limit = limit_of(coming, end);
-        if let Some(waiting) = self.run.queue.take_before(limit) {
+        if let Some(waiting) = self.run.queue.pop_before(limit) {
             self.release_delivered(waiting.moment);
             do_own(&mut self.run, &waiting, sink)?;
             return Ok(true);

@@ -9,8 +9,8 @@ ghost use Rattle.std.specs.List.Sorted.{IsNonDecreasingBy, IsPartitionPoint};
 ghost use Rattle.its_station.specs.State.{StationState};
 ghost use Rattle.its_world.specs.Steps.{AreSameBut};
 ghost use Rattle.its_air.specs.Reach.{hearers, hears_there};
-ghost use Rattle.its_air.specs.Standings.{northing, easting, row_key, is_between, is_off, Covers};
-ghost use Rattle.its_air.specs.Standings.{hears_from, count_at, AreStandingsOf};
+ghost use Rattle.its_air.specs.PlaceIndexes.{northing, easting, row_key, is_between, is_off, Covers};
+ghost use Rattle.its_air.specs.PlaceIndexes.{hears_from, count_at, AreStandingsOf};
 
 use crate::reach::{find_hearers, is_within};
 use its_geometry::Centre;
@@ -134,7 +134,7 @@ fn place_east(place: Place, width: u32) -> Option<Place>
 
 /// Where all stations of a world stand, in the order of rows, and in a row of longitudes.
 #[derive(Drop)]
-pub struct Standings {
+pub struct PlaceIndex {
     /// How high a row is.
     range: u16,
     order: Vec<Standing>,
@@ -145,14 +145,14 @@ pub struct Standings {
     ghost longitudes: { count_by is_off order.items ≡ 0 },
 }
 
-impl Standings {
+impl PlaceIndex {
     /// Where these stations stand, by their numbers. The rows are as high as this range, in metres,
     /// at which few of them are to be looked at for it. It takes memory for all stations.
     pub fn of(
         alloc: Global,
         range: u16,
         stations: &[Station<SortedTable>],
-    ) -> Result<Standings, AllocError>
+    ) -> Result<PlaceIndex, AllocError>
         ensures { IfOk result (λ standings. AreStandingsOf stations.now standings.order.items) }
     {
         let mut order = Vec::with_capacity(alloc, stations.len())?;
@@ -163,7 +163,7 @@ impl Standings {
         order.sort_unstable_by_key(|standing| row_key(range, standing.place));
         let mut hints = Vec::from_elem(alloc, 0, stations.len())?;
         note_places(&order, &mut hints, 0, order.len());
-        Ok(Standings {
+        Ok(PlaceIndex {
             range,
             order,
             hints,

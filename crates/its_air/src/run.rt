@@ -31,15 +31,15 @@ ghost use Rattle.its_air.specs.Timetable.{present_after, is_passed_over};
 ghost use Rattle.its_air.specs.Timetable.{Rules, AirModel, spread, air_opening};
 ghost use Rattle.its_air.specs.Timetable.Filed.{Happens};
 ghost use Rattle.its_air.specs.Runs.{IsUnderWay, SaysAsBefore};
-ghost use Rattle.its_air.specs.Standings.{AreStandingsOf};
+ghost use Rattle.its_air.specs.PlaceIndexes.{AreStandingsOf};
 ghost use Rattle.its_air.specs.Queues.{happening_of, filed_of, own_of, IsFiledInRange};
 ghost use Rattle.its_air.specs.Traffics.{all_traffic, traffic_of};
 ghost use Rattle.its_air.specs.Waits.{pending_of, put_of};
 
 use crate::draws::Draws;
 use crate::fault::AirFault;
-use crate::standing::Standings;
-use crate::waiting::{Next, Own, Queue, Waiting};
+use crate::place_index::PlaceIndex;
+use crate::waiting::{AirAction, Next, Queue, Scheduled};
 use its_gnvalue::Place;
 use its_model::laws::every_schedule;
 use its_scenario::{Air, FileEvent, Traffic};
@@ -122,7 +122,7 @@ pub(crate) struct Run<'a> {
     /// Which stations are present, by their numbers.
     present: Vec<bool>,
     /// Where the stations of the world stand.
-    pub(crate) standings: Standings,
+    pub(crate) standings: PlaceIndex,
     /// Who hears the last frame that was given.
     hearers: Vec<usize>,
     /// How many events were done.
@@ -168,7 +168,7 @@ impl<'a> Run<'a> {
         schedule_first_ticks(&mut queue, &mut draws, present, ticking)?;
         schedule_traffic(&mut queue, &mut draws, present, every, configs.len())?;
         let world = World::of_apart(alloc, configs)?;
-        let standings = Standings::of(alloc, air.range, world.stations())?;
+        let standings = PlaceIndex::of(alloc, air.range, world.stations())?;
         Ok(Run {
             alloc,
             air: *air,
@@ -237,11 +237,11 @@ impl<'a> Run<'a> {
     }
 
     /// The same of what the air does by itself.
-    pub(crate) fn keeps_own(&self, own: &Own) -> bool
+    pub(crate) fn keeps_own(&self, own: &AirAction) -> bool
         ensures { IsTrue result ↔ IsKept self.now.world.released (own_of own.now) }
     {
         match own {
-            Own::Deliver(frame) => self.world.released() <= *frame,
+            AirAction::Deliver(frame) => self.world.released() <= *frame,
             _ => true,
         }
     }
@@ -277,7 +277,7 @@ impl<'a> Run<'a> {
             IsTimed rules configs a self.old (S.Took sink.old) → IfOk result (λ more.
             GoesOn more rules configs a self.new (S.Took sink.new)) }
     {
-        match self.queue.take() {
+        match self.queue.pop() {
             None => Ok(false),
             Some(Next::OfFile(filed)) => {
                 self.do_filed(filed, sink)?;
@@ -383,7 +383,7 @@ impl<'a> Run<'a> {
     /// is passed over.
     pub(crate) fn do_own<S: EventSink>(
         &mut self,
-        waiting: &Waiting,
+        waiting: &Scheduled,
         sink: &mut S,
     ) -> Result<(), AirFault>
         requires moment { waiting.now.moment ≤ 2 ^ 63 + 10000 }
@@ -416,7 +416,7 @@ impl<'a> Run<'a> {
     }
 
     /// Whether one of the air's own isn't run: a tick or a send of an absent station.
-    fn is_passed_over(&self, waiting: &Waiting) -> bool
+    fn is_passed_over(&self, waiting: &Scheduled) -> bool
         ensures { result ≡ is_passed_over self.now.present.items (put_of waiting.now) }
     {
         !waiting.own.is_delivery() && !is_present(self.present.as_slice(), waiting.station)
@@ -463,15 +463,15 @@ impl<'a> Run<'a> {
         let stood = place_of(&self.world, event.station);
         let entry = do_event(&mut self.world, self.done, event, sink)?;
         self.done = next;
-        self.follow(event.station, stood);
+        self.update_place(event.station, stood);
         if let Some(frame) = entry.frame() {
-            self.spread(event, frame, sink)?;
+            self.schedule_frame(event, frame, sink)?;
         }
         Ok(entry)
     }
 
     /// A station may have moved from where it stood: it stands where the world has it.
-    fn follow(&mut self, number: usize, stood: Option<Place>)
+    fn update_place(&mut self, number: usize, stood: Option<Place>)
         ensures air { self.new.air ≡ self.old.air }
         ensures every { self.new.every ≡ self.old.every }
         ensures present { self.new.present ≡ self.old.present }
@@ -494,7 +494,7 @@ impl<'a> Run<'a> {
 
     /// Puts a delivery of a frame to each station that hears it and doesn't lose it, and notes
     /// which of them do and which lose it. That of an absent station is heard by none.
-    fn spread<S: EventSink>(
+    fn schedule_frame<S: EventSink>(
         &mut self,
         event: &Event,
         frame: usize,
@@ -664,7 +664,7 @@ impl<'a> Run<'a> {
 
     /// Puts what follows an event of the air's own: the next tick of a station after one that
     /// wasn't refused, its next send after one of traffic.
-    fn schedule_next(&mut self, done: &Waiting, entry: &Entry) -> Result<(), AirFault>
+    fn schedule_next(&mut self, done: &Scheduled, entry: &Entry) -> Result<(), AirFault>
         requires moment { done.now.moment ≤ 2 ^ 63 + 10000 }
         ensures air { self.new.air ≡ self.old.air }
         ensures every { self.new.every ≡ self.old.every }
@@ -679,18 +679,18 @@ impl<'a> Run<'a> {
             (slice_get w.stations done.now.station) t)) }
     {
         match &done.own {
-            Own::Tick(_) => self.schedule_next_tick(done, entry),
-            Own::Deliver(_) => Ok(()),
-            Own::Send(number, traffic) => {
+            AirAction::Tick(_) => self.schedule_next_tick(done, entry),
+            AirAction::Deliver(_) => Ok(()),
+            AirAction::Send(number, traffic) => {
                 let moment = done.moment + u64::from(traffic.period);
                 self.queue
-                    .put(moment, done.station, Own::Send(*number, *traffic))
+                    .push(moment, done.station, AirAction::Send(*number, *traffic))
             }
         }
     }
 
     /// Puts the next tick of a station after one that wasn't refused.
-    fn schedule_next_tick(&mut self, tick: &Waiting, entry: &Entry) -> Result<(), AirFault>
+    fn schedule_next_tick(&mut self, tick: &Scheduled, entry: &Entry) -> Result<(), AirFault>
         ensures air { self.new.air ≡ self.old.air }
         ensures every { self.new.every ≡ self.old.every }
         ensures present { self.new.present ≡ self.old.present }
@@ -883,7 +883,7 @@ fn schedule_send(
         (Keeps queue.new draws.new (put_send (traffic_of number traffic.now) station moment t)) }
 {
     let moment = moment + draws.within(traffic.period);
-    queue.put(moment, station, Own::Send(number, *traffic))
+    queue.push(moment, station, AirAction::Send(number, *traffic))
 }
 
 /// Puts the first tick of a station that comes, where there are beacons and none waits: later by
@@ -1000,7 +1000,7 @@ fn schedule_delivery(
     if draws.is_lost(loss) {
         return Ok(Note::Lost { station, frame });
     }
-    queue.put(given.heard_at, station, Own::Deliver(frame))?;
+    queue.push(given.heard_at, station, AirAction::Deliver(frame))?;
     Ok(Note::Heard { station, frame })
 }
 
@@ -1020,5 +1020,5 @@ fn schedule_tick(
 {
     let jitter = draws.jitter();
     let due = beacon_from.saturating_add(u64::from(jitter));
-    queue.put(moment.max(due), station, Own::Tick(jitter))
+    queue.push(moment.max(due), station, AirAction::Tick(jitter))
 }

@@ -10,13 +10,13 @@ ghost use Rattle.its_air.specs.AirRun.{events_in};
 ghost use Rattle.its_air.specs.Moving.{DoesAsked, DoesFiled, DoesTaken, DoesThere};
 ghost use Rattle.its_air.specs.Outside.{Delivers, at_station, opening_at, station_of_filed};
 ghost use Rattle.its_air.specs.Queues.{IsFiledInRange, filed_of, own_of};
-ghost use Rattle.its_air.specs.Standings.{AreStandingsOf};
+ghost use Rattle.its_air.specs.PlaceIndexes.{AreStandingsOf};
 ghost use Rattle.its_air.specs.Timetable.Filed.{Happens};
 
 use crate::copying::copy_of;
 use crate::fault::AirFault;
 use crate::run::{Run, place_of};
-use crate::waiting::Waiting;
+use crate::waiting::Scheduled;
 use its_scenario::{AddressedEvent, FileEvent};
 use its_simulation::EventSink;
 use its_world::{Event, What};
@@ -108,7 +108,7 @@ fn is_there(run: &Run<'_>, filed: &FileEvent) -> bool
 /// does, is kept. Both always are so.
 pub(crate) fn do_own<S: EventSink>(
     run: &mut Run<'_>,
-    waiting: &Waiting,
+    waiting: &Scheduled,
     sink: &mut S,
 ) -> Result<(), AirFault>
     requires moment { waiting.now.moment ≤ 2 ^ 63 + 10000 }
@@ -127,7 +127,7 @@ pub(crate) fn do_own<S: EventSink>(
 
 /// Whether the station is there of one of the air's own, and the frame is kept that it delivers, if
 /// it does.
-fn can_do(run: &Run<'_>, waiting: &Waiting) -> bool
+fn can_do(run: &Run<'_>, waiting: &Scheduled) -> bool
     ensures there { IsTrue result → waiting.now.station < length run.now.world.stations }
     ensures kept { IsTrue result → IsKept run.now.world.released (own_of waiting.now.own) }
     ensures can { waiting.now.station < length run.now.world.stations →

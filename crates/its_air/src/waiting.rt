@@ -34,7 +34,7 @@ use std::collections::BinaryHeap;
 
 /// What an air does by itself.
 #[derive(Clone, Copy, Debug)]
-pub(crate) enum Own {
+pub(crate) enum AirAction {
     /// A tick with this jitter.
     Tick(u16),
     /// The delivery of the frame of this number.
@@ -43,19 +43,19 @@ pub(crate) enum Own {
     Send(usize, Traffic),
 }
 
-impl Own {
+impl AirAction {
     /// Whether it is a delivery.
     pub(crate) fn is_delivery(&self) -> bool
         ensures { result ≡ is_delivery (own_of self.now) }
     {
-        matches!(self, Own::Deliver(_))
+        matches!(self, AirAction::Deliver(_))
     }
 
     /// Whether it is a tick.
     fn is_tick(&self) -> bool
         ensures { result ≡ is_tick (own_of self.now) }
     {
-        matches!(self, Own::Tick(_))
+        matches!(self, AirAction::Tick(_))
     }
 
     /// Whether it is a send of the traffic of a number.
@@ -63,7 +63,7 @@ impl Own {
         ensures { result ≡ is_numbered number (traffic_in self.now) }
     {
         match self {
-            Own::Send(of, _) => *of == number,
+            AirAction::Send(of, _) => *of == number,
             _ => false,
         }
     }
@@ -75,9 +75,9 @@ impl Own {
         ensures none { IfNone result ((kind : ℕ) → kind_in self.now ≡ Some kind → 2 ^ 64 ≤ kind) }
     {
         match self {
-            Own::Tick(_) => Some(0),
-            Own::Deliver(_) => None,
-            Own::Send(number, _) => number.checked_add(1),
+            AirAction::Tick(_) => Some(0),
+            AirAction::Deliver(_) => None,
+            AirAction::Send(number, _) => number.checked_add(1),
         }
     }
 
@@ -87,9 +87,9 @@ impl Own {
         ensures range { IfOk result IsInRange }
     {
         Ok(match self {
-            Own::Tick(jitter) => What::Tick(*jitter),
-            Own::Deliver(frame) => What::Deliver(*frame),
-            Own::Send(_, traffic) => What::SendShb(OwnedShbRequest {
+            AirAction::Tick(jitter) => What::Tick(*jitter),
+            AirAction::Deliver(frame) => What::Deliver(*frame),
+            AirAction::Send(_, traffic) => What::SendShb(OwnedShbRequest {
                 port: traffic.port,
                 info: traffic.info,
                 class: traffic.class,
@@ -102,7 +102,7 @@ impl Own {
 /// An event of the air's own. The one that comes first is the greatest: of two the one of the
 /// lesser moment, of one moment the one that was put first.
 #[derive(Clone, Copy, Debug)]
-pub(crate) struct Waiting {
+pub(crate) struct Scheduled {
     /// The moment, in milliseconds.
     pub(crate) moment: u64,
     /// How many were put before it.
@@ -110,24 +110,24 @@ pub(crate) struct Waiting {
     /// The station.
     pub(crate) station: usize,
     /// What it does.
-    pub(crate) own: Own,
+    pub(crate) own: AirAction,
 }
 
-impl PartialEq for Waiting {
+impl PartialEq for Scheduled {
     ghost eq = { eq_of_both (on (λ w. w.moment) nat_eq) (on (λ w. w.place) nat_eq) };
 
     ghost laws = { Prim.search (comparing, rules) };
 
-    fn eq(&self, other: &Waiting) -> bool {
+    fn eq(&self, other: &Scheduled) -> bool {
         self.moment == other.moment && self.place == other.place
     }
 }
 
-impl Eq for Waiting {
+impl Eq for Scheduled {
     ghost laws = { Prim.search (comparing, rules) };
 }
 
-impl Ord for Waiting {
+impl Ord for Scheduled {
     ghost cmp = { then_cmp (flip_args (on (λ w. w.moment) nat_cmp))
         (flip_args (on (λ w. w.place) nat_cmp)) };
 
@@ -137,7 +137,7 @@ impl Ord for Waiting {
 
     ghost matches_eq = { Prim.search (comparing, rules) };
 
-    fn cmp(&self, other: &Waiting) -> Ordering {
+    fn cmp(&self, other: &Scheduled) -> Ordering {
         other
             .moment
             .cmp(&self.moment)
@@ -145,19 +145,19 @@ impl Ord for Waiting {
     }
 }
 
-impl PartialOrd for Waiting {
+impl PartialOrd for Scheduled {
     ghost partial_cmp = { as_partial_cmp (then_cmp (flip_args (on (λ w. w.moment) nat_cmp))
         (flip_args (on (λ w. w.place) nat_cmp))) };
 
     ghost laws = { partial_order_from_own_ties (Prim.search (comparing, rules))
         (Prim.search (comparing, rules)) };
 
-    fn partial_cmp(&self, other: &Waiting) -> Option<Ordering> {
+    fn partial_cmp(&self, other: &Scheduled) -> Option<Ordering> {
         Some(self.cmp(other))
     }
 }
 
-impl Waiting {
+impl Scheduled {
     /// The event of the world.
     pub(crate) fn event(&self, alloc: Global) -> Result<Event, AllocError>
         ensures event { IfOk result (λ event. event_of event ≡ happening_of self.now) }
@@ -175,7 +175,7 @@ impl Waiting {
 #[derive(Debug)]
 pub(crate) enum Next<'a> {
     OfFile(&'a FileEvent),
-    Own(Waiting),
+    Own(Scheduled),
 }
 
 /// All that waits. The events and leaves of the file were put before all others, so of one moment
@@ -187,11 +187,11 @@ pub(crate) struct Queue<'a> {
     due: Vec<&'a FileEvent>,
     /// How many of these were taken.
     taken: usize,
-    own: BinaryHeap<Waiting>,
+    own: BinaryHeap<Scheduled>,
     /// How many of these there are of each kind, at each station.
     counts: Counts,
     /// How many of the air's own were put.
-    put: u64,
+    pushed: u64,
     until: u64,
     ghost within: { All (λ filed. told_moment filed.now ≤ until) due.items },
     ghost last: { until ≤ 2 ^ 63 + 10000 },
@@ -213,7 +213,7 @@ impl<'a> Queue<'a> {
         ensures due { IfOk result (λ queue.
             AreDue (map filed_of file.now) until (filed_in queue.due.items)) }
         ensures start { IfOk result (λ queue. queue.taken ≡ 0) }
-        ensures empty { IfOk result (λ queue. (heap_items queue.own ≡ []) × (queue.put ≡ 0)
+        ensures empty { IfOk result (λ queue. (heap_items queue.own ≡ []) × (queue.pushed ≡ 0)
             × (queue.until ≡ until)) }
         ensures ranges { IfOk result (λ queue.
             All (λ filed. IsFiledInRange filed.now) queue.due.items) }
@@ -230,30 +230,35 @@ impl<'a> Queue<'a> {
             taken: 0,
             own: BinaryHeap::new(alloc),
             counts: Counts::new(alloc, traffics.saturating_add(1)),
-            put: 0,
+            pushed: 0,
             until,
         })
     }
 
     /// Puts an event of the air's own.
-    pub(crate) fn put(&mut self, moment: u64, station: usize, own: Own) -> Result<(), AirFault>
+    pub(crate) fn push(
+        &mut self,
+        moment: u64,
+        station: usize,
+        own: AirAction,
+    ) -> Result<(), AirFault>
         ensures due { self.new.due ≡ self.old.due }
         ensures taken { self.new.taken ≡ self.old.taken }
         ensures until { self.new.until ≡ self.old.until }
         ensures put { OnOk result (IsPermutation (record {
           moment = moment;
-          place = self.old.put;
+          place = self.old.pushed;
           station = station;
           own = own;
         } ∷ heap_items self.old.own) (heap_items self.new.own)) }
-        ensures count { OnOk result (self.new.put ≡ self.old.put + 1) }
+        ensures count { OnOk result (self.new.pushed ≡ self.old.pushed + 1) }
     {
-        let Some(put) = self.put.checked_add(1) else {
+        let Some(put) = self.pushed.checked_add(1) else {
             return Err(AirFault::TooManyEvents);
         };
-        let waiting = Waiting {
+        let waiting = Scheduled {
             moment,
-            place: self.put,
+            place: self.pushed,
             station,
             own,
         };
@@ -261,12 +266,12 @@ impl<'a> Queue<'a> {
         self.own.reserve(1)?;
         self.counts.add(&waiting)?;
         self.own.push(waiting)?;
-        self.put = put;
+        self.pushed = put;
         Ok(())
     }
 
     /// Takes the first that waits, unless its moment is past the last.
-    pub(crate) fn take(&mut self) -> Option<Next<'a>>
+    pub(crate) fn pop(&mut self) -> Option<Next<'a>>
         ensures due { self.new.due ≡ self.old.due }
         ensures until { self.new.until ≡ self.old.until }
         ensures taken { IfSome result (λ next.
@@ -278,7 +283,7 @@ impl<'a> Queue<'a> {
             (heap_items self.old.own)) }
         ensures left { IfSome result (λ next.
             IsLeft next (heap_items self.old.own) (heap_items self.new.own)) }
-        ensures put { self.new.put ≡ self.old.put }
+        ensures put { self.new.pushed ≡ self.old.pushed }
         ensures moment { IfSome result (λ next. moment_of next ≤ self.old.until) }
         ensures first { IfSome result (λ next. ComesFirst next (heap_items self.new.own)) }
         ensures file_first { (e : Bor FileEvent) →
@@ -288,7 +293,7 @@ impl<'a> Queue<'a> {
         match self.due.as_slice().get(self.taken) {
             Some(filed) => {
                 let filed = *filed;
-                match self.take_before(filed.moment()) {
+                match self.pop_before(filed.moment()) {
                     Some(own) => Some(Next::Own(own)),
                     None => {
                         self.taken += 1;
@@ -296,7 +301,7 @@ impl<'a> Queue<'a> {
                     }
                 }
             }
-            None => match self.take_before(self.until + 1) {
+            None => match self.pop_before(self.until + 1) {
                 Some(own) => Some(Next::Own(own)),
                 None => None,
             },
@@ -332,11 +337,11 @@ impl<'a> Queue<'a> {
     }
 
     /// Takes the first of the air's own, if its moment lies before this one.
-    pub(crate) fn take_before(&mut self, moment: u64) -> Option<Waiting>
+    pub(crate) fn pop_before(&mut self, moment: u64) -> Option<Scheduled>
         ensures due { self.new.due ≡ self.old.due }
         ensures taken { self.new.taken ≡ self.old.taken }
         ensures until { self.new.until ≡ self.old.until }
-        ensures put { self.new.put ≡ self.old.put }
+        ensures put { self.new.pushed ≡ self.old.pushed }
         ensures before { IfSome result (λ waiting. waiting.moment < moment) }
         ensures first { IfSome result (λ waiting.
             IsUpperBound waiting_cmp waiting (heap_items self.new.own)) }
@@ -358,7 +363,7 @@ impl<'a> Queue<'a> {
 }
 
 /// How many of these are ticks at a station.
-fn count_ticks(own: &[Waiting], station: usize) -> usize
+fn count_ticks(own: &[Scheduled], station: usize) -> usize
     ensures count { result ≡ count_by (is_tick_at station) own.now }
 {
     let mut ticks = 0;
@@ -371,7 +376,7 @@ fn count_ticks(own: &[Waiting], station: usize) -> usize
 }
 
 /// How many of these are sends of the traffic of a number by a station.
-fn count_sends(own: &[Waiting], number: usize, station: usize) -> usize
+fn count_sends(own: &[Scheduled], number: usize, station: usize) -> usize
     ensures count { result ≡ count_by (is_send_at number station) own.now }
 {
     let mut sends = 0;

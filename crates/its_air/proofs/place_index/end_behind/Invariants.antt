@@ -1,7 +1,7 @@
 use Rattle.std.proofs.Common.{◌≤◌}
 use Rattle.std.specs.List.{AllWithin}
-use Rattle.its_air.specs.Standings.{row_key}
-use Rattle.its_air.proofs.standing.end_behind.Given as goal
+use Rattle.its_air.specs.PlaceIndexes.{row_key}
+use Rattle.its_air.proofs.place_index.end_behind.Given as goal
 
 -- none of those that were passed comes later
 abbrev pub invariant-loop-end : goal.invariant-loop-end

@@ -1,8 +1,8 @@
 use Rattle.std.proofs.Common.{◌≡◌, ◌≤◌, HoldsAt, subst, arith}
-use Rattle.its_air.specs.declared.standing.Standing.{Standing}
-use Rattle.its_air.specs.Standings.{row_key}
+use Rattle.its_air.specs.declared.place_index.Standing.{Standing}
+use Rattle.its_air.specs.PlaceIndexes.{row_key}
 use Rattle.its_air.proofs.Counts.{to_behind, to_before}
-use Rattle.its_air.proofs.standing.end_for.Goals as goal
+use Rattle.its_air.proofs.place_index.end_for.Goals as goal
 
 pub returns-then-from-end-clause-point : goal.returns-then-from-end-clause-point
 returns-then-from-end-clause-point c =

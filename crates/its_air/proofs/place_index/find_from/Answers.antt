@@ -2,9 +2,9 @@ use Rattle.std.proofs.Common.{◌∙◌, drop, sym, ap}
 use Rattle.std.specs.Prelude.{◌==◌}
 use Rattle.std.specs.List.{position}
 use Rattle.std.proofs.lemmas.List.{get_or-drop}
-use Rattle.its_air.specs.declared.standing.Standing.{Standing}
+use Rattle.its_air.specs.declared.place_index.Standing.{Standing}
 use Rattle.its_air.proofs.Counts.{found_at}
-use Rattle.its_air.proofs.standing.find_from.Goals as goal
+use Rattle.its_air.proofs.place_index.find_from.Goals as goal
 
 pub returns-clause-found : goal.returns-clause-found
 returns-clause-found c = λ d.

@@ -1,6 +1,6 @@
 use Rattle.std.proofs.Common.{sym}
 use Rattle.its_air.proofs.Counts.{found_anywhere}
-use Rattle.its_air.proofs.standing.find_station.Goals as goal
+use Rattle.its_air.proofs.place_index.find_station.Goals as goal
 
 pub returns-clause-found : goal.returns-clause-found
 returns-clause-found c =

@@ -1,6 +1,6 @@
 use Rattle.std.proofs.Common.{◌≡◌, ◌++◌, map, filter, take}
 use Rattle.its_air.specs.Reach.{hears_there}
-use Rattle.its_air.proofs.standing.gather.Given as goal
+use Rattle.its_air.proofs.place_index.gather.Given as goal
 
 -- of the first standings those that hear were found, behind what was found before
 abbrev pub invariant-loop-standing : goal.invariant-loop-standing

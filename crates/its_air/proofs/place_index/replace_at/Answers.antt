@@ -1,7 +1,7 @@
 use Rattle.std.proofs.Common.{◌≡◌, ◌+◌, ◌-◌, ◌≤◌, get_or, arith, rules, subst}
 use Rattle.its_air.proofs.Shifts.{moved_up, moved_down}
-use Rattle.its_air.proofs.standing.replace_at.Goals.{then-from-to, else-from-to}
-use Rattle.its_air.proofs.standing.replace_at.Goals as goal
+use Rattle.its_air.proofs.place_index.replace_at.Goals.{then-from-to, else-from-to}
+use Rattle.its_air.proofs.place_index.replace_at.Goals as goal
 
 pub returns : goal.returns
 returns c =

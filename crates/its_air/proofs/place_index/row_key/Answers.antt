@@ -1,6 +1,6 @@
-use Rattle.its_air.specs.Standings.{row_key}
+use Rattle.its_air.specs.PlaceIndexes.{row_key}
 use Rattle.std.proofs.Common.{rules}
-use Rattle.its_air.proofs.standing.row_key.Goals as goal
+use Rattle.its_air.proofs.place_index.row_key.Goals as goal
 
 pub returns-clause-value : goal.returns-clause-value
 unfolding row_key

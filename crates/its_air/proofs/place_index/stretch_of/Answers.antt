@@ -1,9 +1,9 @@
 use Rattle.std.proofs.Common.{◌≡◌, ◌∙◌, ap, sym, subst, false}
 use Rattle.its_gnvalue.specs.Values.{Position}
 use Rattle.its_air.specs.Reach.{is_within}
-use Rattle.its_air.specs.Standings.{Covers, easting}
+use Rattle.its_air.specs.PlaceIndexes.{Covers, easting}
 use Rattle.its_air.proofs.Bands.{covers}
-use Rattle.its_air.proofs.standing.stretch_of.Goals as goal
+use Rattle.its_air.proofs.place_index.stretch_of.Goals as goal
 
 pub returns-clause-covers : goal.returns-clause-covers
 returns-clause-covers c =

@@ -3,7 +3,7 @@ use Rattle.std.specs.BinaryHeap.{heap_items}
 use Rattle.its_air.specs.Moving.{IsMoving, IsTaken}
 use Rattle.its_air.specs.UnderRows.{ComesFrom, end_in, turn_in}
 use Rattle.its_air.specs.declared.run.Run.{Run}
-use Rattle.its_air.specs.declared.waiting.Waiting.{Waiting}
+use Rattle.its_air.specs.declared.waiting.Scheduled.{Scheduled}
 use Rattle.its_air.proofs.Moved.{ended, is_next, is_taken, still_taken}
 use Rattle.its_air.proofs.UnderRows.{comes_later, end_given, from_coming, is_last_of, is_next_of}
 use Rattle.its_air.proofs.UnderRows.{limits, none_until, own_under, same_end}
@@ -29,7 +29,7 @@ returns-in-Some-clause-moving g c = λ is rules configs u.
       air = old.run.air;
       every = old.run.every;
       world = old.run.world;
-      queue = c.take_before.new.self;
+      queue = c.pop_before.new.self;
       draws = old.run.draws;
       present = old.run.present;
       standings = old.run.standings;
@@ -40,8 +40,8 @@ returns-in-Some-clause-moving g c = λ is rules configs u.
     old.delivered_by w one A =
     is_taken rules configs u.made u.past u.last u.from (end_in old) old.frames_before
     old.delivered_by old.run one A
-    w refl refl refl refl refl c.take_before.ensures.due c.take_before.ensures.taken
-    c.take_before.ensures.until c.take_before.ensures.put c.in-Some.ensures.left
+    w refl refl refl refl refl c.pop_before.ensures.due c.pop_before.ensures.taken
+    c.pop_before.ensures.until c.pop_before.ensures.put c.in-Some.ensures.left
     c.in-Some.ensures.first (omega (arith, end, most, before)) u.under.moving in
     let let_go = c.release_delivered.new.self in
     let goes = c.release_delivered.ensures in
@@ -84,22 +84,22 @@ returns-in_ok-take_in-in-Some-coming-clause-moving g c = λ is rules configs u.
       air = old.run.air;
       every = old.run.every;
       world = old.run.world;
-      queue = c.take_before.new.self;
+      queue = c.pop_before.new.self;
       draws = old.run.draws;
       present = old.run.present;
       standings = old.run.standings;
       hearers = old.run.hearers;
       done = old.run.done;
     } in
-    let late : All (λ (w : Waiting). m ≤ w.moment) (heap_items old.run.queue.own) =
-    subst (λ (k : ℕ). All (λ (w : Waiting). k ≤ w.moment) (heap_items old.run.queue.own)) n.1
+    let late : All (λ (w : Scheduled). m ≤ w.moment) (heap_items old.run.queue.own) =
+    subst (λ (k : ℕ). All (λ (w : Scheduled). k ≤ w.moment) (heap_items old.run.queue.own)) n.1
     c.in_default.ensures.late in
     let moving : IsMoving rules configs u.made u.past m m (end_in old) old.frames_before
     old.delivered_by one A =
     is_next rules configs u.made u.past u.last u.from (end_in old) old.frames_before
     old.delivered_by m old.run one
-    A refl refl refl refl refl c.take_before.ensures.due c.take_before.ensures.taken
-    c.take_before.ensures.until c.take_before.ensures.put c.in_default.ensures.none.0 late
+    A refl refl refl refl refl c.pop_before.ensures.due c.pop_before.ensures.taken
+    c.pop_before.ensures.until c.pop_before.ensures.put c.in_default.ensures.none.0 late
     (from_coming old u.from m coming.outside n.0.is u.under.comings) u.under.moving in
     let first = n.0.first in
     let turn = n.0.turn in
@@ -137,7 +137,7 @@ returns-in-None-clause-ended g c = λ is rules configs asked by u.
     ended rules configs u.made u.past u.last u.from end old.frames_before old.delivered_by
     old.run (g.S.EventSink.Took c.args.sink.now) old.moves.now asked old.until
     (end_given old.until old.greatest)
-    (subst (λ (k : ℕ). All (λ (w : Waiting). k ≤ w.moment) (heap_items old.run.queue.own)) last
+    (subst (λ (k : ℕ). All (λ (w : Scheduled). k ≤ w.moment) (heap_items old.run.queue.own)) last
     c.in_default.ensures.late) u.under.moving
     (is_outside (length configs) (length u.made) u.came u.past u.turn end old asked by comes
     u.outside)

@@ -4,10 +4,10 @@ use Rattle.std.specs.List.{insert}
 use Rattle.std.specs.Prelude.{is_ok, count_by}
 use Rattle.std.specs.List.Sorted.{IsNonDecreasingBy, IsPartitionPoint, IsPartitionedBy}
 use Rattle.std.proofs.lemmas.List.Sorted.{IsPartitionPoint-from_clause, IsPartitionedBy-leb}
-use Rattle.its_air.specs.declared.standing.Standing.{Standing}
-use Rattle.its_air.specs.Standings.{row_key, is_off, AreStandingsOf}
+use Rattle.its_air.specs.declared.place_index.Standing.{Standing}
+use Rattle.its_air.specs.PlaceIndexes.{row_key, is_off, AreStandingsOf}
 use Rattle.its_air.proofs.Counts.{stand_added, rising_with, none_off_with, of_either}
-use Rattle.its_air.proofs.standing.Standings.add_station.Goals as goal
+use Rattle.its_air.proofs.place_index.PlaceIndex.add_station.Goals as goal
 
 pub invariant_of-self-2 : goal.invariant_of-self-2
 invariant_of-self-2 c =

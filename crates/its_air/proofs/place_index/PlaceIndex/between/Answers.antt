@@ -3,10 +3,10 @@ use Rattle.std.proofs.Common.{true, false}
 use Rattle.std.specs.List.Sorted.{IsPartitionPoint, IsPartitionedBy}
 use Rattle.std.proofs.lemmas.List.Sorted.{IsPartitionPoint-from_clause, IsPartitionedBy-ltb}
 use Rattle.std.proofs.lemmas.List.Sorted.{IsPartitionedBy-leb, IsNonDecreasingBy-drop}
-use Rattle.its_air.specs.declared.standing.Standing.{Standing}
-use Rattle.its_air.specs.Standings.{row_key}
+use Rattle.its_air.specs.declared.place_index.Standing.{Standing}
+use Rattle.its_air.specs.PlaceIndexes.{row_key}
 use Rattle.its_air.proofs.Between.{between}
-use Rattle.its_air.proofs.standing.Standings.between.Goals as goal
+use Rattle.its_air.proofs.place_index.PlaceIndex.between.Goals as goal
 
 pub returns : goal.returns
 returns c =

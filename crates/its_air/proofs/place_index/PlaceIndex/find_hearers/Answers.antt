@@ -1,6 +1,6 @@
 use Rattle.std.proofs.lemmas.List.Sorted.{IsNonDecreasingBy-from_sort}
 use Rattle.its_air.proofs.Counts.{gathered}
-use Rattle.its_air.proofs.standing.Standings.find_hearers.Goals as goal
+use Rattle.its_air.proofs.place_index.PlaceIndex.find_hearers.Goals as goal
 
 pub returns : goal.returns
 returns c =

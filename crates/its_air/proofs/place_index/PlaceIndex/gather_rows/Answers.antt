@@ -3,12 +3,12 @@ use Rattle.std.proofs.Common.{filter, ap, arith}
 use Rattle.std.specs.Prelude.{count_by, ◌==◌}
 use Rattle.std.proofs.lemmas.List.Sums.{sum_by-append}
 use Rattle.its_gnvalue.specs.Values.{Position}
-use Rattle.its_air.specs.declared.standing.Standing.{Standing}
+use Rattle.its_air.specs.declared.place_index.Standing.{Standing}
 use Rattle.its_air.specs.Reach.{hears_there}
-use Rattle.its_air.specs.Standings.{northing, is_between}
+use Rattle.its_air.specs.PlaceIndexes.{northing, is_between}
 use Rattle.its_air.proofs.Counts.{count_gathered}
 use Rattle.its_air.proofs.Rows.{row_more, none_before, all_found}
-use Rattle.its_air.proofs.standing.Standings.gather_rows.Goals as goal
+use Rattle.its_air.proofs.place_index.PlaceIndex.gather_rows.Goals as goal
 
 pub loop-row-init : goal.loop-row-init
 loop-row-init c =

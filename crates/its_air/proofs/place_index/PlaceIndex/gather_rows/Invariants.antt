@@ -1,8 +1,8 @@
 use Rattle.std.proofs.Common.{◌≡◌, ℕ}
 use Rattle.std.specs.Prelude.{count_by, ◌==◌}
-use Rattle.its_air.specs.Standings.{count_at}
+use Rattle.its_air.specs.PlaceIndexes.{count_at}
 use Rattle.its_air.proofs.Rows.{hears_south}
-use Rattle.its_air.proofs.standing.Standings.gather_rows.Given as goal
+use Rattle.its_air.proofs.place_index.PlaceIndex.gather_rows.Given as goal
 
 -- those that hear in the rows before this one were found
 abbrev pub invariant-loop-row : goal.invariant-loop-row

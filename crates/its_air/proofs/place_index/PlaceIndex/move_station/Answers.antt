@@ -3,11 +3,11 @@ use Rattle.std.proofs.Common.{HoldsAt, None, length, subst, sym, rules}
 use Rattle.std.specs.List.{position}
 use Rattle.std.specs.Prelude.{◌==◌, count_by}
 use Rattle.std.specs.List.Sorted.{IsNonDecreasingBy, IsPartitionPoint}
-use Rattle.its_air.specs.declared.standing.Standing.{Standing}
-use Rattle.its_air.specs.Standings.{row_key, is_off, AreStandingsOf}
+use Rattle.its_air.specs.declared.place_index.Standing.{Standing}
+use Rattle.its_air.specs.PlaceIndexes.{row_key, is_off, AreStandingsOf}
 use Rattle.its_air.proofs.Counts.{stand_new, stand_same, rising_moved, none_off_replaced}
-use Rattle.its_air.proofs.standing.Standings.move_station.Goals.{then-from-end, else-from-end}
-use Rattle.its_air.proofs.standing.Standings.move_station.Goals as goal
+use Rattle.its_air.proofs.place_index.PlaceIndex.move_station.Goals.{then-from-end, else-from-end}
+use Rattle.its_air.proofs.place_index.PlaceIndex.move_station.Goals as goal
 
 pub returns-in_default : goal.returns-in_default
 returns-in_default c = λ old new stand same at.

@@ -5,10 +5,10 @@ use Rattle.std.proofs.lemmas.List.{take_all}
 use Rattle.std.proofs.lemmas.List.Sorted.{IsNonDecreasingBy-from_sort_by_key}
 use Rattle.std.proofs.lemmas.Option.{slice_get_read}
 use Rattle.its_station.specs.State.{StationState}
-use Rattle.its_air.specs.declared.standing.Standing.{Standing}
-use Rattle.its_air.specs.Standings.{row_key, is_off, AreStandingsOf}
+use Rattle.its_air.specs.declared.place_index.Standing.{Standing}
+use Rattle.its_air.specs.PlaceIndexes.{row_key, is_off, AreStandingsOf}
 use Rattle.its_air.proofs.Counts.{stand_more, stand_moved, none_off_more, none_off_moved}
-use Rattle.its_air.proofs.standing.Standings.of.Goals as goal
+use Rattle.its_air.proofs.place_index.PlaceIndex.of.Goals as goal
 
 pub loop-number-preserved : goal.loop-number-preserved
 loop-number-preserved c =

@@ -1,7 +1,7 @@
 use Rattle.std.proofs.Common.{◌≡◌, take}
 use Rattle.std.specs.Prelude.{count_by}
-use Rattle.its_air.specs.Standings.{AreStandingsOf, is_off}
-use Rattle.its_air.proofs.standing.Standings.of.Given as goal
+use Rattle.its_air.specs.PlaceIndexes.{AreStandingsOf, is_off}
+use Rattle.its_air.proofs.place_index.PlaceIndex.of.Given as goal
 
 -- the first stations stand where they are
 abbrev pub invariant-loop-number : goal.invariant-loop-number

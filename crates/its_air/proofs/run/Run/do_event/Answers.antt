@@ -2,7 +2,7 @@ use Rattle.std.proofs.Common.{[], ◌∷◌, ◌++◌, sym, subst, ◌∙◌}
 use Rattle.its_world.specs.Events.{event_of}
 use Rattle.its_world.specs.State.{WorldState}
 use Rattle.its_simulation.specs.Simulated.{IsSimulated}
-use Rattle.its_air.proofs.run.Run.do_event.Goals.{in-Some-frame+in_ok-spread, in_default-frame}
+use Rattle.its_air.proofs.run.Run.do_event.Goals.{in-Some-frame+in_ok-schedule_frame, in_default-frame}
 use Rattle.its_air.proofs.run.Run.do_event.Goals as goal
 use Rattle.std.proofs.Common.{◌≡◌, ap, List, ℕ, Option, Some, Bool}
 use Rattle.std.specs.Prelude.{Vec}
@@ -20,16 +20,16 @@ returns-clause-run g c = λ configs events before.
     let e = event_of c.args.event.now in
     let done = c.in_ok-entry.ensures.run configs events before in
     elim c.match-frame.branch [
-      | in-Some-frame+in_ok-spread w ↦ rw w.self-is (rw w.sink-is (
+      | in-Some-frame+in_ok-schedule_frame w ↦ rw w.self-is (rw w.sink-is (
           subst (λ (x : WorldState). IsSimulated configs (events ++ e ∷ []) x
-          (g.S.EventSink.Took w.spread.new.sink))
-          (sym (w.spread.ensures.world ∙ c.follow.ensures.world))
+          (g.S.EventSink.Took w.schedule_frame.new.sink))
+          (sym (w.schedule_frame.ensures.world ∙ c.update_place.ensures.world))
           (told_on configs (events ++ e ∷ []) c.do_event.new.world
-          (g.S.EventSink.Took c.do_event.new.sink) (g.S.EventSink.Took w.spread.new.sink)
-          w.in_ok-spread.ensures.told done)))
+          (g.S.EventSink.Took c.do_event.new.sink) (g.S.EventSink.Took w.schedule_frame.new.sink)
+          w.in_ok-schedule_frame.ensures.told done)))
       | in_default-frame w ↦ rw w.self-is (rw w.sink-is (
           subst (λ (x : WorldState). IsSimulated configs (events ++ e ∷ []) x
-          (g.S.EventSink.Took c.do_event.new.sink)) (sym c.follow.ensures.world) done))
+          (g.S.EventSink.Took c.do_event.new.sink)) (sym c.update_place.ensures.world) done))
     ]
 
 pub returns-clause-answered : goal.returns-clause-answered
@@ -48,26 +48,26 @@ returns-clause-spread g c = λ rules configs events t goes_by before keeps.
     let l = answered_last after.log (entries (world_run (opening configs) events).log) a.answer
     a.last in
     let run = c.args.self.now in
-    let moved = c.follow.new.self in
+    let moved = c.update_place.new.self in
     let present : List Bool = run.present.items in
     let same : moved.present.items ≡ present =
-    ap (λ (v : Vec Bool Global). v.items) c.follow.ensures.present in
+    ap (λ (v : Vec Bool Global). v.items) c.update_place.ensures.present in
     let stands : RepresentsWorld moved.world after =
-    subst (λ (x : WorldState). RepresentsWorld x after) (sym c.follow.ensures.world)
+    subst (λ (x : WorldState). RepresentsWorld x after) (sym c.update_place.ensures.world)
     (c.in_ok-entry.ensures.run configs events before).stands in
     let kept : Keeps moved.queue moved.draws t =
-    subst (λ (q : Queue). Keeps q moved.draws t) (sym c.follow.ensures.queue)
-    (subst (λ (ws : List ℕ). Keeps run.queue ws t) (sym c.follow.ensures.draws) keeps) in
-    let goes = goes_on rules run moved goes_by c.follow.ensures.air c.follow.ensures.every
-    (ap (λ (q : Queue). q.until) c.follow.ensures.queue) in
+    subst (λ (q : Queue). Keeps q moved.draws t) (sym c.update_place.ensures.queue)
+    (subst (λ (ws : List ℕ). Keeps run.queue ws t) (sym c.update_place.ensures.draws) keeps) in
+    let goes = goes_on rules run moved goes_by c.update_place.ensures.air c.update_place.ensures.every
+    (ap (λ (q : Queue). q.until) c.update_place.ensures.queue) in
     let frame : c.frame.result ≡ given after.log = c.frame.ensures a.answer a.tells ∙ sym l.0 in
     elim c.match-frame.branch [
-      | in-Some-frame+in_ok-spread w ↦ rw w.self-is (
-          subst (λ (o : Option ℕ). Keeps w.spread.new.self.queue w.spread.new.self.draws
+      | in-Some-frame+in_ok-schedule_frame w ↦ rw w.self-is (
+          subst (λ (o : Option ℕ). Keeps w.schedule_frame.new.self.queue w.schedule_frame.new.self.draws
           (spread_frame rules present e after o t)) (sym w.in-Some-frame.is ∙ frame)
-          (subst (λ (l : List Bool). Keeps w.spread.new.self.queue w.spread.new.self.draws
+          (subst (λ (l : List Bool). Keeps w.schedule_frame.new.self.queue w.schedule_frame.new.self.draws
           (spread_frame rules l e after (Some w.in-Some-frame.frame) t)) same
-          (w.in_ok-spread.ensures.spread rules after t goes stands kept)))
+          (w.in_ok-schedule_frame.ensures.spread rules after t goes stands kept)))
       | in_default-frame w ↦ rw w.self-is (
           subst (λ (o : Option ℕ). Keeps moved.queue moved.draws
           (spread_frame rules present e after o t)) (sym w.in_default-frame.is ∙ frame) kept)

@@ -6,7 +6,7 @@ use Rattle.its_air.specs.Files.{SameFile}
 use Rattle.its_air.specs.Keeps.{Keeps}
 use Rattle.its_air.specs.Timetable.{Rules, send_all, spread_frame, heard_by}
 use Rattle.its_air.specs.declared.waiting.Queue.{Queue}
-use Rattle.its_air.proofs.run.Run.spread.Goals as goal
+use Rattle.its_air.proofs.run.Run.schedule_frame.Goals as goal
 
 pub returns-clause-spread : goal.returns-clause-spread
 returns-clause-spread g c = λ rules w t goes_by stands h.

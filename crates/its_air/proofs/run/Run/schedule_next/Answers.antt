@@ -1,7 +1,7 @@
 use Rattle.std.proofs.Common.{◌≡◌, ◌+◌, ◌∷◌, refl, ap, subst, rules, IsPermutation, heap_items}
 use Rattle.std.specs.Prelude.{slice_get, OnOk}
-use Rattle.its_air.specs.declared.waiting.Waiting.{Waiting}
-use Rattle.its_air.specs.declared.waiting.Own.TheVariants as owns
+use Rattle.its_air.specs.declared.waiting.Scheduled.{Scheduled}
+use Rattle.its_air.specs.declared.waiting.AirAction.TheVariants as owns
 use Rattle.its_air.specs.Keeps.{Keeps, follow_own}
 use Rattle.its_air.specs.Timetable.{Timetable, is_refusal, sending}
 use Rattle.its_air.specs.Traffics.{traffic_of}
@@ -34,21 +34,21 @@ returns-in-Send-clause-next c = λ w t answer stands tells h.
     let x = c.in-Send.traffic in
     let m = done.moment + c.from.result in
     let later : m ≡ done.moment + x.period = search rules in
-    let put : Waiting = record {
+    let put : Scheduled = record {
       moment = m;
-      place = queue.put;
+      place = queue.pushed;
       station = done.station;
       own = owns.Send n x;
     } in
-    on_ok_both c.put.result (IsPermutation (put ∷ heap_items queue.own) (heap_items c.put.new.self.own))
-    (c.put.new.self.put ≡ queue.put + 1)
-    (Keeps c.put.new.self words (follow_own done (is_refusal answer)
+    on_ok_both c.push.result (IsPermutation (put ∷ heap_items queue.own) (heap_items c.push.new.self.own))
+    (c.push.new.self.pushed ≡ queue.pushed + 1)
+    (Keeps c.push.new.self words (follow_own done (is_refusal answer)
     (slice_get w.stations done.station) t))
     (λ moves count.
-    subst (λ (u : Timetable). Keeps c.put.new.self words u)
+    subst (λ (u : Timetable). Keeps c.push.new.self words u)
     (follows_send done n x (is_refusal answer) (slice_get w.stations done.station) t c.in-Send.is)
-    (keeps_put_alone queue c.put.new.self words t put
+    (keeps_put_alone queue c.push.new.self words t put
     (sending (traffic_of n x) done.station (done.moment + x.period))
-    (record { due = c.put.ensures.due; taken = c.put.ensures.taken; until = c.put.ensures.until })
+    (record { due = c.push.ensures.due; taken = c.push.ensures.taken; until = c.push.ensures.until })
     moves count refl (ap (sending (traffic_of n x) done.station) later) h))
-    c.put.ensures.put c.put.ensures.count
+    c.push.ensures.put c.push.ensures.count

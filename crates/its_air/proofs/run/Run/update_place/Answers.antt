@@ -1,6 +1,6 @@
 use Rattle.std.proofs.Common.{◌≡◌, ◌∙◌, Some, sym, rules}
 use Rattle.its_air.proofs.Counts.{stand_still}
-use Rattle.its_air.proofs.run.Run.follow.Goals as goal
+use Rattle.its_air.proofs.run.Run.update_place.Goals as goal
 
 pub returns-else-not-stood_at-clause-standings : goal.returns-else-not-stood_at-clause-standings
 returns-else-not-stood_at-clause-standings c = λ before stand same was.

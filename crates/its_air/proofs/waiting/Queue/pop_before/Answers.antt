@@ -1,5 +1,5 @@
 use Rattle.std.specs.BinaryHeap.{heap_items}
-use Rattle.its_air.proofs.waiting.Queue.take_before.Goals as goal
+use Rattle.its_air.proofs.waiting.Queue.pop_before.Goals as goal
 
 pub invariant_of-self-in-Some-clause-counted : goal.invariant_of-self-in-Some-clause-counted
 invariant_of-self-in-Some-clause-counted c =

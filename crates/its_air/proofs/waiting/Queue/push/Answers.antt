@@ -2,7 +2,7 @@ use Rattle.std.proofs.Common.{sym, subst}
 use Rattle.std.specs.BinaryHeap.{heap_items, IsHeap}
 use Rattle.its_air.specs.Counted.{AreCounted}
 use Rattle.its_air.specs.Queues.{waiting_cmp}
-use Rattle.its_air.proofs.waiting.Queue.put.Goals as goal
+use Rattle.its_air.proofs.waiting.Queue.push.Goals as goal
 
 pub invariant_of-self : goal.invariant_of-self
 invariant_of-self c =
