@@ -107,8 +107,8 @@ struct Line {
     number: usize,
 }
 
-/// Has the area of each event that is told to, in its order, lie round where its station stands
-/// then: where the last move of it before has put it, else where it begins.
+/// Has the area of each event of a file lie round where its station stands then, if this is true of
+/// its line: where the last move of it before has put it, else where it begins.
 pub(crate) fn centre_areas(
     alloc: Global,
     stations: &[Config],
