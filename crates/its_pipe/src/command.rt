@@ -18,8 +18,8 @@ use std::alloc::Global;
 use std::io::{BufReader, Read, Write};
 
 /// Runs one station, which begins as the config says, on the lines of the input. What is answered
-/// to a line is written on `out` as one line, and flushed, before the next is read. Where the octets
-/// of the input are known the lines are all of its own, in order.
+/// to a line is written on `out` as one line, and flushed, before the next is read. Where the
+/// octets of the input are known the lines are all of its own, in order.
 ///
 /// `Refused` where a line could not be read, `Failed` where the input could not be read, `out` not
 /// be written, or memory ran out. The line of a fault is written on `err`.
@@ -42,7 +42,7 @@ pub fn run_station<R: Read + Drop, W: Write, E: Write>(
     }
 }
 
-/// So, of a run in which nothing failed.
+/// Serves the lines of the input by a new station, up to the first fault that ends it.
 fn serve_input<R: Read + Drop, W: Write>(
     alloc: Global,
     config: &Config,
