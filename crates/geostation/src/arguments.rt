@@ -1,7 +1,7 @@
 //! The arguments of the program.
 
 use crate::forms::add_commands;
-use crate::subcommand::{Subcommand, subcommand_of};
+use crate::subcommand::{Invocation, invocation_of};
 use crate::tip::tip_of;
 use clap::error::ErrorKind;
 use clap::{Command, Error};
@@ -26,11 +26,11 @@ pub fn read<'a>(
     alloc: Global,
     arguments: &'a [String],
     console: Console,
-) -> Result<Subcommand<'a>, Error> {
+) -> Result<Invocation<'a>, Error> {
     let mut program = whole(alloc)?;
     let matches = program.try_get_matches_from_mut(arguments)?;
-    match subcommand_of(&matches, console) {
-        Ok(Some(subcommand)) => Ok(subcommand),
+    match invocation_of(&matches, console) {
+        Ok(Some(invocation)) => Ok(invocation),
         Ok(None) => Err(program.error(ErrorKind::MissingSubcommand, "no command was given")?),
         Err(bad) => {
             let sentence = match tip_of(alloc, &bad)? {

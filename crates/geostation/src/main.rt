@@ -4,6 +4,7 @@
 
 mod arguments;
 mod choosing;
+mod fault;
 mod forms;
 mod program;
 mod station;

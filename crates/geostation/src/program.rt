@@ -5,15 +5,15 @@ ghost use Rattle.its_replay.specs.Units.{IsUnit};
 ghost use Rattle.its_world.specs.Events.{IsConfig};
 
 use crate::arguments;
+use crate::fault::ArgumentFault;
 use crate::station::StationArguments;
-use crate::subcommand::Subcommand;
+use crate::subcommand::{Convert, Import, Mesh, Replay, Show, Sim, Subcommand};
 use its_commands::{check_file, convert_file, import_file, show_file};
-use its_frame_text::Explanation;
 use its_mesh::mesh_file;
-use its_page::view_file;
+use its_page::{Viewing, view_file};
 use its_pipe::{Ended, run_station};
 use its_replay::{PortList, ReplayOptions, Unit, replay_file};
-use its_reporting::{Fault, Status};
+use its_reporting::{CommandFault, Fault, Io, OutputFormat, Status};
 use its_runs::simulate_file;
 use its_scenario::{KeyFault, SettingFault, WrongOf, read_station};
 use its_stats::stats_file;
@@ -43,28 +43,34 @@ pub fn run<
 where
     R::File: Read + Write + Drop,
 {
-    match collected(rt, arguments, err) {
+    match collected(rt, arguments) {
         Ok(arguments) => { run_buffered(rt, arguments.as_slice(), input, out, err, console) }
-        Err(status) => status,
+        Err(fault) => refuse(fault, err),
     }
 }
 
-/// The arguments, or the status of what kept them from being taken.
-fn collected<R: AllocGlobal, E: Write>(
+/// The arguments.
+fn collected<'f, R: AllocGlobal>(
     rt: &R,
     arguments: io::Result<Args>,
-    err: &mut E,
-) -> Result<Vec<String>, Status> {
+) -> Result<Vec<String>, ArgumentFault<'f>> {
     match arguments {
         Ok(arguments) => arguments
             .collect(rt.alloc())
-            .map_err(|_| Fault::OutOfMemory(AllocError).report(err)),
-        Err(error) if error.kind() == ErrorKind::InvalidData => {
-            let _ = writeln!(err, "error: an argument is not UTF-8");
-            Err(Status::BadArguments)
-        }
-        Err(_) => Err(Fault::OutOfMemory(AllocError).report(err)),
+            .map_err(|_| ArgumentFault::Stopped(Fault::OutOfMemory(AllocError))),
+        Err(error) if error.kind() == ErrorKind::InvalidData => Err(ArgumentFault::NotUtf8),
+        Err(_) => Err(ArgumentFault::Stopped(Fault::OutOfMemory(AllocError))),
     }
+}
+
+/// Ends before any command, by this fault.
+fn refuse<F: CommandFault + Drop, E: Write>(fault: F, err: &mut E) -> Status {
+    let mut io = Io {
+        out: (),
+        err,
+        format: OutputFormat::default(),
+    };
+    io.status_of(Err(fault))
 }
 
 /// Runs the command that the arguments name, with a buffer before standard output.
@@ -77,11 +83,16 @@ fn run_buffered<
 where
     R::File: Read + Write + Drop,
 {
-    let Ok(mut out) = BufWriter::new(rt.alloc(), out) else {
-        return Fault::OutOfMemory(AllocError).report(err);
+    let Ok(out) = BufWriter::new(rt.alloc(), out) else {
+        return refuse(Fault::OutOfMemory(AllocError), err);
     };
-    let status = dispatch(rt, arguments, input, &mut out, err, console);
-    match out.flush() {
+    let mut io = Io {
+        out,
+        err,
+        format: OutputFormat::default(),
+    };
+    let status = dispatch(rt, arguments, input, console, &mut io);
+    match io.out.flush() {
         Ok(()) => status,
         Err(_) => Status::Failed,
     }
@@ -91,132 +102,204 @@ fn dispatch<R: Files + Net + Clock + Eprint + AllocGlobal, I: Read + Drop, W: Wr
     rt: &R,
     arguments: &[String],
     input: I,
-    out: &mut W,
-    err: &mut E,
     console: Console,
+    io: &mut Io<W, E>,
 ) -> Status
 where
     R::File: Read + Write + Drop,
 {
     match arguments::read(rt.alloc(), arguments, console) {
-        Ok(
-            Subcommand::Show {
-                file,
-                selection,
-                showing,
-                names,
-                painter,
-            },
-        ) => {
-            let mut out = Screen::plain(rt.alloc(), out).painted(painter);
-            show_file(rt, file, input, &selection, showing, names, &mut out, err)
+        Ok(invocation) => {
+            io.format = invocation.format;
+            run_subcommand(rt, &invocation.subcommand, input, io)
         }
-        Ok(
-            Subcommand::Check {
-                file,
-                selection,
-                lines,
-            },
-        ) => check_file(rt, file, input, &selection, lines, out, err),
-        Ok(
-            Subcommand::Stats {
-                file,
-                selection,
-                counting,
-            },
-        ) => stats_file(rt, file, input, &selection, counting, out, err),
-        Ok(
-            Subcommand::Convert {
-                file,
-                selection,
-                out: target,
-                frames_only,
-                lines,
-                progress,
-            },
-        ) => {
-            let reading = Reading::of(rt, file, progress);
-            let mut err = Meter::new(rt.alloc(), rt, err, progress);
-            convert_file(
-                &reading,
-                file,
-                input,
-                &selection,
-                target,
-                frames_only,
-                lines,
-                out,
-                &mut err,
-            )
+        Err(error) => {
+            let answered = answer(&error, io);
+            io.status_of(answered)
         }
-        Ok(
-            Subcommand::Import {
-                file,
-                out: target,
-                lines,
-                progress,
-            },
-        ) => {
-            let reading = Reading::of(rt, file, progress);
-            let mut err = Meter::new(rt.alloc(), rt, err, progress);
-            import_file(&reading, file, input, target, lines, out, &mut err)
+    }
+}
+
+fn run_subcommand<
+    R: Files + Net + Clock + Eprint + AllocGlobal,
+    I: Read + Drop,
+    W: Write,
+    E: Write,
+>(rt: &R, subcommand: &Subcommand<'_>, input: I, io: &mut Io<W, E>) -> Status
+where
+    R::File: Read + Write + Drop,
+{
+    match subcommand {
+        Subcommand::Show(show) => show_records(rt, show, input, io),
+        Subcommand::Check(records) => {
+            check_file(rt, records.file, input, &records.selection, io)
         }
-        Ok(
-            Subcommand::Sim {
-                files,
-                options,
-                painter,
-            },
-        ) => {
-            let mut out = Screen::plain(rt.alloc(), out).painted(painter);
-            let mut err = Meter::new(rt.alloc(), rt, err, options.progress);
-            let status = simulate_file(rt, files, input, options, &mut out, &mut err);
-            let _ = err.flush();
-            status
+        Subcommand::Stats(records, top) => {
+            stats_file(rt, records.file, input, &records.selection, *top, io)
         }
-        Ok(Subcommand::View(viewing)) => {
-            let mut err = Meter::new(rt.alloc(), rt, err, viewing.options.progress);
-            let status = view_file(rt, viewing, input, out, &mut err);
-            let _ = err.flush();
-            status
+        Subcommand::Convert(convert) => convert_records(rt, convert, input, io),
+        Subcommand::Import(import) => import_lines(rt, import, input, io),
+        Subcommand::Sim(sim) => simulate(rt, sim, input, io),
+        Subcommand::View(viewing) => view(rt, viewing, input, io),
+        Subcommand::Mesh(mesh) => run_mesh(rt, mesh, input, io),
+        Subcommand::Replay(replay) => replay_records(rt, replay, input, io),
+        Subcommand::Station(station) => serve(rt.alloc(), station, input, io),
+        Subcommand::BadSetting(fault) => {
+            let fault = setting_fault(rt.alloc(), *fault, io.format.explain);
+            io.status_of(Err(fault))
         }
-        Ok(
-            Subcommand::Mesh {
-                file,
-                frames,
-                options,
-                heads,
-            },
-        ) => {
-            let mut out = Screen::plain(rt.alloc(), out).headed(heads.then_some(MESH_HEADS));
-            mesh_file(rt, file, input, frames, options, &mut out, err)
+    }
+}
+
+/// `show`, its lines in colours where they are.
+fn show_records<R: Files + AllocGlobal, I: Read + Drop, W: Write, E: Write>(
+    rt: &R,
+    show: &Show<'_>,
+    input: I,
+    io: &mut Io<W, E>,
+) -> Status
+where
+    R::File: Read + Drop,
+{
+    let mut io = Io {
+        out: Screen::plain(rt.alloc(), &mut io.out).painted(show.painter),
+        err: &mut io.err,
+        format: io.format,
+    };
+    let records = &show.records;
+    show_file(
+        rt,
+        records.file,
+        input,
+        &records.selection,
+        show.showing,
+        &mut io,
+    )
+}
+
+/// `convert`, which tells how far it is.
+fn convert_records<R: Files + Clock + Eprint + AllocGlobal, I: Read + Drop, W: Write, E: Write>(
+    rt: &R,
+    convert: &Convert<'_>,
+    input: I,
+    io: &mut Io<W, E>,
+) -> Status
+where
+    R::File: Read + Write + Drop,
+{
+    let reading = Reading::of(rt, convert.conversion.file, convert.progress);
+    let mut io = Io {
+        out: &mut io.out,
+        err: Meter::new(rt.alloc(), rt, &mut io.err, convert.progress),
+        format: io.format,
+    };
+    convert_file(
+        &reading,
+        convert.conversion,
+        &convert.selection,
+        input,
+        &mut io,
+    )
+}
+
+/// `import`, which tells how far it is.
+fn import_lines<R: Files + Clock + Eprint + AllocGlobal, I: Read + Drop, W: Write, E: Write>(
+    rt: &R,
+    import: &Import<'_>,
+    input: I,
+    io: &mut Io<W, E>,
+) -> Status
+where
+    R::File: Read + Write + Drop,
+{
+    let reading = Reading::of(rt, import.file, import.progress);
+    let mut io = Io {
+        out: &mut io.out,
+        err: Meter::new(rt.alloc(), rt, &mut io.err, import.progress),
+        format: io.format,
+    };
+    import_file(&reading, import.file, input, import.target, &mut io)
+}
+
+/// `sim`, its lines in colours where they are, which tells how far it is.
+fn simulate<R: Files + Clock + AllocGlobal, I: Read + Drop, W: Write, E: Write>(
+    rt: &R,
+    sim: &Sim<'_>,
+    input: I,
+    io: &mut Io<W, E>,
+) -> Status
+where
+    R::File: Read + Write + Drop,
+{
+    let mut io = Io {
+        out: Screen::plain(rt.alloc(), &mut io.out).painted(sim.painter),
+        err: Meter::new(rt.alloc(), rt, &mut io.err, sim.options.progress),
+        format: io.format,
+    };
+    let status = simulate_file(rt, &sim.files, input, &sim.options, &mut io);
+    let _ = io.err.flush();
+    status
+}
+
+/// `view`, which tells how far the run is.
+fn view<R: Files + Clock + AllocGlobal, I: Read + Drop, W: Write, E: Write>(
+    rt: &R,
+    viewing: &Viewing<'_>,
+    input: I,
+    io: &mut Io<W, E>,
+) -> Status
+where
+    R::File: Read + Write + Drop,
+{
+    let mut io = Io {
+        out: &mut io.out,
+        err: Meter::new(rt.alloc(), rt, &mut io.err, viewing.options.progress),
+        format: io.format,
+    };
+    let status = view_file(rt, viewing, input, &mut io);
+    let _ = io.err.flush();
+    status
+}
+
+/// `mesh`, with its column heads where someone looks.
+fn run_mesh<R: Files + Net + AllocGlobal, I: Read + Drop, W: Write, E: Write>(
+    rt: &R,
+    mesh: &Mesh<'_>,
+    input: I,
+    io: &mut Io<W, E>,
+) -> Status
+where
+    R::File: Read + Write + Drop,
+{
+    let heads = mesh.heads.then_some(MESH_HEADS);
+    let mut io = Io {
+        out: Screen::plain(rt.alloc(), &mut io.out).headed(heads),
+        err: &mut io.err,
+        format: io.format,
+    };
+    mesh_file(rt, mesh.file, input, mesh.frames, mesh.options, &mut io)
+}
+
+/// `replay`.
+fn replay_records<R: Files + AllocGlobal, I: Read + Drop, W: Write, E: Write>(
+    rt: &R,
+    replay: &Replay<'_>,
+    input: I,
+    io: &mut Io<W, E>,
+) -> Status
+where
+    R::File: Read + Write + Drop,
+{
+    match unit_of(&replay.station, replay.ports) {
+        Ok(unit) => {
+            let options = ReplayOptions {
+                file: replay.records.file,
+                selection: replay.records.selection,
+                unit,
+            };
+            replay_file(rt, &options, input, replay.frames, io)
         }
-        Ok(
-            Subcommand::Replay {
-                file,
-                selection,
-                station,
-                ports,
-                frames,
-                lines,
-            },
-        ) => match unit_of(&station, ports, err) {
-            Ok(unit) => {
-                let options = ReplayOptions {
-                    file,
-                    selection,
-                    unit,
-                    lines,
-                };
-                replay_file(rt, &options, input, frames, out, err)
-            }
-            Err(status) => status,
-        },
-        Ok(Subcommand::Station(station)) => serve(rt.alloc(), &station, input, out, err),
-        Ok(Subcommand::BadSetting { fault, explain }) => {
-            refuse_setting(rt.alloc(), fault, explain, err)
-        }
-        Err(error) => explain(&error, out, err),
+        Err(fault) => io.status_of(Err(fault)),
     }
 }
 
@@ -225,28 +308,23 @@ fn serve<I: Read + Drop, W: Write, E: Write>(
     alloc: Global,
     station: &StationArguments<'_>,
     input: I,
-    out: &mut W,
-    err: &mut E,
+    io: &mut Io<W, E>,
 ) -> Status {
-    match config_of(station, err) {
-        Ok(config) => match run_station(alloc, &config, input, out, err) {
+    match config_of(station) {
+        Ok(config) => match run_station(alloc, &config, input, &mut io.out, &mut io.err) {
             Ended::Done => Status::Done,
             Ended::Refused => Status::Refused,
             Ended::Failed => Status::Failed,
         },
-        Err(status) => status,
+        Err(fault) => io.status_of(Err(fault)),
     }
 }
 
 /// The station that these arguments describe, with these ports open from its start.
-fn unit_of<E: Write>(
-    station: &StationArguments<'_>,
-    ports: PortList,
-    err: &mut E,
-) -> Result<Unit, Status>
+fn unit_of<'f>(station: &StationArguments<'_>, ports: PortList) -> Result<Unit, ArgumentFault<'f>>
     ensures { IfOk result IsUnit }
 {
-    let config = config_of(station, err)?;
+    let config = config_of(station)?;
     Ok(Unit {
         address: config.address,
         place: config.place,
@@ -256,52 +334,41 @@ fn unit_of<E: Write>(
     })
 }
 
-/// The station that these arguments describe. Those that describe none are told with what was wrong.
-fn config_of<E: Write>(station: &StationArguments<'_>, err: &mut E) -> Result<Config, Status>
+/// The station that these arguments describe. The fault is the first key that describes none.
+fn config_of<'f>(station: &StationArguments<'_>) -> Result<Config, ArgumentFault<'f>>
     ensures { IfOk result IsConfig }
 {
     match read_station(station) {
         Ok(config) => Ok(config),
-        Err(KeyFault::Refused(key, wrong)) => {
-            let _ = writeln!(err, "error: {key}: {}", WrongOf(key, wrong));
-            Err(Status::BadArguments)
-        }
-        Err(KeyFault::OutOfMemory) => Err(Fault::OutOfMemory(AllocError).report(err)),
+        Err(KeyFault::Refused(key, wrong)) => { Err(ArgumentFault::Key(key, WrongOf(key, wrong))) }
+        Err(KeyFault::OutOfMemory) => Err(ArgumentFault::Stopped(Fault::OutOfMemory(AllocError))),
     }
 }
 
-/// Refuses a value of the air that was given beside a scenario.
-fn refuse_setting<E: Write>(
-    alloc: Global,
-    fault: SettingFault<'_>,
-    explain: bool,
-    err: &mut E,
-) -> Status {
-    let reason = if explain {
-        fault.reason(alloc)
-    } else {
-        Ok(None)
-    };
-    match reason {
-        Ok(reason) => {
-            let _ = writeln!(err, "geostation: {fault}{}", Explanation(reason));
-            Status::BadArguments
-        }
-        Err(error) => Fault::OutOfMemory(error).report(err),
+/// The refusal of a value of the air that was given beside a scenario, with its reason where codes
+/// are explained.
+fn setting_fault<'a>(alloc: Global, fault: SettingFault<'a>, explain: bool) -> ArgumentFault<'a> {
+    if !explain {
+        return ArgumentFault::Setting(fault, None);
+    }
+    match fault.reason(alloc) {
+        Ok(reason) => ArgumentFault::Setting(fault, reason),
+        Err(error) => ArgumentFault::Stopped(Fault::OutOfMemory(error)),
     }
 }
 
 /// Answers arguments that named no command: help on standard output, a refusal on standard error.
-fn explain<W: Write, E: Write>(error: &clap::Error, out: &mut W, err: &mut E) -> Status {
+fn answer<'f, W: Write, E: Write>(
+    error: &clap::Error,
+    io: &mut Io<W, E>,
+) -> Result<Status, Fault<'f>> {
     if error.kind() == clap::error::ErrorKind::OutOfMemory {
-        return Fault::OutOfMemory(AllocError).report(err);
+        return Err(Fault::OutOfMemory(AllocError));
     }
     if error.use_stderr() {
-        let _ = write!(err, "{error}");
-        return Status::BadArguments;
+        let _ = write!(io.err, "{error}");
+        return Ok(Status::BadArguments);
     }
-    match write!(out, "{error}") {
-        Ok(()) => Status::Done,
-        Err(_) => Status::Failed,
-    }
+    write!(io.out, "{error}")?;
+    Ok(Status::Done)
 }

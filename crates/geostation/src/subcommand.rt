@@ -5,7 +5,7 @@ use crate::choosing::{
 };
 use crate::station::StationArguments;
 use clap::ArgMatches;
-use its_commands::{Selection, Showing};
+use its_commands::{Conversion, Selection, Showing};
 use its_mesh::MeshOptions;
 use its_page::Viewing;
 use its_pcap::Format;
@@ -13,104 +13,139 @@ use its_replay::PortList;
 use its_reporting::{OutputFormat, Target, is_standard};
 use its_runs::{ResultFiles, RunFiles, RunOptions};
 use its_scenario::{AirSettings, SettingFault};
-use its_stats::Counting;
 use its_terminal::{Coloring, Console, Painter};
+
+/// What the program is to do, and how it prints lines.
+#[derive(Clone, Copy, Debug, PartialEq, Eq)]
+pub struct Invocation<'a> {
+    /// How lines are printed.
+    pub format: OutputFormat,
+    /// What it is to do.
+    pub subcommand: Subcommand<'a>,
+}
 
 /// What the program is to do.
 #[derive(Clone, Copy, Debug, PartialEq, Eq)]
 pub enum Subcommand<'a> {
-    /// To show the capture in the file.
-    Show {
-        file: &'a str,
-        selection: Selection,
-        showing: Showing,
-        names: Option<&'a str>,
-        painter: Option<Painter>,
-    },
-    /// To check the capture in the file.
-    Check {
-        file: &'a str,
-        selection: Selection,
-        lines: OutputFormat,
-    },
-    /// To count the records of the capture in the file.
-    Stats {
-        file: &'a str,
-        selection: Selection,
-        counting: Counting,
-    },
-    /// To write the records of the capture in the file to `out`.
-    Convert {
-        file: &'a str,
-        selection: Selection,
-        out: Target<'a>,
-        frames_only: bool,
-        lines: OutputFormat,
-        progress: bool,
-    },
-    /// To make the capture `out` of the lines in the file.
-    Import {
-        file: &'a str,
-        out: &'a str,
-        lines: OutputFormat,
-        progress: bool,
-    },
-    /// To run the scenario in a file, with its moves, and to write its frames and its numbers.
-    Sim {
-        files: RunFiles<'a>,
-        options: RunOptions,
-        painter: Option<Painter>,
-    },
+    /// To show records.
+    Show(Show<'a>),
+    /// To check records.
+    Check(Records<'a>),
+    /// To count records, and to tell of so many sources at most.
+    Stats(Records<'a>, Option<u64>),
+    /// To write records to another file.
+    Convert(Convert<'a>),
+    /// To make a capture of lines.
+    Import(Import<'a>),
+    /// To run a scenario.
+    Sim(Sim<'a>),
     /// To write the page with a run in it.
     View(Viewing<'a>),
-    /// To run the scenario in the file over sockets, and to write its frames to `frames`.
-    Mesh {
-        file: &'a str,
-        frames: Option<Target<'a>>,
-        options: MeshOptions,
-        heads: bool,
-    },
-    /// To give the records of the capture in the file to the station that its arguments describe,
-    /// whose ports are these, and to write the frames that it passes on to `frames`.
-    Replay {
-        file: &'a str,
-        selection: Selection,
-        station: StationArguments<'a>,
-        ports: PortList,
-        frames: Option<Target<'a>>,
-        lines: OutputFormat,
-    },
+    /// To run a scenario over sockets.
+    Mesh(Mesh<'a>),
+    /// To give records to one station.
+    Replay(Replay<'a>),
     /// To be one station, which these arguments describe.
     Station(StationArguments<'a>),
     /// To refuse a value of the air that was given beside a scenario.
-    BadSetting {
-        fault: SettingFault<'a>,
-        explain: bool,
-    },
+    BadSetting(SettingFault<'a>),
+}
+
+/// The records of a capture that are chosen.
+#[derive(Clone, Copy, Debug, PartialEq, Eq)]
+pub struct Records<'a> {
+    /// The capture's file.
+    pub file: &'a str,
+    /// Which of its records.
+    pub selection: Selection,
+}
+
+/// `show`.
+#[derive(Clone, Copy, Debug, PartialEq, Eq)]
+pub struct Show<'a> {
+    pub records: Records<'a>,
+    pub showing: Showing<'a>,
+    /// How lines in words are coloured, where they are.
+    pub painter: Option<Painter>,
+}
+
+/// `convert`.
+#[derive(Clone, Copy, Debug, PartialEq, Eq)]
+pub struct Convert<'a> {
+    pub conversion: Conversion<'a>,
+    pub selection: Selection,
+    /// Whether it is told how far it is.
+    pub progress: bool,
+}
+
+/// `import`.
+#[derive(Clone, Copy, Debug, PartialEq, Eq)]
+pub struct Import<'a> {
+    /// The file of the lines.
+    pub file: &'a str,
+    /// The capture that is made.
+    pub target: &'a str,
+    /// Whether it is told how far it is.
+    pub progress: bool,
+}
+
+/// `sim`: the files of the run, and how it is run.
+#[derive(Clone, Copy, Debug, PartialEq, Eq)]
+pub struct Sim<'a> {
+    pub files: RunFiles<'a>,
+    pub options: RunOptions,
+    /// How lines in words are coloured, where they are.
+    pub painter: Option<Painter>,
+}
+
+/// `mesh`.
+#[derive(Clone, Copy, Debug, PartialEq, Eq)]
+pub struct Mesh<'a> {
+    /// The scenario.
+    pub file: &'a str,
+    /// The file of frames, where they are written.
+    pub frames: Option<Target<'a>>,
+    pub options: MeshOptions,
+    /// Whether a line of column heads stands before the lines.
+    pub heads: bool,
+}
+
+/// `replay`.
+#[derive(Clone, Copy, Debug, PartialEq, Eq)]
+pub struct Replay<'a> {
+    pub records: Records<'a>,
+    /// The station.
+    pub station: StationArguments<'a>,
+    /// Its ports.
+    pub ports: PortList,
+    /// The file of the frames that it passes on, where they are written.
+    pub frames: Option<Target<'a>>,
 }
 
 /// The subcommand that was matched, of a program whose streams are these. One is required, as are
 /// its arguments, so there is an answer.
-pub(crate) fn subcommand_of<'a>(
+pub(crate) fn invocation_of<'a>(
     matches: &ArgMatches<'a>,
     console: Console,
-) -> Result<Option<Subcommand<'a>>, BadArgument<'a>> {
+) -> Result<Option<Invocation<'a>>, BadArgument<'a>> {
     let Some((name, inner)) = matches.subcommand() else {
         return Ok(None);
     };
-    match name {
-        "show" | "check" | "stats" | "convert" => over_capture(name, inner, console),
-        "station" => Ok(StationArguments::of(inner).map(Subcommand::Station)),
-        "replay" => replaying(inner, console),
-        "sim" => simulating(inner, console),
-        _ => Ok(other(name, inner, console)),
-    }
+    let format = output_format_of(name, inner, console);
+    let subcommand = match name {
+        "show" | "check" | "stats" | "convert" => over_capture(name, inner, console)?,
+        "station" => StationArguments::of(inner).map(Subcommand::Station),
+        "replay" => replaying(inner)?,
+        "sim" => simulating(inner, console)?,
+        _ => other(name, inner, console),
+    };
+    Ok(subcommand.map(|subcommand| Invocation { format, subcommand }))
 }
 
 /// How the lines of the command of this name are printed. Codes are explained where that is asked
 /// for and, unless it is refused, where someone looks: at both streams, or at standard error alone
 /// where a command writes a file and no lines. An option that a command doesn't have was not given.
-fn lines_of(name: &str, matches: &ArgMatches<'_>, console: Console) -> OutputFormat {
+fn output_format_of(name: &str, matches: &ArgMatches<'_>, console: Console) -> OutputFormat {
     let json = matches.get_flag("json");
     let is_watched = match name {
         "convert" | "import" | "view" => console.err,
@@ -144,47 +179,32 @@ fn over_capture<'a>(
         return Ok(None);
     };
     let selection = selection_of(matches, format_of(matches, "format"))?;
-    let lines = lines_of(name, matches, console);
+    let records = Records { file, selection };
     match name {
         "show" => {
             let names = fields_of(matches)?;
-            Ok(Some(showing(file, selection, lines, names, matches, console)))
+            Ok(Some(Subcommand::Show(showing(records, names, matches, console))))
         }
-        "stats" => Ok(Some(Subcommand::Stats {
-            file,
-            selection,
-            counting: Counting {
-                lines,
-                top: count_of(matches, "top")?,
-            },
-        })),
-        "check" => Ok(Some(Subcommand::Check {
-            file,
-            selection,
-            lines,
-        })),
-        _ => Ok(converting(file, selection, lines, matches, console)),
+        "stats" => Ok(Some(Subcommand::Stats(records, count_of(matches, "top")?))),
+        "check" => Ok(Some(Subcommand::Check(records))),
+        _ => Ok(converting(records, matches, console).map(Subcommand::Convert)),
     }
 }
 
 /// `show`. Rows of values are never coloured.
 fn showing<'a>(
-    file: &'a str,
-    selection: Selection,
-    lines: OutputFormat,
+    records: Records<'a>,
     names: Option<&'a str>,
     matches: &ArgMatches<'a>,
     console: Console,
-) -> Subcommand<'a> {
+) -> Show<'a> {
     let painter = painter_of(matches, console, Painter::Records);
-    Subcommand::Show {
-        file,
-        selection,
+    Show {
+        records,
         showing: Showing {
-            lines,
             time: time_of(matches),
+            names,
         },
-        names,
         painter: painter.filter(|_| names.is_none()),
     }
 }
@@ -196,39 +216,32 @@ fn output_of<'a>(matches: &ArgMatches<'a>) -> Option<&'a str> {
 
 /// `convert`.
 fn converting<'a>(
-    file: &'a str,
-    selection: Selection,
-    lines: OutputFormat,
+    records: Records<'a>,
     matches: &ArgMatches<'a>,
     console: Console,
-) -> Option<Subcommand<'a>> {
+) -> Option<Convert<'a>> {
     let name = output_of(matches)?;
-    Some(Subcommand::Convert {
-        file,
-        selection,
-        out: Target {
-            name,
-            to: format_of(matches, "to"),
+    Some(Convert {
+        conversion: Conversion {
+            file: records.file,
+            target: Target {
+                name,
+                to: format_of(matches, "to"),
+            },
+            frames_only: matches.get_flag("frames-only"),
         },
-        frames_only: matches.get_flag("frames-only"),
-        lines,
+        selection: records.selection,
         progress: shows_progress(matches, console, name),
     })
 }
 
 /// `import`.
-fn importing<'a>(
-    file: &'a str,
-    lines: OutputFormat,
-    matches: &ArgMatches<'a>,
-    console: Console,
-) -> Option<Subcommand<'a>> {
-    let out = output_of(matches)?;
-    Some(Subcommand::Import {
+fn importing<'a>(file: &'a str, matches: &ArgMatches<'a>, console: Console) -> Option<Import<'a>> {
+    let target = output_of(matches)?;
+    Some(Import {
         file,
-        out,
-        lines,
-        progress: shows_progress(matches, console, out),
+        target,
+        progress: shows_progress(matches, console, target),
     })
 }
 
@@ -238,21 +251,17 @@ fn shows_progress(matches: &ArgMatches<'_>, console: Console, target: &str) -> b
 }
 
 /// `replay`: its `--port` is the station's.
-fn replaying<'a>(
-    matches: &ArgMatches<'a>,
-    console: Console,
-) -> Result<Option<Subcommand<'a>>, BadArgument<'a>> {
+fn replaying<'a>(matches: &ArgMatches<'a>) -> Result<Option<Subcommand<'a>>, BadArgument<'a>> {
     let (Some(file), Some(station)) = (file_of(matches), StationArguments::of(matches)) else {
         return Ok(None);
     };
-    Ok(Some(Subcommand::Replay {
-        file,
-        selection: selection_to_any_port(matches, format_of(matches, "format"))?,
+    let selection = selection_to_any_port(matches, format_of(matches, "format"))?;
+    Ok(Some(Subcommand::Replay(Replay {
+        records: Records { file, selection },
         station,
         ports: ports_of(matches)?,
         frames: frames_of(matches),
-        lines: lines_of("replay", matches, console),
-    }))
+    })))
 }
 
 /// The file of frames, if one is asked for.
@@ -263,39 +272,31 @@ fn frames_of<'a>(matches: &ArgMatches<'a>) -> Option<Target<'a>> {
 
 /// Any other subcommand over a file.
 fn other<'a>(name: &str, inner: &ArgMatches<'a>, console: Console) -> Option<Subcommand<'a>> {
-    let lines = lines_of(name, inner, console);
     let frames = frames_of(inner);
     let file = file_of(inner)?;
     match name {
-        "import" => importing(file, lines, inner, console),
-        "view" => Some(Subcommand::View(viewing_of(inner, file, lines, console))),
-        "mesh" => Some(Subcommand::Mesh {
+        "import" => importing(file, inner, console).map(Subcommand::Import),
+        "view" => Some(Subcommand::View(viewing_of(inner, file, console))),
+        "mesh" => Some(Subcommand::Mesh(Mesh {
             file,
             frames,
             options: MeshOptions {
-                lines,
                 strict: inner.get_flag("strict"),
             },
-            heads: console.out && !lines.json,
-        }),
+            heads: console.out && !inner.get_flag("json"),
+        })),
         _ => None,
     }
 }
 
 /// `view`.
-fn viewing_of<'a>(
-    matches: &ArgMatches<'a>,
-    file: &'a str,
-    lines: OutputFormat,
-    console: Console,
-) -> Viewing<'a> {
+fn viewing_of<'a>(matches: &ArgMatches<'a>, file: &'a str, console: Console) -> Viewing<'a> {
     let target = matches.get_str("output").unwrap_or("-");
     Viewing {
         file,
         target,
         viewer: matches.get_str("viewer"),
         options: RunOptions {
-            lines,
             progress: shows_progress(matches, console, target),
             quiet: matches.get_flag("quiet"),
             ..RunOptions::default()
@@ -316,40 +317,39 @@ fn simulating<'a>(
     if is_standard(scenario) && moves.is_some_and(|name| is_standard(name)) {
         return Err(BadArgument::Value("moves", "-", "a file, as SCENARIO is standard input"));
     }
-    let lines = lines_of("sim", matches, console);
     Ok(Some(match settings_of(matches) {
-        Ok(settings) => Subcommand::Sim {
-            files: RunFiles {
-                scenario,
-                moves,
-                frames: frames_of(matches),
-                results: ResultFiles {
-                    sends: matches.get_str("sends"),
-                    stations: matches.get_str("stations"),
-                    load: matches.get_str("load"),
-                },
-            },
-            options: options_of(matches, lines, settings, console),
+        Ok(settings) => Subcommand::Sim(Sim {
+            files: files_of(matches, scenario, moves),
+            options: options_of(matches, settings, console),
             painter: painter_of(matches, console, Painter::Events),
-        },
-        Err(fault) => Subcommand::BadSetting {
-            fault,
-            explain: lines.explain,
-        },
+        }),
+        Err(fault) => Subcommand::BadSetting(fault),
     }))
 }
 
+/// The files of a run.
+fn files_of<'a>(
+    matches: &ArgMatches<'a>,
+    scenario: &'a str,
+    moves: Option<&'a str>,
+) -> RunFiles<'a> {
+    RunFiles {
+        scenario,
+        moves,
+        frames: frames_of(matches),
+        results: ResultFiles {
+            sends: matches.get_str("sends"),
+            stations: matches.get_str("stations"),
+            load: matches.get_str("load"),
+        },
+    }
+}
+
 /// How a scenario is run.
-fn options_of(
-    matches: &ArgMatches<'_>,
-    lines: OutputFormat,
-    settings: AirSettings,
-    console: Console,
-) -> RunOptions {
+fn options_of(matches: &ArgMatches<'_>, settings: AirSettings, console: Console) -> RunOptions {
     let summary = matches.get_flag("summary");
     let quiet = matches.get_flag("quiet");
     RunOptions {
-        lines,
         summary,
         notes: matches.get_flag("notes"),
         heads: console.out,

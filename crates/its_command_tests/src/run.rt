@@ -2,7 +2,7 @@
 //! else be carried along in the proof of each test.
 
 use its_commands::{Selection, Showing, check, show};
-use its_reporting::{OutputFormat, Status};
+use its_reporting::{Io, OutputFormat, Status};
 use its_runs::{RunOptions, simulate};
 use its_test_support::written;
 use std::alloc::Global;
@@ -18,14 +18,12 @@ pub(crate) enum Command {
     SimObjects,
 }
 
-/// The options of `sim` alone, or with lines as objects.
-fn options(json: bool) -> RunOptions {
-    RunOptions {
-        lines: OutputFormat {
-            json,
-            explain: false,
-        },
-        ..RunOptions::default()
+/// What a command prints to that prints no line, with this standard error.
+pub(crate) fn silent<E: Write>(err: E) -> Io<&'static [u8], E> {
+    Io {
+        out: &[],
+        err,
+        format: OutputFormat::default(),
     }
 }
 
@@ -37,21 +35,21 @@ pub(crate) fn run<R: Read + Drop, W: Write, E: Write>(
     out: &mut W,
     err: &mut E,
 ) -> Status {
-    let (all, lines) = (Selection::all(), OutputFormat::default());
+    let (all, options) = (Selection::all(), RunOptions::default());
+    let mut io = Io {
+        out,
+        err,
+        format: OutputFormat {
+            json: matches!(command, Command::SimObjects),
+            explain: false,
+        },
+    };
     match command {
-        Command::Show => show(
-            alloc,
-            "a.cap",
-            input,
-            &all,
-            Showing::of(lines),
-            None,
-            out,
-            err,
-        ),
-        Command::Check => check(alloc, "a.cap", input, &all, lines, out, err),
-        Command::Sim => simulate(alloc, "a.toml", input, options(false), out, err),
-        Command::SimObjects => simulate(alloc, "a.toml", input, options(true), out, err),
+        Command::Show => show(alloc, "a.cap", input, &all, Showing::lines(), &mut io),
+        Command::Check => check(alloc, "a.cap", input, &all, &mut io),
+        Command::Sim | Command::SimObjects => {
+            simulate(alloc, "a.toml", input, &options, &mut io)
+        }
     }
 }
 

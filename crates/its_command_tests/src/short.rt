@@ -1,8 +1,8 @@
 //! Commands with every budget of memory from none to enough.
 
-use crate::run::{Command, Left, left_of};
+use crate::run::{Command, Left, left_of, silent};
 use its_commands::{Selection, Showing, check_file, import_file, read_lines, show_file};
-use its_reporting::{OutputFormat, Status, create};
+use its_reporting::{Io, OutputFormat, Status, create};
 use its_test_support::{MOST, STEP, Shortage, written};
 use std::alloc::Global;
 use std::fs;
@@ -69,17 +69,10 @@ fn over(alloc: Global, command: Command, input: &[u8], whole: &[u8]) -> Option<b
 /// Two records are read, or none.
 fn import(alloc: Global) -> Option<bool> {
     let mut said = [0; 64];
-    let mut err = said.as_mut_slice();
-    let read = read_lines(
-        alloc,
-        "a.txt",
-        LINES.as_bytes(),
-        OutputFormat::default(),
-        &mut err,
-    );
-    let (status, count) = match read {
+    let mut io = silent(said.as_mut_slice());
+    let (status, count) = match read_lines(alloc, "a.txt", LINES.as_bytes()) {
         Ok(records) => (Status::Done, records.len()),
-        Err(status) => (status, 2),
+        Err(fault) => (io.status_of(Err(fault)), 2),
     };
     if count == 2 {
         was_done_silently(status, written(&said))
@@ -90,18 +83,13 @@ fn import(alloc: Global) -> Option<bool> {
 
 fn show_a_file(rt: &HostRuntime, file: &str, whole: &str) -> Option<bool> {
     let (mut printed, mut said) = ([0; 1200], [0; 64]);
-    let (mut out, mut err) = (printed.as_mut_slice(), said.as_mut_slice());
-    let showing = Showing::of(OutputFormat::default());
-    let status = show_file(
-        rt,
-        file,
-        NOTHING,
-        &Selection::all(),
-        showing,
-        None,
-        &mut out,
-        &mut err,
-    );
+    let mut io = Io {
+        out: printed.as_mut_slice(),
+        err: said.as_mut_slice(),
+        format: OutputFormat::default(),
+    };
+    let (all, showing) = (Selection::all(), Showing::lines());
+    let status = show_file(rt, file, NOTHING, &all, showing, &mut io);
     let left = Left {
         status,
         out: printed,
@@ -112,16 +100,12 @@ fn show_a_file(rt: &HostRuntime, file: &str, whole: &str) -> Option<bool> {
 
 fn check_a_file(rt: &HostRuntime, file: &str, whole: &str) -> Option<bool> {
     let (mut printed, mut said) = ([0; 1200], [0; 64]);
-    let (mut out, mut err) = (printed.as_mut_slice(), said.as_mut_slice());
-    let status = check_file(
-        rt,
-        file,
-        NOTHING,
-        &Selection::all(),
-        OutputFormat::default(),
-        &mut out,
-        &mut err,
-    );
+    let mut io = Io {
+        out: printed.as_mut_slice(),
+        err: said.as_mut_slice(),
+        format: OutputFormat::default(),
+    };
+    let status = check_file(rt, file, NOTHING, &Selection::all(), &mut io);
     let left = Left {
         status,
         out: printed,
@@ -138,16 +122,12 @@ fn size_of(rt: &HostRuntime, file: &str) -> Option<u64> {
 /// The status of an import, with what it said.
 pub(crate) fn import_a_file(rt: &HostRuntime, from: &str, to: &str) -> (Status, [u8; 64]) {
     let (mut printed, mut said) = ([0; 8], [0; 64]);
-    let (mut out, mut err) = (printed.as_mut_slice(), said.as_mut_slice());
-    let status = import_file(
-        rt,
-        from,
-        NOTHING,
-        to,
-        OutputFormat::default(),
-        &mut out,
-        &mut err,
-    );
+    let mut io = Io {
+        out: printed.as_mut_slice(),
+        err: said.as_mut_slice(),
+        format: OutputFormat::default(),
+    };
+    let status = import_file(rt, from, NOTHING, to, &mut io);
     (status, said)
 }
 
@@ -168,9 +148,12 @@ fn import_anew(rt: &HostRuntime, from: &str, to: &str) -> Option<bool> {
 
 fn create_a_file(rt: &HostRuntime, file: &str) -> Option<bool> {
     let mut said = [0; 64];
-    let mut err = said.as_mut_slice();
-    let created = create(rt, file, OutputFormat::default(), &mut err);
-    was_done_silently(created.err().unwrap_or(Status::Done), written(&said))
+    let mut io = silent(said.as_mut_slice());
+    let status = match create(rt, file) {
+        Ok(_) => Status::Done,
+        Err(fault) => io.status_of(Err(fault)),
+    };
+    was_done_silently(status, written(&said))
 }
 
 /// Whether it is done, or memory runs out; `None` where it ends otherwise.

@@ -7,7 +7,7 @@ use crate::output::Output;
 use crate::told::{Count, RefusedRecord};
 use its_linkframe::FrameView;
 use its_records::{Place, RecordFault, RecordVisitor, Selection, each_record, open_records};
-use its_reporting::{Fault, OutputFormat, Status, status_of};
+use its_reporting::{Fault, Io, Status};
 use std::alloc::Global;
 use std::io::{Read, Write};
 
@@ -43,29 +43,28 @@ pub fn check<R: Read + Drop, W: Write, E: Write>(
     file: &str,
     reader: R,
     selection: &Selection,
-    lines: OutputFormat,
-    out: &mut W,
-    err: &mut E,
+    io: &mut Io<W, E>,
 ) -> Status
     ensures { IsCommandStatus result }
 {
-    let ended = check_capture(alloc, file, reader, selection, lines, out);
-    status_of(ended, lines, err)
+    let ended = check_records(alloc, file, reader, selection, io);
+    io.status_of(ended)
 }
 
-fn check_capture<'a, R: Read + Drop, W: Write>(
+/// The same, with the fault that ends it.
+pub(crate) fn check_records<'a, R: Read + Drop, W: Write, E>(
     alloc: Global,
     file: &'a str,
     reader: R,
     selection: &Selection,
-    lines: OutputFormat,
-    out: &mut W,
+    io: &mut Io<W, E>,
 ) -> Result<Status, Fault<'a>>
     ensures { IfOk result IsCommandStatus }
 {
     let mut visitor = RefusedRecords {
-        output: Output::new(alloc, lines)?,
+        output: Output::new(alloc, io.format)?,
     };
+    let out = &mut io.out;
     let mut source = open_records(alloc, file, selection.format, reader)?;
     let walked = each_record(alloc, file, selection, &mut source, &mut visitor, out)?;
     visitor.output.end(&walked, out)?;

@@ -12,80 +12,91 @@ use its_pcap::{
     AnySource, Format, LONGEST_CAPTURED, RecordHeader, RecordSource, SinkFault, SourceFault, Step,
 };
 use its_records::{FileFault, RefusedCapture, Selection};
-use its_reporting::{Fault, LeftOut, OutputFormat, Status, status_of};
+use its_reporting::{Fault, Io, LeftOut, OutputFormat, Status, Target};
 use std::alloc::Global;
 use std::io::{Read, Write};
 
 /// What is converted, and to what.
-#[derive(Clone, Copy, Debug)]
+#[derive(Clone, Copy, Debug, PartialEq, Eq)]
 pub struct Conversion<'a> {
     /// The name of the file that is read.
     pub file: &'a str,
-    /// The name of the file that is written. `-` is standard output.
-    pub target: &'a str,
-    /// Its format.
-    pub to: Format,
+    /// The file that is written. `-` is standard output.
+    pub target: Target<'a>,
     /// Whether frames are written in place of the records that they stand in. To a capture they are
     /// in any case.
     pub frames_only: bool,
-    /// How lines on standard error are printed: only `explain` counts.
-    pub lines: OutputFormat,
 }
 
-/// Writes the chosen records of the file that the reader gives to the one that the writer makes, one by
-/// one, in order. Frames are not checked. A record that has no place in the file is told on
-/// standard error, and left out; so is the fault that ends the file, and what was read before it is
-/// written.
+/// Writes the chosen records of the file that the reader gives to the one that `io.out` makes, in
+/// the format `to`, one by one, in order. Frames are not checked. A record that has no place in the
+/// file is told on standard error, and left out; so is the fault that ends the file, and what was
+/// read before it is written.
 ///
 /// `Refused` where either was told, `Failed` where a read or a write failed or memory ran out.
-pub fn convert<R: Read + Drop, W: Write + Drop, E: Write>(
+pub fn convert<R: Read + Drop, W: Write, E: Write>(
     alloc: Global,
     conversion: Conversion<'_>,
+    to: Format,
     selection: &Selection,
     reader: R,
-    writer: W,
-    err: &mut E,
+    io: &mut Io<W, E>,
 ) -> Status
     ensures { IsCommandStatus result }
 {
-    let ended = convert_records(alloc, conversion, selection, reader, writer, err);
-    status_of(ended, conversion.lines, err)
+    let ended = convert_records(alloc, conversion, to, selection, reader, io);
+    io.status_of(ended)
 }
 
-fn convert_records<'a, R: Read + Drop, W: Write + Drop, E: Write>(
+/// The same, with the fault that ends it.
+pub(crate) fn convert_records<'a, R: Read + Drop, W: Write, E: Write>(
     alloc: Global,
     conversion: Conversion<'a>,
+    to: Format,
     selection: &Selection,
     reader: R,
-    writer: W,
-    err: &mut E,
+    io: &mut Io<W, E>,
 ) -> Result<Status, Fault<'a>>
     ensures { IfOk result IsCommandStatus }
 {
-    let mut written = Written::new(writer, conversion.to, conversion.frames_only);
+    let mut written = Written::new(&mut io.out, to, conversion.frames_only);
+    let mut telling = Telling {
+        file: conversion.file,
+        read_as: selection.format,
+        format: io.format,
+        err: &mut io.err,
+    };
+    let target = conversion.target.name;
     let keep = LONGEST_CAPTURED as usize;
     let ended = match AnySource::open(alloc, Counted::new(reader), selection.format, keep) {
-        Ok(mut source) => copy(alloc, conversion, selection, &mut source, &mut written, err),
-        Err(fault) => end_file(fault, conversion, selection, 0, err),
+        Ok(mut source) => copy(
+            alloc,
+            target,
+            selection,
+            &mut source,
+            &mut written,
+            &mut telling,
+        ),
+        Err(fault) => telling.end_file(fault, 0),
     };
     let is_whole = written.end();
     let flushed = written.into_writer().flush();
     let status = ended?;
     if !is_whole || flushed.is_err() {
-        return Err(Fault::of_target(conversion.target));
+        return Err(Fault::of_target(target));
     }
     Ok(status)
 }
 
-/// Writes the records of the source that are chosen, one by one, until it ends. A record that has no
-/// place in the file is told, and left out.
+/// Writes the records of the source that are chosen to the file `target`, one by one, until it ends.
+/// A record that has no place in the file is told, and left out.
 fn copy<'a, S: Source + Drop, W: Write + Drop, E: Write>(
     alloc: Global,
-    conversion: Conversion<'a>,
+    target: &'a str,
     selection: &Selection,
     source: &mut AnySource<S>,
     written: &mut Written<W>,
-    err: &mut E,
+    telling: &mut Telling<'a, '_, E>,
 ) -> Result<Status, Fault<'a>>
     ensures command { IfOk result IsCommandStatus }
     ensures copied { IfOk result (IsCopied Gives layer_of_source selection.now.choice
@@ -103,14 +114,14 @@ fn copy<'a, S: Source + Drop, W: Write + Drop, E: Write>(
         }
         let met = go_on(
             selection,
-            conversion.target,
+            target,
             source,
             linked,
             &mut octets,
             &mut room,
             written,
         )?;
-        tell(met, conversion, selection, progress.records, err)?;
+        telling.tell(met, progress.records)?;
         progress = progress.after(met);
         if met.is_end() {
             return Ok(progress.status());
@@ -270,40 +281,41 @@ fn copy_record<'a, W: Write + Drop>(
     }
 }
 
-/// Tells what a step met, after so many records: that the record is left out, or the fault of the
-/// file.
-fn tell<'a, E: Write>(
-    met: Met,
-    conversion: Conversion<'a>,
-    selection: &Selection,
-    records: u64,
-    err: &mut E,
-) -> Result<(), Fault<'a>> {
-    match met {
-        Met::Record(Copied::LeftOut(fault)) => {
-            let left_out = LeftOut::new("record", records, fault, conversion.lines);
-            let _ = writeln!(err, "{left_out}");
-        }
-        Met::End(Some(fault)) => {
-            end_file(fault, conversion, selection, records, err)?;
-        }
-        _ => {}
-    }
-    Ok(())
+/// What is told on standard error of the file that is read.
+#[derive(Drop)]
+struct Telling<'a, 'e, E> {
+    /// Its name.
+    file: &'a str,
+    /// The format that it was said to have.
+    read_as: Option<Format>,
+    format: OutputFormat,
+    err: &'e mut E,
 }
 
-/// Tells the fault of the file after so many records, or says why it was not read on.
-fn end_file<'a, E: Write>(
-    fault: SourceFault,
-    conversion: Conversion<'a>,
-    selection: &Selection,
-    records: u64,
-    err: &mut E,
-) -> Result<Status, Fault<'a>>
-    ensures { IfOk result IsCommandStatus }
-{
-    let fault = FileFault::of(fault, conversion.file, records, selection.format)?;
-    let told = RefusedCapture::new(records, fault, conversion.lines.explain);
-    let _ = writeln!(err, "geostation: {told}");
-    Ok(Status::Refused)
+impl<'a, E: Write> Telling<'a, '_, E> {
+    /// Tells what a step met, after so many records: that the record is left out, or the fault of
+    /// the file.
+    fn tell(&mut self, met: Met, records: u64) -> Result<(), Fault<'a>> {
+        match met {
+            Met::Record(Copied::LeftOut(fault)) => {
+                let left_out = LeftOut::new("record", records, fault, self.format);
+                let _ = writeln!(self.err, "{left_out}");
+            }
+            Met::End(Some(fault)) => {
+                self.end_file(fault, records)?;
+            }
+            _ => {}
+        }
+        Ok(())
+    }
+
+    /// Tells the fault of the file after so many records, or says why it was not read on.
+    fn end_file(&mut self, fault: SourceFault, records: u64) -> Result<Status, Fault<'a>>
+        ensures { IfOk result IsCommandStatus }
+    {
+        let fault = FileFault::of(fault, self.file, records, self.read_as)?;
+        let told = RefusedCapture::new(records, fault, self.format.explain);
+        let _ = writeln!(self.err, "geostation: {told}");
+        Ok(Status::Refused)
+    }
 }

@@ -1,18 +1,20 @@
 //! The commands over named files. A file that is read is standard input where its name is `-`.
 
-ghost use Rattle.std.specs.Prelude.{◌≡◌, IfOk, IfErr, None, true};
+ghost use Rattle.std.specs.Prelude.{◌≡◌, IfErr, IfOk, None, true};
+ghost use Rattle.its_commands.specs.Faults.{show_fault_status};
 ghost use Rattle.its_commands.specs.declared.moment.Time.TheVariants as times;
 ghost use Rattle.its_reporting.specs.FileNames.{format_of_output};
 ghost use Rattle.its_reporting.specs.FileNames.{is_standard as names_standard};
-ghost use Rattle.its_reporting.specs.Statuses.{IsCommandStatus, IsWriterStatus};
+ghost use Rattle.its_reporting.specs.Statuses.{IsCommandStatus};
 
-use crate::checking::check;
-use crate::converting::{Conversion, convert};
-use crate::importing::{read_lines, write_records};
-use crate::showing::{Showing, show};
+use crate::checking::check_records;
+use crate::converting::{Conversion, convert_records};
+use crate::importing::{LinesFault, read_lines, write_records};
+use crate::showing::{ShowFault, Showing, show_records};
+use its_pcap::Format;
 use its_records::Selection;
 use its_reporting::{
-    OutputFormat, Status, Target, create, create_apart, is_standard, keep_apart, open,
+    Fault, Io, Status, WriterFault, create, create_apart, is_standard, keep_apart, open,
 };
 use std::io::{Read, Write};
 use std::rt::Files;
@@ -20,35 +22,42 @@ use std::rt::Files;
 /// Prints a line, or a row of values, for each record of the file that is chosen. `input` is
 /// standard input.
 ///
-/// `BadArguments` where moments are to be told in UTC and the file has no epoch. `Refused` where such a record or the file was refused, `Failed` where the file could not be read or
-/// standard output not written, or memory ran out.
+/// `BadArguments` where moments are to be told in UTC and the file has no epoch. `Refused` where
+/// such a record or the file was refused, `Failed` where the file could not be read or standard
+/// output not written, or memory ran out.
 pub fn show_file<R: Files + AllocGlobal, I: Read + Drop, W: Write, E: Write>(
     rt: &R,
     file: &str,
     input: I,
     selection: &Selection,
-    showing: Showing,
-    names: Option<&str>,
-    out: &mut W,
-    err: &mut E,
+    showing: Showing<'_>,
+    io: &mut Io<W, E>,
 ) -> Status
 where
     R::File: Read + Drop,
     ensures { ¬ (showing.time ≡ times.Utc) → IsCommandStatus result }
 {
-    match open(rt, file, input, showing.lines, err) {
-        Ok(reader) => show(
-            rt.alloc(),
-            file,
-            reader,
-            selection,
-            showing,
-            names,
-            out,
-            err,
-        ),
-        Err(status) => status,
-    }
+    let ended = show_named(rt, file, input, selection, showing, io);
+    io.status_of(ended)
+}
+
+/// The same, with the fault that ends it.
+fn show_named<'a, R: Files + AllocGlobal, I: Read + Drop, W: Write, E: Write>(
+    rt: &R,
+    file: &'a str,
+    input: I,
+    selection: &Selection,
+    showing: Showing<'_>,
+    io: &mut Io<W, E>,
+) -> Result<Status, ShowFault<'a>>
+where
+    R::File: Read + Drop,
+    ensures done { IfOk result IsCommandStatus }
+    ensures stopped { ¬ (showing.time ≡ times.Utc) →
+        IfErr result (λ fault. IsCommandStatus (show_fault_status fault)) }
+{
+    let reader = open(rt, file, input)?;
+    show_records(rt.alloc(), file, reader, selection, showing, io)
 }
 
 /// Prints a line for each refused record of the file that is chosen, and how many records were
@@ -61,22 +70,34 @@ pub fn check_file<R: Files + AllocGlobal, I: Read + Drop, W: Write, E: Write>(
     file: &str,
     input: I,
     selection: &Selection,
-    lines: OutputFormat,
-    out: &mut W,
-    err: &mut E,
+    io: &mut Io<W, E>,
 ) -> Status
 where
     R::File: Read + Drop,
     ensures { IsCommandStatus result }
 {
-    match open(rt, file, input, lines, err) {
-        Ok(reader) => check(rt.alloc(), file, reader, selection, lines, out, err),
-        Err(status) => status,
-    }
+    let ended = check_named(rt, file, input, selection, io);
+    io.status_of(ended)
+}
+
+/// The same, with the fault that ends it.
+fn check_named<'a, R: Files + AllocGlobal, I: Read + Drop, W: Write, E>(
+    rt: &R,
+    file: &'a str,
+    input: I,
+    selection: &Selection,
+    io: &mut Io<W, E>,
+) -> Result<Status, Fault<'a>>
+where
+    R::File: Read + Drop,
+    ensures { IfOk result IsCommandStatus }
+{
+    let reader = open(rt, file, input)?;
+    check_records(rt.alloc(), file, reader, selection, io)
 }
 
 /// Makes the capture `target` of the lines in the file. All lines are read before it is created; a
-/// target `-` is standard output. `input` is standard input. Of `lines` only `explain` counts.
+/// target `-` is standard output. `input` is standard input.
 ///
 /// `BadArguments` where the target is the file itself, before a line is read. `Refused` for a bad
 /// line, `Failed` where a file could not be read, created or written, or memory ran out.
@@ -85,152 +106,123 @@ pub fn import_file<R: Files + AllocGlobal, I: Read + Drop, W: Write, E: Write>(
     file: &str,
     input: I,
     target: &str,
-    lines: OutputFormat,
-    out: &mut W,
-    err: &mut E,
+    io: &mut Io<W, E>,
 ) -> Status
 where
     R::File: Read + Write + Drop,
     ensures { names_standard target.now ≡ true → IsCommandStatus result }
 {
-    let ended = if is_standard(target) {
-        import_to_output(rt, file, input, target, lines, out, err)
-    } else {
-        import_to_file(rt, file, input, target, lines, err)
-    };
-    match ended {
-        Ok(status) => status,
-        Err(status) => status,
+    if is_standard(target) {
+        let ended = import_to_output(rt, file, input, target, &mut io.out);
+        return io.status_of(ended);
     }
+    let ended = import_to_file(rt, file, input, target);
+    io.status_of(ended)
 }
 
-/// Reads the lines, and only then writes the capture to standard output. An `Err` is the status of
-/// what stopped it before.
-fn import_to_output<R: Files + AllocGlobal, I: Read + Drop, W: Write, E: Write>(
+/// Reads the lines, and only then writes the capture to standard output.
+fn import_to_output<'a, R: Files + AllocGlobal, I: Read + Drop, W: Write>(
     rt: &R,
-    file: &str,
+    file: &'a str,
     input: I,
-    target: &str,
-    lines: OutputFormat,
+    target: &'a str,
     out: &mut W,
-    err: &mut E,
-) -> Result<Status, Status>
+) -> Result<Status, LinesFault<'a>>
 where
     R::File: Read + Write + Drop,
-    ensures written { IfOk result IsWriterStatus }
-    ensures stopped { IfErr result IsCommandStatus }
+    ensures { IfOk result (λ status. status ≡ Status.Done) }
 {
-    let reader = open(rt, file, input, lines, err)?;
-    let records = read_lines(rt.alloc(), file, reader, lines, err)?;
-    Ok(write_records(target, records.as_slice(), out, err))
+    let reader = open(rt, file, input)?;
+    let records = read_lines(rt.alloc(), file, reader)?;
+    Ok(write_records(target, records.as_slice(), out)?)
 }
 
-/// Reads the lines, and only then creates the capture. An `Err` is the status of what stopped it
-/// before the first record was written.
-fn import_to_file<R: Files + AllocGlobal, I: Read + Drop, E: Write>(
+/// Reads the lines, and only then creates the capture.
+fn import_to_file<'a, R: Files + AllocGlobal, I: Read + Drop>(
     rt: &R,
-    file: &str,
+    file: &'a str,
     input: I,
-    target: &str,
-    lines: OutputFormat,
-    err: &mut E,
-) -> Result<Status, Status>
+    target: &'a str,
+) -> Result<Status, WriterFault<'a, LinesFault<'a>>>
 where
     R::File: Read + Write + Drop,
-    ensures { IfOk result IsWriterStatus }
+    ensures { IfOk result (λ status. status ≡ Status.Done) }
 {
-    let reader = open(rt, file, input, lines, err)?;
-    keep_apart(rt, target, file, err)?;
-    let records = read_lines(rt.alloc(), file, reader, lines, err)?;
-    let created = create(rt, target, lines, err)?;
-    Ok(write_records(target, records.as_slice(), created, err))
+    let reader = open(rt, file, input)?;
+    keep_apart(rt, target, file)?;
+    let records = read_lines(rt.alloc(), file, reader)?;
+    let created = create(rt, target)?;
+    Ok(write_records(target, records.as_slice(), created)?)
 }
 
-/// Writes the records of the file that are chosen to `target`, which is created once the file is
-/// open; one named `-` is standard output. `input` is standard input. With `frames_only`, and to a
-/// capture in any case, frames are written in place of records. Of `lines` only `explain` counts.
+/// Writes the records of the file that are chosen to the conversion's target, which is created once
+/// the file is open. `input` is standard input.
 ///
 /// `BadArguments`, before anything is opened, where nothing says the target's format, and before it
 /// is created where it is the file itself. `Refused` where a record was left out or the file was
 /// refused, `Failed` where a file could not be read, created or written, or memory ran out.
-pub fn convert_file<'a, R: Files + AllocGlobal, I: Read + Drop, W: Write, E: Write>(
+pub fn convert_file<R: Files + AllocGlobal, I: Read + Drop, W: Write, E: Write>(
     rt: &R,
-    file: &'a str,
-    input: I,
+    conversion: Conversion<'_>,
     selection: &Selection,
-    target: Target<'a>,
-    frames_only: bool,
-    lines: OutputFormat,
-    out: &mut W,
-    err: &mut E,
+    input: I,
+    io: &mut Io<W, E>,
 ) -> Status
 where
     R::File: Read + Write + Drop,
-    ensures format { format_of_output target.entry.to target.entry.name.now ≡ None
-        → result ≡ Status.BadArguments }
-    ensures standard { names_standard target.entry.name.now ≡ true
-        → ¬ (format_of_output target.entry.to target.entry.name.now ≡ None) → IsCommandStatus result }
+    ensures format { format_of_output conversion.entry.target.to conversion.entry.target.name.now
+        ≡ None → result ≡ Status.BadArguments }
+    ensures standard { names_standard conversion.entry.target.name.now ≡ true
+        → ¬ (format_of_output conversion.entry.target.to conversion.entry.target.name.now ≡ None)
+        → IsCommandStatus result }
 {
-    let to = match target.format() {
+    let to = match conversion.target.format() {
         Ok(to) => to,
-        Err(fault) => return fault.report(err),
+        Err(fault) => return io.status_of(Err(fault)),
     };
-    let conversion = Conversion {
-        file,
-        target: target.name,
-        to,
-        frames_only,
-        lines,
-    };
-    let ended = if is_standard(target.name) {
-        convert_to_output(rt, conversion, selection, input, out, err)
-    } else {
-        convert_to_file(rt, conversion, selection, input, err)
-    };
-    match ended {
-        Ok(status) => status,
-        Err(status) => status,
+    if is_standard(conversion.target.name) {
+        let ended = convert_to_output(rt, conversion, to, selection, input, io);
+        return io.status_of(ended);
     }
+    let ended = convert_to_file(rt, conversion, to, selection, input, io);
+    io.status_of(ended)
 }
 
-/// Writes the records to standard output. An `Err` is the status of what failed before.
-fn convert_to_output<R: Files + AllocGlobal, I: Read + Drop, W: Write, E: Write>(
+/// Writes the records to standard output.
+fn convert_to_output<'a, R: Files + AllocGlobal, I: Read + Drop, W: Write, E: Write>(
     rt: &R,
-    conversion: Conversion<'_>,
+    conversion: Conversion<'a>,
+    to: Format,
     selection: &Selection,
     input: I,
-    out: &mut W,
-    err: &mut E,
-) -> Result<Status, Status>
-where
-    R::File: Read + Write + Drop,
-    ensures converted { IfOk result IsCommandStatus }
-    ensures stopped { IfErr result (λ status. status ≡ Status.Failed) }
-{
-    let reader = open(rt, conversion.file, input, conversion.lines, err)?;
-    Ok(convert(rt.alloc(), conversion, selection, reader, out, err))
-}
-
-/// Opens the file, and only then creates the target. An `Err` is the status of what stopped it at
-/// that.
-fn convert_to_file<R: Files + AllocGlobal, I: Read + Drop, E: Write>(
-    rt: &R,
-    conversion: Conversion<'_>,
-    selection: &Selection,
-    input: I,
-    err: &mut E,
-) -> Result<Status, Status>
+    io: &mut Io<W, E>,
+) -> Result<Status, Fault<'a>>
 where
     R::File: Read + Write + Drop,
     ensures { IfOk result IsCommandStatus }
 {
-    let reader = open(rt, conversion.file, input, conversion.lines, err)?;
-    let created = create_apart(
-        rt,
-        conversion.target,
-        conversion.file,
-        conversion.lines,
-        err,
-    )?;
-    Ok(convert(rt.alloc(), conversion, selection, reader, created, err))
+    let reader = open(rt, conversion.file, input)?;
+    convert_records(rt.alloc(), conversion, to, selection, reader, io)
+}
+
+/// Opens the file, and only then creates the target.
+fn convert_to_file<'a, R: Files + AllocGlobal, I: Read + Drop, W: Write, E: Write>(
+    rt: &R,
+    conversion: Conversion<'a>,
+    to: Format,
+    selection: &Selection,
+    input: I,
+    io: &mut Io<W, E>,
+) -> Result<Status, WriterFault<'a, Fault<'a>>>
+where
+    R::File: Read + Write + Drop,
+    ensures { IfOk result IsCommandStatus }
+{
+    let reader = open(rt, conversion.file, input)?;
+    let mut to_file = Io {
+        out: create_apart(rt, conversion.target.name, conversion.file)?,
+        err: &mut io.err,
+        format: io.format,
+    };
+    Ok(convert_records(rt.alloc(), conversion, to, selection, reader, &mut to_file)?)
 }

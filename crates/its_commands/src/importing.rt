@@ -1,16 +1,15 @@
 //! The command `import`: lines of a moment and hexadecimal digits become a capture.
 
-ghost use Rattle.std.specs.Prelude.{◌≡◌, ◌+◌, ◌%◌, ◌==◌, ℕ, IfOk, IfErr, All, IsErr, IsTrue, ◌⊎◌};
+ghost use Rattle.std.specs.Prelude.{◌≡◌, ◌+◌, ◌%◌, ◌==◌, ℕ, IfOk, All, IsErr, IsTrue, ◌⊎◌};
 ghost use Rattle.std.specs.Prelude.{length, vec_len};
 ghost use Rattle.std.specs.Char.{IsAsciiHexdigit};
 ghost use Rattle.its_linkframe.specs.Captures.{IsFrameLength};
-ghost use Rattle.its_commands.specs.Lines.{HasFrame, lines_fault_status};
-ghost use Rattle.its_reporting.specs.Statuses.{IsStopped, IsWriterStatus};
+ghost use Rattle.its_commands.specs.Lines.{HasFrame};
 
 use its_frame_text::Explanation;
 use its_lines::{Line, Passed, are_digits};
 use its_linkframe::{CaptureWriter, Counted, LONGEST_FRAME, Record};
-use its_reporting::{Fault, OutputFormat, Status};
+use its_reporting::{CommandFault, Fault, OutputFormat, Status, WriterFault};
 use std::alloc::{AllocError, AllocFailed, Global};
 use std::io::{BufRead, Write};
 use std::str;
@@ -68,7 +67,7 @@ impl LineError {
 
 /// Why lines were not read to their end. Its text is the line on standard error.
 #[derive(Debug, Drop, Error)]
-enum LinesFault<'a> {
+pub enum LinesFault<'a> {
     /// A line, counted from 1, is no record.
     #[error("geostation: line {0}: {1}")]
     Line(u64, LineFault),
@@ -77,21 +76,40 @@ enum LinesFault<'a> {
     Stopped(Fault<'a>),
 }
 
-impl LinesFault<'_> {
-    /// Writes the line on standard error, and gives the exit status: `Refused` for a bad line. With
-    /// `explain` that line goes on with its sentence in parentheses. What fails there is passed
-    /// over.
-    fn report_as<E: Write>(self, lines: OutputFormat, err: &mut E) -> Status
-        ensures { result ≡ lines_fault_status self.entry }
-    {
+impl CommandFault for LinesFault<'_> {
+    ghost use Rattle.its_commands.specs.Lines.{lines_fault_status};
+
+    ghost status_of = { lines_fault_status };
+
+    /// `Refused` for a bad line, else `Failed`.
+    fn status(&self) -> Status {
+        match self {
+            LinesFault::Line(..) => Status::Refused,
+            LinesFault::Stopped(fault) => fault.status(),
+        }
+    }
+
+    /// That of a bad line goes on with its sentence.
+    fn report<E: Write>(&self, format: OutputFormat, err: &mut E) {
         match self {
             LinesFault::Line(_, fault) => {
-                let reason = lines.explain.then_some(fault.sentence());
+                let reason = format.explain.then_some(fault.sentence());
                 let _ = writeln!(err, "{self}{}", Explanation(reason));
-                Status::Refused
             }
-            LinesFault::Stopped(fault) => fault.report_as(lines, err),
+            LinesFault::Stopped(fault) => fault.report(format, err),
         }
+    }
+}
+
+impl<'a> From<Fault<'a>> for LinesFault<'a> {
+    fn from(fault: Fault<'a>) -> LinesFault<'a> {
+        LinesFault::Stopped(fault)
+    }
+}
+
+impl<'a> From<LinesFault<'a>> for WriterFault<'a, LinesFault<'a>> {
+    fn from(fault: LinesFault<'a>) -> WriterFault<'a, LinesFault<'a>> {
+        WriterFault::Stopped(fault)
     }
 }
 
@@ -173,28 +191,11 @@ fn read_line(alloc: Global, line: &Line) -> Result<Record, LineError>
     Ok(Record { moment, frame })
 }
 
-/// Reads all lines that the reader gives, or reports the first that is bad. `file` is their name.
-/// Empty lines are passed over. A line is checked as a whole, and no more of it is kept than the
-/// 2957 octets of the longest record.
+/// Reads all lines that the reader gives. `file` is their name. Empty lines are passed over. A line
+/// is checked as a whole, and no more of it is kept than the 2957 octets of the longest record.
 ///
-/// `Refused` for a bad line, `Failed` where a read failed or memory ran out.
-pub fn read_lines<R: BufRead + Drop, E: Write>(
-    alloc: Global,
-    file: &str,
-    reader: R,
-    lines: OutputFormat,
-    err: &mut E,
-) -> Result<Vec<Record>, Status>
-    ensures frames { IfOk result (λ records. All HasFrame records.items) }
-    ensures stopped { IfErr result IsStopped }
-{
-    match records_of(alloc, file, reader) {
-        Ok(records) => Ok(records),
-        Err(fault) => Err(fault.report_as(lines, err)),
-    }
-}
-
-fn records_of<'a, R: BufRead + Drop>(
+/// The fault is that of the first line that is bad, or that a read failed or memory ran out.
+pub fn read_lines<'a, R: BufRead + Drop>(
     alloc: Global,
     file: &'a str,
     mut reader: R,
@@ -235,18 +236,17 @@ fn add_record<'a>(
 /// Writes the records as a capture, and flushes it. `file` is the name of what the writer makes, `-`
 /// that of standard output.
 ///
-/// `Failed` where a write or the flush failed.
-pub fn write_records<W: Write + Drop, E: Write>(
-    file: &str,
+/// `CannotWrite` where a write or the flush failed, `NoOutput` where that is standard output.
+pub fn write_records<'a, W: Write + Drop>(
+    file: &'a str,
     records: &[Record],
     out: W,
-    err: &mut E,
-) -> Status
-    ensures { IsWriterStatus result }
+) -> Result<Status, Fault<'a>>
+    ensures { IfOk result (λ status. status ≡ Status.Done) }
 {
     match write_capture(records, out) {
-        Some(()) => Status::Done,
-        None => Fault::of_target(file).report(err),
+        Some(()) => Ok(Status::Done),
+        None => Err(Fault::of_target(file)),
     }
 }
 

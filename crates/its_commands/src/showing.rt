@@ -1,6 +1,7 @@
 //! The command `show`.
 
-ghost use Rattle.std.specs.Prelude.{◌≡◌, IfOk};
+ghost use Rattle.std.specs.Prelude.{◌≡◌, IfErr, IfOk, None};
+ghost use Rattle.its_commands.specs.Faults.{show_fault_status};
 ghost use Rattle.its_commands.specs.declared.moment.Time.TheVariants as times;
 ghost use Rattle.its_reporting.specs.Statuses.{IsCommandStatus};
 
@@ -14,28 +15,74 @@ use its_pcap::{AnySource, Format};
 use its_records::{
     Place, RecordFault, RecordVisitor, RefusedCapture, Selection, each_record, open_records,
 };
-use its_reporting::{Fault, OutputFormat, Status, status_of};
+use its_reporting::{CommandFault, Fault, Io, OutputFormat, Status};
 use std::alloc::Global;
 use std::io::{Read, Write};
+use thiserror::Error;
 
 /// How `show` tells records.
 #[derive(Clone, Copy, Debug, PartialEq, Eq)]
-pub struct Showing {
-    /// How lines are printed.
-    pub lines: OutputFormat,
+pub struct Showing<'a> {
     /// How moments are told.
     pub time: Time,
+    /// The names of the keys, parted by commas, whose values are a row for each record, behind a row
+    /// of the names. Without them each record has a line.
+    pub names: Option<&'a str>,
 }
 
-impl Showing {
+impl<'a> Showing<'a> {
     /// Lines with the moments of the file.
-    pub fn of(lines: OutputFormat) -> Showing
-        ensures { (result.lines ≡ lines) × (result.time ≡ times.Raw) }
+    pub fn lines() -> Showing<'a>
+        ensures { (result.time ≡ times.Raw) × (result.names ≡ None) }
     {
         Showing {
-            lines,
             time: Time::Raw,
+            names: None,
         }
+    }
+}
+
+/// Why records were not shown.
+#[derive(Debug, Drop, Error)]
+pub(crate) enum ShowFault<'a> {
+    /// Moments were to be told in UTC, and the file has no epoch.
+    #[error("geostation: {0}: no epoch")]
+    NoEpoch(&'a str),
+    /// What ends any command.
+    #[error("{0}")]
+    Stopped(Fault<'a>),
+}
+
+impl CommandFault for ShowFault<'_> {
+    ghost use Rattle.its_commands.specs.Faults.{show_fault_status};
+
+    ghost status_of = { show_fault_status };
+
+    /// `BadArguments` where there is no epoch, else `Failed`.
+    fn status(&self) -> Status {
+        match self {
+            ShowFault::NoEpoch(_) => Status::BadArguments,
+            ShowFault::Stopped(fault) => fault.status(),
+        }
+    }
+
+    fn report<E: Write>(&self, format: OutputFormat, err: &mut E) {
+        match self {
+            ShowFault::NoEpoch(_) => {
+                let _ = writeln!(err, "{self}");
+            }
+            ShowFault::Stopped(fault) => fault.report(format, err),
+        }
+    }
+}
+
+impl<'a> From<Fault<'a>> for ShowFault<'a> {
+    ghost use Rattle.its_commands.specs.declared.showing.ShowFault.TheVariants.{Stopped};
+
+    ghost from_gives = { λ fault e. e ≡ Stopped fault };
+
+    fn from(fault: Fault<'a>) -> ShowFault<'a> {
+        ShowFault::Stopped(fault)
     }
 }
 
@@ -65,9 +112,8 @@ impl RecordVisitor for AllRecords {
     }
 }
 
-/// Prints a line for each record that is chosen of the file that the reader gives. `file` is its
-/// name. Where names of keys are given, parted by commas, it is a row of their values, behind a row
-/// of the names.
+/// Prints a line, or a row of values, for each record that is chosen of the file that the reader
+/// gives. `file` is its name.
 ///
 /// `BadArguments` where moments are to be told in UTC and the capture, as one of this project's
 /// own, has no epoch. `Refused` where a chosen record or the file was refused, `Failed` where a
@@ -77,71 +123,72 @@ pub fn show<R: Read + Drop, W: Write, E: Write>(
     file: &str,
     reader: R,
     selection: &Selection,
-    showing: Showing,
-    names: Option<&str>,
-    out: &mut W,
-    err: &mut E,
+    showing: Showing<'_>,
+    io: &mut Io<W, E>,
 ) -> Status
     ensures { ¬ (showing.time ≡ times.Utc) → IsCommandStatus result }
 {
-    match open_records(alloc, file, selection.format, reader) {
-        Ok(mut source) => {
-            if showing.time == Time::Utc && source.format() == Format::Capture {
-                let _ = writeln!(err, "geostation: {file}: no epoch");
-                return Status::BadArguments;
-            }
-            show_opened(
-                alloc,
-                file,
-                &mut source,
-                selection,
-                showing,
-                names,
-                out,
-                err,
-            )
-        }
-        Err(fault) => fault.report_as(showing.lines, err),
+    let ended = show_records(alloc, file, reader, selection, showing, io);
+    io.status_of(ended)
+}
+
+/// The same, with the fault that ends it.
+pub(crate) fn show_records<'a, R: Read + Drop, W: Write, E: Write>(
+    alloc: Global,
+    file: &'a str,
+    reader: R,
+    selection: &Selection,
+    showing: Showing<'_>,
+    io: &mut Io<W, E>,
+) -> Result<Status, ShowFault<'a>>
+    ensures done { IfOk result IsCommandStatus }
+    ensures stopped { ¬ (showing.time ≡ times.Utc) →
+        IfErr result (λ fault. IsCommandStatus (show_fault_status fault)) }
+{
+    let mut source = open_records(alloc, file, selection.format, reader)?;
+    if showing.time == Time::Utc && source.format() == Format::Capture {
+        return Err(ShowFault::NoEpoch(file));
     }
+    Ok(show_opened(alloc, file, &mut source, selection, showing, io)?)
 }
 
 /// The same of a file that is open.
-fn show_opened<S: Source + Drop, W: Write, E: Write>(
-    alloc: Global,
-    file: &str,
-    source: &mut AnySource<S>,
-    selection: &Selection,
-    showing: Showing,
-    names: Option<&str>,
-    out: &mut W,
-    err: &mut E,
-) -> Status
-    ensures { IsCommandStatus result }
-{
-    let ended = match names {
-        Some(names) => show_rows(alloc, file, source, selection, showing, names, out, err),
-        None => show_lines(alloc, file, source, selection, showing, out),
-    };
-    status_of(ended, showing.lines, err)
-}
-
-/// A line for each record.
-fn show_lines<'a, S: Source + Drop, W: Write>(
+fn show_opened<'a, S: Source + Drop, W: Write, E: Write>(
     alloc: Global,
     file: &'a str,
     source: &mut AnySource<S>,
     selection: &Selection,
-    showing: Showing,
-    out: &mut W,
+    showing: Showing<'_>,
+    io: &mut Io<W, E>,
+) -> Result<Status, Fault<'a>>
+    ensures { IfOk result IsCommandStatus }
+{
+    let clock = Clock::new(showing.time);
+    let Some(names) = showing.names else {
+        return show_lines(alloc, file, source, selection, clock, io);
+    };
+    let rows = Rows::new(alloc, names, clock)?;
+    writeln!(io.out, "{names}")?;
+    show_rows(alloc, file, source, selection, rows, io)
+}
+
+/// A line for each record.
+fn show_lines<'a, S: Source + Drop, W: Write, E>(
+    alloc: Global,
+    file: &'a str,
+    source: &mut AnySource<S>,
+    selection: &Selection,
+    clock: Clock,
+    io: &mut Io<W, E>,
 ) -> Result<Status, Fault<'a>>
     ensures { IfOk result IsCommandStatus }
 {
     let mut visitor = AllRecords {
-        output: Output::new(alloc, showing.lines)?,
-        clock: Clock::new(showing.time),
+        output: Output::new(alloc, io.format)?,
+        clock,
     };
-    let walked = each_record(alloc, file, selection, source, &mut visitor, out)?;
-    visitor.output.end(&walked, out)?;
+    let walked = each_record(alloc, file, selection, source, &mut visitor, &mut io.out)?;
+    visitor.output.end(&walked, &mut io.out)?;
     Ok(walked.status())
 }
 
@@ -151,19 +198,16 @@ fn show_rows<'a, S: Source + Drop, W: Write, E: Write>(
     file: &'a str,
     source: &mut AnySource<S>,
     selection: &Selection,
-    showing: Showing,
-    names: &str,
-    out: &mut W,
-    err: &mut E,
+    rows: Rows,
+    io: &mut Io<W, E>,
 ) -> Result<Status, Fault<'a>>
     ensures { IfOk result IsCommandStatus }
 {
-    let mut visitor = Rows::new(alloc, names, Clock::new(showing.time))?;
-    writeln!(out, "{names}")?;
-    let walked = each_record(alloc, file, selection, source, &mut visitor, out)?;
+    let mut visitor = rows;
+    let walked = each_record(alloc, file, selection, source, &mut visitor, &mut io.out)?;
     if let Some(fault) = walked.fault {
-        let told = RefusedCapture::new(walked.read, fault, showing.lines.explain);
-        let _ = writeln!(err, "geostation: {told}");
+        let told = RefusedCapture::new(walked.read, fault, io.format.explain);
+        let _ = writeln!(io.err, "geostation: {told}");
     }
     Ok(walked.status())
 }

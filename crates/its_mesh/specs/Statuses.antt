@@ -3,6 +3,9 @@ use Rattle.std.specs.Prelude.{◌≡◌, ◌≢◌, Bool, IsTrue, if◌then◌el
 use Rattle.its_reporting.specs.declared.status.Status.{Status}
 use Rattle.its_reporting.specs.declared.status.Status.TheVariants.{Done, Refused, Failed}
 use Rattle.its_reporting.specs.declared.status.Status.TheVariants.{BadArguments}
+use Rattle.its_runs.specs.Runs.{run_fault_status}
+use Rattle.its_mesh.specs.declared.fault.MeshFault.{MeshFault}
+use Rattle.its_mesh.specs.declared.fault.MeshFault.TheVariants.{Socket, Run}
 
 -- failed where a socket failed; else refused where a refusal counts; else done
 abbrev pub mesh_status : Bool → Bool → Status
@@ -12,3 +15,8 @@ mesh_status failed refused = if failed then Failed else (if refused then Refused
 pub record IsMeshStatus (strict : Bool) (status : Status) : Type 0 where
   pub command : status ≢ BadArguments
   pub lenient : status ≡ Refused → IsTrue strict
+
+-- the status of what kept a mesh from its last event: a socket that could not be made failed
+abbrev pub mesh_fault_status : MeshFault → Status
+mesh_fault_status (Socket _) = Failed
+mesh_fault_status (Run fault) = run_fault_status fault

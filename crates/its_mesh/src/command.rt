@@ -1,6 +1,6 @@
 //! The command `mesh`.
 
-ghost use Rattle.std.specs.Prelude.{◌≡◌, IfOk, IfErr, IfSome, None, map};
+ghost use Rattle.std.specs.Prelude.{◌≡◌, IfOk, IfSome, None, map};
 ghost use Rattle.its_reporting.specs.FileNames.{format_of_file};
 ghost use Rattle.its_reporting.specs.Statuses.{IsCommandStatus};
 ghost use Rattle.its_world.specs.Events.{config_of, event_of};
@@ -11,7 +11,7 @@ use crate::fault::MeshFault;
 use crate::mesh::Mesh;
 use crate::sockets::Sockets;
 use crate::udp::UdpSockets;
-use its_reporting::{FrameFile, OutputFormat, Status, Target, create, keep_apart, open};
+use its_reporting::{FrameFile, Io, Status, Target, WriterFault, create, keep_apart, open};
 use its_runs::{FrameTarget, frame_target, read_scenario_without_air};
 use its_scenario::Scenario;
 use std::alloc::Global;
@@ -25,8 +25,6 @@ const MOST_STATIONS: usize = 64;
 /// How a mesh is run.
 #[derive(Clone, Copy, Debug, Default, PartialEq, Eq)]
 pub struct MeshOptions {
-    /// How its lines are printed.
-    pub lines: OutputFormat,
     /// Whether a call that is refused makes the status `Refused`, where it would be `Done`. A key of
     /// the scenario that is unknown is refused then, too.
     pub strict: bool,
@@ -51,8 +49,7 @@ pub fn mesh_file<R: Files + Net + AllocGlobal, I: Read + Drop, W: Write, E: Writ
     input: I,
     frames: Option<Target<'_>>,
     options: MeshOptions,
-    out: &mut W,
-    err: &mut E,
+    io: &mut Io<W, E>,
 ) -> Status
 where
     R::File: Read + Write + Drop,
@@ -60,69 +57,57 @@ where
     ensures format { IfSome frames.entry (λ target.
         format_of_file target.to target.name.now ≡ None → result ≡ Status.BadArguments) }
 {
-    let ended = match frame_target(frames, err) {
-        Ok(Some(target)) => mesh_to(rt, file, input, target, options, out, err),
-        Ok(None) => mesh_opened(rt, file, input, options, out, err),
-        Err(status) => Err(status),
-    };
-    match ended {
-        Ok(status) => status,
-        Err(status) => status,
+    match frame_target(frames) {
+        Ok(Some(target)) => {
+            let ended = mesh_to(rt, file, input, target, options, io);
+            io.status_of(ended)
+        }
+        Ok(None) => {
+            let ended = mesh_alone(rt, file, input, options, io);
+            io.status_of(ended)
+        }
+        Err(fault) => io.status_of(Err(fault)),
     }
 }
 
 /// Runs the scenario in the file, and writes no file.
-fn mesh_opened<R: Files + Net + AllocGlobal, I: Read + Drop, W: Write, E: Write>(
+fn mesh_alone<'a, R: Files + Net + AllocGlobal, I: Read + Drop, W: Write, E: Write>(
     rt: &R,
-    file: &str,
+    file: &'a str,
     input: I,
     options: MeshOptions,
-    out: &mut W,
-    err: &mut E,
-) -> Result<Status, Status>
-where
-    R::File: Read + Write + Drop,
-    ensures done { IfOk result IsCommandStatus }
-    ensures stopped { IfErr result IsCommandStatus }
-{
-    let reader = open(rt, file, input, options.lines, err)?;
-    let mut sockets = UdpSockets::new(rt, rt.alloc());
-    Ok(mesh_over(rt.alloc(), file, reader, options, &mut sockets, out, err))
-}
-
-/// Reads the scenario, and only then creates the file of frames. An `Err` is the status of what
-/// stopped it before a socket was made.
-fn mesh_to<R: Files + Net + AllocGlobal, I: Read + Drop, W: Write, E: Write>(
-    rt: &R,
-    file: &str,
-    input: I,
-    target: FrameTarget<'_>,
-    options: MeshOptions,
-    out: &mut W,
-    err: &mut E,
-) -> Result<Status, Status>
+    io: &mut Io<W, E>,
+) -> Result<Status, MeshFault<'a>>
 where
     R::File: Read + Write + Drop,
     ensures { IfOk result IsCommandStatus }
 {
-    let reader = open(rt, file, input, options.lines, err)?;
-    let (most, strict) = (MOST_STATIONS, options.strict);
-    let scenario = match read_scenario_without_air(rt.alloc(), file, reader, most, strict) {
-        Ok(scenario) => scenario,
-        Err(fault) => return Err(fault.report_as(options.lines, err)),
-    };
-    keep_apart(rt, target.name, file, err)?;
-    let created = create(rt, target.name, options.lines, err)?;
+    let reader = open(rt, file, input)?;
+    let mut sockets = UdpSockets::new(rt, rt.alloc());
+    mesh_read(rt.alloc(), file, reader, options, &mut sockets, io)
+}
+
+/// Reads the scenario, and only then creates the file of frames, before a socket is made.
+fn mesh_to<'a, R: Files + Net + AllocGlobal, I: Read + Drop, W: Write, E: Write>(
+    rt: &R,
+    file: &'a str,
+    input: I,
+    target: FrameTarget<'a>,
+    options: MeshOptions,
+    io: &mut Io<W, E>,
+) -> Result<Status, WriterFault<'a, MeshFault<'a>>>
+where
+    R::File: Read + Write + Drop,
+    ensures { IfOk result IsCommandStatus }
+{
+    let reader = open(rt, file, input)?;
+    let scenario = read(rt.alloc(), file, reader, options)?;
+    keep_apart(rt, target.name, file)?;
+    let created = create(rt, target.name)?;
     let mut sockets = UdpSockets::new(rt, rt.alloc());
     let stations = scenario.stations.len();
-    let (name, format) = (target.name, target.format);
-    let ended = match FrameFile::start(rt.alloc(), created, name, format, stations) {
-        Ok(file) => {
-            mesh_with_frames(rt.alloc(), scenario, file, options, &mut sockets, out, err)
-        }
-        Err(fault) => Err(MeshFault::Stopped(fault)),
-    };
-    ended.map_err(|fault| fault.report(err))
+    let frames = FrameFile::start(rt.alloc(), created, target.name, target.format, stations)?;
+    Ok(mesh_with_frames(rt.alloc(), scenario, frames, options, &mut sockets, io)?)
 }
 
 /// The command over a reader, and over the sockets of the stations, of which there is none yet.
@@ -133,20 +118,37 @@ pub fn mesh_over<R: Read + Drop, S: Sockets, W: Write, E: Write>(
     reader: R,
     options: MeshOptions,
     sockets: &mut S,
-    out: &mut W,
-    err: &mut E,
+    io: &mut Io<W, E>,
 ) -> Status
     ensures { IsCommandStatus result }
 {
-    let (most, strict) = (MOST_STATIONS, options.strict);
-    let scenario = match read_scenario_without_air(alloc, file, reader, most, strict) {
-        Ok(scenario) => scenario,
-        Err(fault) => return fault.report_as(options.lines, err),
-    };
-    match run_mesh(alloc, scenario, options, sockets, out, err) {
-        Ok(status) => status,
-        Err(fault) => fault.report(err),
-    }
+    let ended = mesh_read(alloc, file, reader, options, sockets, io);
+    io.status_of(ended)
+}
+
+/// The same, with the fault that ends it.
+fn mesh_read<'a, R: Read + Drop, S: Sockets, W: Write, E: Write>(
+    alloc: Global,
+    file: &'a str,
+    reader: R,
+    options: MeshOptions,
+    sockets: &mut S,
+    io: &mut Io<W, E>,
+) -> Result<Status, MeshFault<'a>>
+    ensures { IfOk result IsCommandStatus }
+{
+    let scenario = read(alloc, file, reader, options)?;
+    run_mesh(alloc, scenario, options, sockets, io)
+}
+
+/// Reads the scenario, whose name is `file`.
+fn read<'a, R: Read + Drop>(
+    alloc: Global,
+    file: &'a str,
+    reader: R,
+    options: MeshOptions,
+) -> Result<Scenario, MeshFault<'a>> {
+    Ok(read_scenario_without_air(alloc, file, reader, MOST_STATIONS, options.strict)?)
 }
 
 /// Runs a scenario, and writes the frames of its stations to the file.
@@ -156,8 +158,7 @@ pub(crate) fn mesh_with_frames<'t, F: Write + Drop, S: Sockets, W: Write, E: Wri
     file: FrameFile<'t, F>,
     options: MeshOptions,
     sockets: &mut S,
-    out: &mut W,
-    err: &mut E,
+    io: &mut Io<W, E>,
 ) -> Result<Status, MeshFault<'t>>
     ensures { IfOk result IsCommandStatus }
 {
@@ -166,8 +167,7 @@ pub(crate) fn mesh_with_frames<'t, F: Write + Drop, S: Sockets, W: Write, E: Wri
         events,
         ..
     } = scenario;
-    let stations = stations.as_slice();
-    let mut mesh = match Mesh::new(alloc, stations, options.lines, sockets, out, err) {
+    let mut mesh = match Mesh::new(alloc, stations.as_slice(), sockets, io) {
         Ok(mesh) => mesh,
         Err(fault) => {
             // What the file begins with is written out, and the fault is told.
@@ -189,8 +189,7 @@ fn run_mesh<'f, S: Sockets, W: Write, E: Write>(
     scenario: Scenario,
     options: MeshOptions,
     sockets: &mut S,
-    out: &mut W,
-    err: &mut E,
+    io: &mut Io<W, E>,
 ) -> Result<Status, MeshFault<'f>>
     ensures status { IfOk result (IsMeshStatus options.strict) }
     ensures run { IfOk result (IsMeshRun (map config_of scenario.stations.items)
@@ -202,13 +201,6 @@ fn run_mesh<'f, S: Sockets, W: Write, E: Write>(
         ..
     } = scenario;
     let stations = stations.as_slice();
-    let mut mesh: Mesh<'_, '_, S, W, E, Vec<u8>> = Mesh::new(
-        alloc,
-        stations,
-        options.lines,
-        sockets,
-        out,
-        err,
-    )?;
+    let mut mesh: Mesh<'_, '_, S, W, E, Vec<u8>> = Mesh::new(alloc, stations, sockets, io)?;
     Ok(mesh.run(events, options.strict)?)
 }

@@ -1,9 +1,8 @@
 //! What fails in a mesh: sockets, and what ends any command.
 
-ghost use Rattle.std.specs.Prelude.{◌≡◌};
-
 use its_gnvalue::NoMemory;
-use its_reporting::{Fault, Status};
+use its_reporting::{CommandFault, Fault, OutputFormat, Status, WriterFault};
+use its_runs::RunFault;
 use its_simulation::SimulationFault;
 use std::alloc::AllocError;
 use std::io::Write;
@@ -23,29 +22,36 @@ pub(crate) enum SocketFault {
     ReceiveFailed(usize),
 }
 
-/// Why a mesh ended before its last event.
+/// Why a mesh ended before its last event, or didn't begin.
 #[derive(Debug, Drop, Error)]
 pub(crate) enum MeshFault<'a> {
     /// A socket could not be made.
     #[error("{0}")]
     Socket(SocketFault),
-    /// What ends any command.
+    /// The scenario is not run, or what ends any command.
     #[error("{0}")]
-    Stopped(Fault<'a>),
+    Run(RunFault<'a>),
 }
 
-impl MeshFault<'_> {
-    /// Writes the line on standard error, and gives the exit status. What fails there is passed
-    /// over.
-    pub(crate) fn report<E: Write>(self, err: &mut E) -> Status
-        ensures { result ≡ Status.Failed }
-    {
+impl CommandFault for MeshFault<'_> {
+    ghost use Rattle.its_mesh.specs.Statuses.{mesh_fault_status};
+
+    ghost status_of = { mesh_fault_status };
+
+    /// `Failed` for a socket, else that of the run's fault.
+    fn status(&self) -> Status {
         match self {
-            MeshFault::Socket(fault) => {
-                let _ = writeln!(err, "{fault}");
-                Status::Failed
+            MeshFault::Socket(_) => Status::Failed,
+            MeshFault::Run(fault) => fault.status(),
+        }
+    }
+
+    fn report<E: Write>(&self, format: OutputFormat, err: &mut E) {
+        match self {
+            MeshFault::Socket(_) => {
+                let _ = writeln!(err, "{self}");
             }
-            MeshFault::Stopped(fault) => fault.report(err),
+            MeshFault::Run(fault) => fault.report(format, err),
         }
     }
 }
@@ -58,14 +64,26 @@ pub(crate) fn fault_of_lines<'a>(fault: SimulationFault) -> Fault<'a> {
     }
 }
 
+impl<'a> From<RunFault<'a>> for MeshFault<'a> {
+    fn from(fault: RunFault<'a>) -> MeshFault<'a> {
+        MeshFault::Run(fault)
+    }
+}
+
 impl<'a> From<Fault<'a>> for MeshFault<'a> {
     fn from(fault: Fault<'a>) -> MeshFault<'a> {
-        MeshFault::Stopped(fault)
+        MeshFault::Run(RunFault::Stopped(fault))
     }
 }
 
 impl From<NoMemory> for MeshFault<'_> {
     fn from(_: NoMemory) -> Self {
-        MeshFault::Stopped(Fault::OutOfMemory(AllocError))
+        MeshFault::Run(RunFault::Stopped(Fault::OutOfMemory(AllocError)))
+    }
+}
+
+impl<'a> From<MeshFault<'a>> for WriterFault<'a, MeshFault<'a>> {
+    fn from(fault: MeshFault<'a>) -> WriterFault<'a, MeshFault<'a>> {
+        WriterFault::Stopped(fault)
     }
 }

@@ -19,12 +19,12 @@ use crate::lines::{print_call, print_stations};
 use crate::sockets::{Sent, Sockets};
 use its_gnvalue::NoMemory;
 use its_loctable::SortedTable;
-use its_reporting::{Fault, FrameFile, OutputFormat, Status};
+use its_reporting::{Fault, FrameFile, Io, Status};
 use its_runs::is_refused;
 use its_simulation::SimulationFault;
 use its_station::{Call, Station};
 use its_world::{CallOutcome, Config, Entry, EntryFault, Event, stations_of};
-use std::alloc::{AllocError, Global};
+use std::alloc::Global;
 use std::io;
 use std::io::{ErrorKind, Write};
 
@@ -34,12 +34,10 @@ pub(crate) struct Mesh<'a, 't, S, W, E, F: Write + Drop> {
     pub(crate) alloc: Global,
     pub(crate) stations: Vec<Station<SortedTable>>,
     pub(crate) sockets: &'a mut S,
-    out: &'a mut W,
-    err: &'a mut E,
+    /// Where its lines are printed.
+    io: &'a mut Io<W, E>,
     /// Where frames are written, if they are.
     pub(crate) file: Option<FrameFile<'t, F>>,
-    /// How its lines are printed.
-    format: OutputFormat,
     /// The greatest moment of the events so far: that of all that comes by a socket.
     pub(crate) moment: u64,
     /// How many frames were sent so far.
@@ -56,10 +54,8 @@ impl<'a, 't, S: Sockets, W: Write, E: Write, F: Write + Drop> Mesh<'a, 't, S, W,
     pub(crate) fn new<'f>(
         alloc: Global,
         configs: &[Config],
-        format: OutputFormat,
         sockets: &'a mut S,
-        out: &'a mut W,
-        err: &'a mut E,
+        io: &'a mut Io<W, E>,
     ) -> Result<Mesh<'a, 't, S, W, E, F>, MeshFault<'f>>
         requires { All IsConfig configs.now }
         ensures stations { IfOk result (λ mesh. RepresentStations mesh.stations.items
@@ -70,17 +66,15 @@ impl<'a, 't, S: Sockets, W: Write, E: Write, F: Write + Drop> Mesh<'a, 't, S, W,
         for number in 0..configs.len() {
             make_socket(sockets, number)?;
         }
-        if let Err(fault) = print_stations(alloc, format, configs, out) {
-            return Err(MeshFault::Stopped(fault_of_lines(fault)));
+        if let Err(fault) = print_stations(alloc, io.format, configs, &mut io.out) {
+            return Err(MeshFault::from(fault_of_lines(fault)));
         }
         Ok(Mesh {
             alloc,
             stations,
             sockets,
-            out,
-            err,
+            io,
             file: None,
-            format,
             moment: 0,
             frames: 0,
             failed: false,
@@ -166,7 +160,7 @@ impl<'a, 't, S: Sockets, W: Write, E: Write, F: Write + Drop> Mesh<'a, 't, S, W,
         ensures sockets { self.new.sockets.now ≡ self.old.sockets.now }
     {
         match &mut self.file {
-            Some(file) => file.put(station, moment, frame, self.format, self.err),
+            Some(file) => file.put(station, moment, frame, self.io.format, &mut self.io.err),
             None => Ok(()),
         }
     }
@@ -215,12 +209,12 @@ impl<'a, 't, S: Sockets, W: Write, E: Write, F: Write + Drop> Mesh<'a, 't, S, W,
         self.refused |= is_refused(entry);
         print_call(
             self.alloc,
-            self.format,
+            self.io.format,
             moment,
             station,
             word,
             entry,
-            self.out,
+            &mut self.io.out,
         )
     }
 
@@ -247,7 +241,7 @@ impl<'a, 't, S: Sockets, W: Write, E: Write, F: Write + Drop> Mesh<'a, 't, S, W,
         ensures moment { self.new.moment ≡ self.old.moment }
         ensures sockets { self.new.sockets.now ≡ self.old.sockets.now }
     {
-        let _ = writeln!(self.err, "{fault}");
+        let _ = writeln!(self.io.err, "{fault}");
         self.failed = true;
     }
 }
@@ -256,9 +250,7 @@ impl<'a, 't, S: Sockets, W: Write, E: Write, F: Write + Drop> Mesh<'a, 't, S, W,
 fn make_socket<'f, S: Sockets>(sockets: &mut S, number: usize) -> Result<(), MeshFault<'f>> {
     match sockets.make() {
         Ok(()) => Ok(()),
-        Err(error) if error.kind() == ErrorKind::OutOfMemory => {
-            Err(MeshFault::Stopped(Fault::OutOfMemory(AllocError)))
-        }
+        Err(error) if error.kind() == ErrorKind::OutOfMemory => { Err(MeshFault::from(NoMemory)) }
         Err(_) => Err(MeshFault::Socket(SocketFault::NoSocket(number))),
     }
 }

@@ -1,45 +1,41 @@
 //! Where the page lies.
 
-ghost use Rattle.std.specs.Prelude.{◌≡◌, IfErr};
-
-use its_reporting::{Fault, Status};
+use crate::fault::PageFault;
 use std::alloc::AllocError;
-use std::io::Write;
 use std::rt::Files;
 use std::{env, fs};
 
 /// The file of the page that names the others.
-pub(crate) const INDEX: &str = "index.html";
+const INDEX: &str = "index.html";
 
 /// Where the page lies, seen from the folder of the program: as it is installed, and as in the tree
 /// that the program was built in.
 const BESIDE: [&str; 2] = ["../share/geostation/viewer", "../../../viewer"];
 
-/// The folder of the page: the one that is given, else the first beside the program that has it.
-///
-/// `Failed`, and told on standard error, where none has or memory ran out.
-pub(crate) fn folder_of<R: Files + AllocGlobal, E: Write>(
+/// Where the page lies.
+#[derive(Debug, Drop)]
+pub(crate) struct PagePlace {
+    /// Its folder.
+    pub(crate) folder: String,
+    /// The path of the file that names the others.
+    pub(crate) index: String,
+}
+
+/// Where the page lies: in the folder that is given, else in the first beside the program that has
+/// it. `NoPage` where none has, `OutOfMemory` where an allocation failed.
+pub(crate) fn find_page<'a, R: Files + AllocGlobal>(
     rt: &R,
     given: Option<&str>,
-    err: &mut E,
-) -> Result<String, Status>
-    ensures { IfErr result (λ status. status ≡ Status.Failed) }
-{
+) -> Result<PagePlace, PageFault<'a>> {
     let found = match given {
-        Some(folder) => String::from_str(rt.alloc(), folder).map(Some),
-        None => beside_program(rt),
+        Some(folder) => Some(String::from_str(rt.alloc(), folder)?),
+        None => beside_program(rt)?,
     };
-    match found {
-        Ok(Some(folder)) => Ok(folder),
-        Ok(None) => {
-            let _ = writeln!(
-                err,
-                "geostation: no page beside the program: --viewer names its folder"
-            );
-            Err(Status::Failed)
-        }
-        Err(_) => Err(Fault::OutOfMemory(AllocError).report(err)),
-    }
+    let Some(folder) = found else {
+        return Err(PageFault::NoPage);
+    };
+    let index = path_in(rt, folder.as_str(), INDEX)?;
+    Ok(PagePlace { folder, index })
 }
 
 /// The first folder beside the program that has the page. The system tells where the program is.

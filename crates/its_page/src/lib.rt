@@ -1,6 +1,7 @@
 //! The command `view`: the page that shows a run, and the run in it, as one file.
 #![tactic(auto)]
 
+mod fault;
 mod folder;
 mod inside;
 mod name;

@@ -1,13 +1,13 @@
 //! The run that the page shows.
 
-ghost use Rattle.std.specs.Prelude.{◌≤◌, IfErr, IfOk, vec_len};
+ghost use Rattle.std.specs.Prelude.{◌≤◌, IfOk, vec_len};
 ghost use Rattle.its_reporting.specs.Statuses.{IsCommandStatus};
 
 use crate::inside::Inside;
 use crate::name::ShownName;
-use crate::way::{Way, copy};
-use its_reporting::{Fault, OutputFormat, Status};
-use its_runs::{RunOptions, read_scenario, simulate_scenario};
+use crate::way::{CopyError, Way, copy, fault_of};
+use its_reporting::{Fault, Io, OutputFormat, Status};
+use its_runs::{RunFault, RunOptions, read_scenario, simulate_scenario};
 use its_scenario::{Reading, Scenario};
 use std::alloc::Global;
 use std::io;
@@ -36,29 +36,22 @@ pub(crate) enum Shown<R: Drop> {
 }
 
 /// What the file of this name is, a scenario read to its end: one where the name ends in `.toml` or
-/// the first octet isn't `{`, else the lines of a run.
-///
-/// `Refused` for a text that is no scenario, `Failed` where a read failed or memory ran out.
-pub(crate) fn shown_of<R: BufRead + Drop, E: Write>(
+/// the first octet isn't `{`, else the lines of a run. The fault is that of the scenario, or that a
+/// read failed or memory ran out.
+pub(crate) fn shown_of<'a, R: BufRead + Drop>(
     alloc: Global,
-    file: &str,
+    file: &'a str,
     mut reader: R,
-    lines: OutputFormat,
-    err: &mut E,
-) -> Result<Shown<R>, Status>
-    ensures { IfErr result IsCommandStatus }
-{
+) -> Result<Shown<R>, RunFault<'a>> {
     let is_run = match begins_object(&mut reader) {
         Ok(begins) => begins && !file.ends_with(SCENARIO_ENDING),
-        Err(error) => return Err(Fault::of_read(&error, file).report_as(lines, err)),
+        Err(error) => return Err(RunFault::from(Fault::of_read(&error, file))),
     };
     if is_run {
         return Ok(Shown::Lines(reader));
     }
-    match read_scenario(alloc, file, reader, MOST_STATIONS, &Reading::default()) {
-        Ok(scenario) => Ok(Shown::Scenario(Runnable { scenario })),
-        Err(fault) => Err(fault.report_as(lines, err)),
-    }
+    let scenario = read_scenario(alloc, file, reader, MOST_STATIONS, &Reading::default())?;
+    Ok(Shown::Scenario(Runnable { scenario }))
 }
 
 /// Whether the first octet is that of an object in JSON.
@@ -67,84 +60,78 @@ fn begins_object<R: BufRead>(reader: &mut R) -> io::Result<bool> {
 }
 
 /// Writes the element of the page that has the run. A scenario's has its notes, where it has an
-/// air. An `Err` is the status of what kept it from being written.
-pub(crate) fn write_run<R: BufRead + Drop, W: Write, E: Write>(
+/// air.
+pub(crate) fn write_run<'a, R: BufRead + Drop, W: Write, E: Write>(
     alloc: Global,
-    way: Way<'_>,
+    way: Way<'a>,
     shown: Shown<R>,
-    options: RunOptions,
-    out: &mut W,
-    err: &mut E,
-) -> Result<Status, Status>
-    ensures written { IfOk result IsCommandStatus }
-    ensures stopped { IfErr result IsCommandStatus }
+    options: &RunOptions,
+    io: &mut Io<W, E>,
+) -> Result<Status, Fault<'a>>
+    ensures { IfOk result IsCommandStatus }
 {
     let name = ShownName(way.file);
     let begun = writeln!(
-        out,
+        io.out,
         "<script type=\"application/jsonl\" id=\"inside\" data-name=\"{name}\">"
     );
-    way.told(begun, err)?;
+    way.told(begun)?;
     let status = match shown {
-        Shown::Lines(reader) => write_lines(way, reader, out, err)?,
+        Shown::Lines(reader) => write_lines(way, reader, &mut io.out)?,
         Shown::Scenario(runnable) => {
             let Runnable { scenario } = runnable;
-            write_lines_of(alloc, way, &scenario, options, out, err)?
+            write_lines_of(alloc, way, &scenario, options, io)?
         }
     };
-    let ended = writeln!(out, "</script>");
-    way.told(ended, err)?;
+    way.told(writeln!(io.out, "</script>"))?;
     Ok(status)
 }
 
 /// Writes the lines that the reader gives.
-fn write_lines<R: BufRead + Drop, W: Write, E: Write>(
-    way: Way<'_>,
+fn write_lines<'a, R: BufRead + Drop, W: Write>(
+    way: Way<'a>,
     reader: R,
     out: &mut W,
-    err: &mut E,
-) -> Result<Status, Status>
-    ensures written { IfOk result IsCommandStatus }
-    ensures stopped { IfErr result IsCommandStatus }
+) -> Result<Status, Fault<'a>>
+    ensures { IfOk result IsCommandStatus }
 {
     let mut reader = reader;
     let mut inside = Inside::new(out);
-    match copy(way.file, &mut reader, way.target, &mut inside) {
+    match copy(&mut reader, &mut inside) {
         Ok(()) => Ok(Status::Done),
-        Err(fault) => Err(fault.report_as(way.lines, err)),
+        Err(CopyError::Read(error)) => Err(Fault::of_read(&error, way.file)),
+        Err(CopyError::Write(error)) => Err(fault_of(&error, way.target)),
     }
 }
 
 /// Runs the scenario, and writes its lines.
-fn write_lines_of<W: Write, E: Write>(
+fn write_lines_of<'a, W: Write, E: Write>(
     alloc: Global,
-    way: Way<'_>,
+    way: Way<'a>,
     scenario: &Scenario,
-    options: RunOptions,
-    out: &mut W,
-    err: &mut E,
-) -> Result<Status, Status>
+    options: &RunOptions,
+    io: &mut Io<W, E>,
+) -> Result<Status, Fault<'a>>
     requires { vec_len scenario.now.stations ≤ 65535 }
-    ensures written { IfOk result IsCommandStatus }
-    ensures stopped { IfErr result IsCommandStatus }
+    ensures { IfOk result IsCommandStatus }
 {
     let options = RunOptions {
-        lines: OutputFormat {
-            json: true,
-            ..options.lines
-        },
         summary: false,
         notes: scenario.air.is_some(),
-        ..options
+        ..*options
     };
-    let mut inside = Inside::new(out);
-    let status = simulate_scenario(alloc, scenario, options, &mut inside, err);
-    if inside.has_failed() {
-        // The run tells of no write to standard output, which this may not be.
-        return Err(Fault::of_target(way.target).report_as(way.lines, err));
+    let mut inside = Io {
+        out: Inside::new(&mut io.out),
+        err: &mut io.err,
+        format: OutputFormat {
+            json: true,
+            ..io.format
+        },
+    };
+    let ran = simulate_scenario(alloc, scenario, &options, &mut inside);
+    if inside.out.has_failed() {
+        // A run's fault is that of standard output, which this may not be.
+        return Err(Fault::of_target(way.target));
     }
-    match status {
-        Status::Failed => Err(Status::Failed),
-        _ => Ok(status),
-    }
+    ran
 }

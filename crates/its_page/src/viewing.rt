@@ -1,16 +1,19 @@
 //! The command `view`.
 
-ghost use Rattle.std.specs.Prelude.{◌≡◌, IfErr, IfOk, true};
+ghost use Rattle.std.specs.Prelude.{◌≡◌, IfOk, true};
 ghost use Rattle.its_reporting.specs.FileNames.{is_standard as names_standard};
 ghost use Rattle.its_reporting.specs.Statuses.{IsCommandStatus};
 
-use crate::folder::folder_of;
-use crate::page::{Page, open_page, refuse_page, write_up_to_run};
+use crate::fault::PageFault;
+use crate::folder::find_page;
+use crate::page::{Page, open_page, write_up_to_run};
 use crate::run::{Shown, shown_of, write_run};
 use crate::way::Way;
-use its_reporting::{Status, create_apart, is_standard, open};
+use its_reporting::{
+    Fault, Io, Opened, Status, WriterFault, create, is_standard, keep_apart, open,
+};
 use its_runs::RunOptions;
-use std::io::{BufRead, Read, Write};
+use std::io::{BufRead, BufReader, Read, Write};
 use std::rt::Files;
 
 /// What is shown, and where it is written.
@@ -37,101 +40,130 @@ pub struct Viewing<'a> {
 /// no page is found.
 pub fn view_file<R: Files + AllocGlobal, I: Read + Drop, W: Write, E: Write>(
     rt: &R,
-    viewing: Viewing<'_>,
+    viewing: &Viewing<'_>,
     input: I,
-    out: &mut W,
-    err: &mut E,
+    io: &mut Io<W, E>,
 ) -> Status
 where
     R::File: Read + Write + Drop,
-    ensures { names_standard viewing.entry.target.now ≡ true → IsCommandStatus result }
+    ensures { names_standard viewing.now.target.now ≡ true → IsCommandStatus result }
 {
-    let folder = match folder_of(rt, viewing.viewer, err) {
-        Ok(folder) => folder,
-        Err(status) => return status,
+    let place = match find_page(rt, viewing.viewer) {
+        Ok(place) => place,
+        Err(fault) => return io.status_of(Err(fault)),
     };
     let way = Way {
-        folder: folder.as_str(),
+        folder: place.folder.as_str(),
+        index: place.index.as_str(),
         file: viewing.file,
         target: viewing.target,
-        lines: viewing.options.lines,
     };
-    let ended = if is_standard(viewing.target) {
-        view_to_output(rt, way, viewing.options, input, out, err)
-    } else {
-        view_to_file(rt, way, viewing.options, input, err)
-    };
-    match ended {
-        Ok(status) => status,
-        Err(status) => status,
+    if is_standard(viewing.target) {
+        let ended = view_to_output(rt, way, &viewing.options, input, io);
+        return io.status_of(ended);
     }
+    let ended = view_to_file(rt, way, &viewing.options, input, io);
+    io.status_of(ended)
 }
 
-/// Writes the page to standard output. An `Err` is the status of what stopped that.
-fn view_to_output<R: Files + AllocGlobal, I: Read + Drop, W: Write, E: Write>(
+/// Writes the page to standard output.
+fn view_to_output<'a, R: Files + AllocGlobal, I: Read + Drop, W: Write, E: Write>(
     rt: &R,
-    way: Way<'_>,
-    options: RunOptions,
+    way: Way<'a>,
+    options: &RunOptions,
     input: I,
-    out: &mut W,
-    err: &mut E,
-) -> Result<Status, Status>
+    io: &mut Io<W, E>,
+) -> Result<Status, PageFault<'a>>
 where
     R::File: Read + Write + Drop,
-    ensures written { IfOk result IsCommandStatus }
-    ensures stopped { IfErr result IsCommandStatus }
+    ensures { IfOk result IsCommandStatus }
 {
-    let page = open_page(rt, way, err)?;
-    let reader = open(rt, way.file, input, way.lines, err)?;
-    let shown = shown_of(rt.alloc(), way.file, reader, way.lines, err)?;
-    write_page(rt, way, page, shown, options, out, err)
+    let viewed = open_viewed(rt, way, input)?;
+    write_page(rt, way, viewed, options, io)
 }
 
-/// Opens what is read, and only then creates the file; tells how that is opened. An `Err` is the
-/// status of what stopped it before its end.
-fn view_to_file<R: Files + AllocGlobal, I: Read + Drop, E: Write>(
+/// Opens what is read, and only then creates the file; tells how that is opened.
+fn view_to_file<'a, R: Files + AllocGlobal, I: Read + Drop, W, E: Write>(
     rt: &R,
-    way: Way<'_>,
-    options: RunOptions,
+    way: Way<'a>,
+    options: &RunOptions,
     input: I,
-    err: &mut E,
-) -> Result<Status, Status>
+    io: &mut Io<W, E>,
+) -> Result<Status, WriterFault<'a, PageFault<'a>>>
 where
     R::File: Read + Write + Drop,
-    ensures written { IfOk result IsCommandStatus }
+    ensures { IfOk result IsCommandStatus }
 {
-    let page = open_page(rt, way, err)?;
-    let reader = open(rt, way.file, input, way.lines, err)?;
-    let shown = shown_of(rt.alloc(), way.file, reader, way.lines, err)?;
-    let mut created = create_apart(rt, way.target, way.file, way.lines, err)?;
-    let status = write_page(rt, way, page, shown, options, &mut created, err)?;
-    way.told(created.flush(), err)?;
+    let viewed = open_viewed(rt, way, input)?;
+    let status = write_file(rt, way, viewed, options, io)?;
     if !options.quiet {
-        let _ = writeln!(err, "geostation: {}: open it in a browser", way.target);
+        let _ = writeln!(io.err, "geostation: {}: open it in a browser", way.target);
     }
     Ok(status)
 }
 
-/// Writes the page with the run in it. An `Err` is the status of what stopped that.
-fn write_page<R: Files + AllocGlobal, L: BufRead + Drop, W: Write, E: Write>(
-    rt: &R,
-    way: Way<'_>,
-    page: Page<R::File>,
+/// The page and the run, both open.
+#[derive(Drop)]
+struct Viewed<F: Drop, L: Drop> {
+    page: Page<F>,
     shown: Shown<L>,
-    options: RunOptions,
-    out: &mut W,
-    err: &mut E,
-) -> Result<Status, Status>
+}
+
+/// Opens the page, and then the run. `input` is standard input.
+fn open_viewed<'a, R: Files + AllocGlobal, I: Read + Drop>(
+    rt: &R,
+    way: Way<'a>,
+    input: I,
+) -> Result<Viewed<R::File, BufReader<Opened<R::File, I>>>, PageFault<'a>>
+where
+    R::File: Read + Drop,
+{
+    let page = open_page(rt, way)?;
+    let reader = open(rt, way.file, input)?;
+    let shown = shown_of(rt.alloc(), way.file, reader)?;
+    Ok(Viewed { page, shown })
+}
+
+/// Creates the file, and writes the page to it.
+fn write_file<'a, R: Files + AllocGlobal, L: BufRead + Drop, W, E: Write>(
+    rt: &R,
+    way: Way<'a>,
+    viewed: Viewed<R::File, L>,
+    options: &RunOptions,
+    io: &mut Io<W, E>,
+) -> Result<Status, WriterFault<'a, PageFault<'a>>>
 where
     R::File: Read + Write + Drop,
-    ensures written { IfOk result IsCommandStatus }
-    ensures stopped { IfErr result IsCommandStatus }
+    ensures { IfOk result IsCommandStatus }
 {
-    let mut page = page;
-    if !write_up_to_run(rt, way, &mut page, out, err)? {
-        return Err(refuse_page(&page, way, err));
+    keep_apart(rt, way.target, way.file)?;
+    let mut to_file = Io {
+        out: create(rt, way.target)?,
+        err: &mut io.err,
+        format: io.format,
+    };
+    let status = write_page(rt, way, viewed, options, &mut to_file)?;
+    way.told(to_file.out.flush())?;
+    Ok(status)
+}
+
+/// Writes the page with the run in it. `CannotRead` where it has no place for one.
+fn write_page<'a, R: Files + AllocGlobal, L: BufRead + Drop, W: Write, E: Write>(
+    rt: &R,
+    way: Way<'a>,
+    viewed: Viewed<R::File, L>,
+    options: &RunOptions,
+    io: &mut Io<W, E>,
+) -> Result<Status, PageFault<'a>>
+where
+    R::File: Read + Write + Drop,
+    ensures { IfOk result IsCommandStatus }
+{
+    let Viewed { mut page, shown } = viewed;
+    if !write_up_to_run(rt, way, &mut page, &mut io.out)? {
+        return Err(PageFault::from(Fault::CannotRead(way.index)));
     }
-    let status = write_run(rt.alloc(), way, shown, options, out, err)?;
-    write_up_to_run(rt, way, &mut page, out, err)?;
+    let status = write_run(rt.alloc(), way, shown, options, io)?;
+    write_up_to_run(rt, way, &mut page, &mut io.out)?;
     Ok(status)
 }

@@ -9,7 +9,7 @@ use crate::replaying::replay_records;
 use crate::unit::Unit;
 use its_pcap::Format;
 use its_records::{FileFault, RefusedCapture, Selection, open_records};
-use its_reporting::{Fault, FrameFile, OutputFormat, Status, is_standard, status_of};
+use its_reporting::{Fault, FrameFile, Io, Status, is_standard};
 use std::alloc::Global;
 use std::io::{Read, Write};
 
@@ -22,8 +22,6 @@ pub struct ReplayOptions<'a> {
     pub selection: Selection,
     /// The station.
     pub unit: Unit,
-    /// How lines are printed.
-    pub lines: OutputFormat,
 }
 
 /// Gives the chosen records of the file that the reader gives to the station, each at its moment,
@@ -37,23 +35,36 @@ pub fn replay<'a, R: Read + Drop, F: Write + Drop, W: Write, E: Write>(
     replay: &ReplayOptions<'a>,
     reader: R,
     frames: Option<(F, &'a str, Format)>,
-    out: &mut W,
-    err: &mut E,
+    io: &mut Io<W, E>,
 ) -> Status
     requires { IsUnit replay.now.unit }
     ensures { IsCommandStatus result }
 {
-    let ended = match frames {
-        Some((writer, target, format)) => match FrameFile::start(alloc, writer, target, format, 1) {
-            Ok(file) => replay_into(alloc, replay, reader, Some(file), out, err),
-            Err(fault) => Err(fault),
-        },
+    let ended = replay_with(alloc, replay, reader, frames, io);
+    io.status_of(ended)
+}
+
+/// The same, with the fault that ends it.
+pub(crate) fn replay_with<'a, R: Read + Drop, F: Write + Drop, W: Write, E: Write>(
+    alloc: Global,
+    replay: &ReplayOptions<'a>,
+    reader: R,
+    frames: Option<(F, &'a str, Format)>,
+    io: &mut Io<W, E>,
+) -> Result<Status, Fault<'a>>
+    requires { IsUnit replay.now.unit }
+    ensures { IfOk result IsCommandStatus }
+{
+    match frames {
+        Some((writer, target, format)) => {
+            let file = FrameFile::start(alloc, writer, target, format, 1)?;
+            replay_into(alloc, replay, reader, Some(file), io)
+        }
         None => {
             let none: Option<FrameFile<'a, F>> = None;
-            replay_into(alloc, replay, reader, none, out, err)
+            replay_into(alloc, replay, reader, none, io)
         }
-    };
-    status_of(ended, replay.lines, err)
+    }
 }
 
 /// The same with the file of frames begun, which is ended then.
@@ -62,14 +73,13 @@ fn replay_into<'a, R: Read + Drop, F: Write + Drop, W: Write, E: Write>(
     replay: &ReplayOptions<'a>,
     reader: R,
     file: Option<FrameFile<'a, F>>,
-    out: &mut W,
-    err: &mut E,
+    io: &mut Io<W, E>,
 ) -> Result<Status, Fault<'a>>
     requires { IsUnit replay.now.unit }
     ensures { IfOk result IsCommandStatus }
 {
     let waits = is_standard(replay.file);
-    let mut printer = Printer::new(alloc, replay.lines, waits, file, out, err)?;
+    let mut printer = Printer::new(alloc, waits, file, io)?;
     let ended = replay_lines(alloc, replay, reader, &mut printer);
     match printer.file.take() {
         Some(file) => file.end(ended),
@@ -96,6 +106,6 @@ fn replay_lines<'a, R: Read + Drop, F: Write + Drop, W: Write, E: Write>(
         return Ok(Status::Done);
     };
     let fault = FileFault::of(fault, file, replayed.read, selection.format)?;
-    printer.line(&RefusedCapture::new(replayed.read, fault, replay.lines.explain))?;
+    printer.line(&RefusedCapture::new(replayed.read, fault, printer.io.format.explain))?;
     Ok(Status::Refused)
 }

@@ -1,13 +1,13 @@
 //! The command over named files. The capture is standard input where its name is `-`.
 
-ghost use Rattle.std.specs.Prelude.{◌≡◌, IfOk, IfErr, IfSome, None};
+ghost use Rattle.std.specs.Prelude.{◌≡◌, IfOk, IfSome, None};
 ghost use Rattle.its_reporting.specs.FileNames.{format_of_file};
 ghost use Rattle.its_reporting.specs.Statuses.{IsCommandStatus};
 ghost use Rattle.its_replay.specs.Units.{IsUnit};
 
-use crate::command::{ReplayOptions, replay};
+use crate::command::{ReplayOptions, replay_with};
 use its_pcap::Format;
-use its_reporting::{Status, Target, create_apart, open};
+use its_reporting::{Fault, Io, Status, Target, WriterFault, create_apart, open};
 use std::io::{Read, Write};
 use std::rt::Files;
 
@@ -24,8 +24,7 @@ pub fn replay_file<'a, R: Files + AllocGlobal, I: Read + Drop, W: Write, E: Writ
     what: &ReplayOptions<'a>,
     input: I,
     frames: Option<Target<'a>>,
-    out: &mut W,
-    err: &mut E,
+    io: &mut Io<W, E>,
 ) -> Status
 where
     R::File: Read + Write + Drop,
@@ -34,56 +33,52 @@ where
     ensures format { IfSome frames.entry (λ target. format_of_file target.to target.name.now ≡ None
         → result ≡ Status.BadArguments) }
 {
-    let ended = match frames {
-        Some(target) => match target.file_format() {
-            Ok(format) => replay_to(rt, what, input, target.name, format, out, err),
-            Err(fault) => Err(fault.report(err)),
-        },
-        None => replay_alone(rt, what, input, out, err),
+    let Some(target) = frames else {
+        let ended = replay_alone(rt, what, input, io);
+        return io.status_of(ended);
     };
-    match ended {
-        Ok(status) => status,
-        Err(status) => status,
+    match target.file_format() {
+        Ok(format) => {
+            let ended = replay_to(rt, what, input, target.name, format, io);
+            io.status_of(ended)
+        }
+        Err(fault) => io.status_of(Err(fault)),
     }
 }
 
-/// Replays the file, and writes none. An `Err` is the status of what kept it from being opened.
+/// Replays the file, and writes none.
 fn replay_alone<'a, R: Files + AllocGlobal, I: Read + Drop, W: Write, E: Write>(
     rt: &R,
     what: &ReplayOptions<'a>,
     input: I,
-    out: &mut W,
-    err: &mut E,
-) -> Result<Status, Status>
+    io: &mut Io<W, E>,
+) -> Result<Status, Fault<'a>>
 where
     R::File: Read + Write + Drop,
     requires { IsUnit what.now.unit }
-    ensures done { IfOk result IsCommandStatus }
-    ensures stopped { IfErr result IsCommandStatus }
+    ensures { IfOk result IsCommandStatus }
 {
-    let reader = open(rt, what.file, input, what.lines, err)?;
+    let reader = open(rt, what.file, input)?;
     let none: Option<(Vec<u8>, &'a str, Format)> = None;
-    Ok(replay(rt.alloc(), what, reader, none, out, err))
+    replay_with(rt.alloc(), what, reader, none, io)
 }
 
-/// Opens the file, and only then creates the one of frames. An `Err` is the status of what stopped
-/// it at that.
+/// Opens the file, and only then creates the one of frames.
 fn replay_to<'a, R: Files + AllocGlobal, I: Read + Drop, W: Write, E: Write>(
     rt: &R,
     what: &ReplayOptions<'a>,
     input: I,
     target: &'a str,
     format: Format,
-    out: &mut W,
-    err: &mut E,
-) -> Result<Status, Status>
+    io: &mut Io<W, E>,
+) -> Result<Status, WriterFault<'a, Fault<'a>>>
 where
     R::File: Read + Write + Drop,
     requires { IsUnit what.now.unit }
     ensures { IfOk result IsCommandStatus }
 {
-    let reader = open(rt, what.file, input, what.lines, err)?;
-    let created = create_apart(rt, target, what.file, what.lines, err)?;
+    let reader = open(rt, what.file, input)?;
+    let created = create_apart(rt, target, what.file)?;
     let frames = Some((created, target, format));
-    Ok(replay(rt.alloc(), what, reader, frames, out, err))
+    Ok(replay_with(rt.alloc(), what, reader, frames, io)?)
 }

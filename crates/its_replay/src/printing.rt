@@ -3,7 +3,7 @@
 use crate::heard::{Heard, HeardSink};
 use crate::lines::ReplayLine;
 use its_json::JsonLine;
-use its_reporting::{Fault, FrameFile, OutputFormat};
+use its_reporting::{Fault, FrameFile, Io};
 use its_station::Reply;
 use serde::Serialize;
 use std::alloc::{AllocError, Global};
@@ -14,11 +14,9 @@ use std::io::Write;
 #[derive(Drop)]
 pub(crate) struct Printer<'p, 't, W, E, F: Write + Drop> {
     line: JsonLine,
-    lines: OutputFormat,
     /// Whether each line is written out at once, since the next read may wait.
     waits: bool,
-    out: &'p mut W,
-    err: &'p mut E,
+    pub(crate) io: &'p mut Io<W, E>,
     pub(crate) file: Option<FrameFile<'t, F>>,
     /// How many frames went on so far.
     frames: u64,
@@ -28,18 +26,14 @@ impl<'p, 't, W: Write, E: Write, F: Write + Drop> Printer<'p, 't, W, E, F> {
     /// No line yet, and room for one.
     pub(crate) fn new(
         alloc: Global,
-        lines: OutputFormat,
         waits: bool,
         file: Option<FrameFile<'t, F>>,
-        out: &'p mut W,
-        err: &'p mut E,
+        io: &'p mut Io<W, E>,
     ) -> Result<Printer<'p, 't, W, E, F>, AllocError> {
         Ok(Printer {
             line: JsonLine::new(alloc)?,
-            lines,
             waits,
-            out,
-            err,
+            io,
             file,
             frames: 0,
         })
@@ -48,13 +42,13 @@ impl<'p, 't, W: Write, E: Write, F: Write + Drop> Printer<'p, 't, W, E, F> {
     /// Writes the line of what is told. `NoOutput` where the write failed, `OutOfMemory` where an
     /// allocation did.
     pub(crate) fn line<'f, T: Display + Serialize>(&mut self, told: &T) -> Result<(), Fault<'f>> {
-        if self.lines.json {
-            self.out.write_all(self.line.of(told)?)?;
+        if self.io.format.json {
+            self.io.out.write_all(self.line.of(told)?)?;
         } else {
-            writeln!(self.out, "{told}")?;
+            writeln!(self.io.out, "{told}")?;
         }
         if self.waits {
-            self.out.flush()?;
+            self.io.out.flush()?;
         }
         Ok(())
     }
@@ -64,7 +58,7 @@ impl<'p, 't, W: Write, E: Write, F: Write + Drop> Printer<'p, 't, W, E, F> {
         // No file has as many records as there are numbers.
         self.frames = self.frames.saturating_add(1);
         if let Some(file) = &mut self.file {
-            file.put(0, moment, frame, self.lines, self.err)?;
+            file.put(0, moment, frame, self.io.format, &mut self.io.err)?;
         }
         Ok(())
     }
@@ -75,7 +69,8 @@ impl<W: Write, E: Write, F: Write + Drop> HeardSink for Printer<'_, '_, W, E, F>
     ghost Took = { λ _ _. Unit {0} };
 
     fn put<'f>(&mut self, heard: Heard) -> Result<(), Fault<'f>> {
-        self.line(&ReplayLine::of(&heard, self.frames, self.lines.explain))?;
+        let explain = self.io.format.explain;
+        self.line(&ReplayLine::of(&heard, self.frames, explain))?;
         match &heard {
             Heard::Received {
                 moment,

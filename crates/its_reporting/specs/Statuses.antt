@@ -1,5 +1,7 @@
 -- How the program and its commands end.
 use Rattle.std.specs.Prelude.{ℕ, ◌≡◌, ◌≢◌, ◌⊎◌}
+use Rattle.its_reporting.specs.declared.fault.WriterFault.{WriterFault}
+use Rattle.its_reporting.specs.declared.fault.WriterFault.TheVariants.{Stopped, Output}
 use Rattle.its_reporting.specs.declared.status.Status.{Status}
 use Rattle.its_reporting.specs.declared.status.Status.TheVariants.{Done, Refused, BadArguments}
 use Rattle.its_reporting.specs.declared.status.Status.TheVariants.{Failed}
@@ -23,3 +25,9 @@ IsWriterStatus status = (status ≡ Done) ⊎ (status ≡ Failed)
 -- how a command ends that was stopped
 abbrev pub IsStopped : Status → Type 0
 IsStopped status = (status ≡ Refused) ⊎ (status ≡ Failed)
+
+-- the status of a command that writes a file and was ended so: that of the fault that would end it
+-- without one, and of refused arguments where the file is not written
+abbrev pub writer_fault_status : {F : Type 0} → (F → Status) → WriterFault F → Status
+writer_fault_status status_of (Stopped fault) = status_of fault
+writer_fault_status status_of (Output fault) = BadArguments

@@ -1,18 +1,35 @@
-//! What ends any command before it is done.
+//! What ends a command before it is done.
 
-ghost use Rattle.std.specs.Prelude.{◌≡◌, MatchResult};
+ghost use Rattle.std.specs.Prelude.{◌≡◌};
 
 use crate::cause::Cause;
 use crate::options::OutputFormat;
-use crate::outputs::is_standard;
+use crate::outputs::{OutputFault, is_standard};
 use crate::status::Status;
 use its_frame_text::Explanation;
 use its_gnvalue::NoMemory;
 use its_json::JsonFault;
 use std::alloc::AllocError;
+use std::fmt::Display;
 use std::io;
 use std::io::Write;
 use thiserror::Error;
+
+/// Why a command ended before it was done: it has an exit status, and a line on standard error.
+pub trait CommandFault {
+    ghost use Rattle.its_reporting.specs.declared.status.Status.{Status};
+
+    /// The exit status of a command that it ends.
+    ghost status_of: { Self → Status };
+
+    /// The exit status of a command that it ends.
+    fn status(&self) -> Status
+        ensures { result ≡ status_of self.now };
+
+    /// Writes its line on standard error, if it has one. With `explain` the line goes on with the
+    /// reason in parentheses, where there is one. What fails there is passed over.
+    fn report<E: Write>(&self, format: OutputFormat, err: &mut E);
+}
 
 /// Why a command ended before it was done, whatever it is. Its text is the line on standard error.
 #[derive(Debug, Drop, Error)]
@@ -66,13 +83,6 @@ impl Fault<'_> {
         }
     }
 
-    /// The exit status: `Failed`, whatever failed.
-    pub fn status(&self) -> Status
-        ensures { result ≡ Status.Failed }
-    {
-        Status::Failed
-    }
-
     /// The system's reason, where it gave one.
     fn cause(&self) -> Option<Cause> {
         match self {
@@ -80,24 +90,23 @@ impl Fault<'_> {
             _ => None,
         }
     }
+}
 
-    /// Writes the line on standard error, and gives the exit status. What fails there is passed
-    /// over.
-    pub fn report<E: Write>(self, err: &mut E) -> Status
-        ensures { result ≡ Status.Failed }
-    {
-        self.report_as(OutputFormat::default(), err)
+impl CommandFault for Fault<'_> {
+    ghost use Rattle.its_reporting.specs.declared.status.Status.TheVariants.{Failed};
+
+    ghost status_of = { λ _. Failed };
+
+    fn status(&self) -> Status {
+        Status::Failed
     }
 
-    /// The same; with `explain` the line of a file goes on with the system's reason in parentheses.
-    pub fn report_as<E: Write>(self, lines: OutputFormat, err: &mut E) -> Status
-        ensures { result ≡ Status.Failed }
-    {
-        if !matches!(&self, Fault::NoOutput(_)) {
-            let cause = if lines.explain { self.cause() } else { None };
+    /// The line of a file goes on with the system's reason.
+    fn report<E: Write>(&self, format: OutputFormat, err: &mut E) {
+        if !matches!(self, Fault::NoOutput(_)) {
+            let cause = if format.explain { self.cause() } else { None };
             let _ = writeln!(err, "{self}{}", Explanation(cause));
         }
-        self.status()
     }
 }
 
@@ -117,19 +126,46 @@ impl From<JsonFault> for Fault<'_> {
     }
 }
 
-/// The exit status of a command that ended so, once a fault is reported: with `explain` the line of
-/// a file goes on with the system's reason in parentheses.
-pub fn status_of<E: Write>(
-    ended: Result<Status, Fault<'_>>,
-    lines: OutputFormat,
-    err: &mut E,
-) -> Status
-    ensures { MatchResult ended.entry
-        (λ status. result ≡ status)
-        (λ _. result ≡ Status.Failed) }
-{
-    match ended {
-        Ok(status) => status,
-        Err(fault) => fault.report_as(lines, err),
+/// Why a command that writes a file ended before it was done: by a fault that would end it without
+/// one, or because of that file.
+#[derive(Debug, Drop, Error)]
+pub enum WriterFault<'a, F: Display> {
+    /// What would end it if it wrote none.
+    #[error("{0}")]
+    Stopped(F),
+    /// The file is not written.
+    #[error("{0}")]
+    Output(OutputFault<'a>),
+}
+
+impl<F: CommandFault + Display> CommandFault for WriterFault<'_, F> {
+    ghost use Rattle.its_reporting.specs.Statuses.{writer_fault_status};
+
+    ghost status_of = { writer_fault_status F.status_of };
+
+    fn status(&self) -> Status {
+        match self {
+            WriterFault::Stopped(fault) => fault.status(),
+            WriterFault::Output(fault) => fault.status(),
+        }
+    }
+
+    fn report<E: Write>(&self, format: OutputFormat, err: &mut E) {
+        match self {
+            WriterFault::Stopped(fault) => fault.report(format, err),
+            WriterFault::Output(fault) => fault.report(format, err),
+        }
+    }
+}
+
+impl<'a, F: Display> From<OutputFault<'a>> for WriterFault<'a, F> {
+    fn from(fault: OutputFault<'a>) -> WriterFault<'a, F> {
+        WriterFault::Output(fault)
+    }
+}
+
+impl<'a, F: Display + From<Fault<'a>>> From<Fault<'a>> for WriterFault<'a, F> {
+    fn from(fault: Fault<'a>) -> WriterFault<'a, F> {
+        WriterFault::Stopped(F::from(fault))
     }
 }

@@ -1,11 +1,7 @@
 //! The files that commands read and write. One that is read is standard input where its name is `-`.
 
-ghost use Rattle.std.specs.Prelude.{◌≡◌, ◌⊎◌, IfErr};
-
-use crate::fault::Fault;
-use crate::options::OutputFormat;
-use crate::outputs::{is_standard, refuse_same};
-use crate::status::Status;
+use crate::fault::{Fault, WriterFault};
+use crate::outputs::{OutputFault, is_standard, refuse_same};
 use std::alloc::AllocError;
 use std::io::{BufReader, BufWriter, Read, Write};
 use std::rt::Files;
@@ -35,55 +31,45 @@ impl<F: Read, I: Read> Read for Opened<F, I> {
     }
 }
 
-/// Refuses the arguments where the file that would be written is the one that is read.
-pub fn keep_apart<R: Files, E: Write>(
+/// Refuses the file that would be written where it is the one that is read.
+pub fn keep_apart<'a, R: Files>(
     rt: &R,
-    written: &str,
-    read: &str,
-    err: &mut E,
-) -> Result<(), Status>
-    ensures { IfErr result (λ status. status ≡ Status.BadArguments) }
-{
-    refuse_same(rt, &[written], &[read]).map_err(|fault| fault.report(err))
+    written: &'a str,
+    read: &'a str,
+) -> Result<(), OutputFault<'a>> {
+    refuse_same(rt, &[written], &[read])
 }
 
-/// Creates a file that isn't the one that is read: `create`, or `BadArguments`.
-pub fn create_apart<R: Files + AllocGlobal, E: Write>(
+/// Creates a file that isn't the one that is read: `create`, or the refusal of `keep_apart`.
+pub fn create_apart<'a, R: Files + AllocGlobal>(
     rt: &R,
-    written: &str,
-    read: &str,
-    lines: OutputFormat,
-    err: &mut E,
-) -> Result<BufWriter<R::File>, Status>
+    written: &'a str,
+    read: &'a str,
+) -> Result<BufWriter<R::File>, WriterFault<'a, Fault<'a>>>
 where
     R::File: Write + Drop,
-    ensures { IfErr result (λ status. (status ≡ Status.BadArguments) ⊎ (status ≡ Status.Failed)) }
 {
-    keep_apart(rt, written, read, err)?;
-    create(rt, written, lines, err)
+    keep_apart(rt, written, read)?;
+    Ok(create(rt, written)?)
 }
 
-/// Opens a file for reading, with a buffer, or reports that it cannot be read or memory ran out.
-/// `input` is standard input. With `explain` the line of a file goes on with the system's reason in
-/// parentheses.
-pub fn open<R: Files + AllocGlobal, I: Read + Drop, E: Write>(
+/// Opens a file for reading, with a buffer. `input` is standard input. `NotRead` or `CannotRead`
+/// where it can't be opened, `OutOfMemory` where an allocation failed.
+pub fn open<'a, R: Files + AllocGlobal, I: Read + Drop>(
     rt: &R,
-    file: &str,
+    file: &'a str,
     input: I,
-    lines: OutputFormat,
-    err: &mut E,
-) -> Result<BufReader<Opened<R::File, I>>, Status>
+) -> Result<BufReader<Opened<R::File, I>>, Fault<'a>>
 where
     R::File: Read + Drop,
-    ensures { IfErr result (λ status. status ≡ Status.Failed) }
 {
     match named(rt, file, input) {
         Ok(opened) => {
             BufReader::with_capacity(rt.alloc(), FILE_BUFFER, opened).map_err(
-                |_| Fault::OutOfMemory(AllocError).report(err),
+                |_| Fault::OutOfMemory(AllocError),
             )
         }
-        Err(error) => Err(Fault::of_read(&error, file).report_as(lines, err)),
+        Err(error) => Err(Fault::of_read(&error, file)),
     }
 }
 
@@ -103,24 +89,21 @@ where
     Ok(Opened::File(opened))
 }
 
-/// Creates a file, with a buffer, or reports that it cannot be written or memory ran out. With
-/// `explain` the line of a file goes on with the system's reason in parentheses.
-pub fn create<R: Files + AllocGlobal, E: Write>(
+/// Creates a file, with a buffer. `NotWritten` or `CannotWrite` where it can't be created,
+/// `OutOfMemory` where an allocation failed.
+pub fn create<'a, R: Files + AllocGlobal>(
     rt: &R,
-    file: &str,
-    lines: OutputFormat,
-    err: &mut E,
-) -> Result<BufWriter<R::File>, Status>
+    file: &'a str,
+) -> Result<BufWriter<R::File>, Fault<'a>>
 where
     R::File: Write + Drop,
-    ensures { IfErr result (λ status. status ≡ Status.Failed) }
 {
     match fs::create(rt, file) {
         Ok(created) => {
             BufWriter::with_capacity(rt.alloc(), FILE_BUFFER, created).map_err(
-                |_| Fault::OutOfMemory(AllocError).report(err),
+                |_| Fault::OutOfMemory(AllocError),
             )
         }
-        Err(error) => Err(Fault::of_write(&error, file).report_as(lines, err)),
+        Err(error) => Err(Fault::of_write(&error, file)),
     }
 }

@@ -3,6 +3,7 @@
 #![tactic(auto)]
 
 mod cause;
+mod command_io;
 mod fault;
 mod files;
 mod frame_file;
@@ -12,7 +13,8 @@ mod outputs;
 mod status;
 
 pub use cause::Cause;
-pub use fault::{Fault, status_of};
+pub use command_io::Io;
+pub use fault::{CommandFault, Fault, WriterFault};
 pub use files::{Opened, create, create_apart, keep_apart, open};
 pub use frame_file::FrameFile;
 pub use left_out::LeftOut;

@@ -7,6 +7,8 @@ ghost use Rattle.its_reporting.specs.FileNames.{ends_in, format_of_file, format_
 ghost use Rattle.its_reporting.specs.FileNames.{format_of_output};
 ghost use Rattle.its_reporting.specs.FileNames.{is_standard as names_standard};
 
+use crate::fault::CommandFault;
+use crate::options::OutputFormat;
 use crate::status::Status;
 use its_pcap::Format;
 use std::fs;
@@ -116,14 +118,17 @@ pub enum OutputFault<'a> {
     SameFile(&'a str, &'a str),
 }
 
-impl OutputFault<'_> {
-    /// Writes the line on standard error, and gives the exit status. What fails there is passed
-    /// over.
-    pub fn report<E: Write>(self, err: &mut E) -> Status
-        ensures { result ≡ Status.BadArguments }
-    {
-        let _ = writeln!(err, "{self}");
+impl CommandFault for OutputFault<'_> {
+    ghost use Rattle.its_reporting.specs.declared.status.Status.TheVariants.{BadArguments};
+
+    ghost status_of = { λ _. BadArguments };
+
+    fn status(&self) -> Status {
         Status::BadArguments
+    }
+
+    fn report<E: Write>(&self, _format: OutputFormat, err: &mut E) {
+        let _ = writeln!(err, "{self}");
     }
 }
 

@@ -1,10 +1,8 @@
 //! A line of a file of moves that ends a run.
 
-ghost use Rattle.std.specs.Prelude.{◌≡◌};
-
 use its_frame_text::Explanation;
 use its_moves::{Word, WordReason};
-use its_reporting::{OutputFormat, Status};
+use its_reporting::{CommandFault, OutputFormat, Status};
 use std::io::Write;
 use thiserror::Error;
 
@@ -18,14 +16,18 @@ pub struct BadRow {
     pub word: Word,
 }
 
-impl BadRow {
-    /// Writes the line on standard error, and gives the exit status. With `explain` it goes on with
-    /// its sentence in parentheses. What fails there is passed over.
-    pub fn report_as<E: Write>(self, lines: OutputFormat, err: &mut E) -> Status
-        ensures { result ≡ Status.Refused }
-    {
-        let reason = lines.explain.then_some(WordReason(self.word));
-        let _ = writeln!(err, "{self}{}", Explanation(reason));
+impl CommandFault for BadRow {
+    ghost use Rattle.its_reporting.specs.declared.status.Status.TheVariants.{Refused};
+
+    ghost status_of = { λ _. Refused };
+
+    fn status(&self) -> Status {
         Status::Refused
+    }
+
+    /// It goes on with its sentence.
+    fn report<E: Write>(&self, format: OutputFormat, err: &mut E) {
+        let reason = format.explain.then_some(WordReason(self.word));
+        let _ = writeln!(err, "{self}{}", Explanation(reason));
     }
 }

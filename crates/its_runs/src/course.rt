@@ -1,15 +1,14 @@
-//! What a run goes by: a scenario and, where they are given, the moves of a file.
+//! What a run goes by: a scenario, how it is run and, where they are given, the moves of a file.
 
-ghost use Rattle.std.specs.Prelude.{◌≡◌, IfErr, None};
-ghost use Rattle.its_reporting.specs.Statuses.{IsCommandStatus};
+ghost use Rattle.std.specs.Prelude.{◌≡◌, None};
 
-use crate::fault::fault_of_moves;
+use crate::fault::{RunFault, fault_of_moves};
+use crate::options::RunOptions;
 use its_moves::Rows;
-use its_reporting::{OutputFormat, Status};
 use its_scenario::Scenario;
 use its_world::Event;
 use std::alloc::Global;
-use std::io::{BufRead, Write};
+use std::io::BufRead;
 
 /// A file of moves whose first line was read.
 #[derive(Drop)]
@@ -19,23 +18,17 @@ pub(crate) struct MovesFile<'a, M: BufRead + Drop> {
 }
 
 impl<'a, M: BufRead + Drop> MovesFile<'a, M> {
-    /// Reads the first line of the file of this name, for a run of the scenario.
-    ///
-    /// `Refused` where that line is bad, `Failed` where it can't be read or memory ran out; it is
-    /// told on standard error.
-    pub(crate) fn open<E: Write>(
+    /// Reads the first line of the file of this name, for a run of the scenario. The fault is that
+    /// of that line, or that it can't be read or memory ran out.
+    pub(crate) fn open(
         alloc: Global,
         name: &'a str,
         reader: M,
         scenario: &Scenario,
-        lines: OutputFormat,
-        err: &mut E,
-    ) -> Result<MovesFile<'a, M>, Status>
-        ensures { IfErr result IsCommandStatus }
-    {
+    ) -> Result<MovesFile<'a, M>, RunFault<'a>> {
         match Rows::open(alloc, scenario.moves.begin, reader) {
             Ok(rows) => Ok(MovesFile { name, rows }),
-            Err(fault) => Err(fault_of_moves(fault, name).report_as(lines, err)),
+            Err(fault) => Err(fault_of_moves(fault, name)),
         }
     }
 }
@@ -44,18 +37,21 @@ impl<'a, M: BufRead + Drop> MovesFile<'a, M> {
 #[derive(Drop)]
 pub(crate) struct Course<'s, 'a, M: BufRead + Drop> {
     pub(crate) scenario: &'s Scenario,
+    /// How it is run.
+    pub(crate) options: &'s RunOptions,
     /// The moves, where they are given. The scenario has an air then, and was read for moves.
     pub(crate) moves: Option<MovesFile<'a, M>>,
 }
 
 impl<'s, 'a, M: BufRead + Drop> Course<'s, 'a, M> {
     /// A scenario alone.
-    pub(crate) fn alone(scenario: &'s Scenario) -> Course<'s, 'a, M>
+    pub(crate) fn alone(scenario: &'s Scenario, options: &'s RunOptions) -> Course<'s, 'a, M>
         ensures scenario { result.scenario.now ≡ scenario.now }
         ensures moves { result.moves ≡ None }
     {
         Course {
             scenario,
+            options,
             moves: None,
         }
     }

@@ -1,13 +1,10 @@
 //! What keeps a scenario from being run, or ends its run.
 
-ghost use Rattle.std.specs.Prelude.{◌≡◌};
-ghost use Rattle.its_runs.specs.Runs.{run_fault_status};
-
 use crate::bad_row::BadRow;
 use its_air::AirFault;
 use its_frame_text::Explanation;
 use its_moves::MovesFault;
-use its_reporting::{Fault, OutputFormat, Status};
+use its_reporting::{CommandFault, Fault, OutputFormat, Status, WriterFault};
 use its_scenario::ScenarioFault;
 use std::alloc::AllocError;
 use std::io::Write;
@@ -27,31 +24,30 @@ pub enum RunFault<'a> {
     Stopped(Fault<'a>),
 }
 
-impl RunFault<'_> {
-    /// The exit status: `Refused` for a scenario and a line of moves, else `Failed`.
-    pub fn status(&self) -> Status
-        ensures { result ≡ run_fault_status self.now }
-    {
+impl CommandFault for RunFault<'_> {
+    ghost use Rattle.its_runs.specs.Runs.{run_fault_status};
+
+    ghost status_of = { run_fault_status };
+
+    /// `Refused` for a scenario and a line of moves, else `Failed`.
+    fn status(&self) -> Status {
         match self {
-            RunFault::Scenario(_) | RunFault::Row(_) => Status::Refused,
+            RunFault::Scenario(_) => Status::Refused,
+            RunFault::Row(row) => row.status(),
             RunFault::Stopped(fault) => fault.status(),
         }
     }
 
-    /// Writes the line on standard error, and gives the exit status. With `explain` the line of a
-    /// text that is no scenario, and of a bad line of moves, goes on with its sentence in
-    /// parentheses, that of a file with the system's reason. What fails there is passed over.
-    pub fn report_as<E: Write>(self, lines: OutputFormat, err: &mut E) -> Status
-        ensures { result ≡ run_fault_status self.entry }
-    {
+    /// The line of a text that is no scenario, and of a bad line of moves, goes on with its
+    /// sentence, that of a file with the system's reason.
+    fn report<E: Write>(&self, format: OutputFormat, err: &mut E) {
         match self {
             RunFault::Scenario(fault) => {
-                let reason = if lines.explain { fault.reason() } else { None };
-                let _ = writeln!(err, "geostation: {fault}{}", Explanation(reason));
-                Status::Refused
+                let reason = if format.explain { fault.reason() } else { None };
+                let _ = writeln!(err, "{self}{}", Explanation(reason));
             }
-            RunFault::Row(row) => row.report_as(lines, err),
-            RunFault::Stopped(fault) => fault.report_as(lines, err),
+            RunFault::Row(row) => row.report(format, err),
+            RunFault::Stopped(fault) => fault.report(format, err),
         }
     }
 }
@@ -68,6 +64,12 @@ impl From<ScenarioFault> for RunFault<'_> {
 impl<'a> From<Fault<'a>> for RunFault<'a> {
     fn from(fault: Fault<'a>) -> RunFault<'a> {
         RunFault::Stopped(fault)
+    }
+}
+
+impl<'a> From<RunFault<'a>> for WriterFault<'a, RunFault<'a>> {
+    fn from(fault: RunFault<'a>) -> WriterFault<'a, RunFault<'a>> {
+        WriterFault::Stopped(fault)
     }
 }
 

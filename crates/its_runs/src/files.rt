@@ -1,22 +1,23 @@
 //! The command `sim` over named files. A file that is read is standard input where its name is `-`.
 
-ghost use Rattle.std.specs.Prelude.{◌≡◌, ◌≤◌, IfErr, IfOk, IfSome, None, vec_len};
+ghost use Rattle.std.specs.Prelude.{◌≡◌, ◌≤◌, IfOk, IfSome, None, vec_len};
 ghost use Rattle.its_reporting.specs.FileNames.{format_of_file};
 ghost use Rattle.its_reporting.specs.Statuses.{IsCommandStatus};
 ghost use Rattle.its_runs.specs.Results.{IsNoFile};
 
 use crate::course::{Course, MovesFile};
+use crate::fault::RunFault;
 use crate::input::Input;
 use crate::options::RunOptions;
 use crate::results::{ResultFiles, ResultWriters, Results};
-use crate::simulating::{MOST_STATIONS, read_scenario, run_without_frames, simulate_with_frames};
+use crate::simulating::{MOST_STATIONS, read_scenario, run_with_frames, run_without_frames};
 use crate::target::{FrameTarget, frame_target};
 use its_reporting::{
-    Fault, Opened, OutputFormat, Status, Target, create, open, refuse_same, status_of,
+    Fault, FrameFile, Io, Opened, Status, Target, WriterFault, create, open, refuse_same,
 };
 use its_scenario::{Reading, Scenario};
-use std::alloc::AllocError;
-use std::io::{BufReader, BufWriter, Read, Write};
+use std::alloc::Global;
+use std::io::{BufRead, BufReader, BufWriter, Read, Write};
 use std::rt::Files;
 
 /// The files of a run.
@@ -35,7 +36,7 @@ pub struct RunFiles<'a> {
 
 impl RunFiles<'_> {
     /// How the scenario is read.
-    fn reading(&self, options: RunOptions) -> Reading {
+    fn reading(&self, options: &RunOptions) -> Reading {
         options.reading(!self.results.is_empty(), self.moves.is_some())
     }
 }
@@ -53,205 +54,226 @@ impl RunFiles<'_> {
 /// not be read, created or written or standard output not written, or memory ran out.
 pub fn simulate_file<R: Files + AllocGlobal, I: Read + Drop, W: Write, E: Write>(
     rt: &R,
-    files: RunFiles<'_>,
+    files: &RunFiles<'_>,
     input: I,
-    options: RunOptions,
-    out: &mut W,
-    err: &mut E,
+    options: &RunOptions,
+    io: &mut Io<W, E>,
 ) -> Status
 where
     R::File: Read + Write + Drop,
-    ensures alone { files.entry.frames ≡ None → IsNoFile files.entry.results →
+    ensures alone { files.now.frames ≡ None → IsNoFile files.now.results →
         IsCommandStatus result }
-    ensures format { IfSome files.entry.frames (λ target.
+    ensures format { IfSome files.now.frames (λ target.
         format_of_file target.to target.name.now ≡ None → result ≡ Status.BadArguments) }
 {
-    let ended = match frame_target(files.frames, err) {
+    match frame_target(files.frames) {
         Ok(None) if files.results.is_empty() => {
-            simulate_opened(rt, files, input, options, out, err)
+            let ended = simulate_alone(rt, files, input, options, io);
+            io.status_of(ended)
         }
-        Ok(target) => simulate_to(rt, files, target, input, options, out, err),
-        Err(status) => Err(status),
-    };
-    match ended {
-        Ok(status) => status,
-        Err(status) => status,
+        Ok(target) => {
+            let ended = simulate_to(rt, files, target, input, options, io);
+            io.status_of(ended)
+        }
+        Err(fault) => io.status_of(Err(fault)),
     }
 }
 
-/// Runs the scenario in the file, and writes no file. An `Err` is the status of what stopped it
-/// before the first event.
-fn simulate_opened<R: Files + AllocGlobal, I: Read + Drop, W: Write, E: Write>(
+/// Runs the scenario in the file, and writes no file.
+fn simulate_alone<'a, R: Files + AllocGlobal, I: Read + Drop, W: Write, E: Write>(
     rt: &R,
-    files: RunFiles<'_>,
+    files: &RunFiles<'a>,
     input: I,
-    options: RunOptions,
-    out: &mut W,
-    err: &mut E,
-) -> Result<Status, Status>
-where
-    R::File: Read + Write + Drop,
-    ensures ran { IfOk result IsCommandStatus }
-    ensures stopped { IfErr result IsCommandStatus }
-{
-    let (input, moved) = Input::parted(input, files.moves);
-    let scenario = read_named(rt, files, input, options, err)?;
-    let moves = open_moves(rt, files, moved, &scenario, options.lines, err)?;
-    let mut course = Course {
-        scenario: &scenario,
-        moves,
-    };
-    let results: Results<'_, Vec<u8>> = Results::none();
-    let ended = run_without_frames(rt.alloc(), &mut course, results, options, out, err);
-    Ok(status_of(ended, options.lines, err))
-}
-
-/// Reads the scenario and the first line of the moves, and only then creates the files. An `Err` is
-/// the status of what stopped it before the first event.
-fn simulate_to<'a, R: Files + AllocGlobal, I: Read + Drop, W: Write, E: Write>(
-    rt: &R,
-    files: RunFiles<'a>,
-    target: Option<FrameTarget<'a>>,
-    input: I,
-    options: RunOptions,
-    out: &mut W,
-    err: &mut E,
-) -> Result<Status, Status>
+    options: &RunOptions,
+    io: &mut Io<W, E>,
+) -> Result<Status, RunFault<'a>>
 where
     R::File: Read + Write + Drop,
     ensures { IfOk result IsCommandStatus }
 {
-    let lines = options.lines;
-    let (input, moved) = Input::parted(input, files.moves);
-    let scenario = read_named(rt, files, input, options, err)?;
-    let moves = open_moves(rt, files, moved, &scenario, lines, err)?;
-    keep_all_apart(rt, files, err)?;
-    let frames = create_named(rt, target.map(|target| target.name), lines, err)?;
-    let results = begin_results(rt, &scenario, files.results, lines, err)?;
+    let given = read_files(rt, files, input, options)?;
+    let results: Results<'_, Vec<u8>> = Results::none();
     let mut course = Course {
-        scenario: &scenario,
-        moves,
+        scenario: &given.scenario,
+        options,
+        moves: given.moves,
     };
-    let (alloc, run) = (rt.alloc(), &mut course);
-    let ended = match (target, frames) {
-        (Some(target), Some(frames)) => {
-            simulate_with_frames(alloc, run, target, frames, results, options, out, err)
-        }
-        _ => {
-            let ended = run_without_frames(alloc, run, results, options, out, err);
-            status_of(ended, lines, err)
-        }
-    };
-    Ok(ended)
+    Ok(run_without_frames(rt.alloc(), &mut course, results, io)?)
 }
 
-/// Reads the scenario. `input` is standard input. An `Err` is the status of what stopped that.
-fn read_named<R: Files + AllocGlobal, I: Read + Drop, E: Write>(
+/// Reads the scenario and the first line of the moves, and only then creates the files.
+fn simulate_to<'a, R: Files + AllocGlobal, I: Read + Drop, W: Write, E: Write>(
     rt: &R,
-    files: RunFiles<'_>,
+    files: &RunFiles<'a>,
+    target: Option<FrameTarget<'a>>,
     input: I,
-    options: RunOptions,
-    err: &mut E,
-) -> Result<Scenario, Status>
+    options: &RunOptions,
+    io: &mut Io<W, E>,
+) -> Result<Status, WriterFault<'a, RunFault<'a>>>
 where
-    R::File: Read + Drop,
-    ensures few { IfOk result (λ scenario. vec_len scenario.stations ≤ 65535) }
-    ensures stopped { IfErr result IsCommandStatus }
+    R::File: Read + Write + Drop,
+    ensures { IfOk result IsCommandStatus }
 {
-    let file = files.scenario;
-    let reader = open(rt, file, input, options.lines, err)?;
-    let reading = files.reading(options);
-    match read_scenario(rt.alloc(), file, reader, MOST_STATIONS, &reading) {
-        Ok(scenario) => Ok(scenario),
-        Err(fault) => Err(fault.report_as(options.lines, err)),
+    let given = read_files(rt, files, input, options)?;
+    keep_all_apart(rt, files)?;
+    let outputs = begin_outputs(rt, &given.scenario, target, files.results)?;
+    let mut course = Course {
+        scenario: &given.scenario,
+        options,
+        moves: given.moves,
+    };
+    Ok(run_into(rt.alloc(), &mut course, outputs, io)?)
+}
+
+/// The files that are written of a run, begun.
+#[derive(Drop)]
+struct Outputs<'a, W: Write + Drop> {
+    frames: Option<FrameFile<'a, W>>,
+    results: Results<'a, W>,
+}
+
+/// Runs a scenario, and writes these files.
+fn run_into<'a, M: BufRead + Drop, F: Write + Drop, W: Write, E: Write>(
+    alloc: Global,
+    course: &mut Course<'_, 'a, M>,
+    outputs: Outputs<'a, F>,
+    io: &mut Io<W, E>,
+) -> Result<Status, Fault<'a>>
+    requires { vec_len course.old.scenario.now.stations ≤ 65535 }
+    ensures { IfOk result IsCommandStatus }
+{
+    let Outputs { frames, results } = outputs;
+    match frames {
+        Some(file) => run_with_frames(alloc, course, file, results, io),
+        None => run_without_frames(alloc, course, results, io),
     }
 }
 
-/// Opens the file of moves, where there is one, and reads its first line. `input` is standard
-/// input. An `Err` is the status of what stopped that.
-fn open_moves<'a, R: Files + AllocGlobal, I: Read + Drop, E: Write>(
-    rt: &R,
-    files: RunFiles<'a>,
-    input: I,
-    scenario: &Scenario,
-    lines: OutputFormat,
-    err: &mut E,
-) -> Result<Option<MovesFile<'a, BufReader<Opened<R::File, I>>>>, Status>
-where
-    R::File: Read + Drop,
-    ensures stopped { IfErr result IsCommandStatus }
-{
-    let Some(name) = files.moves else {
-        return Ok(None);
-    };
-    let reader = open(rt, name, input, lines, err)?;
-    Ok(Some(MovesFile::open(rt.alloc(), name, reader, scenario, lines, err)?))
+/// What is read before a run.
+#[derive(Drop)]
+struct Given<'a, M: BufRead + Drop> {
+    scenario: Scenario,
+    /// The file of moves, where there is one, with its first line read.
+    moves: Option<MovesFile<'a, M>>,
 }
 
-/// Refuses the arguments where a file that would be written is one that is read or another one.
-fn keep_all_apart<R: Files + AllocGlobal, E: Write>(
+/// The reader of a file of a run.
+type RunReader<F, I> = BufReader<Opened<F, Input<I>>>;
+
+/// Reads the scenario, and the first line of the moves, where there are any. `input` is standard
+/// input.
+fn read_files<'a, R: Files + AllocGlobal, I: Read + Drop>(
     rt: &R,
-    files: RunFiles<'_>,
-    err: &mut E,
-) -> Result<(), Status> {
+    files: &RunFiles<'a>,
+    input: I,
+    options: &RunOptions,
+) -> Result<Given<'a, RunReader<R::File, I>>, RunFault<'a>>
+where
+    R::File: Read + Drop,
+    ensures { IfOk result (λ given. vec_len given.scenario.stations ≤ 65535) }
+{
+    let (input, moved) = Input::parted(input, files.moves);
+    let reader = open(rt, files.scenario, input)?;
+    let reading = files.reading(options);
+    let scenario = read_scenario(rt.alloc(), files.scenario, reader, MOST_STATIONS, &reading)?;
+    let moves = open_moves(rt, files.moves, moved, &scenario)?;
+    Ok(Given { scenario, moves })
+}
+
+/// Opens the file of moves of this name, where there is one, and reads its first line. `input` is
+/// standard input.
+fn open_moves<'a, R: Files + AllocGlobal, I: Read + Drop>(
+    rt: &R,
+    name: Option<&'a str>,
+    input: Input<I>,
+    scenario: &Scenario,
+) -> Result<Option<MovesFile<'a, RunReader<R::File, I>>>, RunFault<'a>>
+where
+    R::File: Read + Drop,
+{
+    let Some(name) = name else {
+        return Ok(None);
+    };
+    let reader = open(rt, name, input)?;
+    Ok(Some(MovesFile::open(rt.alloc(), name, reader, scenario)?))
+}
+
+/// Refuses a file that would be written and is one that is read or another one.
+fn keep_all_apart<'a, R: Files + AllocGlobal>(
+    rt: &R,
+    files: &RunFiles<'a>,
+) -> Result<(), WriterFault<'a, RunFault<'a>>> {
     let results = files.results;
     let frames = files.frames.map(|target| target.name);
     let names = [frames, results.sends, results.stations, results.load];
-    let written = named_among(rt, &names, err)?;
-    let read = named_among(rt, &[Some(files.scenario), files.moves], err)?;
-    refuse_same(rt, written.as_slice(), read.as_slice()).map_err(|fault| fault.report(err))
+    let written = named_among(rt, &names)?;
+    let read = named_among(rt, &[Some(files.scenario), files.moves])?;
+    Ok(refuse_same(rt, written.as_slice(), read.as_slice())?)
 }
 
 /// The names that are there.
-fn named_among<'a, R: Files + AllocGlobal, E: Write>(
+fn named_among<'a, R: AllocGlobal>(
     rt: &R,
     names: &[Option<&'a str>],
-    err: &mut E,
-) -> Result<Vec<&'a str>, Status> {
+) -> Result<Vec<&'a str>, Fault<'a>> {
     let mut named = Vec::new(rt.alloc());
     for name in names {
         if let Some(name) = name {
-            if named.push(*name).is_err() {
-                return Err(Fault::OutOfMemory(AllocError).report(err));
-            }
+            named.push(*name)?;
         }
     }
     Ok(named)
 }
 
-/// Creates the file of this name, where there is one.
-fn create_named<R: Files + AllocGlobal, E: Write>(
+/// Creates the files, and begins them.
+fn begin_outputs<'a, R: Files + AllocGlobal>(
     rt: &R,
-    name: Option<&str>,
-    lines: OutputFormat,
-    err: &mut E,
-) -> Result<Option<BufWriter<R::File>>, Status>
+    scenario: &Scenario,
+    target: Option<FrameTarget<'a>>,
+    names: ResultFiles<'a>,
+) -> Result<Outputs<'a, BufWriter<R::File>>, Fault<'a>>
+where
+    R::File: Write + Drop,
+{
+    let created = create_named(rt, target.map(|target| target.name))?;
+    let results = begin_results(rt, scenario, names)?;
+    let stations = scenario.stations.len();
+    let frames = match (target, created) {
+        (Some(FrameTarget { name, format }), Some(writer)) => {
+            Some(FrameFile::start(rt.alloc(), writer, name, format, stations)?)
+        }
+        _ => None,
+    };
+    Ok(Outputs { frames, results })
+}
+
+/// Creates the file of this name, where there is one.
+fn create_named<'a, R: Files + AllocGlobal>(
+    rt: &R,
+    name: Option<&'a str>,
+) -> Result<Option<BufWriter<R::File>>, Fault<'a>>
 where
     R::File: Write + Drop,
 {
     match name {
-        Some(name) => Ok(Some(create(rt, name, lines, err)?)),
+        Some(name) => Ok(Some(create(rt, name)?)),
         None => Ok(None),
     }
 }
 
 /// Creates the files of numbers, and begins them.
-fn begin_results<'a, R: Files + AllocGlobal, E: Write>(
+fn begin_results<'a, R: Files + AllocGlobal>(
     rt: &R,
     scenario: &Scenario,
     names: ResultFiles<'a>,
-    lines: OutputFormat,
-    err: &mut E,
-) -> Result<Results<'a, BufWriter<R::File>>, Status>
+) -> Result<Results<'a, BufWriter<R::File>>, Fault<'a>>
 where
     R::File: Write + Drop,
 {
     let writers = ResultWriters {
-        sends: create_named(rt, names.sends, lines, err)?,
-        stations: create_named(rt, names.stations, lines, err)?,
-        load: create_named(rt, names.load, lines, err)?,
+        sends: create_named(rt, names.sends)?,
+        stations: create_named(rt, names.stations)?,
+        load: create_named(rt, names.load)?,
     };
-    Results::begin(rt.alloc(), scenario, names, writers).map_err(|fault| fault.report_as(
-        lines, err,
-    ))
+    Results::begin(rt.alloc(), scenario, names, writers)
 }

@@ -4,18 +4,18 @@ ghost use Rattle.std.specs.Prelude.{◌≡◌, IfOk};
 ghost use Rattle.its_reporting.specs.Statuses.{IsCommandStatus};
 
 use crate::audience::{Audience, Audiences};
+use crate::course::Course;
 use crate::fault::{RunFault, fault_of_air, is_cut_short};
 use crate::full_tables::FullTables;
-use crate::options::RunOptions;
 use crate::results::Results;
 use its_air::AirFault;
 use its_gnvalue::NoMemory;
-use its_reporting::{Fault, Status};
+use its_reporting::{Fault, Io, Status};
 use its_scenario::{Expectation, Reached, Scenario};
 use its_simulation::{EventRecord, EventSink, Note, SimulationFault};
 use its_world::World;
 use std::alloc::Global;
-use std::io::Write;
+use std::io::{BufRead, Write};
 
 /// What is found out about the run of a scenario.
 #[derive(Drop)]
@@ -24,24 +24,27 @@ pub(crate) struct Findings<'s, 'a, W: Write + Drop> {
     full: FullTables,
     audiences: Audiences,
     results: Results<'a, W>,
-    options: RunOptions,
+    /// Whether nothing is told but what makes the status another than `Done`.
+    quiet: bool,
 }
 
 impl<'s, 'a, W: Write + Drop> Findings<'s, 'a, W> {
-    /// Those of a run that has not begun, with the files that they are written to.
-    pub(crate) fn new(
+    /// Those of a run that has not begun, with the files that they are written to. `explain` says
+    /// whether codes are explained.
+    pub(crate) fn new<M: BufRead + Drop>(
         alloc: Global,
-        scenario: &'s Scenario,
-        options: RunOptions,
+        course: &Course<'s, 'a, M>,
+        explain: bool,
         results: Results<'a, W>,
     ) -> Result<Findings<'s, 'a, W>, NoMemory> {
-        let are_wanted = options.tells_missed() || !scenario.expectations.is_empty();
+        let (scenario, options) = (course.scenario, course.options);
+        let are_wanted = options.tells_missed(explain) || !scenario.expectations.is_empty();
         Ok(Findings {
             scenario,
             full: FullTables::new(),
             audiences: Audiences::new(alloc, scenario, are_wanted)?,
             results,
-            options,
+            quiet: options.quiet,
         })
     }
 
@@ -80,18 +83,18 @@ impl<'s, 'a, W: Write + Drop> Findings<'s, 'a, W> {
     /// it. `moves` is the name of its file of moves, where there is one. `CannotWrite` where a file
     /// failed, `Refused` where something that is expected isn't met, of a run that is done, and
     /// where a line of moves ended it.
-    pub(crate) fn end<E: Write>(
+    pub(crate) fn end<P, E: Write>(
         self,
         ran: Result<Status, AirFault>,
         moves: Option<&'a str>,
-        err: &mut E,
+        io: &mut Io<P, E>,
     ) -> Result<Status, Fault<'a>>
         requires { IfOk ran IsCommandStatus }
         ensures { IfOk result IsCommandStatus }
     {
         let told = match ran {
-            Ok(status) => Ok(self.tell(status, err)),
-            Err(fault) => self.tell_fault(fault, moves, err),
+            Ok(status) => Ok(self.tell(status, &mut io.err)),
+            Err(fault) => self.tell_fault(fault, moves, io),
         };
         self.results.end(told)
     }
@@ -113,27 +116,28 @@ impl<'s, 'a, W: Write + Drop> Findings<'s, 'a, W> {
     }
 
     /// Tells on standard error of a run that this ended what was found out till then, where its
-    /// file of moves did: that location tables were full, and which line is bad.
-    fn tell_fault<E: Write>(
+    /// file of moves did: that location tables were full, and which line is bad. That is told here,
+    /// before the files are ended, which may fail as well.
+    fn tell_fault<P, E: Write>(
         &self,
         fault: AirFault,
         moves: Option<&'a str>,
-        err: &mut E,
+        io: &mut Io<P, E>,
     ) -> Result<Status, Fault<'a>>
         ensures { IfOk result IsCommandStatus }
     {
         if is_cut_short(&fault) {
-            self.tell_full(err);
+            self.tell_full(&mut io.err);
         }
         match fault_of_air(fault, moves) {
             RunFault::Stopped(fault) => Err(fault),
-            fault => Ok(fault.report_as(self.options.lines, err)),
+            fault => Ok(io.status_of(Err(fault))),
         }
     }
 
     /// Tells that location tables were full, in an air and unless it is quiet.
     fn tell_full<E: Write>(&self, err: &mut E) {
-        if self.scenario.air.is_some() && !self.options.quiet {
+        if self.scenario.air.is_some() && !self.quiet {
             self.full.report(err);
         }
     }

@@ -12,7 +12,7 @@ use std::io::Write;
 #[derive(Drop)]
 pub(crate) struct Frames<'a, 'b, W: Write + Drop, E> {
     pub(crate) file: &'b mut FrameFile<'a, W>,
-    pub(crate) lines: OutputFormat,
+    pub(crate) format: OutputFormat,
     pub(crate) progress: &'b mut Progress,
     pub(crate) err: &'b mut E,
 }
@@ -28,7 +28,7 @@ impl<W: Write + Drop, E: Write> EventSink for Frames<'_, '_, W, E> {
         };
         let put = self
             .file
-            .put(done.station, done.moment, frame, self.lines, self.err);
+            .put(done.station, done.moment, frame, self.format, self.err);
         // The file remembers that it failed.
         put.map_err(|_| SimulationFault::Output(io::Error::from(io::ErrorKind::Other)))
     }

@@ -1,13 +1,10 @@
 //! What the arguments choose beside the scenario.
 
-use its_reporting::OutputFormat;
 use its_scenario::{AirSettings, Reading};
 
 /// How a scenario is run.
 #[derive(Clone, Copy, Debug, Default, PartialEq, Eq)]
 pub struct RunOptions {
-    /// How its lines are printed.
-    pub lines: OutputFormat,
     /// Whether what came of each packet for an area is printed, and the counts of all events, in
     /// place of the lines of events.
     pub summary: bool,
@@ -39,8 +36,9 @@ impl RunOptions {
         }
     }
 
-    /// Whether it is told of each packet for an area which stations it didn't reach.
-    pub(crate) fn tells_missed(&self) -> bool {
-        self.summary && self.lines.explain
+    /// Whether it is told of each packet for an area which stations it didn't reach, where codes are
+    /// explained.
+    pub(crate) fn tells_missed(&self, explain: bool) -> bool {
+        self.summary && explain
     }
 }

@@ -1,7 +1,6 @@
 //! How far a run is, on a line of a terminal.
 
 use crate::course::Course;
-use crate::options::RunOptions;
 use its_simulation::EventRecord;
 use its_world::What;
 use std::io;
@@ -23,12 +22,9 @@ pub(crate) struct Progress {
 
 impl Progress {
     /// Before the first event of a run. The line is shown where someone looks.
-    pub(crate) fn of<M: BufRead + Drop>(
-        course: &Course<'_, '_, M>,
-        options: RunOptions,
-    ) -> Progress {
+    pub(crate) fn of<M: BufRead + Drop>(course: &Course<'_, '_, M>) -> Progress {
         Progress {
-            is_shown: options.progress,
+            is_shown: course.options.progress,
             end: course.end(),
             deliveries: 0,
         }

@@ -12,11 +12,10 @@ use crate::options::RunOptions;
 use crate::progress::Progress;
 use crate::results::Results;
 use crate::summary::print_summary;
-use crate::target::FrameTarget;
 use crate::watched::Watched;
 use its_air::{AirFault, run_moves, run_scenario};
 use its_moves::Rows;
-use its_reporting::{Fault, FrameFile, Status, status_of};
+use its_reporting::{Fault, FrameFile, Io, OutputFormat, Status};
 use its_scenario::{Air, Reading, Scenario};
 use its_simulation::{EventSink, JsonLines, SimulationFault, TextLines};
 use its_tally::Tally;
@@ -37,42 +36,47 @@ pub fn simulate<R: Read + Drop, W: Write, E: Write>(
     alloc: Global,
     file: &str,
     reader: R,
-    options: RunOptions,
-    out: &mut W,
-    err: &mut E,
+    options: &RunOptions,
+    io: &mut Io<W, E>,
 ) -> Status
     ensures { IsCommandStatus result }
 {
-    match read_scenario(
-        alloc,
-        file,
-        reader,
-        MOST_STATIONS,
-        &options.reading(false, false),
-    ) {
-        Ok(scenario) => simulate_scenario(alloc, &scenario, options, out, err),
-        Err(fault) => fault.report_as(options.lines, err),
-    }
+    let ended = simulate_text(alloc, file, reader, options, io);
+    io.status_of(ended)
+}
+
+/// The same, with the fault that ends it.
+fn simulate_text<'a, R: Read + Drop, W: Write, E: Write>(
+    alloc: Global,
+    file: &'a str,
+    reader: R,
+    options: &RunOptions,
+    io: &mut Io<W, E>,
+) -> Result<Status, RunFault<'a>>
+    ensures { IfOk result IsCommandStatus }
+{
+    let reading = options.reading(false, false);
+    let scenario = read_scenario(alloc, file, reader, MOST_STATIONS, &reading)?;
+    Ok(simulate_scenario(alloc, &scenario, options, io)?)
 }
 
 /// Runs a scenario that was read, of at most 65535 stations, and prints its lines as `simulate` does.
+/// How it ends: `Refused` where something isn't met that it expects, and with `strict` where an event
+/// was refused.
 ///
-/// `Refused` where something isn't met that it expects, and with `strict` where an event was
-/// refused; `Failed` where a write failed or memory ran out.
-pub fn simulate_scenario<W: Write, E: Write>(
+/// `NoOutput` where a write failed, `OutOfMemory` where an allocation did.
+pub fn simulate_scenario<'f, W: Write, E: Write>(
     alloc: Global,
     scenario: &Scenario,
-    options: RunOptions,
-    out: &mut W,
-    err: &mut E,
-) -> Status
+    options: &RunOptions,
+    io: &mut Io<W, E>,
+) -> Result<Status, Fault<'f>>
     requires { vec_len scenario.now.stations ≤ 65535 }
-    ensures { IsCommandStatus result }
+    ensures { IfOk result IsCommandStatus }
 {
     let results: Results<'_, Vec<u8>> = Results::none();
-    let mut course: Course<'_, '_, BufReader<io::Empty>> = Course::alone(scenario);
-    let ended = run_without_frames(alloc, &mut course, results, options, out, err);
-    status_of(ended, options.lines, err)
+    let mut course: Course<'_, '_, BufReader<io::Empty>> = Course::alone(scenario, options);
+    run_without_frames(alloc, &mut course, results, io)
 }
 
 /// Runs a scenario, and writes these files of numbers.
@@ -80,141 +84,127 @@ pub(crate) fn run_without_frames<'a, M: BufRead + Drop, F: Write + Drop, W: Writ
     alloc: Global,
     course: &mut Course<'_, 'a, M>,
     results: Results<'a, F>,
-    options: RunOptions,
-    out: &mut W,
-    err: &mut E,
+    io: &mut Io<W, E>,
 ) -> Result<Status, Fault<'a>>
     requires { vec_len course.old.scenario.now.stations ≤ 65535 }
     ensures { IfOk result IsCommandStatus }
 {
-    let mut progress = Progress::of(course, options);
-    let mut findings = Findings::new(alloc, course.scenario, options, results)?;
-    let frames = NoFrames {
-        progress: &mut progress,
-        err: &mut *err,
+    let mut progress = Progress::of(course);
+    let mut findings = Findings::new(alloc, course, io.format.explain, results)?;
+    let finding = Finding {
+        findings: &mut findings,
+        sink: NoFrames {
+            progress: &mut progress,
+            err: &mut io.err,
+        },
     };
-    let ran = run(alloc, course, options, &mut findings, frames, out);
-    progress.end(err);
-    findings.end(ran, course.name(), err)
+    let ran = run(alloc, course, finding, io.format, &mut io.out);
+    progress.end(&mut io.err);
+    findings.end(ran, course.name(), io)
 }
 
-/// Runs a scenario, and also writes each frame that a station gives to the file `target`, and these
-/// files of numbers.
-///
-/// `Refused` where a frame was left out and, with `strict`, where an event was refused; `Failed`
-/// where the file or standard output could not be written or memory ran out.
-pub(crate) fn simulate_with_frames<'a, M: BufRead + Drop, F: Write + Drop, W: Write, E: Write>(
-    alloc: Global,
-    course: &mut Course<'_, 'a, M>,
-    target: FrameTarget<'a>,
-    writer: F,
-    results: Results<'a, F>,
-    options: RunOptions,
-    out: &mut W,
-    err: &mut E,
-) -> Status
-    requires { vec_len course.old.scenario.now.stations ≤ 65535 }
-    ensures { IsCommandStatus result }
-{
-    let stations = course.scenario.stations.len();
-    let ended = match FrameFile::start(alloc, writer, target.name, target.format, stations) {
-        Ok(file) => run_with_frames(alloc, course, file, results, options, out, err),
-        Err(fault) => Err(fault),
-    };
-    status_of(ended, options.lines, err)
-}
-
-fn run_with_frames<'a, M: BufRead + Drop, F: Write + Drop, W: Write, E: Write>(
+/// Runs a scenario, and also writes each frame that a station gives to the file, and these files of
+/// numbers. How it ends: `Refused` where a frame was left out and, with `strict`, where an event was
+/// refused.
+pub(crate) fn run_with_frames<'a, M: BufRead + Drop, F: Write + Drop, W: Write, E: Write>(
     alloc: Global,
     course: &mut Course<'_, 'a, M>,
     file: FrameFile<'a, F>,
     results: Results<'a, F>,
-    options: RunOptions,
-    out: &mut W,
-    err: &mut E,
+    io: &mut Io<W, E>,
 ) -> Result<Status, Fault<'a>>
     requires { vec_len course.old.scenario.now.stations ≤ 65535 }
     ensures { IfOk result IsCommandStatus }
 {
     let mut file = file;
-    let mut progress = Progress::of(course, options);
-    let mut findings = Findings::new(alloc, course.scenario, options, results)?;
-    let frames = Frames {
-        file: &mut file,
-        lines: options.lines,
-        progress: &mut progress,
-        err: &mut *err,
+    let mut progress = Progress::of(course);
+    let mut findings = Findings::new(alloc, course, io.format.explain, results)?;
+    let finding = Finding {
+        findings: &mut findings,
+        sink: Frames {
+            file: &mut file,
+            format: io.format,
+            progress: &mut progress,
+            err: &mut io.err,
+        },
     };
-    let ran = run(alloc, course, options, &mut findings, frames, out);
-    progress.end(err);
-    file.end(findings.end(ran, course.name(), err))
+    let ran = run(alloc, course, finding, io.format, &mut io.out);
+    progress.end(&mut io.err);
+    file.end(findings.end(ran, course.name(), io))
 }
 
 /// Runs a scenario and prints its lines, or what came of it, with a sink for its frames: how `sim`
 /// ends then, but for what was found out.
-fn run<M: BufRead + Drop, F: EventSink + Drop, R: Write + Drop, W: Write>(
+fn run<M: BufRead + Drop, F: EventSink + Found + Drop, W: Write>(
     alloc: Global,
     course: &mut Course<'_, '_, M>,
-    options: RunOptions,
-    findings: &mut Findings<'_, '_, R>,
     frames: F,
+    format: OutputFormat,
     out: &mut W,
 ) -> Result<Status, AirFault>
     requires { vec_len course.old.scenario.now.stations ≤ 65535 }
     ensures command { IfOk result IsCommandStatus }
     ensures run { course.old.moves ≡ None →
-        IfOk result (IsRunStatus options.strict course.old.scenario.now) }
+        IfOk result (IsRunStatus course.old.options.now.strict course.old.scenario.now) }
     ensures moved { IsSome course.old.moves → IfSome course.old.scenario.now.air (λ air.
-        IfOk result (IsMovedStatus options.strict course.old.scenario.now air)) }
+        IfOk result (IsMovedStatus course.old.options.now.strict course.old.scenario.now air)) }
 {
-    let besides = Finding {
-        findings,
-        sink: frames,
-    };
-    if options.summary {
-        run_summed_up(alloc, course, options, besides, out)
+    if course.options.summary {
+        run_summed_up(alloc, course, frames, format, out)
+    } else if format.json {
+        run_in_objects(alloc, course, frames, out)
     } else {
-        run_printed(alloc, course, options, besides, out)
+        run_in_words(alloc, course, frames, format.explain, out)
     }
 }
 
-/// Runs a scenario and prints the lines of its events: how `sim` ends then.
-fn run_printed<M: BufRead + Drop, F: EventSink + Drop, W: Write>(
+/// Runs a scenario and prints the lines of its events, as objects in JSON: how `sim` ends then.
+fn run_in_objects<M: BufRead + Drop, F: EventSink + Drop, W: Write>(
     alloc: Global,
     course: &mut Course<'_, '_, M>,
-    options: RunOptions,
     frames: F,
     out: &mut W,
 ) -> Result<Status, AirFault>
     requires { vec_len course.old.scenario.now.stations ≤ 65535 }
     ensures command { IfOk result IsCommandStatus }
     ensures run { course.old.moves ≡ None →
-        IfOk result (IsRunStatus options.strict course.old.scenario.now) }
+        IfOk result (IsRunStatus course.old.options.now.strict course.old.scenario.now) }
     ensures moved { IsSome course.old.moves → IfSome course.old.scenario.now.air (λ air.
-        IfOk result (IsMovedStatus options.strict course.old.scenario.now air)) }
+        IfOk result (IsMovedStatus course.old.options.now.strict course.old.scenario.now air)) }
 {
-    if options.lines.json {
-        let mut objects = JsonLines::new(alloc, out)?.noting(options.notes);
-        print_beginning(&mut objects, course)?;
-        let mut watched = Watched::new(Both {
-            lines: objects,
-            frames,
-        });
-        return run_watched(alloc, course, &mut watched, options.strict);
-    }
-    if options.heads {
+    let (notes, strict) = (course.options.notes, course.options.strict);
+    let mut lines = JsonLines::new(alloc, out)?.noting(notes);
+    print_beginning(&mut lines, course)?;
+    let mut watched = Watched::new(Both { lines, frames });
+    run_watched(alloc, course, &mut watched, strict)
+}
+
+/// The same in words. `explain` says whether codes are explained.
+fn run_in_words<M: BufRead + Drop, F: EventSink + Drop, W: Write>(
+    alloc: Global,
+    course: &mut Course<'_, '_, M>,
+    frames: F,
+    explain: bool,
+    out: &mut W,
+) -> Result<Status, AirFault>
+    requires { vec_len course.old.scenario.now.stations ≤ 65535 }
+    ensures command { IfOk result IsCommandStatus }
+    ensures run { course.old.moves ≡ None →
+        IfOk result (IsRunStatus course.old.options.now.strict course.old.scenario.now) }
+    ensures moved { IsSome course.old.moves → IfSome course.old.scenario.now.air (λ air.
+        IfOk result (IsMovedStatus course.old.options.now.strict course.old.scenario.now air)) }
+{
+    let (notes, strict) = (course.options.notes, course.options.strict);
+    if course.options.heads {
         print_heads(course.scenario, out)?;
     }
-    let explain = options.lines.explain;
     let words = match &course.scenario.air {
         Some(_) => TextLines::with_actions(out, explain),
         None => TextLines::new(out, explain),
     };
-    let mut watched = Watched::new(Both {
-        lines: words.noting(options.notes),
-        frames,
-    });
-    run_watched(alloc, course, &mut watched, options.strict)
+    let lines = words.noting(notes);
+    let mut watched = Watched::new(Both { lines, frames });
+    run_watched(alloc, course, &mut watched, strict)
 }
 
 /// Prints the heads of the columns of the lines in words.
@@ -243,29 +233,30 @@ fn print_beginning<M: BufRead + Drop, W: Write>(
 fn run_summed_up<M: BufRead + Drop, F: EventSink + Found + Drop, W: Write>(
     alloc: Global,
     course: &mut Course<'_, '_, M>,
-    options: RunOptions,
     frames: F,
+    format: OutputFormat,
     out: &mut W,
 ) -> Result<Status, AirFault>
     requires { vec_len course.old.scenario.now.stations ≤ 65535 }
     ensures command { IfOk result IsCommandStatus }
     ensures run { course.old.moves ≡ None →
-        IfOk result (IsRunStatus options.strict course.old.scenario.now) }
+        IfOk result (IsRunStatus course.old.options.now.strict course.old.scenario.now) }
     ensures moved { IsSome course.old.moves → IfSome course.old.scenario.now.air (λ air.
-        IfOk result (IsMovedStatus options.strict course.old.scenario.now air)) }
+        IfOk result (IsMovedStatus course.old.options.now.strict course.old.scenario.now air)) }
 {
+    let strict = course.options.strict;
     let mut watched = Watched::new(Both {
         lines: Tally::new(alloc, course.scenario.present.as_slice())?,
         frames,
     });
-    let ran = run_watched(alloc, course, &mut watched, options.strict);
+    let ran = run_watched(alloc, course, &mut watched, strict);
     let is_whole = match &ran {
         Ok(_) => true,
         Err(fault) if is_cut_short(fault) => false,
         Err(_) => return ran,
     };
     let Both { lines, frames } = &watched.sink;
-    print_summary(alloc, lines, frames, options.lines, is_whole, out)?;
+    print_summary(alloc, lines, frames, format, is_whole, out)?;
     ran
 }
 

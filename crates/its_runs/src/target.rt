@@ -1,12 +1,11 @@
 //! The file of a run's frames.
 
-ghost use Rattle.std.specs.Prelude.{◌≡◌, IfOk, IfSome, IsSomeAnd, Err, None, Ok, Some};
+ghost use Rattle.std.specs.Prelude.{◌≡◌, IfSome, IsErr, None, Ok, Some};
 ghost use Rattle.its_pcap.specs.declared.format.Format.{Format as FileFormat};
 ghost use Rattle.its_reporting.specs.FileNames.{format_of_file};
 
 use its_pcap::Format;
-use its_reporting::{Status, Target};
-use std::io::Write;
+use its_reporting::{OutputFault, Target};
 
 /// A file of frames that is to be made.
 #[derive(Clone, Copy, Debug, PartialEq, Eq)]
@@ -17,16 +16,14 @@ pub struct FrameTarget<'a> {
     pub format: Format,
 }
 
-/// The file of frames that the arguments ask for, if they do.
-///
-/// `BadArguments`, and told on standard error, where nothing says its format or its name is `-`.
-pub fn frame_target<'a, E: Write>(
+/// The file of frames that the arguments ask for, if they do. `NoFormat` where nothing says its
+/// format or its name is `-`.
+pub fn frame_target<'a>(
     frames: Option<Target<'a>>,
-    err: &mut E,
-) -> Result<Option<FrameTarget<'a>>, Status>
+) -> Result<Option<FrameTarget<'a>>, OutputFault<'a>>
     ensures alone { frames.entry ≡ None → result ≡ Ok None }
     ensures format { IfSome frames.entry (λ target. format_of_file target.to target.name.now ≡ None
-        → result ≡ Err Status.BadArguments) }
+        → IsErr result) }
     ensures made { IfSome frames.entry (λ target. (format : FileFormat)
         → format_of_file target.to target.name.now ≡ Some format
         → result ≡ Ok (Some (record { name = target.name; format = format }))) }
@@ -34,11 +31,9 @@ pub fn frame_target<'a, E: Write>(
     let Some(target) = frames else {
         return Ok(None);
     };
-    match target.file_format() {
-        Ok(format) => Ok(Some(FrameTarget {
-            name: target.name,
-            format,
-        })),
-        Err(fault) => Err(fault.report(err)),
-    }
+    let format = target.file_format()?;
+    Ok(Some(FrameTarget {
+        name: target.name,
+        format,
+    }))
 }

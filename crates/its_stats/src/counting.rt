@@ -5,25 +5,16 @@ ghost use Rattle.its_reporting.specs.Statuses.{IsCommandStatus};
 
 use crate::kinds::Kinds;
 use crate::ports::Ports;
-use crate::printing::{print_object, print_tables};
+use crate::printing::{Counted, print_object, print_tables};
 use crate::seconds::Seconds;
 use crate::sources::Sources;
 use its_linkframe::FrameView;
 use its_records::{
     Place, RecordFault, RecordVisitor, Selection, each_record, open_records, traits_of,
 };
-use its_reporting::{Fault, OutputFormat, Status, status_of};
+use its_reporting::{Fault, Io, Status};
 use std::alloc::{AllocError, Global};
 use std::io::{Read, Write};
-
-/// How `stats` tells what it counted.
-#[derive(Clone, Copy, Debug, PartialEq, Eq)]
-pub struct Counting {
-    /// How it is printed: as one object, or as tables.
-    pub lines: OutputFormat,
-    /// How many sources are told at most.
-    pub top: Option<u64>,
-}
 
 /// The octets of a frame before its packet.
 const LINK_HEADER: usize = 14;
@@ -78,7 +69,8 @@ impl RecordVisitor for Counts {
 }
 
 /// Prints what the records of the file are, of those that are chosen, and the traffic of their
-/// frames: by source, by port, and the second with the most air time. `file` is its name.
+/// frames: by source, by port, and the second with the most air time. `file` is its name, and `top`
+/// how many sources are told at most. What is told is one object, or tables.
 ///
 /// `Refused` where the file was refused, `Failed` where a read or a write failed or memory ran out.
 pub fn stats<R: Read + Drop, W: Write, E: Write>(
@@ -86,33 +78,45 @@ pub fn stats<R: Read + Drop, W: Write, E: Write>(
     file: &str,
     reader: R,
     selection: &Selection,
-    counting: Counting,
-    out: &mut W,
-    err: &mut E,
+    top: Option<u64>,
+    io: &mut Io<W, E>,
 ) -> Status
     ensures { IsCommandStatus result }
 {
-    let ended = count(alloc, file, reader, selection, counting, out);
-    status_of(ended, counting.lines, err)
+    let ended = count(alloc, file, reader, selection, top, io);
+    io.status_of(ended)
 }
 
-fn count<'a, R: Read + Drop, W: Write>(
+/// The same, with the fault that ends it.
+pub(crate) fn count<'a, R: Read + Drop, W: Write, E>(
     alloc: Global,
     file: &'a str,
     reader: R,
     selection: &Selection,
-    counting: Counting,
-    out: &mut W,
+    top: Option<u64>,
+    io: &mut Io<W, E>,
 ) -> Result<Status, Fault<'a>>
     ensures { IfOk result IsCommandStatus }
 {
     let mut counts = Counts::new(alloc);
     let mut source = open_records(alloc, file, selection.format, reader)?;
-    let walked = each_record(alloc, file, selection, &mut source, &mut counts, out)?;
-    if counting.lines.json {
-        print_object(alloc, &counts, &walked, counting, out)?;
+    let walked = each_record(
+        alloc,
+        file,
+        selection,
+        &mut source,
+        &mut counts,
+        &mut io.out,
+    )?;
+    let counted = Counted {
+        counts: &counts,
+        walked: &walked,
+        top,
+    };
+    if io.format.json {
+        print_object(alloc, counted, &mut io.out)?;
     } else {
-        print_tables(alloc, &counts, &walked, counting, out)?;
+        print_tables(alloc, counted, io.format.explain, &mut io.out)?;
     }
     match walked.fault {
         Some(_) => Ok(Status::Refused),

@@ -1,15 +1,16 @@
 //! The command over a named file, which is standard input where its name is `-`.
 
+ghost use Rattle.std.specs.Prelude.{IfOk};
 ghost use Rattle.its_reporting.specs.Statuses.{IsCommandStatus};
 
-use crate::counting::{Counting, stats};
+use crate::counting::count;
 use its_records::Selection;
-use its_reporting::{Status, open};
+use its_reporting::{Fault, Io, Status, open};
 use std::io::{Read, Write};
 use std::rt::Files;
 
 /// Prints what the chosen records of the file are, and the traffic of their frames. `input` is
-/// standard input.
+/// standard input, and `top` how many sources are told at most.
 ///
 /// `Refused` where the file was refused, `Failed` where it could not be read or standard output not
 /// written, or memory ran out.
@@ -18,16 +19,30 @@ pub fn stats_file<R: Files + AllocGlobal, I: Read + Drop, W: Write, E: Write>(
     file: &str,
     input: I,
     selection: &Selection,
-    counting: Counting,
-    out: &mut W,
-    err: &mut E,
+    top: Option<u64>,
+    io: &mut Io<W, E>,
 ) -> Status
 where
     R::File: Read + Drop,
     ensures { IsCommandStatus result }
 {
-    match open(rt, file, input, counting.lines, err) {
-        Ok(reader) => stats(rt.alloc(), file, reader, selection, counting, out, err),
-        Err(status) => status,
-    }
+    let ended = count_file(rt, file, input, selection, top, io);
+    io.status_of(ended)
+}
+
+/// The same, with the fault that ends it.
+fn count_file<'a, R: Files + AllocGlobal, I: Read + Drop, W: Write, E>(
+    rt: &R,
+    file: &'a str,
+    input: I,
+    selection: &Selection,
+    top: Option<u64>,
+    io: &mut Io<W, E>,
+) -> Result<Status, Fault<'a>>
+where
+    R::File: Read + Drop,
+    ensures { IfOk result IsCommandStatus }
+{
+    let reader = open(rt, file, input)?;
+    count(rt.alloc(), file, reader, selection, top, io)
 }

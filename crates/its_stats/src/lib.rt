@@ -12,5 +12,5 @@ mod seconds;
 mod sources;
 mod table;
 
-pub use counting::{Counting, stats};
+pub use counting::stats;
 pub use files::stats_file;

@@ -1,6 +1,6 @@
 //! What was counted, as tables and as an object in JSON.
 
-use crate::counting::{Counting, Counts};
+use crate::counting::Counts;
 use crate::kinds::Kinds;
 use crate::ports::{PortRow, port_table};
 use crate::seconds::{SecondRow, second_table};
@@ -12,15 +12,26 @@ use serde::{Described, Serialize, Serializer};
 use std::alloc::Global;
 use std::io::Write;
 
-/// Prints the four tables, an empty line between them, and why the file was refused.
+/// What there is to print.
+#[derive(Clone, Copy)]
+pub(crate) struct Counted<'c> {
+    pub(crate) counts: &'c Counts,
+    /// How far the file was read.
+    pub(crate) walked: &'c Walked,
+    /// How many sources are told at most.
+    pub(crate) top: Option<u64>,
+}
+
+/// Prints the four tables, an empty line between them, and why the file was refused, with `explain`
+/// as a sentence too.
 pub(crate) fn print_tables<'f, W: Write>(
     alloc: Global,
-    counts: &Counts,
-    walked: &Walked,
-    counting: Counting,
+    counted: Counted<'_>,
+    explain: bool,
     out: &mut W,
 ) -> Result<(), Fault<'f>> {
-    let sources = counts.sources.rows(counting.top)?;
+    let (counts, walked) = (counted.counts, counted.walked);
+    let sources = counts.sources.rows(counted.top)?;
     let ports = counts.ports.rows()?;
     counts.kinds.table(alloc)?.write(out)?;
     writeln!(out)?;
@@ -30,7 +41,7 @@ pub(crate) fn print_tables<'f, W: Write>(
     writeln!(out)?;
     second_table(alloc, counts.seconds.busiest())?.write(out)?;
     if let Some(fault) = walked.fault {
-        let told = RefusedCapture::new(walked.read, fault, counting.lines.explain);
+        let told = RefusedCapture::new(walked.read, fault, explain);
         writeln!(out, "{told}")?;
     }
     Ok(())
@@ -66,12 +77,11 @@ struct Everything<'a> {
 /// Prints it as one object.
 pub(crate) fn print_object<'f, W: Write>(
     alloc: Global,
-    counts: &Counts,
-    walked: &Walked,
-    counting: Counting,
+    counted: Counted<'_>,
     out: &mut W,
 ) -> Result<(), Fault<'f>> {
-    let sources = counts.sources.rows(counting.top)?;
+    let (counts, walked) = (counted.counts, counted.walked);
+    let sources = counts.sources.rows(counted.top)?;
     let ports = counts.ports.rows()?;
     let fault = walked
         .fault

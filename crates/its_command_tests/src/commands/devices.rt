@@ -1,10 +1,10 @@
 //! Readers and writers that fail.
 
 use super::{BAD, BEACON_LINE, beacon};
-use crate::run::{Command, left_of, run};
+use crate::run::{Command, left_of, run, silent};
 use its_commands::{read_lines, write_records};
 use its_linkframe::Record;
-use its_reporting::{OutputFormat, Status};
+use its_reporting::Status;
 use its_test_support::{Failing, Full, written};
 use std::alloc::{AllocError, Global};
 use std::io;
@@ -44,8 +44,11 @@ fn imported<R: BufRead + Drop>(
     reader: R,
 ) -> (Result<Vec<Record>, Status>, [u8; 64]) {
     let mut said = [0; 64];
-    let mut err = said.as_mut_slice();
-    let read = read_lines(alloc, "a.txt", reader, OutputFormat::default(), &mut err);
+    let mut io = silent(said.as_mut_slice());
+    let read = match read_lines(alloc, "a.txt", reader) {
+        Ok(records) => Ok(records),
+        Err(fault) => Err(io.status_of(Err(fault))),
+    };
     (read, said)
 }
 
@@ -114,8 +117,9 @@ fn a_command_ends_at_the_write_that_fails(rt: HostRuntime) -> Result<(), Fail> {
 /// octets of the capture.
 fn is_import_cut(records: &[Record], mut out: Full, count: usize) -> bool {
     let mut said = [0; 64];
-    let mut err = said.as_mut_slice();
-    let status = write_records("a.cap", records, &mut out, &mut err);
+    let mut io = silent(said.as_mut_slice());
+    let written_so = write_records("a.cap", records, &mut out);
+    let status = io.status_of(written_so);
     let taken = out.taken.as_slice();
     status == Status::Failed && Some(taken) == MADE.get(..count) && written(&said) == CANNOT_WRITE
 }

@@ -1,9 +1,10 @@
 //! Long lines, and lines that come in pieces: `import` reads them in bounded memory, and creates no
 //! capture before all lines are read.
 
+use crate::run::silent;
 use crate::short::import_a_file;
 use its_commands::read_lines;
-use its_reporting::{OutputFormat, Status};
+use its_reporting::Status;
 use its_test_support::{Shortage, put, written};
 use std::alloc::{AllocError, Global};
 use std::io::{BufRead, BufReader, Read};
@@ -54,9 +55,12 @@ impl Read for Halting<'_> {
 /// was said of it.
 fn count_records<R: BufRead + Drop>(alloc: Global, reader: R) -> (Result<usize, Status>, [u8; 64]) {
     let mut said = [0; 64];
-    let mut err = said.as_mut_slice();
-    let read = read_lines(alloc, "a.txt", reader, OutputFormat::default(), &mut err);
-    (read.map(|records| records.len()), said)
+    let mut io = silent(said.as_mut_slice());
+    let read = match read_lines(alloc, "a.txt", reader) {
+        Ok(records) => Ok(records.len()),
+        Err(fault) => Err(io.status_of(Err(fault))),
+    };
+    (read, said)
 }
 
 /// Whether so many records are read of lines that come in pieces, or this is said of them.

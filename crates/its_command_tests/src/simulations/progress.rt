@@ -1,6 +1,6 @@
 //! The line that tells how far a run is.
 
-use its_reporting::Status;
+use its_reporting::{Io, OutputFormat, Status};
 use its_runs::{RunOptions, simulate};
 use its_test_support::written;
 use std::alloc::Global;
@@ -43,8 +43,12 @@ total events 8 frames 4 deliveries 1 duplicates 2 ignored 1 refused 0
 /// Whether a run of the row is done, and leaves these lines and this on standard error.
 fn is_run(alloc: Global, options: RunOptions, lines: &str, shown: &str) -> bool {
     let (mut printed, mut said) = ([0; 400], [0; 100]);
-    let (mut out, mut err) = (printed.as_mut_slice(), said.as_mut_slice());
-    let status = simulate(alloc, "a.toml", ROW.as_bytes(), options, &mut out, &mut err);
+    let mut io = Io {
+        out: printed.as_mut_slice(),
+        err: said.as_mut_slice(),
+        format: OutputFormat::default(),
+    };
+    let status = simulate(alloc, "a.toml", ROW.as_bytes(), &options, &mut io);
     status == Status::Done
         && written(&printed) == lines.as_bytes()
         && written(&said) == shown.as_bytes()

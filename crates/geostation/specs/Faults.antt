@@ -1,0 +1,13 @@
+-- How the program ends whose arguments are refused.
+use Rattle.its_reporting.specs.declared.status.Status.{Status}
+use Rattle.its_reporting.specs.declared.status.Status.TheVariants.{BadArguments, Failed}
+use Rattle.geostation.specs.declared.fault.ArgumentFault.{ArgumentFault}
+use Rattle.geostation.specs.declared.fault.ArgumentFault.TheVariants.{NotUtf8, Key, Setting}
+use Rattle.geostation.specs.declared.fault.ArgumentFault.TheVariants.{Stopped}
+
+-- refused arguments, or no memory to read them
+abbrev pub argument_fault_status : ArgumentFault → Status
+argument_fault_status NotUtf8 = BadArguments
+argument_fault_status (Key _ _) = BadArguments
+argument_fault_status (Setting _ _) = BadArguments
+argument_fault_status (Stopped _) = Failed
