@@ -1,5 +1,5 @@
 -- How the program and its commands end.
-use Rattle.std.specs.Prelude.{ℕ, ◌≡◌, ◌≢◌, ◌⊎◌}
+use Rattle.std.specs.Prelude.{ℕ, ◌≢◌}
 use Rattle.its_reporting.specs.declared.fault.WriterFault.{WriterFault}
 use Rattle.its_reporting.specs.declared.fault.WriterFault.TheVariants.{Stopped, Output}
 use Rattle.its_reporting.specs.declared.status.Status.{Status}
@@ -17,14 +17,6 @@ exit_code Failed = 3
 -- A command has its arguments already: it never refuses them.
 abbrev pub IsCommandStatus : Status → Type 0
 IsCommandStatus status = status ≢ BadArguments
-
--- how a command ends that writes, and checks nothing
-abbrev pub IsWriterStatus : Status → Type 0
-IsWriterStatus status = (status ≡ Done) ⊎ (status ≡ Failed)
-
--- how a command ends that was stopped
-abbrev pub IsStopped : Status → Type 0
-IsStopped status = (status ≡ Refused) ⊎ (status ≡ Failed)
 
 -- the status of a command that writes a file and was ended so: that of the fault that would end it
 -- without one, and of refused arguments where the file is not written
