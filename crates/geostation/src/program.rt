@@ -83,16 +83,11 @@ fn run_buffered<
 where
     R::File: Read + Write + Drop,
 {
-    let Ok(out) = BufWriter::new(rt.alloc(), out) else {
+    let Ok(mut out) = BufWriter::new(rt.alloc(), out) else {
         return refuse(Fault::OutOfMemory(AllocError), err);
     };
-    let mut io = Io {
-        out,
-        err,
-        format: OutputFormat::default(),
-    };
-    let status = dispatch(rt, arguments, input, console, &mut io);
-    match io.out.flush() {
+    let status = dispatch(rt, arguments, input, &mut out, err, console);
+    match out.flush() {
         Ok(()) => status,
         Err(_) => Status::Failed,
     }
@@ -102,21 +97,23 @@ fn dispatch<R: Files + Net + Clock + Eprint + AllocGlobal, I: Read + Drop, W: Wr
     rt: &R,
     arguments: &[String],
     input: I,
+    out: &mut W,
+    err: &mut E,
     console: Console,
-    io: &mut Io<W, E>,
 ) -> Status
 where
     R::File: Read + Write + Drop,
 {
     match arguments::read(rt.alloc(), arguments, console) {
         Ok(invocation) => {
-            io.format = invocation.format;
+            let io = Io {
+                out,
+                err,
+                format: invocation.format,
+            };
             run_subcommand(rt, &invocation.subcommand, input, io)
         }
-        Err(error) => {
-            let answered = answer(&error, io);
-            io.status_of(answered)
-        }
+        Err(error) => answer(&error, out, err),
     }
 }
 
@@ -125,17 +122,17 @@ fn run_subcommand<
     I: Read + Drop,
     W: Write,
     E: Write,
->(rt: &R, subcommand: &Subcommand<'_>, input: I, io: &mut Io<W, E>) -> Status
+>(rt: &R, subcommand: &Subcommand<'_>, input: I, mut io: Io<&mut W, &mut E>) -> Status
 where
     R::File: Read + Write + Drop,
 {
     match subcommand {
         Subcommand::Show(show) => show_records(rt, show, input, io),
         Subcommand::Check(records) => {
-            check_file(rt, records.file, input, &records.selection, io)
+            check_file(rt, records.file, input, &records.selection, &mut io)
         }
         Subcommand::Stats(records, top) => {
-            stats_file(rt, records.file, input, &records.selection, *top, io)
+            stats_file(rt, records.file, input, &records.selection, *top, &mut io)
         }
         Subcommand::Convert(convert) => convert_records(rt, convert, input, io),
         Subcommand::Import(import) => import_lines(rt, import, input, io),
@@ -156,14 +153,14 @@ fn show_records<R: Files + AllocGlobal, I: Read + Drop, W: Write, E: Write>(
     rt: &R,
     show: &Show<'_>,
     input: I,
-    io: &mut Io<W, E>,
+    io: Io<&mut W, &mut E>,
 ) -> Status
 where
     R::File: Read + Drop,
 {
     let mut io = Io {
-        out: Screen::plain(rt.alloc(), &mut io.out).painted(show.painter),
-        err: &mut io.err,
+        out: Screen::plain(rt.alloc(), io.out).painted(show.painter),
+        err: io.err,
         format: io.format,
     };
     let records = &show.records;
@@ -182,15 +179,15 @@ fn convert_records<R: Files + Clock + Eprint + AllocGlobal, I: Read + Drop, W: W
     rt: &R,
     convert: &Convert<'_>,
     input: I,
-    io: &mut Io<W, E>,
+    io: Io<&mut W, &mut E>,
 ) -> Status
 where
     R::File: Read + Write + Drop,
 {
     let reading = Reading::of(rt, convert.conversion.file, convert.progress);
     let mut io = Io {
-        out: &mut io.out,
-        err: Meter::new(rt.alloc(), rt, &mut io.err, convert.progress),
+        out: io.out,
+        err: Meter::new(rt.alloc(), rt, io.err, convert.progress),
         format: io.format,
     };
     convert_file(
@@ -207,15 +204,15 @@ fn import_lines<R: Files + Clock + Eprint + AllocGlobal, I: Read + Drop, W: Writ
     rt: &R,
     import: &Import<'_>,
     input: I,
-    io: &mut Io<W, E>,
+    io: Io<&mut W, &mut E>,
 ) -> Status
 where
     R::File: Read + Write + Drop,
 {
     let reading = Reading::of(rt, import.file, import.progress);
     let mut io = Io {
-        out: &mut io.out,
-        err: Meter::new(rt.alloc(), rt, &mut io.err, import.progress),
+        out: io.out,
+        err: Meter::new(rt.alloc(), rt, io.err, import.progress),
         format: io.format,
     };
     import_file(&reading, import.file, input, import.target, &mut io)
@@ -226,14 +223,14 @@ fn simulate<R: Files + Clock + AllocGlobal, I: Read + Drop, W: Write, E: Write>(
     rt: &R,
     sim: &Sim<'_>,
     input: I,
-    io: &mut Io<W, E>,
+    io: Io<&mut W, &mut E>,
 ) -> Status
 where
     R::File: Read + Write + Drop,
 {
     let mut io = Io {
-        out: Screen::plain(rt.alloc(), &mut io.out).painted(sim.painter),
-        err: Meter::new(rt.alloc(), rt, &mut io.err, sim.options.progress),
+        out: Screen::plain(rt.alloc(), io.out).painted(sim.painter),
+        err: Meter::new(rt.alloc(), rt, io.err, sim.options.progress),
         format: io.format,
     };
     let status = simulate_file(rt, &sim.files, input, &sim.options, &mut io);
@@ -246,14 +243,14 @@ fn view<R: Files + Clock + AllocGlobal, I: Read + Drop, W: Write, E: Write>(
     rt: &R,
     viewing: &Viewing<'_>,
     input: I,
-    io: &mut Io<W, E>,
+    io: Io<&mut W, &mut E>,
 ) -> Status
 where
     R::File: Read + Write + Drop,
 {
     let mut io = Io {
-        out: &mut io.out,
-        err: Meter::new(rt.alloc(), rt, &mut io.err, viewing.options.progress),
+        out: io.out,
+        err: Meter::new(rt.alloc(), rt, io.err, viewing.options.progress),
         format: io.format,
     };
     let status = view_file(rt, viewing, input, &mut io);
@@ -266,15 +263,15 @@ fn run_mesh<R: Files + Net + AllocGlobal, I: Read + Drop, W: Write, E: Write>(
     rt: &R,
     mesh: &Mesh<'_>,
     input: I,
-    io: &mut Io<W, E>,
+    io: Io<&mut W, &mut E>,
 ) -> Status
 where
     R::File: Read + Write + Drop,
 {
     let heads = mesh.heads.then_some(MESH_HEADS);
     let mut io = Io {
-        out: Screen::plain(rt.alloc(), &mut io.out).headed(heads),
-        err: &mut io.err,
+        out: Screen::plain(rt.alloc(), io.out).headed(heads),
+        err: io.err,
         format: io.format,
     };
     mesh_file(rt, mesh.file, input, mesh.frames, mesh.options, &mut io)
@@ -285,7 +282,7 @@ fn replay_records<R: Files + AllocGlobal, I: Read + Drop, W: Write, E: Write>(
     rt: &R,
     replay: &Replay<'_>,
     input: I,
-    io: &mut Io<W, E>,
+    mut io: Io<&mut W, &mut E>,
 ) -> Status
 where
     R::File: Read + Write + Drop,
@@ -297,7 +294,7 @@ where
                 selection: replay.records.selection,
                 unit,
             };
-            replay_file(rt, &options, input, replay.frames, io)
+            replay_file(rt, &options, input, replay.frames, &mut io)
         }
         Err(fault) => io.status_of(Err(fault)),
     }
@@ -308,10 +305,10 @@ fn serve<I: Read + Drop, W: Write, E: Write>(
     alloc: Global,
     station: &StationArguments<'_>,
     input: I,
-    io: &mut Io<W, E>,
+    mut io: Io<&mut W, &mut E>,
 ) -> Status {
     match config_of(station) {
-        Ok(config) => match run_station(alloc, &config, input, &mut io.out, &mut io.err) {
+        Ok(config) => match run_station(alloc, &config, input, io.out, io.err) {
             Ended::Done => Status::Done,
             Ended::Refused => Status::Refused,
             Ended::Failed => Status::Failed,
@@ -358,17 +355,16 @@ fn setting_fault<'a>(alloc: Global, fault: SettingFault<'a>, explain: bool) -> A
 }
 
 /// Answers arguments that named no command: help on standard output, a refusal on standard error.
-fn answer<'f, W: Write, E: Write>(
-    error: &clap::Error,
-    io: &mut Io<W, E>,
-) -> Result<Status, Fault<'f>> {
+fn answer<W: Write, E: Write>(error: &clap::Error, out: &mut W, err: &mut E) -> Status {
     if error.kind() == clap::error::ErrorKind::OutOfMemory {
-        return Err(Fault::OutOfMemory(AllocError));
+        return refuse(Fault::OutOfMemory(AllocError), err);
     }
     if error.use_stderr() {
-        let _ = write!(io.err, "{error}");
-        return Ok(Status::BadArguments);
+        let _ = write!(err, "{error}");
+        return Status::BadArguments;
     }
-    write!(io.out, "{error}")?;
-    Ok(Status::Done)
+    match write!(out, "{error}") {
+        Ok(()) => Status::Done,
+        Err(_) => Status::Failed,
+    }
 }

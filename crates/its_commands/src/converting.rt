@@ -44,59 +44,57 @@ pub fn convert<R: Read + Drop, W: Write, E: Write>(
 ) -> Status
     ensures { IsCommandStatus result }
 {
-    let ended = convert_records(alloc, conversion, to, selection, reader, io);
+    let parts = Io {
+        out: &mut io.out,
+        err: &mut io.err,
+        format: io.format,
+    };
+    let ended = convert_records(alloc, conversion, to, selection, reader, parts);
     io.status_of(ended)
 }
 
 /// The same, with the fault that ends it.
-pub(crate) fn convert_records<'a, R: Read + Drop, W: Write, E: Write>(
+pub(crate) fn convert_records<'a, R: Read + Drop, W: Write + Drop, E: Write>(
     alloc: Global,
     conversion: Conversion<'a>,
     to: Format,
     selection: &Selection,
     reader: R,
-    io: &mut Io<W, E>,
+    io: Io<W, &mut E>,
 ) -> Result<Status, Fault<'a>>
     ensures { IfOk result IsCommandStatus }
 {
-    let mut written = Written::new(&mut io.out, to, conversion.frames_only);
-    let mut telling = Telling {
+    let Io { out, err, format } = io;
+    let mut written = Written::new(out, to, conversion.frames_only);
+    let telling = Telling {
         file: conversion.file,
+        target: conversion.target.name,
         read_as: selection.format,
-        format: io.format,
-        err: &mut io.err,
+        format,
     };
-    let target = conversion.target.name;
     let keep = LONGEST_CAPTURED as usize;
     let ended = match AnySource::open(alloc, Counted::new(reader), selection.format, keep) {
-        Ok(mut source) => copy(
-            alloc,
-            target,
-            selection,
-            &mut source,
-            &mut written,
-            &mut telling,
-        ),
-        Err(fault) => telling.end_file(fault, 0),
+        Ok(mut source) => copy(alloc, telling, selection, &mut source, &mut written, err),
+        Err(fault) => telling.end_file(fault, 0, err),
     };
     let is_whole = written.end();
     let flushed = written.into_writer().flush();
     let status = ended?;
     if !is_whole || flushed.is_err() {
-        return Err(Fault::of_target(target));
+        return Err(Fault::of_target(conversion.target.name));
     }
     Ok(status)
 }
 
-/// Writes the records of the source that are chosen to the file `target`, one by one, until it ends.
-/// A record that has no place in the file is told, and left out.
+/// Writes the records of the source that are chosen, one by one, until it ends. A record that has no
+/// place in the file is told, and left out.
 fn copy<'a, S: Source + Drop, W: Write + Drop, E: Write>(
     alloc: Global,
-    target: &'a str,
+    telling: Telling<'a>,
     selection: &Selection,
     source: &mut AnySource<S>,
     written: &mut Written<W>,
-    telling: &mut Telling<'a, '_, E>,
+    err: &mut E,
 ) -> Result<Status, Fault<'a>>
     ensures command { IfOk result IsCommandStatus }
     ensures copied { IfOk result (IsCopied Gives layer_of_source selection.now.choice
@@ -281,28 +279,30 @@ fn copy_record<'a, W: Write + Drop>(
     }
 }
 
-/// What is told on standard error of the file that is read.
-#[derive(Drop)]
-struct Telling<'a, 'e, E> {
-    /// Its name.
+/// What is said of the files where something is told of them on standard error.
+#[derive(Clone, Copy, Debug, PartialEq, Eq)]
+struct Telling<'a> {
+    /// The name of the file that is read.
     file: &'a str,
-    /// The format that it was said to have.
+    /// The name of the one that is written.
+    target: &'a str,
+    /// The format that the first was said to have.
     read_as: Option<Format>,
+    /// How lines are printed.
     format: OutputFormat,
-    err: &'e mut E,
 }
 
-impl<'a, E: Write> Telling<'a, '_, E> {
+impl<'a> Telling<'a> {
     /// Tells what a step met, after so many records: that the record is left out, or the fault of
     /// the file.
-    fn tell(&mut self, met: Met, records: u64) -> Result<(), Fault<'a>> {
+    fn tell<E: Write>(self, met: Met, records: u64, err: &mut E) -> Result<(), Fault<'a>> {
         match met {
             Met::Record(Copied::LeftOut(fault)) => {
                 let left_out = LeftOut::new("record", records, fault, self.format);
-                let _ = writeln!(self.err, "{left_out}");
+                let _ = writeln!(err, "{left_out}");
             }
             Met::End(Some(fault)) => {
-                self.end_file(fault, records)?;
+                self.end_file(fault, records, err)?;
             }
             _ => {}
         }
@@ -310,12 +310,17 @@ impl<'a, E: Write> Telling<'a, '_, E> {
     }
 
     /// Tells the fault of the file after so many records, or says why it was not read on.
-    fn end_file(&mut self, fault: SourceFault, records: u64) -> Result<Status, Fault<'a>>
+    fn end_file<E: Write>(
+        self,
+        fault: SourceFault,
+        records: u64,
+        err: &mut E,
+    ) -> Result<Status, Fault<'a>>
         ensures { IfOk result IsCommandStatus }
     {
         let fault = FileFault::of(fault, self.file, records, self.read_as)?;
         let told = RefusedCapture::new(records, fault, self.format.explain);
-        let _ = writeln!(self.err, "geostation: {told}");
+        let _ = writeln!(err, "geostation: {told}");
         Ok(Status::Refused)
     }
 }

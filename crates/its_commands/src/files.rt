@@ -202,7 +202,12 @@ where
     ensures { IfOk result IsCommandStatus }
 {
     let reader = open(rt, conversion.file, input)?;
-    convert_records(rt.alloc(), conversion, to, selection, reader, io)
+    let parts = Io {
+        out: &mut io.out,
+        err: &mut io.err,
+        format: io.format,
+    };
+    convert_records(rt.alloc(), conversion, to, selection, reader, parts)
 }
 
 /// Opens the file, and only then creates the target.
@@ -219,10 +224,10 @@ where
     ensures { IfOk result IsCommandStatus }
 {
     let reader = open(rt, conversion.file, input)?;
-    let mut to_file = Io {
+    let into_file = Io {
         out: create_apart(rt, conversion.target.name, conversion.file)?,
         err: &mut io.err,
         format: io.format,
     };
-    Ok(convert_records(rt.alloc(), conversion, to, selection, reader, &mut to_file)?)
+    Ok(convert_records(rt.alloc(), conversion, to, selection, reader, into_file)?)
 }

@@ -66,24 +66,30 @@ pub(crate) fn write_run<'a, R: BufRead + Drop, W: Write, E: Write>(
     way: Way<'a>,
     shown: Shown<R>,
     options: &RunOptions,
-    io: &mut Io<W, E>,
+    io: Io<&mut W, &mut E>,
 ) -> Result<Status, Fault<'a>>
     ensures { IfOk result IsCommandStatus }
 {
+    let Io { out, err, format } = io;
     let name = ShownName(way.file);
     let begun = writeln!(
-        io.out,
+        out,
         "<script type=\"application/jsonl\" id=\"inside\" data-name=\"{name}\">"
     );
     way.told(begun)?;
     let status = match shown {
-        Shown::Lines(reader) => write_lines(way, reader, &mut io.out)?,
+        Shown::Lines(reader) => write_lines(way, reader, out)?,
         Shown::Scenario(runnable) => {
             let Runnable { scenario } = runnable;
-            write_lines_of(alloc, way, &scenario, options, io)?
+            let parts = Io {
+                out: &mut *out,
+                err,
+                format,
+            };
+            write_lines_of(alloc, way, &scenario, options, parts)?
         }
     };
-    way.told(writeln!(io.out, "</script>"))?;
+    way.told(writeln!(out, "</script>"))?;
     Ok(status)
 }
 
@@ -110,7 +116,7 @@ fn write_lines_of<'a, W: Write, E: Write>(
     way: Way<'a>,
     scenario: &Scenario,
     options: &RunOptions,
-    io: &mut Io<W, E>,
+    io: Io<&mut W, &mut E>,
 ) -> Result<Status, Fault<'a>>
     requires { vec_len scenario.now.stations ≤ 65535 }
     ensures { IfOk result IsCommandStatus }
@@ -121,8 +127,8 @@ fn write_lines_of<'a, W: Write, E: Write>(
         ..*options
     };
     let mut inside = Io {
-        out: Inside::new(&mut io.out),
-        err: &mut io.err,
+        out: Inside::new(io.out),
+        err: io.err,
         format: OutputFormat {
             json: true,
             ..io.format

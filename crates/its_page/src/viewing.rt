@@ -79,7 +79,12 @@ where
     ensures { IfOk result IsCommandStatus }
 {
     let viewed = open_viewed(rt, way, input)?;
-    write_page(rt, way, viewed, options, io)
+    let parts = Io {
+        out: &mut io.out,
+        err: &mut io.err,
+        format: io.format,
+    };
+    write_page(rt, way, viewed, options, parts)
 }
 
 /// Opens what is read, and only then creates the file; tells how that is opened.
@@ -137,13 +142,14 @@ where
     ensures { IfOk result IsCommandStatus }
 {
     keep_apart(rt, way.target, way.file)?;
-    let mut to_file = Io {
-        out: create(rt, way.target)?,
+    let mut created = create(rt, way.target)?;
+    let into_file = Io {
+        out: &mut created,
         err: &mut io.err,
         format: io.format,
     };
-    let status = write_page(rt, way, viewed, options, &mut to_file)?;
-    way.told(to_file.out.flush())?;
+    let status = write_page(rt, way, viewed, options, into_file)?;
+    way.told(created.flush())?;
     Ok(status)
 }
 
@@ -153,17 +159,23 @@ fn write_page<'a, R: Files + AllocGlobal, L: BufRead + Drop, W: Write, E: Write>
     way: Way<'a>,
     viewed: Viewed<R::File, L>,
     options: &RunOptions,
-    io: &mut Io<W, E>,
+    io: Io<&mut W, &mut E>,
 ) -> Result<Status, PageFault<'a>>
 where
     R::File: Read + Write + Drop,
     ensures { IfOk result IsCommandStatus }
 {
     let Viewed { mut page, shown } = viewed;
-    if !write_up_to_run(rt, way, &mut page, &mut io.out)? {
+    let Io { out, err, format } = io;
+    if !write_up_to_run(rt, way, &mut page, out)? {
         return Err(PageFault::from(Fault::CannotRead(way.index)));
     }
-    let status = write_run(rt.alloc(), way, shown, options, io)?;
-    write_up_to_run(rt, way, &mut page, &mut io.out)?;
+    let parts = Io {
+        out: &mut *out,
+        err,
+        format,
+    };
+    let status = write_run(rt.alloc(), way, shown, options, parts)?;
+    write_up_to_run(rt, way, &mut page, out)?;
     Ok(status)
 }

@@ -1,6 +1,6 @@
 use Rattle.std.specs.Prelude.{All}
 use Rattle.its_commands.specs.Lines.{HasFrame}
-use Rattle.its_commands.proofs.importing.records_of.Given as goal
+use Rattle.its_commands.proofs.importing.read_lines.Given as goal
 
 -- each line so far has a frame
 abbrev pub invariant-loop-number : goal.invariant-loop-number
