@@ -7,7 +7,9 @@ ghost use Rattle.its_world.specs.Events.{IsConfig};
 use crate::arguments;
 use crate::fault::ArgumentFault;
 use crate::station::StationArguments;
-use crate::subcommand::{Convert, Import, Mesh, Replay, Show, Sim, Subcommand};
+use crate::subcommand::{
+    Convert, Import, Invocation, Mesh, Records, Replay, Show, Sim, Subcommand,
+};
 use its_commands::{check_file, convert_file, import_file, show_file};
 use its_mesh::mesh_file;
 use its_page::{Viewing, view_file};
@@ -105,14 +107,7 @@ where
     R::File: Read + Write + Drop,
 {
     match arguments::read(rt.alloc(), arguments, console) {
-        Ok(invocation) => {
-            let io = Io {
-                out,
-                err,
-                format: invocation.format,
-            };
-            run_subcommand(rt, &invocation.subcommand, input, io)
-        }
+        Ok(invocation) => { run_subcommand(rt, &invocation, input, out, err) }
         Err(error) => answer(&error, out, err),
     }
 }
@@ -122,46 +117,63 @@ fn run_subcommand<
     I: Read + Drop,
     W: Write,
     E: Write,
->(rt: &R, subcommand: &Subcommand<'_>, input: I, mut io: Io<&mut W, &mut E>) -> Status
+>(rt: &R, invocation: &Invocation<'_>, input: I, out: &mut W, err: &mut E) -> Status
 where
     R::File: Read + Write + Drop,
 {
-    match subcommand {
-        Subcommand::Show(show) => show_records(rt, show, input, io),
-        Subcommand::Check(records) => {
-            check_file(rt, records.file, input, &records.selection, &mut io)
-        }
+    let format = invocation.format;
+    match &invocation.subcommand {
+        Subcommand::Show(show) => show_records(rt, show, format, input, out, err),
+        Subcommand::Check(records) => check_records(rt, records, format, input, out, err),
         Subcommand::Stats(records, top) => {
+            let mut io = Io { out, err, format };
             stats_file(rt, records.file, input, &records.selection, *top, &mut io)
         }
-        Subcommand::Convert(convert) => convert_records(rt, convert, input, io),
-        Subcommand::Import(import) => import_lines(rt, import, input, io),
-        Subcommand::Sim(sim) => simulate(rt, sim, input, io),
-        Subcommand::View(viewing) => view(rt, viewing, input, io),
-        Subcommand::Mesh(mesh) => run_mesh(rt, mesh, input, io),
-        Subcommand::Replay(replay) => replay_records(rt, replay, input, io),
-        Subcommand::Station(station) => serve(rt.alloc(), station, input, io),
+        Subcommand::Convert(convert) => convert_records(rt, convert, format, input, out, err),
+        Subcommand::Import(import) => import_lines(rt, import, format, input, out, err),
+        Subcommand::Sim(sim) => simulate(rt, sim, format, input, out, err),
+        Subcommand::View(viewing) => view(rt, viewing, format, input, out, err),
+        Subcommand::Mesh(mesh) => run_mesh(rt, mesh, format, input, out, err),
+        Subcommand::Replay(replay) => replay_records(rt, replay, format, input, out, err),
+        Subcommand::Station(station) => serve(rt.alloc(), station, input, out, err),
         Subcommand::BadSetting(fault) => {
-            let fault = setting_fault(rt.alloc(), *fault, io.format.explain);
-            io.status_of(Err(fault))
+            refuse(setting_fault(rt.alloc(), *fault, format.explain), err)
         }
     }
+}
+
+/// `check`.
+fn check_records<R: Files + AllocGlobal, I: Read + Drop, W: Write, E: Write>(
+    rt: &R,
+    records: &Records<'_>,
+    format: OutputFormat,
+    input: I,
+    out: &mut W,
+    err: &mut E,
+) -> Status
+where
+    R::File: Read + Drop,
+{
+    let mut io = Io { out, err, format };
+    check_file(rt, records.file, input, &records.selection, &mut io)
 }
 
 /// `show`, its lines in colours where they are.
 fn show_records<R: Files + AllocGlobal, I: Read + Drop, W: Write, E: Write>(
     rt: &R,
     show: &Show<'_>,
+    format: OutputFormat,
     input: I,
-    io: Io<&mut W, &mut E>,
+    out: &mut W,
+    err: &mut E,
 ) -> Status
 where
     R::File: Read + Drop,
 {
     let mut io = Io {
-        out: Screen::plain(rt.alloc(), io.out).painted(show.painter),
-        err: io.err,
-        format: io.format,
+        out: Screen::plain(rt.alloc(), out).painted(show.painter),
+        err,
+        format,
     };
     let records = &show.records;
     show_file(
@@ -178,17 +190,19 @@ where
 fn convert_records<R: Files + Clock + Eprint + AllocGlobal, I: Read + Drop, W: Write, E: Write>(
     rt: &R,
     convert: &Convert<'_>,
+    format: OutputFormat,
     input: I,
-    io: Io<&mut W, &mut E>,
+    out: &mut W,
+    err: &mut E,
 ) -> Status
 where
     R::File: Read + Write + Drop,
 {
     let reading = Reading::of(rt, convert.conversion.file, convert.progress);
     let mut io = Io {
-        out: io.out,
-        err: Meter::new(rt.alloc(), rt, io.err, convert.progress),
-        format: io.format,
+        out,
+        err: Meter::new(rt.alloc(), rt, err, convert.progress),
+        format,
     };
     convert_file(
         &reading,
@@ -203,17 +217,19 @@ where
 fn import_lines<R: Files + Clock + Eprint + AllocGlobal, I: Read + Drop, W: Write, E: Write>(
     rt: &R,
     import: &Import<'_>,
+    format: OutputFormat,
     input: I,
-    io: Io<&mut W, &mut E>,
+    out: &mut W,
+    err: &mut E,
 ) -> Status
 where
     R::File: Read + Write + Drop,
 {
     let reading = Reading::of(rt, import.file, import.progress);
     let mut io = Io {
-        out: io.out,
-        err: Meter::new(rt.alloc(), rt, io.err, import.progress),
-        format: io.format,
+        out,
+        err: Meter::new(rt.alloc(), rt, err, import.progress),
+        format,
     };
     import_file(&reading, import.file, input, import.target, &mut io)
 }
@@ -222,16 +238,18 @@ where
 fn simulate<R: Files + Clock + AllocGlobal, I: Read + Drop, W: Write, E: Write>(
     rt: &R,
     sim: &Sim<'_>,
+    format: OutputFormat,
     input: I,
-    io: Io<&mut W, &mut E>,
+    out: &mut W,
+    err: &mut E,
 ) -> Status
 where
     R::File: Read + Write + Drop,
 {
     let mut io = Io {
-        out: Screen::plain(rt.alloc(), io.out).painted(sim.painter),
-        err: Meter::new(rt.alloc(), rt, io.err, sim.options.progress),
-        format: io.format,
+        out: Screen::plain(rt.alloc(), out).painted(sim.painter),
+        err: Meter::new(rt.alloc(), rt, err, sim.options.progress),
+        format,
     };
     let status = simulate_file(rt, &sim.files, input, &sim.options, &mut io);
     let _ = io.err.flush();
@@ -242,16 +260,18 @@ where
 fn view<R: Files + Clock + AllocGlobal, I: Read + Drop, W: Write, E: Write>(
     rt: &R,
     viewing: &Viewing<'_>,
+    format: OutputFormat,
     input: I,
-    io: Io<&mut W, &mut E>,
+    out: &mut W,
+    err: &mut E,
 ) -> Status
 where
     R::File: Read + Write + Drop,
 {
     let mut io = Io {
-        out: io.out,
-        err: Meter::new(rt.alloc(), rt, io.err, viewing.options.progress),
-        format: io.format,
+        out,
+        err: Meter::new(rt.alloc(), rt, err, viewing.options.progress),
+        format,
     };
     let status = view_file(rt, viewing, input, &mut io);
     let _ = io.err.flush();
@@ -262,17 +282,19 @@ where
 fn run_mesh<R: Files + Net + AllocGlobal, I: Read + Drop, W: Write, E: Write>(
     rt: &R,
     mesh: &Mesh<'_>,
+    format: OutputFormat,
     input: I,
-    io: Io<&mut W, &mut E>,
+    out: &mut W,
+    err: &mut E,
 ) -> Status
 where
     R::File: Read + Write + Drop,
 {
     let heads = mesh.heads.then_some(MESH_HEADS);
     let mut io = Io {
-        out: Screen::plain(rt.alloc(), io.out).headed(heads),
-        err: io.err,
-        format: io.format,
+        out: Screen::plain(rt.alloc(), out).headed(heads),
+        err,
+        format,
     };
     mesh_file(rt, mesh.file, input, mesh.frames, mesh.options, &mut io)
 }
@@ -281,8 +303,10 @@ where
 fn replay_records<R: Files + AllocGlobal, I: Read + Drop, W: Write, E: Write>(
     rt: &R,
     replay: &Replay<'_>,
+    format: OutputFormat,
     input: I,
-    mut io: Io<&mut W, &mut E>,
+    out: &mut W,
+    err: &mut E,
 ) -> Status
 where
     R::File: Read + Write + Drop,
@@ -294,9 +318,10 @@ where
                 selection: replay.records.selection,
                 unit,
             };
+            let mut io = Io { out, err, format };
             replay_file(rt, &options, input, replay.frames, &mut io)
         }
-        Err(fault) => io.status_of(Err(fault)),
+        Err(fault) => refuse(fault, err),
     }
 }
 
@@ -305,15 +330,16 @@ fn serve<I: Read + Drop, W: Write, E: Write>(
     alloc: Global,
     station: &StationArguments<'_>,
     input: I,
-    mut io: Io<&mut W, &mut E>,
+    out: &mut W,
+    err: &mut E,
 ) -> Status {
     match config_of(station) {
-        Ok(config) => match run_station(alloc, &config, input, io.out, io.err) {
+        Ok(config) => match run_station(alloc, &config, input, out, err) {
             Ended::Done => Status::Done,
             Ended::Refused => Status::Refused,
             Ended::Failed => Status::Failed,
         },
-        Err(fault) => io.status_of(Err(fault)),
+        Err(fault) => refuse(fault, err),
     }
 }
 

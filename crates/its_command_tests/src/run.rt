@@ -2,7 +2,7 @@
 //! else be carried along in the proof of each test.
 
 use its_commands::{Selection, Showing, check, show};
-use its_reporting::{Io, OutputFormat, Status};
+use its_reporting::{CommandFault, Io, OutputFormat, Status};
 use its_runs::{RunOptions, simulate};
 use its_test_support::written;
 use std::alloc::Global;
@@ -18,13 +18,17 @@ pub(crate) enum Command {
     SimObjects,
 }
 
-/// What a command prints to that prints no line, with this standard error.
-pub(crate) fn silent<E: Write>(err: E) -> Io<&'static [u8], E> {
-    Io {
-        out: &[],
+/// The status of what ended so, told on this standard error.
+pub(crate) fn status_of<F: CommandFault + Drop, E: Write>(
+    ended: Result<Status, F>,
+    err: &mut E,
+) -> Status {
+    let mut io = Io {
+        out: (),
         err,
         format: OutputFormat::default(),
-    }
+    };
+    io.status_of(ended)
 }
 
 /// Runs a command, and gives its status.

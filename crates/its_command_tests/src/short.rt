@@ -1,11 +1,12 @@
 //! Commands with every budget of memory from none to enough.
 
-use crate::run::{Command, Left, left_of, silent};
+use crate::run::{Command, Left, left_of, status_of};
 use its_commands::{Selection, Showing, check_file, import_file, read_lines, show_file};
 use its_reporting::{Io, OutputFormat, Status, create};
 use its_test_support::{MOST, STEP, Shortage, written};
 use std::alloc::Global;
 use std::fs;
+use std::io::Write;
 
 static NO_MEMORY: &[u8] = b"geostation: out of memory\n";
 
@@ -69,10 +70,10 @@ fn over(alloc: Global, command: Command, input: &[u8], whole: &[u8]) -> Option<b
 /// Two records are read, or none.
 fn import(alloc: Global) -> Option<bool> {
     let mut said = [0; 64];
-    let mut io = silent(said.as_mut_slice());
+    let mut err = said.as_mut_slice();
     let (status, count) = match read_lines(alloc, "a.txt", LINES.as_bytes()) {
         Ok(records) => (Status::Done, records.len()),
-        Err(fault) => (io.status_of(Err(fault)), 2),
+        Err(fault) => (status_of(Err(fault), &mut err), 2),
     };
     if count == 2 {
         was_done_silently(status, written(&said))
@@ -81,31 +82,41 @@ fn import(alloc: Global) -> Option<bool> {
     }
 }
 
-fn show_a_file(rt: &HostRuntime, file: &str, whole: &str) -> Option<bool> {
-    let (mut printed, mut said) = ([0; 1200], [0; 64]);
-    let mut io = Io {
-        out: printed.as_mut_slice(),
-        err: said.as_mut_slice(),
-        format: OutputFormat::default(),
-    };
-    let (all, showing) = (Selection::all(), Showing::lines());
-    let status = show_file(rt, file, NOTHING, &all, showing, &mut io);
-    let left = Left {
-        status,
-        out: printed,
-        err: said,
-    };
-    was_done(&left, whole.as_bytes(), b"")
+/// A command over a file.
+#[derive(Clone, Copy)]
+enum Over<'a> {
+    Show,
+    Check,
+    /// The capture that is made.
+    Import(&'a str),
 }
 
-fn check_a_file(rt: &HostRuntime, file: &str, whole: &str) -> Option<bool> {
-    let (mut printed, mut said) = ([0; 1200], [0; 64]);
+/// Runs a command over a file.
+fn run_file<W: Write, E: Write>(
+    rt: &HostRuntime,
+    over: Over<'_>,
+    file: &str,
+    out: &mut W,
+    err: &mut E,
+) -> Status {
+    let all = Selection::all();
     let mut io = Io {
-        out: printed.as_mut_slice(),
-        err: said.as_mut_slice(),
+        out,
+        err,
         format: OutputFormat::default(),
     };
-    let status = check_file(rt, file, NOTHING, &Selection::all(), &mut io);
+    match over {
+        Over::Show => show_file(rt, file, NOTHING, &all, Showing::lines(), &mut io),
+        Over::Check => check_file(rt, file, NOTHING, &all, &mut io),
+        Over::Import(target) => import_file(rt, file, NOTHING, target, &mut io),
+    }
+}
+
+/// Whether a command over a file is done, or ran out of memory before it printed anything.
+fn over_a_file(rt: &HostRuntime, over: Over<'_>, file: &str, whole: &str) -> Option<bool> {
+    let (mut printed, mut said) = ([0; 1200], [0; 64]);
+    let (mut out, mut err) = (printed.as_mut_slice(), said.as_mut_slice());
+    let status = run_file(rt, over, file, &mut out, &mut err);
     let left = Left {
         status,
         out: printed,
@@ -122,12 +133,8 @@ fn size_of(rt: &HostRuntime, file: &str) -> Option<u64> {
 /// The status of an import, with what it said.
 pub(crate) fn import_a_file(rt: &HostRuntime, from: &str, to: &str) -> (Status, [u8; 64]) {
     let (mut printed, mut said) = ([0; 8], [0; 64]);
-    let mut io = Io {
-        out: printed.as_mut_slice(),
-        err: said.as_mut_slice(),
-        format: OutputFormat::default(),
-    };
-    let status = import_file(rt, from, NOTHING, to, &mut io);
+    let (mut out, mut err) = (printed.as_mut_slice(), said.as_mut_slice());
+    let status = run_file(rt, Over::Import(to), from, &mut out, &mut err);
     (status, said)
 }
 
@@ -148,11 +155,8 @@ fn import_anew(rt: &HostRuntime, from: &str, to: &str) -> Option<bool> {
 
 fn create_a_file(rt: &HostRuntime, file: &str) -> Option<bool> {
     let mut said = [0; 64];
-    let mut io = silent(said.as_mut_slice());
-    let status = match create(rt, file) {
-        Ok(_) => Status::Done,
-        Err(fault) => io.status_of(Err(fault)),
-    };
+    let mut err = said.as_mut_slice();
+    let status = status_of(create(rt, file).map(|_| Status::Done), &mut err);
     was_done_silently(status, written(&said))
 }
 
@@ -161,8 +165,8 @@ pub(crate) fn is_done(rt: &HostRuntime, one: Try<'_>) -> Option<bool> {
     match one {
         Try::Over(command, input, whole) => over(rt.alloc(), command, input, whole),
         Try::Import => import(rt.alloc()),
-        Try::ShowFile(file, whole) => show_a_file(rt, file, whole),
-        Try::CheckFile(file, whole) => check_a_file(rt, file, whole),
+        Try::ShowFile(file, whole) => over_a_file(rt, Over::Show, file, whole),
+        Try::CheckFile(file, whole) => over_a_file(rt, Over::Check, file, whole),
         Try::ImportFile(from, to) => import_anew(rt, from, to),
         Try::Create(file) => create_a_file(rt, file),
     }

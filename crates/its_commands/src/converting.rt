@@ -44,33 +44,48 @@ pub fn convert<R: Read + Drop, W: Write, E: Write>(
 ) -> Status
     ensures { IsCommandStatus result }
 {
-    let parts = Io {
-        out: &mut io.out,
-        err: &mut io.err,
+    let converting = Converting {
+        conversion,
+        to,
         format: io.format,
     };
-    let ended = convert_records(alloc, conversion, to, selection, reader, parts);
+    let ended = convert_records(
+        alloc,
+        converting,
+        selection,
+        reader,
+        &mut io.out,
+        &mut io.err,
+    );
     io.status_of(ended)
+}
+
+/// What is converted, to which format, and how lines on standard error are printed.
+#[derive(Clone, Copy, Debug, PartialEq, Eq)]
+pub(crate) struct Converting<'a> {
+    pub(crate) conversion: Conversion<'a>,
+    pub(crate) to: Format,
+    pub(crate) format: OutputFormat,
 }
 
 /// The same, with the fault that ends it.
 pub(crate) fn convert_records<'a, R: Read + Drop, W: Write + Drop, E: Write>(
     alloc: Global,
-    conversion: Conversion<'a>,
-    to: Format,
+    converting: Converting<'a>,
     selection: &Selection,
     reader: R,
-    io: Io<W, &mut E>,
+    writer: W,
+    err: &mut E,
 ) -> Result<Status, Fault<'a>>
     ensures { IfOk result IsCommandStatus }
 {
-    let Io { out, err, format } = io;
-    let mut written = Written::new(out, to, conversion.frames_only);
+    let conversion = converting.conversion;
+    let mut written = Written::new(writer, converting.to, conversion.frames_only);
     let telling = Telling {
         file: conversion.file,
         target: conversion.target.name,
         read_as: selection.format,
-        format,
+        format: converting.format,
     };
     let keep = LONGEST_CAPTURED as usize;
     let ended = match AnySource::open(alloc, Counted::new(reader), selection.format, keep) {
@@ -110,6 +125,7 @@ fn copy<'a, S: Source + Drop, W: Write + Drop, E: Write>(
         if selection.count == Some(progress.chosen) {
             return Ok(progress.status());
         }
+        let target = telling.target;
         let met = go_on(
             selection,
             target,
@@ -119,7 +135,7 @@ fn copy<'a, S: Source + Drop, W: Write + Drop, E: Write>(
             &mut room,
             written,
         )?;
-        telling.tell(met, progress.records)?;
+        telling.tell(met, progress.records, err)?;
         progress = progress.after(met);
         if met.is_end() {
             return Ok(progress.status());

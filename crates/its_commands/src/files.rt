@@ -8,10 +8,9 @@ ghost use Rattle.its_reporting.specs.FileNames.{is_standard as names_standard};
 ghost use Rattle.its_reporting.specs.Statuses.{IsCommandStatus};
 
 use crate::checking::check_records;
-use crate::converting::{Conversion, convert_records};
+use crate::converting::{Conversion, Converting, convert_records};
 use crate::importing::{LinesFault, read_lines, write_records};
 use crate::showing::{ShowFault, Showing, show_records};
-use its_pcap::Format;
 use its_records::Selection;
 use its_reporting::{
     Fault, Io, Status, WriterFault, create, create_apart, is_standard, keep_apart, open,
@@ -180,54 +179,50 @@ where
         Ok(to) => to,
         Err(fault) => return io.status_of(Err(fault)),
     };
+    let converting = Converting {
+        conversion,
+        to,
+        format: io.format,
+    };
     if is_standard(conversion.target.name) {
-        let ended = convert_to_output(rt, conversion, to, selection, input, io);
+        let ended = convert_to_output(rt, converting, selection, input, &mut io.out, &mut io.err);
         return io.status_of(ended);
     }
-    let ended = convert_to_file(rt, conversion, to, selection, input, io);
+    let ended = convert_to_file(rt, converting, selection, input, &mut io.err);
     io.status_of(ended)
 }
 
 /// Writes the records to standard output.
 fn convert_to_output<'a, R: Files + AllocGlobal, I: Read + Drop, W: Write, E: Write>(
     rt: &R,
-    conversion: Conversion<'a>,
-    to: Format,
+    converting: Converting<'a>,
     selection: &Selection,
     input: I,
-    io: &mut Io<W, E>,
+    out: &mut W,
+    err: &mut E,
 ) -> Result<Status, Fault<'a>>
 where
     R::File: Read + Write + Drop,
     ensures { IfOk result IsCommandStatus }
 {
-    let reader = open(rt, conversion.file, input)?;
-    let parts = Io {
-        out: &mut io.out,
-        err: &mut io.err,
-        format: io.format,
-    };
-    convert_records(rt.alloc(), conversion, to, selection, reader, parts)
+    let reader = open(rt, converting.conversion.file, input)?;
+    convert_records(rt.alloc(), converting, selection, reader, out, err)
 }
 
 /// Opens the file, and only then creates the target.
-fn convert_to_file<'a, R: Files + AllocGlobal, I: Read + Drop, W: Write, E: Write>(
+fn convert_to_file<'a, R: Files + AllocGlobal, I: Read + Drop, E: Write>(
     rt: &R,
-    conversion: Conversion<'a>,
-    to: Format,
+    converting: Converting<'a>,
     selection: &Selection,
     input: I,
-    io: &mut Io<W, E>,
+    err: &mut E,
 ) -> Result<Status, WriterFault<'a, Fault<'a>>>
 where
     R::File: Read + Write + Drop,
     ensures { IfOk result IsCommandStatus }
 {
-    let reader = open(rt, conversion.file, input)?;
-    let into_file = Io {
-        out: create_apart(rt, conversion.target.name, conversion.file)?,
-        err: &mut io.err,
-        format: io.format,
-    };
-    Ok(convert_records(rt.alloc(), conversion, to, selection, reader, into_file)?)
+    let Conversion { file, target, .. } = converting.conversion;
+    let reader = open(rt, file, input)?;
+    let created = create_apart(rt, target.name, file)?;
+    Ok(convert_records(rt.alloc(), converting, selection, reader, created, err)?)
 }

@@ -8,9 +8,9 @@ mod scenarios;
 
 use crate::scripted::Scripted;
 use its_mesh::{MeshOptions, Sockets, mesh_over};
-use its_reporting::Status;
+use its_reporting::{Io, OutputFormat, Status};
 use std::alloc::{AllocError, Global};
-use std::io::Read;
+use std::io::{Read, Write};
 use std::test::Fail;
 
 /// Station 1 is 50 m north of station 0.
@@ -53,12 +53,27 @@ struct Left {
     err: Vec<u8>,
 }
 
+/// Runs the mesh of a scenario over these sockets.
+fn run<R: Read + Drop, S: Sockets, W: Write, E: Write>(
+    alloc: Global,
+    reader: R,
+    options: MeshOptions,
+    sockets: &mut S,
+    out: &mut W,
+    err: &mut E,
+) -> Status {
+    let mut io = Io {
+        out,
+        err,
+        format: OutputFormat::default(),
+    };
+    mesh_over(alloc, "a.toml", reader, options, sockets, &mut io)
+}
+
 fn left_of<R: Read + Drop, S: Sockets>(alloc: Global, reader: R, sockets: &mut S) -> Left {
     let (mut out, mut err) = (Vec::new(alloc), Vec::new(alloc));
     let options = MeshOptions::default();
-    let status = mesh_over(
-        alloc, "a.toml", reader, options, sockets, &mut out, &mut err,
-    );
+    let status = run(alloc, reader, options, sockets, &mut out, &mut err);
     Left { status, out, err }
 }
 

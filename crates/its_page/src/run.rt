@@ -66,11 +66,11 @@ pub(crate) fn write_run<'a, R: BufRead + Drop, W: Write, E: Write>(
     way: Way<'a>,
     shown: Shown<R>,
     options: &RunOptions,
-    io: Io<&mut W, &mut E>,
+    out: &mut W,
+    err: &mut E,
 ) -> Result<Status, Fault<'a>>
     ensures { IfOk result IsCommandStatus }
 {
-    let Io { out, err, format } = io;
     let name = ShownName(way.file);
     let begun = writeln!(
         out,
@@ -81,12 +81,7 @@ pub(crate) fn write_run<'a, R: BufRead + Drop, W: Write, E: Write>(
         Shown::Lines(reader) => write_lines(way, reader, out)?,
         Shown::Scenario(runnable) => {
             let Runnable { scenario } = runnable;
-            let parts = Io {
-                out: &mut *out,
-                err,
-                format,
-            };
-            write_lines_of(alloc, way, &scenario, options, parts)?
+            write_lines_of(alloc, way, &scenario, options, out, err)?
         }
     };
     way.told(writeln!(out, "</script>"))?;
@@ -116,7 +111,8 @@ fn write_lines_of<'a, W: Write, E: Write>(
     way: Way<'a>,
     scenario: &Scenario,
     options: &RunOptions,
-    io: Io<&mut W, &mut E>,
+    out: &mut W,
+    err: &mut E,
 ) -> Result<Status, Fault<'a>>
     requires { vec_len scenario.now.stations ≤ 65535 }
     ensures { IfOk result IsCommandStatus }
@@ -127,11 +123,11 @@ fn write_lines_of<'a, W: Write, E: Write>(
         ..*options
     };
     let mut inside = Io {
-        out: Inside::new(io.out),
-        err: io.err,
+        out: Inside::new(out),
+        err,
         format: OutputFormat {
             json: true,
-            ..io.format
+            ..way.format
         },
     };
     let ran = simulate_scenario(alloc, scenario, &options, &mut inside);

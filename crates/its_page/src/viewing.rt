@@ -57,12 +57,14 @@ where
         index: place.index.as_str(),
         file: viewing.file,
         target: viewing.target,
+        format: io.format,
     };
+    let options = &viewing.options;
     if is_standard(viewing.target) {
-        let ended = view_to_output(rt, way, &viewing.options, input, io);
+        let ended = view_to_output(rt, way, options, input, &mut io.out, &mut io.err);
         return io.status_of(ended);
     }
-    let ended = view_to_file(rt, way, &viewing.options, input, io);
+    let ended = view_to_file(rt, way, options, input, &mut io.err);
     io.status_of(ended)
 }
 
@@ -72,37 +74,33 @@ fn view_to_output<'a, R: Files + AllocGlobal, I: Read + Drop, W: Write, E: Write
     way: Way<'a>,
     options: &RunOptions,
     input: I,
-    io: &mut Io<W, E>,
+    out: &mut W,
+    err: &mut E,
 ) -> Result<Status, PageFault<'a>>
 where
     R::File: Read + Write + Drop,
     ensures { IfOk result IsCommandStatus }
 {
     let viewed = open_viewed(rt, way, input)?;
-    let parts = Io {
-        out: &mut io.out,
-        err: &mut io.err,
-        format: io.format,
-    };
-    write_page(rt, way, viewed, options, parts)
+    write_page(rt, way, viewed, options, out, err)
 }
 
 /// Opens what is read, and only then creates the file; tells how that is opened.
-fn view_to_file<'a, R: Files + AllocGlobal, I: Read + Drop, W, E: Write>(
+fn view_to_file<'a, R: Files + AllocGlobal, I: Read + Drop, E: Write>(
     rt: &R,
     way: Way<'a>,
     options: &RunOptions,
     input: I,
-    io: &mut Io<W, E>,
+    err: &mut E,
 ) -> Result<Status, WriterFault<'a, PageFault<'a>>>
 where
     R::File: Read + Write + Drop,
     ensures { IfOk result IsCommandStatus }
 {
     let viewed = open_viewed(rt, way, input)?;
-    let status = write_file(rt, way, viewed, options, io)?;
+    let status = write_file(rt, way, viewed, options, err)?;
     if !options.quiet {
-        let _ = writeln!(io.err, "geostation: {}: open it in a browser", way.target);
+        let _ = writeln!(err, "geostation: {}: open it in a browser", way.target);
     }
     Ok(status)
 }
@@ -130,12 +128,12 @@ where
 }
 
 /// Creates the file, and writes the page to it.
-fn write_file<'a, R: Files + AllocGlobal, L: BufRead + Drop, W, E: Write>(
+fn write_file<'a, R: Files + AllocGlobal, L: BufRead + Drop, E: Write>(
     rt: &R,
     way: Way<'a>,
     viewed: Viewed<R::File, L>,
     options: &RunOptions,
-    io: &mut Io<W, E>,
+    err: &mut E,
 ) -> Result<Status, WriterFault<'a, PageFault<'a>>>
 where
     R::File: Read + Write + Drop,
@@ -143,12 +141,7 @@ where
 {
     keep_apart(rt, way.target, way.file)?;
     let mut created = create(rt, way.target)?;
-    let into_file = Io {
-        out: &mut created,
-        err: &mut io.err,
-        format: io.format,
-    };
-    let status = write_page(rt, way, viewed, options, into_file)?;
+    let status = write_page(rt, way, viewed, options, &mut created, err)?;
     way.told(created.flush())?;
     Ok(status)
 }
@@ -159,23 +152,18 @@ fn write_page<'a, R: Files + AllocGlobal, L: BufRead + Drop, W: Write, E: Write>
     way: Way<'a>,
     viewed: Viewed<R::File, L>,
     options: &RunOptions,
-    io: Io<&mut W, &mut E>,
+    out: &mut W,
+    err: &mut E,
 ) -> Result<Status, PageFault<'a>>
 where
     R::File: Read + Write + Drop,
     ensures { IfOk result IsCommandStatus }
 {
     let Viewed { mut page, shown } = viewed;
-    let Io { out, err, format } = io;
     if !write_up_to_run(rt, way, &mut page, out)? {
         return Err(PageFault::from(Fault::CannotRead(way.index)));
     }
-    let parts = Io {
-        out: &mut *out,
-        err,
-        format,
-    };
-    let status = write_run(rt.alloc(), way, shown, options, parts)?;
+    let status = write_run(rt.alloc(), way, shown, options, out, err)?;
     write_up_to_run(rt, way, &mut page, out)?;
     Ok(status)
 }

@@ -1,6 +1,6 @@
 //! From where the page is read, and to where it is written.
 
-use its_reporting::{Fault, is_standard};
+use its_reporting::{Fault, OutputFormat, is_standard};
 use std::io;
 use std::io::{BufRead, ErrorKind, Write};
 
@@ -15,6 +15,8 @@ pub(crate) struct Way<'a> {
     pub(crate) file: &'a str,
     /// The file that is written. `-` is standard output.
     pub(crate) target: &'a str,
+    /// How lines on standard error are printed: only `explain` counts.
+    pub(crate) format: OutputFormat,
 }
 
 impl<'a> Way<'a> {

@@ -1,7 +1,7 @@
 //! Readers and writers that fail.
 
 use super::{BAD, BEACON_LINE, beacon};
-use crate::run::{Command, left_of, run, silent};
+use crate::run::{Command, left_of, run, status_of};
 use its_commands::{read_lines, write_records};
 use its_linkframe::Record;
 use its_reporting::Status;
@@ -44,10 +44,10 @@ fn imported<R: BufRead + Drop>(
     reader: R,
 ) -> (Result<Vec<Record>, Status>, [u8; 64]) {
     let mut said = [0; 64];
-    let mut io = silent(said.as_mut_slice());
+    let mut err = said.as_mut_slice();
     let read = match read_lines(alloc, "a.txt", reader) {
         Ok(records) => Ok(records),
-        Err(fault) => Err(io.status_of(Err(fault))),
+        Err(fault) => Err(status_of(Err(fault), &mut err)),
     };
     (read, said)
 }
@@ -117,9 +117,8 @@ fn a_command_ends_at_the_write_that_fails(rt: HostRuntime) -> Result<(), Fail> {
 /// octets of the capture.
 fn is_import_cut(records: &[Record], mut out: Full, count: usize) -> bool {
     let mut said = [0; 64];
-    let mut io = silent(said.as_mut_slice());
-    let written_so = write_records("a.cap", records, &mut out);
-    let status = io.status_of(written_so);
+    let mut err = said.as_mut_slice();
+    let status = status_of(write_records("a.cap", records, &mut out), &mut err);
     let taken = out.taken.as_slice();
     status == Status::Failed && Some(taken) == MADE.get(..count) && written(&said) == CANNOT_WRITE
 }

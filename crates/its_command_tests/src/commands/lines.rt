@@ -1,7 +1,7 @@
 //! Long lines, and lines that come in pieces: `import` reads them in bounded memory, and creates no
 //! capture before all lines are read.
 
-use crate::run::silent;
+use crate::run::status_of;
 use crate::short::import_a_file;
 use its_commands::read_lines;
 use its_reporting::Status;
@@ -55,10 +55,10 @@ impl Read for Halting<'_> {
 /// was said of it.
 fn count_records<R: BufRead + Drop>(alloc: Global, reader: R) -> (Result<usize, Status>, [u8; 64]) {
     let mut said = [0; 64];
-    let mut io = silent(said.as_mut_slice());
+    let mut err = said.as_mut_slice();
     let read = match read_lines(alloc, "a.txt", reader) {
         Ok(records) => Ok(records.len()),
-        Err(fault) => Err(io.status_of(Err(fault))),
+        Err(fault) => Err(status_of(Err(fault), &mut err)),
     };
     (read, said)
 }

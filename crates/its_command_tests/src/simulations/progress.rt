@@ -4,6 +4,7 @@ use its_reporting::{Io, OutputFormat, Status};
 use its_runs::{RunOptions, simulate};
 use its_test_support::written;
 use std::alloc::Global;
+use std::io::Write;
 
 /// Four stations in a row, each some 400 m from the next. Station 3 opens port 2002, and station 0
 /// sends to it at 1000.
@@ -40,15 +41,26 @@ send 1 1000 0 gbc port 2002 inside 1 delivered 1 frames 4 hops 3 last 3
 total events 8 frames 4 deliveries 1 duplicates 2 ignored 1 refused 0
 ";
 
+/// Runs the row.
+fn run_row<W: Write, E: Write>(
+    alloc: Global,
+    options: RunOptions,
+    out: &mut W,
+    err: &mut E,
+) -> Status {
+    let mut io = Io {
+        out,
+        err,
+        format: OutputFormat::default(),
+    };
+    simulate(alloc, "a.toml", ROW.as_bytes(), &options, &mut io)
+}
+
 /// Whether a run of the row is done, and leaves these lines and this on standard error.
 fn is_run(alloc: Global, options: RunOptions, lines: &str, shown: &str) -> bool {
     let (mut printed, mut said) = ([0; 400], [0; 100]);
-    let mut io = Io {
-        out: printed.as_mut_slice(),
-        err: said.as_mut_slice(),
-        format: OutputFormat::default(),
-    };
-    let status = simulate(alloc, "a.toml", ROW.as_bytes(), &options, &mut io);
+    let (mut out, mut err) = (printed.as_mut_slice(), said.as_mut_slice());
+    let status = run_row(alloc, options, &mut out, &mut err);
     status == Status::Done
         && written(&printed) == lines.as_bytes()
         && written(&said) == shown.as_bytes()

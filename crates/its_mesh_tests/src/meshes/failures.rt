@@ -1,8 +1,8 @@
 //! Sockets and an output that fail, and every budget of memory from none to enough.
 
-use super::{BEFORE, DELIVER, LINES, OPEN, SEND, STATIONS, left_of, scenario};
+use super::{BEFORE, DELIVER, LINES, OPEN, SEND, STATIONS, left_of, run, scenario};
 use crate::scripted::{Scripted, Trouble};
-use its_mesh::{MeshOptions, Received, Sent, Sockets, mesh_over};
+use its_mesh::{MeshOptions, Received, Sent, Sockets};
 use its_reporting::Status;
 use its_test_support::{MOST, STEP, Shortage, written};
 use std::io;
@@ -80,11 +80,11 @@ fn an_output_that_fails(rt: HostRuntime) -> Result<(), Fail> {
         let mut err = Vec::new(alloc);
         let mut out = &mut printed[..room];
         let mut sockets = Scripted::new(alloc, &[], None);
-        let status = mesh_over(
+        let options = MeshOptions::default();
+        let status = run(
             alloc,
-            "a",
             text.as_bytes(),
-            MeshOptions::default(),
+            options,
             &mut sockets,
             &mut out,
             &mut err,
@@ -158,11 +158,11 @@ fn it_runs_short_of_memory(rt: HostRuntime) -> Result<(), Fail> {
         let mut sockets = Slots {
             slots: [None, None],
         };
-        match mesh_over(
+        let options = MeshOptions::default();
+        match run(
             alloc,
-            "a",
             text.as_bytes(),
-            MeshOptions::default(),
+            options,
             &mut sockets,
             &mut out,
             &mut err,

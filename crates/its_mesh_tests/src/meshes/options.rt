@@ -1,8 +1,8 @@
 //! Refusals that count.
 
-use super::{Left, OPEN, STATIONS, scenario};
+use super::{Left, OPEN, STATIONS, run, scenario};
 use crate::scripted::{Scripted, Trouble};
-use its_mesh::{MeshOptions, mesh_over};
+use its_mesh::MeshOptions;
 use its_reporting::Status;
 use std::alloc::Global;
 use std::test::Fail;
@@ -21,15 +21,7 @@ fn left_by(
     let mut sockets = Scripted::new(alloc, &[], trouble);
     let (mut out, mut err) = (Vec::new(alloc), Vec::new(alloc));
     let reader = text.as_bytes();
-    let status = mesh_over(
-        alloc,
-        "a.toml",
-        reader,
-        options,
-        &mut sockets,
-        &mut out,
-        &mut err,
-    );
+    let status = run(alloc, reader, options, &mut sockets, &mut out, &mut err);
     Ok(Left { status, out, err })
 }
 
