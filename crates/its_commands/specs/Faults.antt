@@ -4,7 +4,8 @@ use Rattle.its_reporting.specs.declared.status.Status.TheVariants.{BadArguments,
 use Rattle.its_commands.specs.declared.showing.ShowFault.{ShowFault}
 use Rattle.its_commands.specs.declared.showing.ShowFault.TheVariants.{NoEpoch, Stopped}
 
--- moments in UTC, which a file without an epoch doesn't have, are refused arguments; all else failed
+-- moments in UTC, which a file without an epoch doesn't have, are refused arguments; all else
+-- failed
 abbrev pub show_fault_status : ShowFault → Status
 show_fault_status (NoEpoch _) = BadArguments
 show_fault_status (Stopped _) = Failed

@@ -101,8 +101,8 @@ pub(crate) fn convert_records<'a, R: Read + Drop, W: Write + Drop, E: Write>(
     Ok(status)
 }
 
-/// Writes the records of the source that are chosen, one by one, until it ends. A record that has no
-/// place in the file is told, and left out.
+/// Writes the records of the source that are chosen, one by one, until it ends. A record that has
+/// no place in the file is told, and left out.
 fn copy<'a, S: Source + Drop, W: Write + Drop, E: Write>(
     alloc: Global,
     telling: Telling<'a>,

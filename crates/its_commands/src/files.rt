@@ -62,8 +62,8 @@ where
 /// Prints a line for each refused record of the file that is chosen, and how many records were
 /// chosen. `input` is standard input.
 ///
-/// `Refused` where such a record or the file was refused, `Failed` where the file could not be read or
-/// standard output not written, or memory ran out.
+/// `Refused` where such a record or the file was refused, `Failed` where the file could not be read
+/// or standard output not written, or memory ran out.
 pub fn check_file<R: Files + AllocGlobal, I: Read + Drop, W: Write, E: Write>(
     rt: &R,
     file: &str,

@@ -233,8 +233,8 @@ fn add_record<'a>(
     }
 }
 
-/// Writes the records as a capture, and flushes it. `file` is the name of what the writer makes, `-`
-/// that of standard output.
+/// Writes the records as a capture, and flushes it. `file` is the name of what the writer makes,
+/// `-` that of standard output.
 ///
 /// `CannotWrite` where a write or the flush failed, `NoOutput` where that is standard output.
 pub fn write_records<'a, W: Write + Drop>(

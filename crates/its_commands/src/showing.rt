@@ -25,8 +25,8 @@ use thiserror::Error;
 pub struct Showing<'a> {
     /// How moments are told.
     pub time: Time,
-    /// The names of the keys, parted by commas, whose values are a row for each record, behind a row
-    /// of the names. Without them each record has a line.
+    /// The names of the keys, parted by commas, whose values are a row for each record, behind a
+    /// row of the names. Without them each record has a line.
     pub names: Option<&'a str>,
 }
 

@@ -36,8 +36,8 @@ impl RunOptions {
         }
     }
 
-    /// Whether it is told of each packet for an area which stations it didn't reach, where codes are
-    /// explained.
+    /// Whether it is told of each packet for an area which stations it didn't reach, where codes
+    /// are explained.
     pub(crate) fn tells_missed(&self, explain: bool) -> bool {
         self.summary && explain
     }

@@ -60,9 +60,9 @@ fn simulate_text<'a, R: Read + Drop, W: Write, E: Write>(
     Ok(simulate_scenario(alloc, &scenario, options, io)?)
 }
 
-/// Runs a scenario that was read, of at most 65535 stations, and prints its lines as `simulate` does.
-/// How it ends: `Refused` where something isn't met that it expects, and with `strict` where an event
-/// was refused.
+/// Runs a scenario that was read, of at most 65535 stations, and prints its lines as `simulate`
+/// does. How it ends: `Refused` where something isn't met that it expects, and with `strict` where
+/// an event was refused.
 ///
 /// `NoOutput` where a write failed, `OutOfMemory` where an allocation did.
 pub fn simulate_scenario<'f, W: Write, E: Write>(
@@ -104,8 +104,8 @@ pub(crate) fn run_without_frames<'a, M: BufRead + Drop, F: Write + Drop, W: Writ
 }
 
 /// Runs a scenario, and also writes each frame that a station gives to the file, and these files of
-/// numbers. How it ends: `Refused` where a frame was left out and, with `strict`, where an event was
-/// refused.
+/// numbers. How it ends: `Refused` where a frame was left out and, with `strict`, where an event
+/// was refused.
 pub(crate) fn run_with_frames<'a, M: BufRead + Drop, F: Write + Drop, W: Write, E: Write>(
     alloc: Global,
     course: &mut Course<'_, 'a, M>,
