@@ -20,7 +20,7 @@ use grid::Grid;
 use scenario::Scenario;
 use station::{Entry, Event, Station, What, Why, World};
 use std::cmp::Reverse;
-use std::collections::{BinaryHeap, HashSet};
+use std::collections::{BinaryHeap, HashSet, VecDeque};
 
 const RANGE: u64 = 500;
 const DELAY: u64 = 1;
@@ -117,8 +117,8 @@ enum Own {
     Send(usize),
 }
 
-/// What waits beside the events of the file, the first on top.
-type Waiting = Reverse<(u64, u64, usize, Own)>;
+/// What waits beside the events of the file: moment, place, station, and what it does.
+type Waiting = (u64, u64, usize, Own);
 
 #[derive(Clone, Copy)]
 struct Carried {
@@ -233,7 +233,10 @@ struct Air {
     world: World,
     grid: Grid,
     draws: Draws,
-    heap: BinaryHeap<Waiting>,
+    /// Ticks and sends, the first on top.
+    heap: BinaryHeap<Reverse<Waiting>>,
+    /// Deliveries, which come in the order in which they were put, the first in front.
+    line: VecDeque<Waiting>,
     placed: u64,
     found: Vec<usize>,
 }
@@ -244,8 +247,9 @@ impl Air {
         let world = World::new(scenario.stations.iter().map(at).collect());
         let places: Vec<Place> = scenario.stations.iter().map(|spot| spot.place).collect();
         let grid = Grid::new(scenario.range, &places);
-        let (draws, heap) = (Draws::new(scenario.seed), BinaryHeap::new());
-        let mut air = Air { scenario, world, grid, draws, heap, placed: 0, found: Vec::new() };
+        let draws = Draws::new(scenario.seed);
+        let (heap, line) = (BinaryHeap::new(), VecDeque::new());
+        let mut air = Air { scenario, world, grid, draws, heap, line, placed: 0, found: Vec::new() };
         for station in 0..places.len() {
             if air.scenario.beacons {
                 air.put_tick(0, 0, station);
@@ -261,8 +265,35 @@ impl Air {
     }
 
     fn put(&mut self, moment: u64, station: usize, own: Own) {
-        self.heap.push(Reverse((moment, self.placed, station, own)));
+        let waiting = (moment, self.placed, station, own);
+        match waiting.3 {
+            Own::Deliver(_) => self.line.push_back(waiting),
+            Own::Tick(_) | Own::Send(_) => self.heap.push(Reverse(waiting)),
+        }
         self.placed += 1;
+    }
+
+    /// Whether the first of the air's own is a delivery.
+    fn is_line_first(&self) -> bool {
+        match (self.line.front(), self.heap.peek()) {
+            (Some(in_line), Some(Reverse(on_heap))) => in_line < on_heap,
+            (in_line, _) => in_line.is_some(),
+        }
+    }
+
+    /// The moment of the first of the air's own.
+    fn next_moment(&self) -> Option<u64> {
+        let on_heap = self.heap.peek().map(|Reverse(waiting)| waiting.0);
+        let in_line = self.line.front().map(|waiting| waiting.0);
+        on_heap.into_iter().chain(in_line).min()
+    }
+
+    /// Takes the first of the air's own.
+    fn pop(&mut self) -> Option<Waiting> {
+        if self.is_line_first() {
+            return self.line.pop_front();
+        }
+        self.heap.pop().map(|Reverse(waiting)| waiting)
     }
 
     fn put_tick(&mut self, moment: u64, due: u64, station: usize) {
@@ -320,13 +351,13 @@ fn run(mut scenario: Scenario) -> Tally {
     let mut air = Air::new(scenario);
     let mut tally = Tally::default();
     loop {
-        let own = air.heap.peek().map(|Reverse((moment, ..))| *moment);
+        let own = air.next_moment();
         let filed = file.peek().map(|event| event.moment);
         let (event, sent) = match (filed, own) {
             (None, None) => break,
             (Some(f), o) if o.is_none_or(|o| f <= o) => (file.next().unwrap(), None),
             _ => {
-                let Some(Reverse((moment, _, station, own))) = air.heap.pop() else { break };
+                let Some((moment, _, station, own)) = air.pop() else { break };
                 let (what, sent) = air.what_of(own);
                 (Event { station, moment, what }, sent)
             }

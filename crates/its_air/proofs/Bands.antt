@@ -9,7 +9,7 @@ use Rattle.its_gnvalue.specs.Values.{Position}
 use Rattle.its_geometry.specs.Offsets.{northward, eastward, wrap_longitude, longitude_scale}
 use Rattle.its_geometry.specs.Offsets.{squared_distance}
 use Rattle.its_geometry.proofs.SignedLemmas.{unsigned_abs-northward, unsigned_abs-eastward}
-use Rattle.its_air.specs.Reach.{is_within}
+use Rattle.its_air_model.specs.Range.{is_within}
 use Rattle.its_air.specs.PlaceIndexes.{northing, easting, row_of, Covers}
 
 -- signed numbers are no farther apart than their lengths

@@ -15,7 +15,7 @@ use Rattle.its_model.specs.World.{answered, asked, at_station, entry_of, frame_o
 use Rattle.its_model.specs.World.{with_one_more, passed_over}
 use Rattle.its_model.specs.World.{delivery as delivered}
 use Rattle.its_model.specs.World.What.{Calls, Deliver}
-use Rattle.its_air.specs.Timetable.{given}
+use Rattle.its_air_model.specs.Timetable.{given}
 
 -- A frame that was given is the next, and there is one more then; there are never fewer.
 pub record IsNextFrame (before after : WorldModel) : Type 0 where

@@ -10,13 +10,16 @@ use Rattle.its_model.specs.Station.{StationModel}
 use Rattle.its_model.specs.World.{Config, Event, WorldModel, station_of, opening}
 use Rattle.its_model.specs.World.{world_run, world_step}
 use Rattle.its_world.proofs.Late.{get_before, set_before, length_step, were_there}
-use Rattle.its_air.specs.Reach.{is_within}
+use Rattle.its_air_model.specs.Range.{is_within}
 use Rattle.its_air.specs.Beside.{absent, rules_beside}
-use Rattle.its_air.specs.Timetable.{Rules, Put, Timetable, is_present, heard_from, hear_it}
-use Rattle.its_air.specs.Timetable.{in_reach_of, heard_by, given, spread, spread_frame, send_all}
-use Rattle.its_air.specs.Timetable.{is_tick, was_refused, was_moved, tick_again, follow_tick}
-use Rattle.its_air.specs.Timetable.{send_again, follow_all, comes, come, after_one, present_after}
-use Rattle.its_air.specs.Timetable.{is_passed_over, is_delivery}
+use Rattle.its_air_model.specs.Timetable.{Rules, Planned, Timetable, is_present, heard_from}
+use Rattle.its_air_model.specs.Timetable.{hear_it}
+use Rattle.its_air_model.specs.Timetable.{in_reach_of, heard_by, given, spread, spread_frame}
+use Rattle.its_air_model.specs.Timetable.{send_all}
+use Rattle.its_air_model.specs.Timetable.{is_tick, was_refused, was_moved, tick_again, follow_tick}
+use Rattle.its_air_model.specs.Timetable.{send_again, follow_all, comes, come, after_one}
+use Rattle.its_air_model.specs.Timetable.{present_after}
+use Rattle.its_air_model.specs.Timetable.{is_passed_over, is_delivery}
 
 -- ---- the world
 
@@ -161,7 +164,7 @@ heard_made range present w made giver long lt =
 
 -- ---- an event is done
 
-module _ (made : List Config) (until : ℕ) (r : Rules) (present : List Bool) (p : Put)
+module _ (made : List Config) (until : ℕ) (r : Rules) (present : List Bool) (p : Planned)
     (w : WorldModel) (long : length present ≡ length w.stations)
     (there : p.event.station < length w.stations) where
   spread_made : (t : Timetable)
@@ -222,7 +225,7 @@ module _ (made : List Config) (until : ℕ) (r : Rules) (present : List Bool) (p
           set_before present (absent made) p.event.station true (omega (arith, long, there))
       by false = refl
 
-pub passed_made : (present : List Bool) (made : List Config) (p : Put)
+pub passed_made : (present : List Bool) (made : List Config) (p : Planned)
     → is_passed_over (present ++ absent made) p ≡ is_passed_over present p
 passed_made present made p =
     ap (λ (b : Bool). p.own && (not (is_delivery p.event.what) && not b))

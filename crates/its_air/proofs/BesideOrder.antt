@@ -4,10 +4,12 @@ use Rattle.std.proofs.Common.{arith, Bool, true, false, cond}
 use Rattle.std.specs.Prelude.{nat_le}
 use Rattle.std.specs.List.{AllByRecursion}
 use Rattle.std.proofs.lemmas.Bool.{leb-true, leb-false}
-use Rattle.its_air.specs.AirRun.{moment_in}
+use Rattle.its_air_model.specs.Timetable.{moment_in}
 use Rattle.its_air.specs.Beside.{InOrder, Rises, IsFrom}
-use Rattle.its_air.specs.Timetable.{Pending, Filed, at, of_file, put, put_all, NoneWaits}
-use Rattle.its_air.proofs.Putting.{put_front, put_behind, put_all_behind, put_above}
+use Rattle.its_air_model.specs.Timetable.{Pending, Filed, at, of_file, schedule, schedule_all}
+use Rattle.its_air_model.specs.Timetable.{NoneWaits}
+use Rattle.its_air_model.proofs.Putting.{schedule_front, schedule_behind, schedule_all_behind}
+use Rattle.its_air_model.proofs.Putting.{schedule_above}
 
 -- ---- of all
 
@@ -23,12 +25,12 @@ all_push P (y ∷ xs) x h p = (h.0, all_push P xs x h.1 p)
 
 -- of all that wait once one was put
 pub all_put : (P : Pending → Type 0) (p : Pending) (ws : List Pending) → P p
-    → AllByRecursion P ws → AllByRecursion P (put p ws)
+    → AllByRecursion P ws → AllByRecursion P (schedule p ws)
 all_put P p [] one h = (one, tt)
 all_put P p (q ∷ ws) one h = by (all_put P p ws one h.1) (nat_le (at q) (at p))
   where
-    by : AllByRecursion P (put p ws) → (b : Bool)
-        → AllByRecursion P (cond b (q ∷ put p ws) (p ∷ q ∷ ws))
+    by : AllByRecursion P (schedule p ws) → (b : Bool)
+        → AllByRecursion P (cond b (q ∷ schedule p ws) (p ∷ q ∷ ws))
     by on true = (h.0, on)
     by on false = (one, h)
 
@@ -54,12 +56,12 @@ all_of_file m (f ∷ file) h = (h.0, all_of_file m file h.1)
 
 -- ---- in order
 
-pub put_in_order : (p : Pending) (ws : List Pending) → InOrder ws → InOrder (put p ws)
-put_in_order p [] h = (tt, tt)
-put_in_order p (q ∷ ws) h = by (put_in_order p ws h.1) (nat_le (at q) (at p)) refl
+pub schedule_in_order : (p : Pending) (ws : List Pending) → InOrder ws → InOrder (schedule p ws)
+schedule_in_order p [] h = (tt, tt)
+schedule_in_order p (q ∷ ws) h = by (schedule_in_order p ws h.1) (nat_le (at q) (at p)) refl
   where
-    by : InOrder (put p ws) → (b : Bool) → nat_le (at q) (at p) ≡ b
-        → InOrder (cond b (q ∷ put p ws) (p ∷ q ∷ ws))
+    by : InOrder (schedule p ws) → (b : Bool) → nat_le (at q) (at p) ≡ b
+        → InOrder (cond b (q ∷ schedule p ws) (p ∷ q ∷ ws))
     by on true is =
         (all_put (λ (x : Pending). at q ≤ at x) p ws (leb-true (at q) (at p) is) h.0, on)
     by on false is =
@@ -67,10 +69,11 @@ put_in_order p (q ∷ ws) h = by (put_in_order p ws h.1) (nat_le (at q) (at p)) 
         ((omega (arith, lt), all_from (at q) (at p) ws (omega (arith, lt)) h.0), h)
 
 -- what waits in order stays as it is, once it is put
-pub put_all_in_order : (ws : List Pending) → InOrder ws → put_all ws [] ≡ ws
-put_all_in_order [] h = refl
-put_all_in_order (p ∷ ws) h =
-    put_all_behind ws p [] h.0 ∙ ap (λ (l : List Pending). p ∷ l) (put_all_in_order ws h.1)
+pub schedule_all_in_order : (ws : List Pending) → InOrder ws → schedule_all ws [] ≡ ws
+schedule_all_in_order [] h = refl
+schedule_all_in_order (p ∷ ws) h =
+    schedule_all_behind ws p [] h.0 ∙ ap (λ (l : List Pending). p ∷ l)
+        (schedule_all_in_order ws h.1)
 
 -- a file whose moments never fall waits as it stands
 pub file_in_order : (file : List Filed) → Rises file → InOrder (map of_file file)
@@ -80,51 +83,56 @@ file_in_order (f ∷ file) h = (all_of_file (moment_in f) file h.0, file_in_orde
 -- ---- the order of putting
 
 -- of two moments it doesn't matter which is put first
-put_both : (p q : Pending) (ws : List Pending) → at p < at q
-    → put q (put p ws) ≡ put p (put q ws)
-put_both p q [] lt =
-    put_behind q p [] (omega (arith, lt)) ∙ sym (put_front p (q ∷ []) lt)
-put_both p q (x ∷ ws) lt = by (put_both p q ws lt) (nat_le (at x) (at p)) refl
+schedule_both : (p q : Pending) (ws : List Pending) → at p < at q
+    → schedule q (schedule p ws) ≡ schedule p (schedule q ws)
+schedule_both p q [] lt =
+    schedule_behind q p [] (omega (arith, lt)) ∙ sym (schedule_front p (q ∷ []) lt)
+schedule_both p q (x ∷ ws) lt = by (schedule_both p q ws lt) (nat_le (at x) (at p)) refl
   where
-    by : put q (put p ws) ≡ put p (put q ws) → (b : Bool) → nat_le (at x) (at p) ≡ b
-        → put q (put p (x ∷ ws)) ≡ put p (put q (x ∷ ws))
+    by : schedule q (schedule p ws) ≡ schedule p (schedule q ws) → (b : Bool) → nat_le (at x) (at p)
+        ≡ b
+        → schedule q (schedule p (x ∷ ws)) ≡ schedule p (schedule q (x ∷ ws))
     by on true is =
         let le = leb-true (at x) (at p) is in
-        ap (put q) (put_behind p x ws le) ∙ put_behind q x (put p ws) (omega (arith, le, lt))
+        ap (schedule q) (schedule_behind p x ws le) ∙ schedule_behind q x (schedule p ws)
+        (omega (arith, le, lt))
         ∙ ap (λ (l : List Pending). x ∷ l) on
-        ∙ sym (ap (put p) (put_behind q x ws (omega (arith, le, lt)))
-        ∙ put_behind p x (put q ws) le)
+        ∙ sym (ap (schedule p) (schedule_behind q x ws (omega (arith, le, lt)))
+        ∙ schedule_behind p x (schedule q ws) le)
     by on false is =
         let above = leb-false (at x) (at p) is in
-        ap (put q) (put_front p (x ∷ ws) above)
-        ∙ put_behind q p (x ∷ ws) (omega (arith, lt))
-        ∙ sym (put_front p (put q (x ∷ ws)) (put_above (at p) q (x ∷ ws) above lt))
+        ap (schedule q) (schedule_front p (x ∷ ws) above)
+        ∙ schedule_behind q p (x ∷ ws) (omega (arith, lt))
+        ∙ sym (schedule_front p (schedule q (x ∷ ws)) (schedule_above (at p) q (x ∷ ws) above lt))
 
 -- one before all of these
-put_before : (p : Pending) (ws fs : List Pending) → AllByRecursion (λ q. at p < at q) ws
-    → put_all ws (put p fs) ≡ put p (put_all ws fs)
-put_before p [] fs h = refl
-put_before p (q ∷ ws) fs h =
-    ap (put_all ws) (put_both p q fs h.0) ∙ put_before p ws (put q fs) h.1
+schedule_before : (p : Pending) (ws fs : List Pending) → AllByRecursion (λ q. at p < at q) ws
+    → schedule_all ws (schedule p fs) ≡ schedule p (schedule_all ws fs)
+schedule_before p [] fs h = refl
+schedule_before p (q ∷ ws) fs h =
+    ap (schedule_all ws) (schedule_both p q fs h.0) ∙ schedule_before p ws (schedule q fs) h.1
 
 -- one more of what waits in order
-pub put_later : (p : Pending) (ws fs : List Pending) → InOrder ws
-    → put_all (put p ws) fs ≡ put p (put_all ws fs)
-put_later p [] fs h = refl
-put_later p (q ∷ ws) fs h = by (put_later p ws (put q fs) h.1) (nat_le (at q) (at p)) refl
+pub schedule_later : (p : Pending) (ws fs : List Pending) → InOrder ws
+    → schedule_all (schedule p ws) fs ≡ schedule p (schedule_all ws fs)
+schedule_later p [] fs h = refl
+schedule_later p (q ∷ ws) fs h = by (schedule_later p ws (schedule q fs) h.1) (nat_le (at q) (at p))
+    refl
   where
-    by : put_all (put p ws) (put q fs) ≡ put p (put_all ws (put q fs)) → (b : Bool)
+    by : schedule_all (schedule p ws) (schedule q fs) ≡ schedule p (schedule_all ws (schedule q fs))
+        → (b : Bool)
         → nat_le (at q) (at p) ≡ b
-        → put_all (cond b (q ∷ put p ws) (p ∷ q ∷ ws)) fs ≡ put p (put_all ws (put q fs))
+        → schedule_all (cond b (q ∷ schedule p ws) (p ∷ q ∷ ws)) fs
+        ≡ schedule p (schedule_all ws (schedule q fs))
     by on true is = on
     by on false is =
         let lt = leb-false (at q) (at p) is in
-        put_before p (q ∷ ws) fs (lt, all_past (at q) (at p) ws lt h.0)
+        schedule_before p (q ∷ ws) fs (lt, all_past (at q) (at p) ws lt h.0)
 
 -- ---- the first of all
 
 -- one of the air's own, before all of the file
 pub own_first : (p : Pending) (ws fs : List Pending) → InOrder (p ∷ ws) → NoneWaits (at p) fs
-    → put_all (p ∷ ws) fs ≡ p ∷ put_all ws fs
+    → schedule_all (p ∷ ws) fs ≡ p ∷ schedule_all ws fs
 own_first p ws fs h none =
-    ap (put_all ws) (put_front p fs none) ∙ put_all_behind ws p fs h.0
+    ap (schedule_all ws) (schedule_front p fs none) ∙ schedule_all_behind ws p fs h.0

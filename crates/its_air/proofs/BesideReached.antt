@@ -4,10 +4,10 @@ use Rattle.std.proofs.Common.{Bool, false, append_assoc, append-nil}
 use Rattle.std.proofs.lemmas.List.{length-append}
 use Rattle.its_model.specs.World.{Config}
 use Rattle.its_air.specs.Beside.{absent, rules_beside, beside, IsOwnOf, IsReached}
-use Rattle.its_air.specs.Timetable.{Rules, Filed, Pending, AirModel, air_run}
-use Rattle.its_air.specs.Timetable.{air_opening, NoneWaits, IsOver}
-use Rattle.its_air.specs.Timetable.Pending.{Does, Departs}
-use Rattle.its_air.proofs.BesideOrder.{all_by, put_all_in_order}
+use Rattle.its_air_model.specs.Timetable.{Rules, Filed, Pending, AirModel, air_run}
+use Rattle.its_air_model.specs.Timetable.{air_opening, NoneWaits, IsOver}
+use Rattle.its_air_model.specs.Timetable.Pending.{Does, Departs}
+use Rattle.its_air.proofs.BesideOrder.{all_by, schedule_all_in_order}
 use Rattle.its_air.proofs.BesideMade.{still_there}
 use Rattle.its_air.proofs.BesideSteps.{from_later, up_to_later}
 
@@ -105,6 +105,6 @@ reached_over r configs n past from end a h none =
     (air_opening rules (configs ++ []) l)) (sym (append-nil past))
     ∙ h.leads [] [] end (omega arith) tt tt in (
       subst (λ (x : AirModel). NoneWaits end x.timetable.waiting) (sym same)
-          (subst (NoneWaits end) (sym (put_all_in_order a.timetable.waiting h.in_order)) none),
+          (subst (NoneWaits end) (sym (schedule_all_in_order a.timetable.waiting h.in_order)) none),
       ap (λ (x : AirModel). x.done) same,
     )

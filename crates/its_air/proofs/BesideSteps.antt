@@ -6,14 +6,17 @@ use Rattle.std.proofs.lemmas.Bool.{le-leb}
 use Rattle.std.proofs.lemmas.List.Elements.{All-push}
 use Rattle.its_model.specs.World.{Config, Event, WorldModel, opening, world_run}
 use Rattle.its_world.proofs.Late.{set_before}
-use Rattle.its_air.specs.AirRun.{moment_in}
+use Rattle.its_air_model.specs.Timetable.{moment_in}
 use Rattle.its_air.specs.Beside.{absent, rules_beside, beside, Rises, IsFrom, IsUpTo, InOrder}
 use Rattle.its_air.specs.Beside.{station_of_pending, IsOwnOf, IsReached}
-use Rattle.its_air.specs.Timetable.{Rules, Filed, Pending, Put, Timetable, AirModel, at, of_file}
-use Rattle.its_air.specs.Timetable.{put_all, NoneWaits, after_one, present_after, is_passed_over}
-use Rattle.its_air.specs.Timetable.{do_one, take_one, do_first, air_step, air_run, air_opening}
-use Rattle.its_air.specs.Timetable.Pending.{Does, Departs}
-use Rattle.its_air.proofs.Putting.{put_all_behind}
+use Rattle.its_air_model.specs.Timetable.{Rules, Filed, Pending, Planned, Timetable, AirModel, at}
+use Rattle.its_air_model.specs.Timetable.{of_file}
+use Rattle.its_air_model.specs.Timetable.{schedule_all, NoneWaits, after_one, present_after}
+use Rattle.its_air_model.specs.Timetable.{is_passed_over}
+use Rattle.its_air_model.specs.Timetable.{do_one, take_one, do_first, air_step, air_run}
+use Rattle.its_air_model.specs.Timetable.{air_opening}
+use Rattle.its_air_model.specs.Timetable.Pending.{Does, Departs}
+use Rattle.its_air_model.proofs.Putting.{schedule_all_behind}
 use Rattle.its_air.proofs.BesideOrder.{all_by, all_push, own_first}
 use Rattle.its_air.proofs.BesideLater.{later, one_after}
 use Rattle.its_air.proofs.BesideMade.{with_made, run_made, after_made, presence_made, passed_made}
@@ -25,7 +28,7 @@ use Rattle.its_air.proofs.BesideTaken.{taken_own, taken_in_order, taken_there, t
 module _ (made : List Config) (before file : List Filed) (until : ℕ) (r : Rules)
     (configs : List Config) (a : AirModel) (there : All (λ e. e.station < length configs) a.done)
     (long : length a.present ≡ length configs) (t : Timetable) (order : InOrder t.waiting) where
-  do_beside : (p : Put) → p.event.station < length configs
+  do_beside : (p : Planned) → p.event.station < length configs
       → do_one (rules_beside made until r) (configs ++ made) (beside made before a) p
       (later file t)
       ≡ beside made file (do_one r configs a p t)
@@ -133,7 +136,7 @@ own_there configs (Departs station moment) h = absurd h
 
 -- the first of the air's own is taken, before all that comes from then on
 pub reached_own : (r : Rules) (configs : List Config) (n : ℕ) (past : List Filed)
-    (from from' end end' : ℕ) (a : AirModel) (p : Put) (rest : List Pending)
+    (from from' end end' : ℕ) (a : AirModel) (p : Planned) (rest : List Pending)
     → IsReached r configs n past from end a → a.timetable.waiting ≡ Does p ∷ rest
     → from ≤ from' → p.event.moment < from' → end ≤ end' → p.event.moment ≤ end'
     → IsReached r configs (suc n) past from' end'
@@ -148,10 +151,10 @@ reached_own r configs n past from from' end end' a p rest h is later_from before
       leads = λ made file until le rises is_from. (
           goes_on (rules_beside made until r) (configs ++ made) n
           (air_opening (rules_beside made until r) (configs ++ made) (past ++ file))
-          (beside made file a) (Does p) (put_all rest (map of_file file))
+          (beside made file a) (Does p) (schedule_all rest (map of_file file))
           (h.leads made file until (omega (arith, le, later_end)) rises
           (from_later from from' file later_from is_from))
-          (ap (λ (ws : List Pending). put_all ws (map of_file file)) is
+          (ap (λ (ws : List Pending). schedule_all ws (map of_file file)) is
           ∙ own_first (Does p) rest (map of_file file) order
           (none_before p.event.moment from' file before is_from))
           (omega (arith, le, within))
@@ -181,10 +184,10 @@ reached_coming r configs n past from end end' a f h later_from first later_end w
           ∙ goes_on (rules_beside made until r) (configs ++ made) n
           (air_opening (rules_beside made until r) (configs ++ made) (past ++ f ∷ file))
           (beside made (f ∷ file) a) (of_file f)
-          (put_all a.timetable.waiting (map of_file file))
+          (schedule_all a.timetable.waiting (map of_file file))
           (h.leads made (f ∷ file) until (omega (arith, le, later_end)) (is_from, rises)
           (later_from, from_later from (moment_in f) file later_from is_from))
-          (put_all_behind a.timetable.waiting (of_file f) (map of_file file) first)
+          (schedule_all_behind a.timetable.waiting (of_file f) (map of_file file) first)
           (omega (arith, le, within))
           ∙ take_beside made (f ∷ file) file until r configs a h.done_there h.present a.timetable
           h.in_order (of_file f) lt);

@@ -8,17 +8,23 @@ use Rattle.its_gnvalue.specs.Values.{Position}
 use Rattle.its_model.specs.Station.{StationModel}
 use Rattle.its_model.specs.World.{Config, Event, WorldModel, opening, world_run}
 use Rattle.its_model.proofs.Lists.{length_set}
-use Rattle.its_air.specs.Reach.{is_within}
+use Rattle.its_air_model.specs.Range.{is_within}
 use Rattle.its_air.specs.Beside.{InOrder, IsOwnOf, station_of_pending}
-use Rattle.its_air.specs.Timetable.{Rules, Traffic, Pending, Put, Timetable, AirModel, draw}
-use Rattle.its_air.specs.Timetable.{draw_and_put, draw_alone, delivery, send, send_all, tick}
-use Rattle.its_air.specs.Timetable.{put_tick, sending, put_send, is_present, heard_from, hear_it}
-use Rattle.its_air.specs.Timetable.{in_reach_of, heard_by, given, spread, spread_frame, is_tick}
-use Rattle.its_air.specs.Timetable.{was_refused, tick_again, follow_tick, send_again, none_waits}
-use Rattle.its_air.specs.Timetable.{is_tick_of, is_send_of, come_ticking, come_sending}
-use Rattle.its_air.specs.Timetable.{come_sending_all, come, comes, follow_all, after_one}
-use Rattle.its_air.specs.Timetable.{is_passed_over, do_one, take_one}
-use Rattle.its_air.specs.Timetable.Pending.{Does, Departs}
+use Rattle.its_air_model.specs.Timetable.{Rules, Traffic, Pending, Planned, Timetable, AirModel}
+use Rattle.its_air_model.specs.Timetable.{draw}
+use Rattle.its_air_model.specs.Timetable.{draw_and_schedule, draw_alone, delivery, send, send_all}
+use Rattle.its_air_model.specs.Timetable.{tick}
+use Rattle.its_air_model.specs.Timetable.{schedule_tick, sending, schedule_send, is_present}
+use Rattle.its_air_model.specs.Timetable.{heard_from}
+use Rattle.its_air_model.specs.Timetable.{hear_it}
+use Rattle.its_air_model.specs.Timetable.{in_reach_of, heard_by, given, spread, spread_frame}
+use Rattle.its_air_model.specs.Timetable.{is_tick}
+use Rattle.its_air_model.specs.Timetable.{was_refused, tick_again, follow_tick, send_again}
+use Rattle.its_air_model.specs.Timetable.{none_waits}
+use Rattle.its_air_model.specs.Timetable.{is_tick_of, is_send_of, come_ticking, come_sending}
+use Rattle.its_air_model.specs.Timetable.{come_sending_all, come, comes, follow_all, after_one}
+use Rattle.its_air_model.specs.Timetable.{is_passed_over, do_one, take_one}
+use Rattle.its_air_model.specs.Timetable.Pending.{Does, Departs}
 use Rattle.its_air.proofs.BesideOrder.{all_put}
 use Rattle.its_air.proofs.BesideLater.{one_after}
 use Rattle.its_air.proofs.BesideMade.{stations_of_run}
@@ -84,12 +90,12 @@ sent_all : (P : Pending → Type 0) (loss k m : ℕ) (js : List ℕ)
 sent_all P loss k m [] each t h = h
 sent_all P loss k m (j ∷ js) each t h =
     sent_all P loss k m js each.1 (send loss k m j t)
-    (either P (nat_lt (draw t % 100) loss) (draw_alone t) (draw_and_put (delivery k m j) t) h
+    (either P (nat_lt (draw t % 100) loss) (draw_alone t) (draw_and_schedule (delivery k m j) t) h
     (all_put P (Does (delivery k m j)) t.waiting each.0 h))
 
 -- Of all that is put once an event was done: the ticks and sends of its station, and the
 -- deliveries of the frame that it gave.
-module _ (P : Pending → Type 0) (r : Rules) (present : List Bool) (p : Put) (after : WorldModel)
+module _ (P : Pending → Type 0) (r : Rules) (present : List Bool) (p : Planned) (after : WorldModel)
     (ticks : (b j : ℕ) → P (Does (tick p.event.station p.event.moment b j)))
     (sends : (x : Traffic) (m : ℕ) → p.event.moment ≤ m
     → P (Does (sending x p.event.station m)))
@@ -112,7 +118,7 @@ module _ (P : Pending → Type 0) (r : Rules) (present : List Bool) (p : Put) (a
           sent_all P r.loss k (p.event.moment + r.delay) js
           (each k is js (hearers_there r.range present after p.event.station)) t h
 
-  tick_all : (b : ℕ) → Keeping P (put_tick p.event.station p.event.moment b)
+  tick_all : (b : ℕ) → Keeping P (schedule_tick p.event.station p.event.moment b)
   tick_all b t h =
       all_put P (Does (tick p.event.station p.event.moment b (draw t % 751))) t.waiting
       (ticks b (draw t % 751)) h
@@ -140,7 +146,7 @@ module _ (P : Pending → Type 0) (r : Rules) (present : List Bool) (p : Put) (a
       let n = p.event.station in
       let m = p.event.moment in
       sending_all every (come_sending x n m t)
-      (either P (none_waits (is_send_of x.number n) t) (put_send x n m t) t
+      (either P (none_waits (is_send_of x.number n) t) (schedule_send x n m t) t
       (all_put P (Does (sending x n (m + draw t % x.period))) t.waiting
       (sends x (m + draw t % x.period) (omega arith)) h) h)
 
@@ -149,7 +155,7 @@ module _ (P : Pending → Type 0) (r : Rules) (present : List Bool) (p : Put) (a
       let n = p.event.station in
       let m = p.event.moment in
       sending_all r.every (come_ticking r.beacons n m t)
-      (either P (r.beacons && none_waits (is_tick_of n) t) (put_tick n m m t) t
+      (either P (r.beacons && none_waits (is_tick_of n) t) (schedule_tick n m m t) t
       (tick_all m t h) h)
 
   after_all : Keeping P (after_one r present p after)
@@ -164,7 +170,7 @@ module _ (P : Pending → Type 0) (r : Rules) (present : List Bool) (p : Put) (a
 -- What is so of all that wait is so of all that wait once one was taken, if it is so of each tick
 -- and each send of its station, and of each delivery of the frame that was given then.
 pub taken_all : (P : Pending → Type 0) (r : Rules) (configs : List Config) (a : AirModel)
-    (p : Put) (t : Timetable)
+    (p : Planned) (t : Timetable)
     → ((b j : ℕ) → P (Does (tick p.event.station p.event.moment b j)))
     → ((x : Traffic) (m : ℕ) → p.event.moment ≤ m → P (Does (sending x p.event.station m)))
     → ((k j : ℕ) → given (world_run (opening configs) (a.done ++ p.event ∷ [])).log ≡ Some k

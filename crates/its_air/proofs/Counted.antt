@@ -15,7 +15,7 @@ use Rattle.its_air.specs.declared.waiting.AirAction.{AirAction}
 use Rattle.its_air.specs.declared.waiting.AirAction.TheVariants as owns
 use Rattle.its_air.specs.declared.waiting.Scheduled.{Scheduled}
 use Rattle.its_air.specs.Queues.{is_tick_at, is_send_at, own_of}
-use Rattle.its_air.specs.Timetable.{is_tick, is_numbered}
+use Rattle.its_air_model.specs.Timetable.{is_tick, is_numbered}
 use Rattle.its_air.specs.Traffics.{traffic_in}
 use Rattle.its_air.specs.Counted.{kind_in, is_kind, is_kind_at, IsPlaceOf, IsCountedAt, AreCounted}
 use Rattle.its_air.specs.Counted.{IsUncounted}
@@ -137,7 +137,8 @@ counted_less kinds counts own new w at place within all less kind station at' pl
         ∙ omega (arith, before, popped, none)
 
 -- one that waits is counted at a place that there is
-pub counted_within : (kinds : ℕ) (counts : List ℕ) (own new : List Scheduled) (w : Scheduled) (at : ℕ)
+pub counted_within : (kinds : ℕ) (counts : List ℕ) (own new : List Scheduled) (w : Scheduled)
+    (at : ℕ)
     → IsCountedAt kinds w at → length counts ≤ at → AreCounted kinds counts own
     → IsPermutation own (w ∷ new) → ⊥
 counted_within kinds counts own new w at (k, is, place) past all less =

@@ -2,15 +2,15 @@
 use Rattle.std.proofs.Common.{◌≡◌, ℕ, ◌+◌, List, [], ◌∷◌, ◌++◌, map, refl, ap, ◌∙◌, arith}
 use Rattle.std.proofs.Common.{Bool, true, false, cond}
 use Rattle.std.specs.Prelude.{count_by, nat_le, ◌==◌}
-use Rattle.std.specs.BinaryHeap.{heap_items}
 use Rattle.std.proofs.lemmas.List.Sums.{sum_by-cons, sum_by_push}
 use Rattle.its_air.specs.declared.waiting.Queue.{Queue}
 use Rattle.its_air.specs.declared.waiting.Scheduled.{Scheduled}
 use Rattle.its_air.specs.Keeps.{Keeps}
 use Rattle.its_air.specs.Queues.{is_tick_at, is_send_at}
-use Rattle.its_air.specs.Timetable.{Pending, Filed, Timetable, at, of_file, put, put_all}
-use Rattle.its_air.specs.Timetable.{is_tick_of, is_send_of, none_waits}
-use Rattle.its_air.specs.Timetable.Filed.{Happens, Leaves}
+use Rattle.its_air_model.specs.Timetable.{Pending, Filed, Timetable, at, of_file, schedule}
+use Rattle.its_air_model.specs.Timetable.{schedule_all}
+use Rattle.its_air_model.specs.Timetable.{is_tick_of, is_send_of, none_waits}
+use Rattle.its_air_model.specs.Timetable.Filed.{Happens, Leaves}
 use Rattle.its_air.specs.Waits.{Waits, pending_of}
 
 abbrev bit : Bool → ℕ
@@ -27,23 +27,23 @@ count_push kind xs x = let a = sum_by_push (λ y. cond (kind y) 1 0) xs x in ome
 
 -- one more was put
 count_put : (kind : Pending → Bool) (p : Pending) (ws : List Pending)
-    → count_by kind (put p ws) ≡ bit (kind p) + count_by kind ws
+    → count_by kind (schedule p ws) ≡ bit (kind p) + count_by kind ws
 count_put kind p [] = count_more kind p []
 count_put kind p (q ∷ ws) = by (nat_le (at q) (at p)) (count_put kind p ws)
   where
-    by : (b : Bool) → count_by kind (put p ws) ≡ bit (kind p) + count_by kind ws
-        → count_by kind (cond b (q ∷ put p ws) (p ∷ q ∷ ws))
+    by : (b : Bool) → count_by kind (schedule p ws) ≡ bit (kind p) + count_by kind ws
+        → count_by kind (cond b (q ∷ schedule p ws) (p ∷ q ∷ ws))
         ≡ bit (kind p) + count_by kind (q ∷ ws)
     by true more =
-        let a = count_more kind q (put p ws) in
+        let a = count_more kind q (schedule p ws) in
         let b = count_more kind q ws in omega (arith, a, b, more)
     by false more = count_more kind p (q ∷ ws)
 
 pub count_put_all : (kind : Pending → Bool) (ps ws : List Pending)
-    → count_by kind (put_all ps ws) ≡ count_by kind ps + count_by kind ws
+    → count_by kind (schedule_all ps ws) ≡ count_by kind ps + count_by kind ws
 count_put_all kind [] ws = let none : count_by kind [] ≡ 0 = refl in omega (arith, none)
 count_put_all kind (p ∷ ps) ws =
-    let a = count_put_all kind ps (put p ws) in
+    let a = count_put_all kind ps (schedule p ws) in
     let b = count_put kind p ws in
     let c = count_more kind p ps in omega (arith, a, b, c)
 
@@ -93,7 +93,7 @@ no_send number station (Leaves other moment) = refl
 pub no_tick_waits : (queue : Queue) (words : List ℕ) (t : Timetable) (station : ℕ)
     → Keeps queue words t
     → none_waits (is_tick_of station) t
-    ≡ (count_by (is_tick_at station) (heap_items queue.own) == 0)
+    ≡ (count_by (is_tick_at station) queue.own == 0)
 no_tick_waits queue words t station h =
     ap (λ (n : ℕ). n == 0)
     (counted (is_tick_of station) (is_tick_at station) (λ w. refl) (no_tick station) _ _ _ _
@@ -103,7 +103,7 @@ no_tick_waits queue words t station h =
 pub no_send_waits : (queue : Queue) (words : List ℕ) (t : Timetable) (number station : ℕ)
     → Keeps queue words t
     → none_waits (is_send_of number station) t
-    ≡ (count_by (is_send_at number station) (heap_items queue.own) == 0)
+    ≡ (count_by (is_send_at number station) queue.own == 0)
 no_send_waits queue words t number station h =
     ap (λ (n : ℕ). n == 0)
     (counted (is_send_of number station) (is_send_at number station) (λ w. refl)

@@ -1,8 +1,9 @@
--- Two lists of numbers that rise and have each number as often are one list; and who hears, found in
--- any order, are those that are found in the order of numbers.
+-- Two lists of numbers that rise and have each number as often are one list; and who hears, found
+-- in any order, are those that are found in the order of numbers.
 use Rattle.std.proofs.Common.{◌≡◌, ℕ, zero, suc, ◌+◌, ◌<◌, ◌≤◌, List, [], ◌∷◌, Bool, true, false}
 use Rattle.std.proofs.Common.{not, cond, ◌&&◌, map, filter, refl, sym, ap, ◌∙◌, arith, length, ◌⊎◌}
-use Rattle.std.proofs.Common.{Option, Some, None, inl, inr, subst, ◌++◌, get_or, take, remove, insert}
+use Rattle.std.proofs.Common.{Option, Some, None, inl, inr, subst, ◌++◌, get_or, take, remove}
+use Rattle.std.proofs.Common.{insert}
 use Rattle.std.proofs.Common.{◌≢◌, is_some, true≢false, leb, le_trans, ◌-◌}
 use Rattle.std.specs.Prelude.{count_by, sum_by, slice_get, ◌==◌, IfSome, HoldsAt, unsigned_abs}
 use Rattle.std.specs.List.{position, position_or_len}
@@ -25,7 +26,8 @@ use Rattle.its_gnvalue.specs.Values.{Position}
 use Rattle.its_station.specs.State.{StationState}
 use Rattle.its_world.specs.Steps.{AreSameBut}
 use Rattle.its_air.specs.declared.place_index.Standing.{Standing}
-use Rattle.its_air.specs.Reach.{is_within, hears, hearers, numbers_from, hears_there}
+use Rattle.its_air_model.specs.Range.{is_within}
+use Rattle.its_air.specs.Reach.{hears, hearers, numbers_from, hears_there}
 use Rattle.its_air.specs.PlaceIndexes.{hears_from, is_off, count_at, times_at, AreStandingsOf}
 
 -- once or never
@@ -225,14 +227,16 @@ gathered range giver place sts xs found sorted stand as_often same up =
     ∙ sym (count_hearers range giver place sts n))
 
 -- what is at an index of the first ones
-get_in_first : {X : Type 0} (i n : ℕ) (xs : List X) → i < n → slice_get (take n xs) i ≡ slice_get xs i
+get_in_first : {X : Type 0} (i n : ℕ) (xs : List X) → i < n → slice_get (take n xs) i
+    ≡ slice_get xs i
 get_in_first {X} i n xs lt = by (slice_get_cases xs i).1
   where
     by : ((x : X) × (i < length xs) × (slice_get xs i ≡ Some x) × (get_or xs i x ≡ x))
         ⊎ ((length xs ≤ i) × (slice_get xs i ≡ None)) → slice_get (take n xs) i ≡ slice_get xs i
     by (inl (x, within, some, is)) =
         slice_get_read (take n xs) (length (take n xs)) i x refl
-        (omega (arith, length-take n xs, within, lt)) (sym (get_or-take n xs i x lt ∙ is)) ∙ sym some
+        (omega (arith, length-take n xs, within, lt)) (sym (get_or-take n xs i x lt ∙ is))
+        ∙ sym some
     by (inr (past, none)) =
         slice_get_past (take n xs) i (omega (arith, length-take n xs, past)) ∙ sym none
 
@@ -493,12 +497,14 @@ point_without P Q xs i to end lt point side =
     before : ((i < end) × (to + 1 ≡ end)) ⊎ ((end ≤ i) × (to ≡ end)) → (k : ℕ) (d : Standing)
         → k < to → (k < i) ⊎ (i ≤ k) → P (get_or (remove xs i) k d)
     before (inl (gt, is)) k d below (inl lt') =
-        rw (get_or-remove_below xs i d k lt' lt) (point.0 k d (omega arith) (omega (arith, below, is)))
+        rw (get_or-remove_below xs i d k lt' lt)
+        (point.0 k d (omega arith) (omega (arith, below, is)))
     before (inl (gt, is)) k d below (inr ge) =
         rw (get_or-remove_above xs i d k ge lt)
         (point.0 (k + 1) d (omega arith) (omega (arith, below, is)))
     before (inr (le, is)) k d below (inl lt') =
-        rw (get_or-remove_below xs i d k lt' lt) (point.0 k d (omega arith) (omega (arith, below, is)))
+        rw (get_or-remove_below xs i d k lt' lt)
+        (point.0 k d (omega arith) (omega (arith, below, is)))
     before (inr (le, is)) k d below (inr ge) = absurd (omega (arith, below, is, le, ge))
 
     behind : ((i < end) × (to + 1 ≡ end)) ⊎ ((end ≤ i) × (to ≡ end)) → (k : ℕ) (d : Standing)

@@ -13,9 +13,10 @@ use Rattle.std.specs.Ordering.{nat_cmp, is_lt}
 use Rattle.its_scenario.specs.Airs.{moment_of as told_moment}
 use Rattle.its_scenario.specs.declared.event.FileEvent.{FileEvent as Told}
 use Rattle.its_scenario.specs.declared.event.FileEvent.TheVariants as told
-use Rattle.its_air.specs.AirRun.{moment_in, of_moment, AreDue}
+use Rattle.its_air.specs.AirRun.{of_moment, AreDue}
+use Rattle.its_air_model.specs.Timetable.{moment_in}
 use Rattle.its_air.specs.Queues.{filed_in, filed_of, IsFiledInRange}
-use Rattle.its_air.specs.Timetable.{Filed}
+use Rattle.its_air_model.specs.Timetable.{Filed}
 
 -- a line of the file waits at its moment
 pub same_moment : (e : Told) → moment_in (filed_of e) ≡ told_moment e
@@ -53,7 +54,8 @@ front events i e m lt is =
     ap (λ (l : List Told). of_moment m (map filed_of l))
     (take_more events i e lt ∙ ap (λ (y : Told). take i events ++ y ∷ []) (sym is))
     ∙ ap (of_moment m) (map-append filed_of (take i events) (e ∷ []))
-    ∙ filter-append (λ (x : Filed). moment_in x == m) (map filed_of (take i events)) (filed_of e ∷ [])
+    ∙ filter-append (λ (x : Filed). moment_in x == m) (map filed_of (take i events))
+    (filed_of e ∷ [])
 
 pub kept_push : (until : ℕ) (due : List (Bor Told)) (events : List Told) (i : ℕ) (x : Bor Told)
     → Kept until due events i → i < length events → x.now ≡ get_or events i x.now

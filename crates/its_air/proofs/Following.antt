@@ -8,7 +8,8 @@ use Rattle.its_air.specs.declared.waiting.AirAction.TheVariants as owns
 use Rattle.its_air.specs.declared.waiting.Scheduled.{Scheduled}
 use Rattle.its_air.specs.Keeps.{follow_own}
 use Rattle.its_air.specs.Queues.{happening_of, own_of}
-use Rattle.its_air.specs.Timetable.{Timetable, is_tick, tick_again, send_again, sending, put_alone}
+use Rattle.its_air_model.specs.Timetable.{Timetable, is_tick, tick_again, send_again, sending}
+use Rattle.its_air_model.specs.Timetable.{schedule_alone}
 use Rattle.its_air.specs.Traffics.{traffic_in, traffic_of}
 
 -- what follows, were it this
@@ -34,6 +35,6 @@ follows_delivery w k refused s t is = ap (λ (o : AirAction). follow_as o w refu
 
 pub follows_send : (w : Scheduled) (n : ℕ) (x : Flow) (refused : Bool) (s : Option StationModel)
     (t : Timetable) → w.own ≡ owns.Send n x
-    → put_alone (sending (traffic_of n x) w.station (w.moment + x.period)) t
+    → schedule_alone (sending (traffic_of n x) w.station (w.moment + x.period)) t
     ≡ follow_own w refused s t
 follows_send w n x refused s t is = ap (λ (o : AirAction). follow_as o w refused s t) (sym is)

@@ -6,7 +6,6 @@ use Rattle.std.specs.Prelude.{nat_lt, ◌==◌, slice_get, Vec}
 use Rattle.std.specs.declared.alloc.Global.{Global}
 use Rattle.std.specs.Prelude.{OnOk}
 use Rattle.std.proofs.Common.{Result, Ok, Err}
-use Rattle.std.specs.BinaryHeap.{heap_items}
 use Rattle.std.specs.List.Sorted.{IsPermutation}
 use denote.Ref.{Bor}
 use Rattle.std.specs.Option.{option_map}
@@ -33,22 +32,27 @@ use Rattle.its_scenario.specs.declared.event.FileEvent.{FileEvent as Told}
 use Rattle.its_air.specs.declared.waiting.AirAction.TheVariants as owns
 use Rattle.its_air.specs.declared.waiting.Scheduled.{Scheduled}
 use Rattle.its_air.specs.declared.waiting.Queue.{Queue}
-use Rattle.its_air.specs.Draws.{draws_at}
+use Rattle.its_air_model.specs.Draws.{draws_at}
 use Rattle.its_air.specs.Files.{SameFile, filed_due}
 use Rattle.its_scenario.specs.declared.air.Air.{Air}
 use Rattle.its_air.specs.AirTimed.{rules_of}
 use Rattle.its_air.specs.Keeps.{Keeps, GoesBy}
-use Rattle.its_air.specs.Timetable.{Rules}
+use Rattle.its_air_model.specs.Timetable.{Rules}
 use Rattle.its_air.specs.declared.run.Run.{Run}
 use Rattle.its_air.specs.Queues.{filed_in}
-use Rattle.its_air.specs.Reach.{numbers_from, hears, hearers, is_within}
-use Rattle.its_air.specs.Timetable.{Timetable, Put, draw, draw_and_put, draw_alone, delivery, send}
-use Rattle.its_air.specs.Timetable.{send_all, tick, heard_from, hear_it, given, was_refused, is_refusal}
-use Rattle.its_air.specs.Timetable.{put_alone, put_traffic, put_first_sends, Pending, Filed}
-use Rattle.its_air.specs.Timetable.{Traffic, come_sending, come_sending_all, was_moved}
+use Rattle.its_air_model.specs.Range.{is_within}
+use Rattle.its_air.specs.Reach.{numbers_from, hears, hearers}
+use Rattle.its_air_model.specs.Timetable.{Timetable, Planned, draw, draw_and_schedule, draw_alone}
+use Rattle.its_air_model.specs.Timetable.{delivery, send}
+use Rattle.its_air_model.specs.Timetable.{send_all, tick, heard_from, hear_it, given, was_refused}
+use Rattle.its_air_model.specs.Timetable.{is_refusal}
+use Rattle.its_air_model.specs.Timetable.{schedule_alone, schedule_traffic, schedule_first_sends}
+use Rattle.its_air_model.specs.Timetable.{Pending}
+use Rattle.its_air_model.specs.Timetable.{Filed}
+use Rattle.its_air_model.specs.Timetable.{Traffic, come_sending, come_sending_all, was_moved}
 use Rattle.its_scenario.specs.declared.traffic.Traffic.{Traffic as Flow}
 use Rattle.its_air.specs.Traffics.{all_traffic, traffic_of, traffic_from}
-use Rattle.its_air.specs.Waits.{Waits, put_of}
+use Rattle.its_air.specs.Waits.{Waits, planned_of}
 use Rattle.its_air.proofs.Waits.{waits_put}
 
 -- the same, told otherwise
@@ -68,35 +72,37 @@ left_same old new same =
     ∙ ap (λ (d : Vec (Bor Told) Global). drop old.taken (filed_in d.items)) same.due
 
 -- one more was put, by one draw
-pub keeps_put : (old new : Queue) (before after : List ℕ) (t : Timetable) (x : Scheduled) (p : Put)
-    → SameFile old new → IsPermutation (x ∷ heap_items old.own) (heap_items new.own)
-    → new.pushed ≡ old.pushed + 1 → x.place ≡ old.pushed → put_of x ≡ p
+pub keeps_put : (old new : Queue) (before after : List ℕ) (t : Timetable) (x : Scheduled)
+    (p : Planned)
+    → SameFile old new → IsPermutation (x ∷ old.own) new.own
+    → new.pushed ≡ old.pushed + 1 → x.place ≡ old.pushed → planned_of x ≡ p
     → draws_at after ≡ (next_u64 (draws_at before)).1
-    → Keeps old before t → Keeps new after (draw_and_put p t)
+    → Keeps old before t → Keeps new after (draw_and_schedule p t)
 keeps_put old new before after t x p same moves count place is drawn h =
     record {
-      waits = subst (λ (q : Put). Waits (drop new.taken (filed_due new))
-          (heap_items new.own) new.pushed new.until (draw_and_put q t).waiting) is
-          (waits_at (drop old.taken (filed_due old)) _ (heap_items new.own) (old.pushed + 1) _
+      waits = subst (λ (q : Planned). Waits (drop new.taken (filed_due new))
+          new.own new.pushed new.until (draw_and_schedule q t).waiting) is
+          (waits_at (drop old.taken (filed_due old)) _ new.own (old.pushed + 1) _
           old.until _ _ (left_same old new same) count same.until
-          (waits_put (drop old.taken (filed_due old)) (heap_items old.own)
-          (heap_items new.own) old.pushed old.until t.waiting x moves place h.waits));
+          (waits_put (drop old.taken (filed_due old)) old.own
+          new.own old.pushed old.until t.waiting x moves place h.waits));
       draws = ap (λ (s : Stream). (next_u64 s).1) h.draws ∙ sym drawn;
     }
 
 -- one more was put, and none was drawn
-pub keeps_put_alone : (old new : Queue) (words : List ℕ) (t : Timetable) (x : Scheduled) (p : Put)
-    → SameFile old new → IsPermutation (x ∷ heap_items old.own) (heap_items new.own)
-    → new.pushed ≡ old.pushed + 1 → x.place ≡ old.pushed → put_of x ≡ p
-    → Keeps old words t → Keeps new words (put_alone p t)
+pub keeps_put_alone : (old new : Queue) (words : List ℕ) (t : Timetable) (x : Scheduled)
+    (p : Planned)
+    → SameFile old new → IsPermutation (x ∷ old.own) new.own
+    → new.pushed ≡ old.pushed + 1 → x.place ≡ old.pushed → planned_of x ≡ p
+    → Keeps old words t → Keeps new words (schedule_alone p t)
 keeps_put_alone old new words t x p same moves count place is h =
     record {
-      waits = subst (λ (q : Put). Waits (drop new.taken (filed_due new))
-          (heap_items new.own) new.pushed new.until (put_alone q t).waiting) is
-          (waits_at (drop old.taken (filed_due old)) _ (heap_items new.own) (old.pushed + 1) _
+      waits = subst (λ (q : Planned). Waits (drop new.taken (filed_due new))
+          new.own new.pushed new.until (schedule_alone q t).waiting) is
+          (waits_at (drop old.taken (filed_due old)) _ new.own (old.pushed + 1) _
           old.until _ _ (left_same old new same) count same.until
-          (waits_put (drop old.taken (filed_due old)) (heap_items old.own)
-          (heap_items new.own) old.pushed old.until t.waiting x moves place h.waits));
+          (waits_put (drop old.taken (filed_due old)) old.own
+          new.own old.pushed old.until t.waiting x moves place h.waits));
       draws = h.draws;
     }
 
@@ -118,10 +124,11 @@ drawn_is queue words t h = ap (λ (s : Stream). (next_u64 s).0) h.draws
 -- the tick that is put
 pub tick_is : (station moment beacon_from m place jitter drawn : ℕ)
     → m ≡ max moment (beacon_from + jitter) → jitter ≡ drawn % 751
-    → put_of (record { moment = m; place = place; station = station; own = owns.Tick jitter })
+    → planned_of (record { moment = m; place = place; station = station; own = owns.Tick jitter })
     ≡ tick station moment beacon_from (drawn % 751)
 tick_is station moment beacon_from m place jitter drawn at is =
-    ap (λ n. put_of (record { moment = n; place = place; station = station; own = owns.Tick jitter })) at
+    ap (λ n. planned_of (record { moment = n; place = place; station = station; own = owns.Tick
+    jitter })) at
     ∙ ap (tick station moment beacon_from) is
 
 -- one traffic more
@@ -136,11 +143,11 @@ traffic_more (y ∷ xs) x k n is =
 -- its first sends
 pub first_sends_more : (present : List Bool) (ys : List Traffic) (y : Traffic) (n : ℕ)
     (t : Timetable)
-    → put_traffic present (ys ++ y ∷ []) n t
-    ≡ put_first_sends present y n (put_traffic present ys n t)
+    → schedule_traffic present (ys ++ y ∷ []) n t
+    ≡ schedule_first_sends present y n (schedule_traffic present ys n t)
 first_sends_more present [] y n t = refl
 first_sends_more present (x ∷ ys) y n t =
-    first_sends_more present ys y n (put_first_sends present x n t)
+    first_sends_more present ys y n (schedule_first_sends present x n t)
 
 -- that of a station that comes
 pub coming_more : (ys : List Traffic) (y : Traffic) (n m : ℕ) (t : Timetable)
@@ -158,13 +165,14 @@ keeps_lost queue before after t loss frame moment station drawn lost h =
     ap (λ n. nat_lt (n % 100) loss) (drawn_is queue before t h)
     ∙ lt-ltb ((next_u64 (draws_at before)).0 % 100) loss lost in
     subst (λ (b : Bool). Keeps queue after (cond b (draw_alone t)
-    (draw_and_put (delivery frame moment station) t))) (sym is)
+    (draw_and_schedule (delivery frame moment station) t))) (sym is)
     (keeps_draw queue before after t drawn h)
 
 pub keeps_sent : (old new : Queue) (before after : List ℕ) (t : Timetable)
     (loss frame moment station : ℕ) → SameFile old new
-    → IsPermutation (record { moment = moment; place = old.pushed; station = station; own = owns.Deliver frame }
-    ∷ heap_items old.own) (heap_items new.own)
+    → IsPermutation (record { moment = moment; place = old.pushed; station = station; own =
+    owns.Deliver frame }
+    ∷ old.own) new.own
     → new.pushed ≡ old.pushed + 1 → draws_at after ≡ (next_u64 (draws_at before)).1
     → ((next_u64 (draws_at before)).0 % 100 < loss → ⊥) → Keeps old before t
     → Keeps new after (send loss frame moment station t)
@@ -173,8 +181,9 @@ keeps_sent old new before after t loss frame moment station same moves count dra
     ap (λ n. nat_lt (n % 100) loss) (drawn_is old before t h)
     ∙ no_less ((next_u64 (draws_at before)).0 % 100) loss kept in
     subst (λ (b : Bool). Keeps new after (cond b (draw_alone t)
-    (draw_and_put (delivery frame moment station) t))) (sym is)
-    (keeps_put old new before after t (record { moment = moment; place = old.pushed; station = station; own = owns.Deliver frame })
+    (draw_and_schedule (delivery frame moment station) t))) (sym is)
+    (keeps_put old new before after t
+    (record { moment = moment; place = old.pushed; station = station; own = owns.Deliver frame })
     (delivery frame moment station) same moves count refl refl drawn h)
   where
     no_less : (a b : ℕ) → (a < b → ⊥) → nat_lt a b ≡ false
@@ -375,7 +384,8 @@ pub goes_on : (rules : Rules) (old new : Run) → GoesBy rules old → new.air �
     → new.every ≡ old.every → new.queue.until ≡ old.queue.until → GoesBy rules new
 goes_on rules old new goes_by air every until =
     ap (λ (a : Air). rules_of a (all_traffic new.every.now) new.queue.until rules.present) air
-    ∙ ap (λ (x : Bor (List Flow)). rules_of old.air (all_traffic x.now) new.queue.until rules.present)
+    ∙ ap (λ (x : Bor (List Flow)). rules_of old.air (all_traffic x.now) new.queue.until
+    rules.present)
     every
     ∙ ap (λ n. rules_of old.air (all_traffic old.every.now) n rules.present) until ∙ goes_by
 

@@ -6,7 +6,6 @@ pub mod Bands
 pub mod Between
 pub mod Rows
 pub mod Counts
-pub mod Putting
 pub mod BesideOrder
 pub mod BesideLater
 pub mod BesideMade
@@ -19,18 +18,7 @@ pub mod Waits
 pub mod Opening
 pub mod Keeping
 pub mod Stepping
-pub mod OneRun
-pub mod Moments
-pub mod Lasting
-pub mod Heard
-pub mod Ticks
-pub mod Logs
-pub mod InLine
-pub mod Once
-pub mod Carried
-pub mod Comings
 pub mod Counting
-pub mod Sends
 pub mod Following
 pub mod Ranges
 pub mod Shifts
@@ -38,3 +26,4 @@ pub mod Counted
 pub mod Moved
 pub mod UnderRows
 pub mod Outside
+pub mod Lines

@@ -4,7 +4,7 @@ use Rattle.std.proofs.Common.{subst, ◌∙◌, drop, map, length, arith, All, B
 use Rattle.std.proofs.Common.{append_assoc, append-nil, Option, Some, Result, Ok, Err}
 use Rattle.std.specs.Prelude.{nat_le, Vec, OnOk, IfSome, max, min, ◌%◌}
 use Rattle.std.specs.declared.alloc.Global.{Global}
-use Rattle.std.specs.BinaryHeap.{heap_items, IsUpperBound}
+use Rattle.std.specs.BinaryHeap.{IsUpperBound}
 use Rattle.std.specs.List.{AllByRecursion}
 use Rattle.std.specs.List.Sorted.{IsPermutation}
 use Rattle.its_model.specs.World.{Config, Event, What, WorldModel, opening, world_run}
@@ -18,7 +18,7 @@ use Rattle.its_world.proofs.Worlds.{count_kept, length_stations}
 use Rattle.its_world.specs.declared.entry.Entry.{Entry}
 use Rattle.its_world.specs.State.{WorldState, RepresentsWorld}
 use Rattle.its_world.specs.Steps.{IsKept}
-use Rattle.its_air.specs.AirRun.{moment_in}
+use Rattle.its_air_model.specs.Timetable.{moment_in}
 use Rattle.its_air.specs.AirTimed.{IsTimedRun}
 use Rattle.its_air.specs.Beside.{IsOwnOf, InOrder, rules_beside, absent}
 use Rattle.its_air.specs.Beside.{station_of_pending}
@@ -33,14 +33,19 @@ use Rattle.its_scenario.specs.declared.event.AddressedEvent.{AddressedEvent}
 use Rattle.its_scenario.specs.declared.moves.Moves.{Moves}
 use Rattle.its_scenario.specs.declared.event.FileEvent.TheVariants as files
 use Rattle.its_air.specs.Runs.{SaysAsBefore}
-use Rattle.its_air.specs.Timetable.{AirModel, Filed, Pending, Put, Rules, Timetable, Traffic, at}
-use Rattle.its_air.specs.Timetable.{NoneWaits, air_opening, air_run, by_file, delivery, given, draw}
-use Rattle.its_air.specs.Timetable.{is_passed_over, of_file, put, put_all, sending, take_one, tick}
-use Rattle.its_air.specs.Timetable.{do_one, put_first_sends, put_first_ticks, put_send, put_tick}
-use Rattle.its_air.specs.Timetable.{put_traffic, with_file, with_ticks, is_present}
-use Rattle.its_air.specs.Timetable.Filed.{Happens, Leaves}
-use Rattle.its_air.specs.Timetable.Pending.{Does, Departs}
-use Rattle.its_air.specs.Waits.{Waits, pending_of, put_of}
+use Rattle.its_air_model.specs.Timetable.{AirModel, Filed, Pending, Planned, Rules, Timetable}
+use Rattle.its_air_model.specs.Timetable.{Traffic}
+use Rattle.its_air_model.specs.Timetable.{at}
+use Rattle.its_air_model.specs.Timetable.{NoneWaits, air_opening, air_run, by_file, delivery, given}
+use Rattle.its_air_model.specs.Timetable.{draw}
+use Rattle.its_air_model.specs.Timetable.{is_passed_over, of_file, schedule, schedule_all, sending}
+use Rattle.its_air_model.specs.Timetable.{take_one, tick}
+use Rattle.its_air_model.specs.Timetable.{do_one, schedule_first_sends, schedule_first_ticks}
+use Rattle.its_air_model.specs.Timetable.{schedule_send, schedule_tick}
+use Rattle.its_air_model.specs.Timetable.{schedule_traffic, with_file, with_ticks, is_present}
+use Rattle.its_air_model.specs.Timetable.Filed.{Happens, Leaves}
+use Rattle.its_air_model.specs.Timetable.Pending.{Does, Departs}
+use Rattle.its_air.specs.Waits.{Waits, pending_of, planned_of}
 use Rattle.its_air.specs.declared.run.Run.{Run}
 use Rattle.its_air.specs.declared.waiting.Queue.{Queue}
 use Rattle.its_air.specs.declared.waiting.Scheduled.{Scheduled}
@@ -82,19 +87,19 @@ stations_made rules configs made past last from end counted by run A h =
 
 -- what is so of all that wait, is so of those that waited before one was put
 all_before : (P : Pending → Type 0) (p : Pending) (ws : List Pending)
-    → AllByRecursion P (put p ws) → AllByRecursion P ws
+    → AllByRecursion P (schedule p ws) → AllByRecursion P ws
 all_before P p [] h = tt
 all_before P p (q ∷ ws) h = by (all_before P p ws) (nat_le (at q) (at p)) h
   where
-    by : (AllByRecursion P (put p ws) → AllByRecursion P ws) → (b : Bool)
-        → AllByRecursion P (cond b (q ∷ put p ws) (p ∷ q ∷ ws)) → AllByRecursion P (q ∷ ws)
+    by : (AllByRecursion P (schedule p ws) → AllByRecursion P ws) → (b : Bool)
+        → AllByRecursion P (cond b (q ∷ schedule p ws) (p ∷ q ∷ ws)) → AllByRecursion P (q ∷ ws)
     by behind true on = (on.0, behind on.1)
     by behind false on = on.1
 
 all_before_all : (P : Pending → Type 0) (ps ws : List Pending)
-    → AllByRecursion P (put_all ps ws) → AllByRecursion P ws
+    → AllByRecursion P (schedule_all ps ws) → AllByRecursion P ws
 all_before_all P [] ws h = h
-all_before_all P (p ∷ ps) ws h = all_before P p ws (all_before_all P ps (put p ws) h)
+all_before_all P (p ∷ ps) ws h = all_before P p ws (all_before_all P ps (schedule p ws) h)
 
 none_of_file : (configs : List Config) (file : List Filed)
     → AllByRecursion (IsOwnOf configs) (map of_file file) → file ≡ []
@@ -126,7 +131,7 @@ alone configs due heap count until last waiting own h =
         rise = h.rise;
         below = h.below;
         is = h.is
-            ∙ ap (λ (l : List Filed). put_all (map pending_of h.own) (map of_file l)) none;
+            ∙ ap (λ (l : List Filed). schedule_all (map pending_of h.own) (map of_file l)) none;
       },
       none_in_front due h.late none,
     )
@@ -134,27 +139,27 @@ alone configs due heap count until last waiting own h =
 -- the first of the air's own is taken
 pub takes_alone : (configs : List Config) (old new : Queue) (words : List ℕ) (t : Timetable)
     (w : Scheduled) → new.due ≡ old.due → new.taken ≡ old.taken → new.until ≡ old.until
-    → new.pushed ≡ old.pushed → IsPermutation (heap_items old.own) (w ∷ heap_items new.own)
-    → IsUpperBound waiting_cmp w (heap_items new.own)
+    → new.pushed ≡ old.pushed → IsPermutation old.own (w ∷ new.own)
+    → IsUpperBound waiting_cmp w new.own
     → AllByRecursion (IsOwnOf configs) t.waiting → Keeps old words t
     → (rest : List Pending) × (t.waiting ≡ pending_of w ∷ rest)
     × Keeps new words (record { waiting = rest; draws = t.draws })
-takes_alone configs old new words t w due taken until put moves first own h =
+takes_alone configs old new words t w due taken until schedule moves first own h =
     let left = drop old.taken (filed_due old) in
-    let here = alone configs left (heap_items old.own) old.pushed old.until w.moment t.waiting own
+    let here = alone configs left old.own old.pushed old.until w.moment t.waiting own
     h.waits in
-    let got = waits_own w [] (heap_items old.own) (heap_items new.own) old.pushed w.moment t.waiting
+    let got = waits_own w [] old.own new.own old.pushed w.moment t.waiting
     moves first (omega arith) tt here.0 in
     let rest : AllByRecursion (IsOwnOf configs) got.0 =
     (subst (AllByRecursion (IsOwnOf configs)) got.1 own).1 in
-    let there = alone configs [] (heap_items new.own) old.pushed w.moment old.until got.0 rest got.2 in
+    let there = alone configs [] new.own old.pushed w.moment old.until got.0 rest got.2 in
     let same : drop new.taken (filed_due new) ≡ [] =
     ap (λ k. drop k (filed_due new)) taken
     ∙ ap (λ (d : Vec (Bor FileEvent) Global). drop old.taken (filed_in d.items)) due ∙ here.1 in (
       got.0,
       got.1,
       record {
-        waits = waits_at [] _ (heap_items new.own) old.pushed _ old.until _ got.0 same put until
+        waits = waits_at [] _ new.own old.pushed _ old.until _ got.0 same schedule until
             there.0;
         draws = h.draws;
       },
@@ -163,8 +168,8 @@ takes_alone configs old new words t w due taken until put moves first own h =
 -- none is taken: what waits is kept as before
 pub keeps_alone : (old new : Queue) (words : List ℕ) (t : Timetable) → new.due ≡ old.due
     → new.taken ≡ old.taken → new.until ≡ old.until → new.pushed ≡ old.pushed
-    → heap_items new.own ≡ heap_items old.own → Keeps old words t → Keeps new words t
-keeps_alone old new words t due taken until put heap h =
+    → new.own ≡ old.own → Keeps old words t → Keeps new words t
+keeps_alone old new words t due taken until schedule heap h =
     let left = drop old.taken (filed_due old) in
     let same : drop new.taken (filed_due new) ≡ left =
     ap (λ k. drop k (filed_due new)) taken
@@ -172,7 +177,7 @@ keeps_alone old new words t due taken until put heap h =
     record {
       waits = subst (λ (hs : List Scheduled). Waits (drop new.taken (filed_due new)) hs new.pushed
           new.until t.waiting) (sym heap)
-          (waits_at left _ (heap_items old.own) old.pushed _ old.until _ t.waiting same put until
+          (waits_at left _ old.own old.pushed _ old.until _ t.waiting same schedule until
           h.waits);
       draws = h.draws;
     }
@@ -188,24 +193,24 @@ all_from_first m (p ∷ ws) order none =
 
 -- all that wait come from a moment on, as those in the heap do
 pub waits_from : (configs : List Config) (old : Queue) (words : List ℕ) (t : Timetable)
-    (moment : ℕ) → All (λ w. moment ≤ w.moment) (heap_items old.own)
+    (moment : ℕ) → All (λ w. moment ≤ w.moment) old.own
     → AllByRecursion (IsOwnOf configs) t.waiting → InOrder t.waiting → Keeps old words t
     → AllByRecursion (λ p. moment ≤ at p) t.waiting
 waits_from configs old words t zero late own order h =
     all_by (IsOwnOf configs) (λ p. 0 ≤ at p) t.waiting (λ p any. omega arith) own
 waits_from configs old words t (suc m) late own order h =
-    all_from_first m t.waiting order (waits_none (heap_items old.own) old.pushed m t.waiting
+    all_from_first m t.waiting order (waits_none old.own old.pushed m t.waiting
     (λ k d lt. let le = late k d lt in omega (arith, le))
-    (alone configs (drop old.taken (filed_due old)) (heap_items old.own) old.pushed old.until m
+    (alone configs (drop old.taken (filed_due old)) old.own old.pushed old.until m
     t.waiting own h.waits).0)
 
 pub none_waits_after : (configs : List Config) (old : Queue) (words : List ℕ) (t : Timetable)
-    (end : ℕ) → All (λ w. end + 1 ≤ w.moment) (heap_items old.own)
+    (end : ℕ) → All (λ w. end + 1 ≤ w.moment) old.own
     → AllByRecursion (IsOwnOf configs) t.waiting → Keeps old words t → NoneWaits end t.waiting
 none_waits_after configs old words t end late own h =
-    waits_none (heap_items old.own) old.pushed end t.waiting
+    waits_none old.own old.pushed end t.waiting
     (λ k d lt. let le = late k d lt in omega (arith, le))
-    (alone configs (drop old.taken (filed_due old)) (heap_items old.own) old.pushed old.until end
+    (alone configs (drop old.taken (filed_due old)) old.own old.pushed old.until end
     t.waiting own h.waits).0
 
 -- ---- the deliveries that wait
@@ -288,7 +293,7 @@ released_of : (all : List Config) (events : List Event) (world : WorldState)
 released_of all events world Took h = h.stands.released
 
 -- after an event what waits comes no earlier
-since_after : (now : Rules) (all : List Config) (a : AirModel) (p : Put) (t : Timetable)
+since_after : (now : Rules) (all : List Config) (a : AirModel) (p : Planned) (t : Timetable)
     → AllByRecursion (λ q. p.event.moment ≤ at q) t.waiting
     → AllByRecursion (λ q. p.event.moment ≤ at q) (take_one now all a (Does p) t).timetable.waiting
 since_after now all a p t h =
@@ -296,7 +301,7 @@ since_after now all a p t h =
     (λ b j. le-max_left p.event.moment (b + j)) (λ x m le. le) (λ k j gave lt. omega arith) h
 
 -- and all its deliveries are of frames that are kept
-frames_after : (now : Rules) (all : List Config) (a : AirModel) (p : Put) (t : Timetable)
+frames_after : (now : Rules) (all : List Config) (a : AirModel) (p : Planned) (t : Timetable)
     (released counted by : ℕ) → released ≤ length (world_run (opening all) a.done).air
     → counted ≤ length (world_run (opening all) a.done).air
     → AllByRecursion (Awaits released counted by (p.event.moment + now.delay)) t.waiting
@@ -308,7 +313,7 @@ frames_after now all a p t released counted by kept were h =
     (λ k j gave lt. awaits_new now all a.done p.event released counted by k j gave kept were) h
 
 -- there are no fewer frames then
-no_fewer_after : (now : Rules) (all : List Config) (a : AirModel) (p : Put) (t : Timetable)
+no_fewer_after : (now : Rules) (all : List Config) (a : AirModel) (p : Planned) (t : Timetable)
     → length (world_run (opening all) a.done).air
     ≤ length (world_run (opening all) (take_one now all a (Does p) t).done).air
 no_fewer_after now all a p t = by (is_passed_over a.present p)
@@ -446,18 +451,18 @@ own_taken w old new A B released does = λ rules configs made past from end coun
       timed = does h.now h.all (without_first h.air h.rest) h.timed;
       reached =
           let near = h.recent in
-          reached_own h.now h.all h.steps past from (w.moment + 1) end end h.air (put_of w)
+          reached_own h.now h.all h.steps past from (w.moment + 1) end end h.air (planned_of w)
           h.rest h.reached h.first near (omega arith) (omega arith) h.within;
       recent = omega arith;
       near = omega arith;
-      since = since_after h.now h.all h.air (put_of w) t order.0;
+      since = since_after h.now h.all h.air (planned_of w) t order.0;
       frames =
-          frames_after h.now h.all h.air (put_of w) t new.world.released counted by
+          frames_after h.now h.all h.air (planned_of w) t new.world.released counted by
           (omega (arith, released, kept)) h.few
           (subst (λ n. AllByRecursion (Awaits n counted by (w.moment + h.now.delay)) h.rest)
           (sym released) h.frames.1);
       few =
-          let more = no_fewer_after h.now h.all h.air (put_of w) t in
+          let more = no_fewer_after h.now h.all h.air (planned_of w) t in
           let were = h.few in omega (arith, more, were);
     }
 
@@ -515,15 +520,16 @@ pub is_taken : (rules : Rules) (configs made : List Config) (past : List Filed)
     → new.every ≡ old.every → new.world ≡ old.world → new.present ≡ old.present
     → new.draws ≡ old.draws → new.queue.due ≡ old.queue.due → new.queue.taken ≡ old.queue.taken
     → new.queue.until ≡ old.queue.until → new.queue.pushed ≡ old.queue.pushed
-    → IsPermutation (heap_items old.queue.own) (w ∷ heap_items new.queue.own)
-    → IsUpperBound waiting_cmp w (heap_items new.queue.own) → w.moment ≤ end
+    → IsPermutation old.queue.own (w ∷ new.queue.own)
+    → IsUpperBound waiting_cmp w new.queue.own → w.moment ≤ end
     → IsMoving rules configs made past last from end counted by old A
     → IsTaken rules configs made past from end counted by w new A
 is_taken rules configs made past last from end counted by old new A w air every world present
     draws due
     taken
-    until put moves first within h =
-    let got = takes_alone h.all old.queue new.queue old.draws h.air.timetable w due taken until put
+    until schedule moves first within h =
+    let got = takes_alone h.all old.queue new.queue old.draws h.air.timetable w due taken until
+    schedule
     moves first h.reached.own h.timed.keeps in
     let since : AllByRecursion (λ p. last ≤ at p) (pending_of w ∷ got.0) =
     subst (AllByRecursion (λ p. last ≤ at p)) got.1 h.since in
@@ -639,14 +645,14 @@ pub is_next : (rules : Rules) (configs made : List Config) (past : List Filed)
     → new.every ≡ old.every → new.world ≡ old.world → new.present ≡ old.present
     → new.draws ≡ old.draws → new.queue.due ≡ old.queue.due → new.queue.taken ≡ old.queue.taken
     → new.queue.until ≡ old.queue.until → new.queue.pushed ≡ old.queue.pushed
-    → heap_items new.queue.own ≡ heap_items old.queue.own
-    → All (λ w. moment ≤ w.moment) (heap_items old.queue.own) → from ≤ moment
+    → new.queue.own ≡ old.queue.own
+    → All (λ w. moment ≤ w.moment) old.queue.own → from ≤ moment
     → IsMoving rules configs made past last from end counted by old A
     → IsMoving rules configs made past moment moment end counted by new A
 is_next rules configs made past last from end counted by moment old new A air every world present
     draws
     due
-    taken until put heap late le h =
+    taken until schedule heap late le h =
     let recent = h.recent in
     record {
       all = h.all;
@@ -662,7 +668,8 @@ is_next rules configs made past last from end counted by moment old new A air ev
             told = subst (λ (x : WorldState). IsSimulated h.all h.air.done x A) (sym world)
                 h.timed.told;
             keeps = subst (λ (ws : List ℕ). Keeps new.queue ws h.air.timetable) (sym draws)
-                (keeps_alone old.queue new.queue old.draws h.air.timetable due taken until put heap
+                (keeps_alone old.queue new.queue old.draws h.air.timetable due taken until schedule
+                heap
                 h.timed.keeps);
           };
       reached = reached_later h.now h.all h.steps past from moment end end h.air h.reached le
@@ -825,40 +832,41 @@ one_made rules configs made past last from end counted by old new A c air every 
 
 ticks_await : (present : List Bool) (n : ℕ) (t : Timetable)
     → AllByRecursion (Awaits 0 0 0 0) t.waiting
-    → AllByRecursion (Awaits 0 0 0 0) (put_first_ticks present n t).waiting
+    → AllByRecursion (Awaits 0 0 0 0) (schedule_first_ticks present n t).waiting
 ticks_await present zero t h = h
 ticks_await present (suc n) t h = by (is_present present n) (ticks_await present n t h)
   where
     u : Timetable
-    u = put_first_ticks present n t
+    u = schedule_first_ticks present n t
 
     by : (b : Bool) → AllByRecursion (Awaits 0 0 0 0) u.waiting
-        → AllByRecursion (Awaits 0 0 0 0) (cond b (put_tick n 0 0 u) u).waiting
+        → AllByRecursion (Awaits 0 0 0 0) (cond b (schedule_tick n 0 0 u) u).waiting
     by true on =
         all_put (Awaits 0 0 0 0) (Does (tick n 0 0 (draw u % 751))) u.waiting tt on
     by false on = on
 
 sends_await : (present : List Bool) (x : Traffic) (n : ℕ) (t : Timetable)
     → AllByRecursion (Awaits 0 0 0 0) t.waiting
-    → AllByRecursion (Awaits 0 0 0 0) (put_first_sends present x n t).waiting
+    → AllByRecursion (Awaits 0 0 0 0) (schedule_first_sends present x n t).waiting
 sends_await present x zero t h = h
 sends_await present x (suc n) t h = by (is_present present n) (sends_await present x n t h)
   where
     u : Timetable
-    u = put_first_sends present x n t
+    u = schedule_first_sends present x n t
 
     by : (b : Bool) → AllByRecursion (Awaits 0 0 0 0) u.waiting
-        → AllByRecursion (Awaits 0 0 0 0) (cond b (put_send x n 0 u) u).waiting
+        → AllByRecursion (Awaits 0 0 0 0) (cond b (schedule_send x n 0 u) u).waiting
     by true on =
         all_put (Awaits 0 0 0 0) (Does (sending x n (0 + draw u % x.period))) u.waiting tt on
     by false on = on
 
 traffic_awaits : (present : List Bool) (every : List Traffic) (n : ℕ) (t : Timetable)
     → AllByRecursion (Awaits 0 0 0 0) t.waiting
-    → AllByRecursion (Awaits 0 0 0 0) (put_traffic present every n t).waiting
+    → AllByRecursion (Awaits 0 0 0 0) (schedule_traffic present every n t).waiting
 traffic_awaits present [] n t h = h
 traffic_awaits present (x ∷ every) n t h =
-    traffic_awaits present every n (put_first_sends present x n t) (sends_await present x n t h)
+    traffic_awaits present every n (schedule_first_sends present x n t)
+    (sends_await present x n t h)
 
 -- nothing waits for a delivery yet
 opening_awaits : (r : Rules) (configs : List Config)
@@ -938,7 +946,7 @@ pub ended : (rules : Rules) (configs made : List Config) (past : List Filed)
     (last from end counted by : ℕ) (run : Run)
     (A : List Event → List Entry → Type 0) (moves : Moves) (asked : List AddressedEvent)
     (given : Option ℕ) → IfSome given (λ moment. end ≡ moment)
-    → All (λ w. end + 1 ≤ w.moment) (heap_items run.queue.own)
+    → All (λ w. end + 1 ≤ w.moment) run.queue.own
     → IsMoving rules configs made past last from end counted by run A
     → IsOutside (length configs) (length made) moves asked end past
     → IsMovedRun rules configs moves asked given run.world A

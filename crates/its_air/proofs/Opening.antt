@@ -1,14 +1,16 @@
 -- The events of a file, put one after the other, stand as those that are due.
 use Rattle.std.proofs.Common.{◌≡◌, ℕ, suc, ◌<◌, ◌≤◌, List, [], ◌∷◌, ◌++◌, map, refl, sym, ap}
-use Rattle.std.proofs.Common.{◌∙◌, arith, Bool, true, false, cond, subst, ◌⊎◌, inl, inr, append_assoc}
+use Rattle.std.proofs.Common.{◌∙◌, arith, Bool, true, false, cond, subst, ◌⊎◌, inl, inr}
+use Rattle.std.proofs.Common.{append_assoc}
 use Rattle.std.specs.Prelude.{◌==◌, nat_le}
 use Rattle.std.specs.List.{AllByRecursion}
 use Rattle.std.specs.List.Sorted.{IsNonDecreasingBy}
 use Rattle.std.proofs.lemmas.Bool.{eqb-true, eq-eqb, ne_eqb, le-leb, lt-leb, cases_order, cases_lt}
 use Rattle.std.proofs.lemmas.List.{append-nil}
 use Rattle.std.proofs.lemmas.List.Elements.{recursion_from_All}
-use Rattle.its_air.specs.AirRun.{of_moment, moment_in, AreDue}
-use Rattle.its_air.specs.Timetable.{Pending, Filed, of_file, put, put_all}
+use Rattle.its_air.specs.AirRun.{of_moment, AreDue}
+use Rattle.its_air_model.specs.Timetable.{moment_in}
+use Rattle.its_air_model.specs.Timetable.{Pending, Filed, of_file, schedule, schedule_all}
 use Rattle.its_air.specs.Waits.{Waits}
 
 -- each is no later than those behind it
@@ -38,26 +40,28 @@ abbrev enter_all : List Filed → List Filed → List Filed
 enter_all [] xs = xs
 enter_all (e ∷ more) xs = enter_all more (enter e xs)
 
-put_enter : (e : Filed) (xs : List Filed)
-    → put (of_file e) (map of_file xs) ≡ map of_file (enter e xs)
-put_enter e [] = refl
-put_enter e (x ∷ xs) = by (nat_le (moment_in x) (moment_in e)) (put_enter e xs)
+schedule_enter : (e : Filed) (xs : List Filed)
+    → schedule (of_file e) (map of_file xs) ≡ map of_file (enter e xs)
+schedule_enter e [] = refl
+schedule_enter e (x ∷ xs) = by (nat_le (moment_in x) (moment_in e)) (schedule_enter e xs)
   where
-    by : (b : Bool) → put (of_file e) (map of_file xs) ≡ map of_file (enter e xs)
-        → cond b (of_file x ∷ put (of_file e) (map of_file xs)) (of_file e ∷ of_file x ∷ map of_file xs)
+    by : (b : Bool) → schedule (of_file e) (map of_file xs) ≡ map of_file (enter e xs)
+        → cond b (of_file x ∷ schedule (of_file e) (map of_file xs))
+        (of_file e ∷ of_file x ∷ map of_file xs)
         ≡ map of_file (cond b (x ∷ enter e xs) (e ∷ x ∷ xs))
     by true more = ap (λ (l : List Pending). of_file x ∷ l) more
     by false more = refl
 
-put_all_enter : (es xs : List Filed)
-    → put_all (map of_file es) (map of_file xs) ≡ map of_file (enter_all es xs)
-put_all_enter [] xs = refl
-put_all_enter (e ∷ es) xs =
-    ap (put_all (map of_file es)) (put_enter e xs) ∙ put_all_enter es (enter e xs)
+schedule_all_enter : (es xs : List Filed)
+    → schedule_all (map of_file es) (map of_file xs) ≡ map of_file (enter_all es xs)
+schedule_all_enter [] xs = refl
+schedule_all_enter (e ∷ es) xs =
+    ap (schedule_all (map of_file es)) (schedule_enter e xs) ∙ schedule_all_enter es (enter e xs)
 
 -- all are no earlier, with one more that isn't
 enter_above : (m : ℕ) (e : Filed) (xs : List Filed) → m ≤ (moment_in e)
-    → AllByRecursion (λ y. m ≤ (moment_in y)) xs → AllByRecursion (λ y. m ≤ (moment_in y)) (enter e xs)
+    → AllByRecursion (λ y. m ≤ (moment_in y)) xs → AllByRecursion (λ y. m ≤ (moment_in y))
+    (enter e xs)
 enter_above m e [] le h = (le, tt)
 enter_above m e (x ∷ xs) le h = by (nat_le (moment_in x) (moment_in e)) (enter_above m e xs le h.1)
   where
@@ -87,7 +91,8 @@ enter_rises e (x ∷ xs) h = by (cases_lt (moment_in e) (moment_in x)) (enter_ri
         (sym (le-leb (moment_in x) (moment_in e) le)) (enter_above (moment_in x) e xs le h.0, more)
 
 -- of one moment there are none where all are later
-none_of : (m : ℕ) (xs : List Filed) → AllByRecursion (λ y. m < (moment_in y)) xs → of_moment m xs ≡ []
+none_of : (m : ℕ) (xs : List Filed) → AllByRecursion (λ y. m < (moment_in y)) xs → of_moment m xs
+    ≡ []
 none_of m [] h = refl
 none_of m (x ∷ xs) h =
     let gt : m < (moment_in x) = h.0 in
@@ -96,7 +101,8 @@ none_of m (x ∷ xs) h =
     ∙ none_of m xs h.1
 
 -- one of a moment
-here_of : (x : Filed) (xs : List Filed) → of_moment (moment_in x) (x ∷ xs) ≡ x ∷ of_moment (moment_in x) xs
+here_of : (x : Filed) (xs : List Filed) → of_moment (moment_in x) (x ∷ xs)
+    ≡ x ∷ of_moment (moment_in x) xs
 here_of x xs =
     ap (λ (b : Bool). cond b (x ∷ of_moment (moment_in x) xs) (of_moment (moment_in x) xs))
     (eq-eqb (moment_in x) (moment_in x) refl)
@@ -119,7 +125,8 @@ enter_of m e (x ∷ xs) h = by (cases_lt (moment_in e) (moment_in x)) (enter_of 
         let none : of_moment m (x ∷ xs) ≡ [] =
         none_of m (x ∷ xs) (
           omega (arith, lt, same),
-          weaker (λ y. moment_in x ≤ moment_in y) (λ y. m < (moment_in y)) (λ y le. omega (arith, lt, same, le))
+          weaker (λ y. moment_in x ≤ moment_in y) (λ y. m < (moment_in y))
+          (λ y le. omega (arith, lt, same, le))
               xs h.0,
         ) in
         ap (λ (b : Bool). cond b (e ∷ of_moment m (x ∷ xs)) (of_moment m (x ∷ xs))) is
@@ -157,7 +164,8 @@ enter_all_of m (e ∷ es) xs h =
     ∙ joined ((moment_in e) == m) (of_moment m xs)
   where
     joined : (b : Bool) (us : List Filed)
-        → (us ++ cond b (e ∷ []) []) ++ of_moment m es ≡ us ++ cond b (e ∷ of_moment m es) (of_moment m es)
+        → (us ++ cond b (e ∷ []) []) ++ of_moment m es ≡ us ++ cond b (e ∷ of_moment m es)
+        (of_moment m es)
     joined true us = append_assoc us (e ∷ []) (of_moment m es)
     joined false us = append_assoc us [] (of_moment m es)
 
@@ -184,7 +192,8 @@ front until [] (x ∷ xs) up in' rises same = by (cases_lt until (moment_in x))
         let none : [] ≡ x ∷ of_moment (moment_in x) xs = same (moment_in x) le ∙ here_of x xs in
         let no : ⊥ = cc in absurd no
 front until (d ∷ due) [] up in' rises same =
-    let none : [] ≡ d ∷ of_moment (moment_in d) due = sym (same (moment_in d) in'.0) ∙ here_of d due in
+    let none : [] ≡ d ∷ of_moment (moment_in d) due = sym (same (moment_in d) in'.0)
+    ∙ here_of d due in
     let no : ⊥ = cc in absurd no
 front until (d ∷ due) (x ∷ xs) up in' rises same =
     by (cases_order (moment_in d) (moment_in x))
@@ -193,9 +202,11 @@ front until (d ∷ due) (x ∷ xs) up in' rises same =
     farther : (m n : ℕ) → m < n → (ys : List Filed) → AllByRecursion (λ y. n ≤ (moment_in y)) ys
         → AllByRecursion (λ y. m < (moment_in y)) ys
     farther m n lt ys h =
-        weaker (λ y. n ≤ (moment_in y)) (λ y. m < (moment_in y)) (λ y le. omega (arith, lt, le)) ys h
+        weaker (λ y. n ≤ (moment_in y)) (λ y. m < (moment_in y)) (λ y le. omega (arith, lt, le)) ys
+        h
 
-    heads : moment_in d ≡ moment_in x → d ∷ of_moment (moment_in d) due ≡ x ∷ of_moment (moment_in d) xs
+    heads : moment_in d ≡ moment_in x → d ∷ of_moment (moment_in d) due
+        ≡ x ∷ of_moment (moment_in d) xs
     heads is =
         sym (here_of d due) ∙ same (moment_in d) in'.0
         ∙ ap (λ (b : Bool). cond b (x ∷ of_moment (moment_in d) xs) (of_moment (moment_in d) xs))
@@ -204,7 +215,8 @@ front until (d ∷ due) (x ∷ xs) up in' rises same =
     tails : d ≡ x → (m : ℕ) → m ≤ until → of_moment m due ≡ of_moment m xs
     tails is m le =
         shorter ((moment_in x) == m) (of_moment m due) (of_moment m xs)
-        (ap (λ (e : Filed). cond ((moment_in e) == m) (e ∷ of_moment m due) (of_moment m due)) (sym is)
+        (ap (λ (e : Filed). cond ((moment_in e) == m) (e ∷ of_moment m due) (of_moment m due))
+        (sym is)
         ∙ same m le)
       where
         shorter : (b : Bool) (us vs : List Filed) → cond b (x ∷ us) us ≡ cond b (x ∷ vs) vs
@@ -240,7 +252,7 @@ front until (d ∷ due) (x ∷ xs) up in' rises same =
 
 -- nothing was taken yet, and nothing of the air's own put
 pub waits_opening : (file due : List Filed) (until : ℕ) → AreDue file until due
-    → Waits due [] 0 until (put_all (map of_file file) [])
+    → Waits due [] 0 until (schedule_all (map of_file file) [])
 waits_opening file due until h =
     let all = enter_all file [] in
     let parts = front until due all (rises_sorted due h.by_moment)
@@ -253,5 +265,5 @@ waits_opening file due until h =
       same = λ f. refl;
       rise = tt;
       below = tt;
-      is = put_all_enter file [] ∙ ap (map of_file) parts.2;
+      is = schedule_all_enter file [] ∙ ap (map of_file) parts.2;
     }

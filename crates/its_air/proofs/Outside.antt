@@ -31,8 +31,8 @@ use Rattle.its_scenario.specs.Events.{station_in}
 use Rattle.its_scenario.specs.declared.event.FileEvent.{FileEvent}
 use Rattle.std.specs.Prelude.{String}
 use Rattle.its_air.specs.Outside.Came.{Makes, Moved, Left, Asked}
-use Rattle.its_air.specs.Timetable.{Filed, Rules}
-use Rattle.its_air.specs.Timetable.Filed.{Happens, Leaves}
+use Rattle.its_air_model.specs.Timetable.{Filed, Rules}
+use Rattle.its_air_model.specs.Timetable.Filed.{Happens, Leaves}
 use Rattle.its_air.specs.UnderRows.{CameUnder, ComesFrom, ComesInTurn, DoesEvent, DoesLeave}
 use Rattle.its_air.specs.UnderRows.{DoesRow}
 use Rattle.its_air.specs.UnderRows.{IsComing, IsNext, IsUnder, IsUnderSome, asked_in, class_in}
@@ -619,7 +619,8 @@ row_done rules configs made past came begin clock row old one new A B count move
           ∷ map (opening_at (stations_in one) row.moment) x.now.ports.items)
           (3 * row.moment) new) (sym same_moves)
           (first_came (length configs) (length made) came past row (stations_in one) old new moves
-          events taken (omega (arith, count, same_count)) (turn_of_row row.moment new on.comings) h)),
+          events taken (omega (arith, count, same_count)) (turn_of_row row.moment new on.comings)
+          h)),
     )
 
 -- a station left, or stays

@@ -7,8 +7,9 @@ use Rattle.std.proofs.lemmas.Bool.{and_right, cases_order}
 use Rattle.std.proofs.lemmas.List.Sums.{sum_by-cons}
 use Rattle.its_gnvalue.specs.Values.{Position}
 use Rattle.its_air.specs.declared.place_index.Standing.{Standing}
-use Rattle.its_air.specs.Reach.{is_within}
-use Rattle.its_air.specs.PlaceIndexes.{northing, easting, row_of, row_key, is_between, is_off, Covers}
+use Rattle.its_air_model.specs.Range.{is_within}
+use Rattle.its_air.specs.PlaceIndexes.{northing, easting, row_of, row_key, is_between, is_off}
+use Rattle.its_air.specs.PlaceIndexes.{Covers}
 use Rattle.its_air.specs.PlaceIndexes.{hears_from, count_at}
 use Rattle.its_air.proofs.Bands.{in_rows}
 

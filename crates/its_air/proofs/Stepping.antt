@@ -1,9 +1,10 @@
 -- One step of an air, as a queue takes it.
-use Rattle.std.proofs.Common.{◌≡◌, ℕ, zero, suc, ◌+◌, ◌<◌, ◌≤◌, List, [], ◌∷◌, ◌++◌, refl, sym, ap, ◌∙◌}
+use Rattle.std.proofs.Common.{◌≡◌, ℕ, zero, suc, ◌+◌, ◌<◌, ◌≤◌, List, [], ◌∷◌, ◌++◌, refl, sym, ap}
+use Rattle.std.proofs.Common.{◌∙◌}
 use Rattle.std.proofs.Common.{subst, drop, cond, Bool, true, false, Some, arith, length, map}
 use Rattle.std.specs.Prelude.{slice_get, Vec, All}
 use Rattle.std.specs.declared.alloc.Global.{Global}
-use Rattle.std.specs.BinaryHeap.{heap_items, IsUpperBound}
+use Rattle.std.specs.BinaryHeap.{IsUpperBound}
 use Rattle.std.specs.List.Sorted.{IsPermutation}
 use denote.Ref.{Bor}
 use Rattle.std.proofs.lemmas.Bool.{le-leb}
@@ -16,21 +17,24 @@ use Rattle.its_air.specs.declared.waiting.Scheduled.{Scheduled}
 use Rattle.its_air.specs.declared.waiting.Queue.{Queue}
 use Rattle.its_air.specs.declared.run.Run.{Run}
 use Rattle.its_air.specs.AirRun.{AreDue}
-use Rattle.its_air.specs.Draws.{draws_at, draws_of}
+use Rattle.its_air_model.specs.Draws.{draws_at, draws_of}
 use Rattle.its_air.specs.Files.{filed_due}
 use Rattle.its_air.specs.Keeps.{Keeps, IsTimed, GoesBy, follow_own}
 use Rattle.its_air.specs.Queues.{filed_in, filed_of, waiting_cmp, happening_of}
-use Rattle.its_air.specs.Timetable.{Rules, Timetable, AirModel, NoneWaits, of_file, put_all}
-use Rattle.its_air.specs.Timetable.{air_step, do_first, do_one, take_one, follow_tick, after_one}
-use Rattle.its_air.specs.Timetable.{send_again, was_refused, by_file, present_after, is_passed_over}
-use Rattle.its_air.specs.Timetable.Filed.{Happens}
-use Rattle.its_air.specs.Timetable.Pending.{Does, Departs}
+use Rattle.its_air_model.specs.Timetable.{Rules, Timetable, AirModel, NoneWaits, of_file}
+use Rattle.its_air_model.specs.Timetable.{schedule_all}
+use Rattle.its_air_model.specs.Timetable.{air_step, do_first, do_one, take_one, follow_tick}
+use Rattle.its_air_model.specs.Timetable.{after_one}
+use Rattle.its_air_model.specs.Timetable.{send_again, was_refused, by_file, present_after}
+use Rattle.its_air_model.specs.Timetable.{is_passed_over}
+use Rattle.its_air_model.specs.Timetable.Filed.{Happens}
+use Rattle.its_air_model.specs.Timetable.Pending.{Does, Departs}
 use Rattle.its_air.specs.Traffics.{traffic_in}
-use Rattle.its_air.specs.Waits.{Waits, put_of, pending_of}
+use Rattle.its_air.specs.Waits.{Waits, planned_of, pending_of}
 use Rattle.its_air.proofs.Files.{same_moment}
 use Rattle.its_air.proofs.Keeping.{waits_at}
 use Rattle.its_air.proofs.Opening.{waits_opening}
-use Rattle.its_air.specs.Timetable.{at, Pending, Filed}
+use Rattle.its_air_model.specs.Timetable.{at, Pending, Filed}
 use Rattle.its_air.proofs.Waits.{waits_file, waits_own, waits_none, FileIsLater}
 
 -- the next event of the file
@@ -60,16 +64,17 @@ file_is_later (x ∷ due) (suc n) m h = file_is_later due n m h
 pub takes_file : (old new : Queue) (words : List ℕ) (t : Timetable) (e : Bor Told)
     → slice_get old.due.items old.taken ≡ Some e → new.due ≡ old.due
     → new.taken ≡ old.taken + 1 → new.until ≡ old.until → new.pushed ≡ old.pushed
-    → heap_items new.own ≡ heap_items old.own
-    → All (λ w. told_moment e.now ≤ w.moment) (heap_items new.own) → Keeps old words t
+    → new.own ≡ old.own
+    → All (λ w. told_moment e.now ≤ w.moment) new.own → Keeps old words t
     → (rest : List Pending) × (t.waiting ≡ of_file (filed_of e.now) ∷ rest)
     × Keeps new words (record { waiting = rest; draws = t.draws })
-takes_file old new words t e is due taken until put heap first h =
+takes_file old new words t e is due taken until schedule heap first h =
     let left = drop (suc old.taken) (filed_in old.due.items) in
-    let got = waits_file (filed_of e.now) left (heap_items old.own) old.pushed old.until t.waiting
-    (subst (λ k. All (λ (w : Scheduled). k ≤ w.moment) (heap_items old.own))
-    (sym (same_moment e.now)) (subst (All (λ (w : Scheduled). told_moment e.now ≤ w.moment)) heap first))
-    (subst (λ (l : List Filed). Waits l (heap_items old.own) old.pushed old.until t.waiting)
+    let got = waits_file (filed_of e.now) left old.own old.pushed old.until t.waiting
+    (subst (λ k. All (λ (w : Scheduled). k ≤ w.moment) old.own)
+    (sym (same_moment e.now)) (subst (All (λ (w : Scheduled). told_moment e.now ≤ w.moment)) heap
+    first))
+    (subst (λ (l : List Filed). Waits l old.own old.pushed old.until t.waiting)
     (drop_next old.due.items old.taken e is) h.waits) in
     let next : new.taken ≡ suc old.taken = omega (arith, taken) in
     let same : drop new.taken (filed_due new) ≡ left =
@@ -80,22 +85,22 @@ takes_file old new words t e is due taken until put heap first h =
       record {
         waits = subst (λ (hs : List Scheduled). Waits (drop new.taken (filed_due new)) hs new.pushed
             new.until got.0) (sym heap)
-            (waits_at left _ (heap_items old.own) old.pushed _ old.until _ got.0 same put until got.2);
+            (waits_at left _ old.own old.pushed _ old.until _ got.0 same schedule until got.2);
         draws = h.draws;
       },
     )
 
 pub takes_own : (old new : Queue) (words : List ℕ) (t : Timetable) (w : Scheduled)
     → new.due ≡ old.due → new.taken ≡ old.taken → new.until ≡ old.until → new.pushed ≡ old.pushed
-    → IsPermutation (heap_items old.own) (w ∷ heap_items new.own)
-    → IsUpperBound waiting_cmp w (heap_items new.own) → w.moment ≤ old.until
+    → IsPermutation old.own (w ∷ new.own)
+    → IsUpperBound waiting_cmp w new.own → w.moment ≤ old.until
     → ((e : Bor Told) → slice_get old.due.items old.taken ≡ Some e → w.moment < told_moment e.now)
     → Keeps old words t
     → (rest : List Pending) × (t.waiting ≡ pending_of w ∷ rest)
     × Keeps new words (record { waiting = rest; draws = t.draws })
-takes_own old new words t w due taken until put moves first le later h =
+takes_own old new words t w due taken until schedule moves first le later h =
     let left = drop old.taken (filed_in old.due.items) in
-    let got = waits_own w left (heap_items old.own) (heap_items new.own) old.pushed old.until t.waiting
+    let got = waits_own w left old.own new.own old.pushed old.until t.waiting
     moves first le (file_is_later old.due.items old.taken w.moment later) h.waits in
     let same : drop new.taken (filed_due new) ≡ left =
     ap (λ k. drop k (filed_due new)) taken
@@ -103,28 +108,28 @@ takes_own old new words t w due taken until put moves first le later h =
       got.0,
       got.1,
       record {
-        waits = waits_at left _ (heap_items new.own) old.pushed _ old.until _ got.0 same put until got.2;
+        waits = waits_at left _ new.own old.pushed _ old.until _ got.0 same schedule until got.2;
         draws = h.draws;
       },
     )
 
 pub takes_none : (old new : Queue) (words : List ℕ) (t : Timetable)
     → length old.due.items ≤ old.taken → new.due ≡ old.due → new.taken ≡ old.taken
-    → new.until ≡ old.until → new.pushed ≡ old.pushed → heap_items new.own ≡ heap_items old.own
-    → All (λ w. old.until < w.moment) (heap_items old.own) → Keeps old words t
+    → new.until ≡ old.until → new.pushed ≡ old.pushed → new.own ≡ old.own
+    → All (λ w. old.until < w.moment) old.own → Keeps old words t
     → NoneWaits old.until t.waiting × Keeps new words t
-takes_none old new words t all due taken until put heap late h =
+takes_none old new words t all due taken until schedule heap late h =
     let left = drop old.taken (filed_in old.due.items) in
     let same : drop new.taken (filed_due new) ≡ left =
     ap (λ k. drop k (filed_due new)) taken
     ∙ ap (λ (d : Vec (Bor Told) Global). drop old.taken (filed_in d.items)) due in (
-      waits_none (heap_items old.own) old.pushed old.until t.waiting late
-          (subst (λ (l : List Filed). Waits l (heap_items old.own) old.pushed old.until t.waiting)
+      waits_none old.own old.pushed old.until t.waiting late
+          (subst (λ (l : List Filed). Waits l old.own old.pushed old.until t.waiting)
           (drop_past old.due.items old.taken all) h.waits),
       record {
         waits = subst (λ (hs : List Scheduled). Waits (drop new.taken (filed_due new)) hs new.pushed
             new.until t.waiting) (sym heap)
-            (waits_at left _ (heap_items old.own) old.pushed _ old.until _ t.waiting same put until
+            (waits_at left _ old.own old.pushed _ old.until _ t.waiting same schedule until
             h.waits);
         draws = h.draws;
       },
@@ -173,22 +178,24 @@ timed_one rules configs a p rest new After is le timed =
 pub follows : (w : Scheduled) (after : WorldModel) (t : Timetable) (b : Bool)
     → was_refused after.log ≡ b
     → follow_own w b (slice_get after.stations w.station) t
-    ≡ send_again (happening_of w) (traffic_in w.own) (follow_tick (put_of w) after t)
+    ≡ send_again (happening_of w) (traffic_in w.own) (follow_tick (planned_of w) after t)
 follows w after t b refused =
     sym (ap (λ (x : Bool). follow_own w x (slice_get after.stations w.station) t) refused)
 
 -- nothing was taken yet
 pub keeps_opening : (queue : Queue) (words : List ℕ) (file : List Filed) (until seed : ℕ)
-    → AreDue file until (filed_due queue) → queue.taken ≡ 0 → heap_items queue.own ≡ []
+    → AreDue file until (filed_due queue) → queue.taken ≡ 0 → queue.own ≡ []
     → queue.pushed ≡ 0 → queue.until ≡ until → draws_at words ≡ draws_of seed
-    → Keeps queue words (record { waiting = put_all (map of_file file) []; draws = draws_of seed })
-keeps_opening queue words file until seed due taken heap put last drawn =
+    → Keeps queue words (record { waiting = schedule_all (map of_file file) []; draws = draws_of
+    seed })
+keeps_opening queue words file until seed due taken heap schedule last drawn =
     let all : drop queue.taken (filed_due queue) ≡ filed_due queue =
     ap (λ k. drop k (filed_due queue)) taken in
     record {
       waits = subst (λ (hs : List Scheduled). Waits (drop queue.taken (filed_due queue)) hs
-          queue.pushed queue.until (put_all (map of_file file) [])) (sym heap)
-          (waits_at (filed_due queue) _ [] 0 _ until _ (put_all (map of_file file) []) all put
+          queue.pushed queue.until (schedule_all (map of_file file) [])) (sym heap)
+          (waits_at (filed_due queue) _ [] 0 _ until _ (schedule_all (map of_file file) []) all
+          schedule
           last (waits_opening file (filed_due queue) until due));
       draws = sym drawn;
     }
@@ -209,10 +216,10 @@ filed_event rules configs a e new After goes told keeps present =
 
 -- one of the air's own was done
 pub own_done : (rules : Rules) (configs : List Config) (a : AirModel) (w : Scheduled) (new : Run)
-    (After : List Event → List Entry → Type 0) → is_passed_over a.present (put_of w) ≡ false
+    (After : List Event → List Entry → Type 0) → is_passed_over a.present (planned_of w) ≡ false
     → GoesBy rules new → IsSimulated configs (a.done ++ happening_of w ∷ []) new.world After
     → Keeps new.queue new.draws
-    (after_one rules a.present (put_of w)
+    (after_one rules a.present (planned_of w)
     (world_run (opening configs) (a.done ++ happening_of w ∷ [])) a.timetable)
     → new.present.items
     ≡ present_after a.present (happening_of w)
@@ -221,16 +228,16 @@ pub own_done : (rules : Rules) (configs : List Config) (a : AirModel) (w : Sched
 own_done rules configs a w new After run goes told keeps present =
     subst (λ (b : Bool). IsTimed rules configs (cond b
     (record { done = a.done; timetable = a.timetable; present = a.present })
-    (do_one rules configs a (put_of w) a.timetable)) new After) (sym run)
+    (do_one rules configs a (planned_of w) a.timetable)) new After) (sym run)
     (record { goes_by = goes; told = told; keeps = keeps; present = present })
 
 -- one of the air's own was passed over
 pub own_passed_over : (rules : Rules) (configs : List Config) (a : AirModel) (w : Scheduled)
     (run : Run) (Took : List Event → List Entry → Type 0)
-    → is_passed_over a.present (put_of w) ≡ true → IsTimed rules configs a run Took
+    → is_passed_over a.present (planned_of w) ≡ true → IsTimed rules configs a run Took
     → IsTimed rules configs (take_one rules configs a (pending_of w) a.timetable) run Took
 own_passed_over rules configs a w run Took over h =
     subst (λ (b : Bool). IsTimed rules configs (cond b
     (record { done = a.done; timetable = a.timetable; present = a.present })
-    (do_one rules configs a (put_of w) a.timetable)) run Took) (sym over)
+    (do_one rules configs a (planned_of w) a.timetable)) run Took) (sym over)
     (record { goes_by = h.goes_by; told = h.told; keeps = h.keeps; present = h.present })

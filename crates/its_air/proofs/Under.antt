@@ -14,8 +14,8 @@ use Rattle.its_simulation.specs.Simulated.{IsSimulated}
 use Rattle.its_air.specs.AirRun.{AreAmong, AreDue, IsAirRun, events_in}
 use Rattle.its_air.specs.Files.{filed_due}
 use Rattle.its_air.specs.Queues.{filed_in, filed_of}
-use Rattle.its_air.specs.Timetable.{Filed}
-use Rattle.its_air.specs.Timetable.Filed.{Happens, Leaves}
+use Rattle.its_air_model.specs.Timetable.{Filed}
+use Rattle.its_air_model.specs.Timetable.Filed.{Happens, Leaves}
 use Rattle.its_air.specs.Runs.{IsUnderWay, SaysAsBefore}
 use Rattle.its_air.specs.declared.run.Run.{Run}
 use Rattle.its_air.proofs.Among.{among_both, among_longer}
@@ -105,7 +105,8 @@ under_own configs events more run new Before After done due taken under =
     }
 
 -- all of the file was taken
-pub ended : (configs : List Config) (file : List Filed) (events : List Event) (until : ℕ) (run : Run)
+pub ended : (configs : List Config) (file : List Filed) (events : List Event) (until : ℕ)
+    (run : Run)
     (Took : List Event → List Entry → Type 0)
     → AreDue file until (filed_due run.queue)
     → length run.queue.due.items ≤ run.queue.taken

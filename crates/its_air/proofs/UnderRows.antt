@@ -18,9 +18,9 @@ use Rattle.its_scenario.specs.Airs.{moment_of}
 use Rattle.its_scenario.specs.declared.event.AddressedEvent.{AddressedEvent}
 use Rattle.its_world.specs.declared.entry.Entry.{Entry}
 use Rattle.its_air.specs.Moving.{DoesAt, IsMoving}
-use Rattle.its_air.specs.Timetable.{Rules}
-use Rattle.its_air.specs.Timetable.{Filed}
-use Rattle.its_air.specs.Timetable.Filed.{Happens}
+use Rattle.its_air_model.specs.Timetable.{Rules}
+use Rattle.its_air_model.specs.Timetable.{Filed}
+use Rattle.its_air_model.specs.Timetable.Filed.{Happens}
 use Rattle.its_air.specs.Outside.{MayAsk, opening_at, row_move}
 use Rattle.its_air.specs.UnderRows.{ComesFrom, DoesEvent, DoesRow, IsComing, IsNext, IsUnder}
 use Rattle.its_air.specs.UnderRows.{MakesUnder}
@@ -293,7 +293,8 @@ event_passed event e old new A B one is run row departures events taken end coun
       may,
       none_comes m old new A B (λ rules configs made past begin clock h.
           says_under rules configs made past m m begin clock new A B says
-          (event_taken rules configs made past begin clock event old new A is run row departures events
+          (event_taken rules configs made past begin clock event old new A is run row departures
+          events
           taken end counted by h)),
     )
 

@@ -5,7 +5,8 @@ use Rattle.std.specs.Prelude.{sum_by, count_by, ◌==◌, All, nat_le, nat_lt}
 use Rattle.std.specs.List.{AllByRecursion}
 use Rattle.std.specs.List.Sorted.{IsPermutation}
 use Rattle.std.specs.BinaryHeap.{IsUpperBound, lt_by_cmp}
-use Rattle.std.proofs.lemmas.Bool.{eqb-true, eq-eqb, and_parts, and_from, le-leb, leb-true, lt-ltb, ltb-true}
+use Rattle.std.proofs.lemmas.Bool.{eqb-true, eq-eqb, and_parts, and_from, le-leb, leb-true, lt-ltb}
+use Rattle.std.proofs.lemmas.Bool.{ltb-true}
 use Rattle.std.proofs.lemmas.List.{map-append}
 use Rattle.std.proofs.lemmas.List.Elements.{recursion_from_All}
 use Rattle.std.proofs.lemmas.List.Sums.{sum_by-cons, sum_by_push, sum_by-append}
@@ -16,11 +17,12 @@ use Rattle.its_air.specs.declared.waiting.AirAction.{AirAction}
 use Rattle.its_air.specs.declared.waiting.AirAction.TheVariants as owns
 use Rattle.its_air.specs.declared.waiting.Scheduled.{Scheduled}
 use Rattle.its_air.specs.Queues.{waiting_cmp}
-use Rattle.its_air.specs.Timetable.{of_file, put, put_all, NoneWaits}
-use Rattle.its_air.specs.AirRun.{moment_in}
+use Rattle.its_air_model.specs.Timetable.{of_file, schedule, schedule_all, NoneWaits}
+use Rattle.its_air_model.specs.Timetable.{moment_in}
 use Rattle.its_air.specs.Waits.{Waits, PlacesRise, pending_of}
-use Rattle.its_air.specs.Timetable.{at, Pending, Filed}
-use Rattle.its_air.proofs.Putting.{put_all_push, put_all_first, put_all_behind, put_all_above}
+use Rattle.its_air_model.specs.Timetable.{at, Pending, Filed}
+use Rattle.its_air_model.proofs.Putting.{schedule_all_push, schedule_all_first, schedule_all_behind}
+use Rattle.its_air_model.proofs.Putting.{schedule_all_above}
 
 -- ---- what is the same
 
@@ -162,7 +164,8 @@ all_pass p (x ∷ xs) h =
 abbrev Same : List Scheduled → List Scheduled → Type 0
 Same xs ys = (f : Scheduled → ℕ) → sum_by f xs ≡ sum_by f ys
 
-all_same : (p : Scheduled → Bool) (xs ys : List Scheduled) → Same xs ys → AllTrue p ys → AllTrue p xs
+all_same : (p : Scheduled → Bool) (xs ys : List Scheduled) → Same xs ys → AllTrue p ys
+    → AllTrue p xs
 all_same p xs ys same h = all_pass p xs (same (fails p) ∙ none_fails p ys h)
 
 weaker : (P Q : Scheduled → Type 0) → ((w : Scheduled) → P w → Q w) → (xs : List Scheduled)
@@ -175,7 +178,8 @@ both : (P Q R : Scheduled → Type 0) → ((w : Scheduled) → P w → Q w → R
 both P Q R imp [] h g = tt
 both P Q R imp (x ∷ xs) h g = (imp x h.0 g.0, both P Q R imp xs h.1 g.1)
 
-all_push : (P : Scheduled → Type 0) (xs : List Scheduled) (x : Scheduled) → AllByRecursion P xs → P x
+all_push : (P : Scheduled → Type 0) (xs : List Scheduled) (x : Scheduled) → AllByRecursion P xs
+    → P x
     → AllByRecursion P (xs ++ x ∷ [])
 all_push P [] x h p = (p, tt)
 all_push P (y ∷ xs) x h p = (h.0, all_push P xs x h.1 p)
@@ -208,13 +212,15 @@ rise_push [] x h all = (tt, tt)
 rise_push (y ∷ xs) x h all =
     (all_push (λ v. y.place < v.place) xs x h.0 all.0, rise_push xs x h.1 all.1)
 
-rise_without : (us : List Scheduled) (w : Scheduled) (vs : List Scheduled) → PlacesRise (us ++ w ∷ vs)
+rise_without : (us : List Scheduled) (w : Scheduled) (vs : List Scheduled)
+    → PlacesRise (us ++ w ∷ vs)
     → PlacesRise (us ++ vs)
 rise_without [] w vs h = h.1
 rise_without (a ∷ us) w vs h =
     (all_without (λ v. a.place < v.place) us w vs h.0, rise_without us w vs h.1)
 
-rise_before : (us : List Scheduled) (w : Scheduled) (vs : List Scheduled) → PlacesRise (us ++ w ∷ vs)
+rise_before : (us : List Scheduled) (w : Scheduled) (vs : List Scheduled)
+    → PlacesRise (us ++ w ∷ vs)
     → AllByRecursion (λ a. a.place < w.place) us
 rise_before [] w vs h = tt
 rise_before (a ∷ us) w vs h =
@@ -270,7 +276,8 @@ bounded w (x ∷ xs) h = (ap not h.0, bounded w xs h.1)
 -- one of the air's own was put
 pub waits_put : (due : List Filed) (heap new : List Scheduled) (count until : ℕ)
     (waiting : List Pending) (x : Scheduled) → IsPermutation (x ∷ heap) new → x.place ≡ count
-    → Waits due heap count until waiting → Waits due new (count + 1) until (put (pending_of x) waiting)
+    → Waits due heap count until waiting → Waits due new (count + 1) until
+    (schedule (pending_of x) waiting)
 waits_put due heap new count until waiting x moves place h =
     record {
       own = h.own ++ x ∷ [];
@@ -287,9 +294,10 @@ waits_put due heap new count until waiting x moves place h =
       below = all_push (λ w. w.place < count + 1) h.own x
           (weaker (λ w. w.place < count) (λ w. w.place < count + 1)
           (λ w lt. omega (arith, lt)) h.own h.below) (omega (arith, place));
-      is = ap (put (pending_of x)) h.is
-          ∙ sym (put_all_push (map pending_of h.own) (pending_of x) (map of_file (due ++ h.late)))
-          ∙ ap (λ (l : List Pending). put_all l (map of_file (due ++ h.late)))
+      is = ap (schedule (pending_of x)) h.is
+          ∙ sym (schedule_all_push (map pending_of h.own) (pending_of x)
+          (map of_file (due ++ h.late)))
+          ∙ ap (λ (l : List Pending). schedule_all l (map of_file (due ++ h.late)))
           (sym (map-append pending_of h.own (x ∷ [])));
     }
 
@@ -303,14 +311,16 @@ waits_file e due heap count until waiting first h =
     let ps = map pending_of h.own in
     let p : Scheduled → Bool = λ w. nat_le (moment_in e) w.moment in
     let all : AllTrue p h.own = all_same p h.own heap h.same
-    (weaker (λ w. (moment_in e) ≤ w.moment) (λ w. p w ≡ true) (λ w le. le-leb (moment_in e) w.moment le) heap
+    (weaker (λ w. (moment_in e) ≤ w.moment) (λ w. p w ≡ true) (λ w le. le-leb (moment_in e) w.moment
+    le) heap
     (recursion_from_All (λ w. (moment_in e) ≤ w.moment) heap first)) in
     let behind : AllByRecursion (λ q. (moment_in e) ≤ at q) ps =
     all_put (λ q. (moment_in e) ≤ at q) h.own
-    (weaker (λ w. p w ≡ true) (λ w. (moment_in e) ≤ w.moment) (λ w is. leb-true (moment_in e) w.moment is)
+    (weaker (λ w. p w ≡ true) (λ w. (moment_in e) ≤ w.moment) (λ w is. leb-true (moment_in e)
+    w.moment is)
     h.own all) in (
-      put_all ps ws,
-      h.is ∙ put_all_behind ps (of_file e) ws behind,
+      schedule_all ps ws,
+      h.is ∙ schedule_all_behind ps (of_file e) ws behind,
       record {
         own = h.own;
         late = h.late;
@@ -340,7 +350,8 @@ pub waits_own : (w : Scheduled) (due : List Filed) (heap new : List Scheduled) (
     → w.moment ≤ until → FileIsLater w.moment due → Waits due heap count until waiting
     → (rest : List Pending) × (waiting ≡ pending_of w ∷ rest) × Waits due new count until rest
 waits_own w due heap new count until waiting moves first le later h =
-    let sums : Same h.own (w ∷ new) = λ f. h.same f ∙ sym (sum_by-IsPermutation f heap (w ∷ new) moves) in
+    let sums : Same h.own (w ∷ new) = λ f. h.same f
+    ∙ sym (sum_by-IsPermutation f heap (w ∷ new) moves) in
     let one : one_same w w ≡ 1 =
     ap (λ (b : Bool). cond b 1 0) (is_same_self w) in
     let here = sum_by-cons (one_same w) w new in
@@ -361,13 +372,16 @@ waits_own w due heap new count until waiting moves first le later h =
     let behind : AllByRecursion (λ q. w.moment ≤ at q) (map pending_of vs) =
     all_put (λ q. w.moment ≤ at q) vs
     (weaker (λ y. comes_first w y ≡ true) (λ y. w.moment ≤ y.moment) (λ y. first_no_later w y) vs
-    (tail (λ y. comes_first w y ≡ true) w vs (all_back (λ y. comes_first w y ≡ true) us (w ∷ vs) all))) in (
-      put_all (map pending_of (us ++ vs)) ws,
-      h.is ∙ ap (λ (l : List Scheduled). put_all (map pending_of l) ws) at'.2
-          ∙ ap (λ (l : List Pending). put_all l ws) (map-append pending_of us (w ∷ vs))
-          ∙ put_all_first (map pending_of us) (pending_of w) (map pending_of vs) ws above behind
+    (tail (λ y. comes_first w y ≡ true) w vs (all_back (λ y. comes_first w y ≡ true) us (w ∷ vs)
+    all))) in (
+      schedule_all (map pending_of (us ++ vs)) ws,
+      h.is ∙ ap (λ (l : List Scheduled). schedule_all (map pending_of l) ws) at'.2
+          ∙ ap (λ (l : List Pending). schedule_all l ws) (map-append pending_of us (w ∷ vs))
+          ∙ schedule_all_first (map pending_of us) (pending_of w) (map pending_of vs) ws above
+          behind
           (file_later w.moment until due h.late later le h.past)
-          ∙ ap (λ (l : List Pending). pending_of w ∷ put_all l ws) (sym (map-append pending_of us vs)),
+          ∙ ap (λ (l : List Pending). pending_of w ∷ schedule_all l ws)
+          (sym (map-append pending_of us vs)),
       record {
         own = us ++ vs;
         late = h.late;
@@ -387,7 +401,8 @@ waits_own w due heap new count until waiting moves first le later h =
       },
     )
   where
-    tail : (P : Scheduled → Type 0) (x : Scheduled) (xs : List Scheduled) → AllByRecursion P (x ∷ xs)
+    tail : (P : Scheduled → Type 0) (x : Scheduled) (xs : List Scheduled)
+        → AllByRecursion P (x ∷ xs)
         → AllByRecursion P xs
     tail P x xs g = g.1
 
@@ -401,7 +416,8 @@ waits_none heap count until waiting past h =
     (weaker (λ w. until < w.moment) (λ w. p w ≡ true) (λ w lt. lt-ltb until w.moment lt) heap
     (recursion_from_All (λ w. until < w.moment) heap past)) in
     subst (NoneWaits until) (sym h.is)
-    (put_all_above until (map pending_of h.own) (map of_file h.late)
+    (schedule_all_above until (map pending_of h.own) (map of_file h.late)
     (file_later until until [] h.late tt (omega arith) h.past)
     (all_put (λ q. until < at q) h.own
-    (weaker (λ w. p w ≡ true) (λ w. until < w.moment) (λ w is. ltb-true until w.moment is) h.own all)))
+    (weaker (λ w. p w ≡ true) (λ w. until < w.moment) (λ w is. ltb-true until w.moment is) h.own
+    all)))

@@ -6,12 +6,8 @@ use Rattle.its_model.specs.World.{Config, Event}
 use Rattle.its_world.specs.declared.entry.Entry.{Entry}
 use Rattle.its_world.specs.State.{WorldState}
 use Rattle.its_simulation.specs.Simulated.{IsSimulated}
-use Rattle.its_air.specs.Timetable.{Filed, at, of_file}
-use Rattle.its_air.specs.Timetable.Filed.{Happens, Leaves}
-
--- when it waits
-abbrev pub moment_in : Filed → ℕ
-moment_in filed = at (of_file filed)
+use Rattle.its_air_model.specs.Timetable.{Filed, moment_in}
+use Rattle.its_air_model.specs.Timetable.Filed.{Happens, Leaves}
 
 -- the events and leaves of one moment
 abbrev pub of_moment : ℕ → List Filed → List Filed

@@ -5,7 +5,7 @@ use Rattle.its_world.specs.declared.entry.Entry.{Entry}
 use Rattle.its_world.specs.State.{WorldState}
 use Rattle.its_scenario.specs.declared.air.Air.{Air}
 use Rattle.its_simulation.specs.Simulated.{IsSimulated}
-use Rattle.its_air.specs.Timetable.{Rules, Traffic, Filed, air_opening, air_run, IsOver}
+use Rattle.its_air_model.specs.Timetable.{Rules, Traffic, Filed, air_opening, air_run, IsOver}
 
 -- what the air of a scenario goes by, with this traffic, up to a last moment, of stations of which
 -- these are present at the start

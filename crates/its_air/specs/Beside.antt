@@ -4,10 +4,11 @@ use Rattle.std.specs.Prelude.{◌≡◌, ℕ, ◌≤◌, ◌<◌, List, [], ◌�
 use Rattle.std.specs.Prelude.{Bool, true, false}
 use Rattle.std.specs.List.{AllByRecursion}
 use Rattle.its_model.specs.World.{Config}
-use Rattle.its_air.specs.AirRun.{moment_in}
-use Rattle.its_air.specs.Timetable.{Rules, Filed, Pending, AirModel, at, of_file, put_all}
-use Rattle.its_air.specs.Timetable.{air_opening, air_run}
-use Rattle.its_air.specs.Timetable.Pending.{Does, Departs}
+use Rattle.its_air_model.specs.Timetable.{moment_in}
+use Rattle.its_air_model.specs.Timetable.{Rules, Filed, Pending, AirModel, at, of_file}
+use Rattle.its_air_model.specs.Timetable.{schedule_all}
+use Rattle.its_air_model.specs.Timetable.{air_opening, air_run}
+use Rattle.its_air_model.specs.Timetable.Pending.{Does, Departs}
 
 -- so many stations that are absent
 abbrev pub absent : List Config → List Bool
@@ -34,7 +35,7 @@ beside made file a =
     record {
       done = a.done;
       timetable = record {
-        waiting = put_all a.timetable.waiting (map of_file file);
+        waiting = schedule_all a.timetable.waiting (map of_file file);
         draws = a.timetable.draws;
       };
       present = a.present ++ absent made;

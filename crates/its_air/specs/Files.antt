@@ -1,7 +1,7 @@
 -- The events and leaves of the file that wait.
 use Rattle.std.specs.Prelude.{◌≡◌, List}
 use Rattle.its_air.specs.Queues.{filed_in}
-use Rattle.its_air.specs.Timetable.{Filed}
+use Rattle.its_air_model.specs.Timetable.{Filed}
 use Rattle.its_air.specs.declared.waiting.Queue.{Queue}
 
 -- the events and leaves of the file that are taken, in order

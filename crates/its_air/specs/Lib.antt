@@ -1,4 +1,3 @@
-pub mod Draws
 pub mod Reach
 pub mod PlaceIndexes
 pub mod AirRun
@@ -6,7 +5,6 @@ pub mod Queues
 pub mod Runs
 pub mod Files
 pub mod Scenarios
-pub mod Timetable
 pub mod AirTimed
 pub mod Traffics
 pub mod Waits
@@ -16,6 +14,5 @@ pub mod Outside
 pub mod Moving
 pub mod UnderRows
 pub mod Beside
-pub mod Heard
-pub mod Carried
 pub mod Counted
+pub mod Line

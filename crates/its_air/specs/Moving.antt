@@ -14,8 +14,8 @@ use Rattle.its_air.specs.AirTimed.{IsTimedRun}
 use Rattle.its_air.specs.Beside.{IsReached, Rises, rules_beside}
 use Rattle.its_air.specs.Keeps.{IsTimed}
 use Rattle.its_air.specs.Outside.{IsOfStation, IsOutside, MayCome}
-use Rattle.its_air.specs.Timetable.{AirModel, Filed, Pending, Rules, at}
-use Rattle.its_air.specs.Timetable.Pending.{Does, Departs}
+use Rattle.its_air_model.specs.Timetable.{AirModel, Filed, Pending, Rules, at}
+use Rattle.its_air_model.specs.Timetable.Pending.{Does, Departs}
 use Rattle.its_air.specs.Waits.{pending_of}
 use Rattle.its_air.specs.declared.run.Run.{Run}
 use Rattle.its_air.specs.declared.waiting.Scheduled.{Scheduled}

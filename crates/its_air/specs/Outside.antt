@@ -19,8 +19,8 @@ use Rattle.its_scenario.specs.declared.event.AddressedEvent.{AddressedEvent}
 use Rattle.its_scenario.specs.declared.event.FileEvent.{FileEvent}
 use Rattle.its_scenario.specs.declared.moves.Moves.{Moves}
 use Rattle.its_air.specs.Queues.{filed_of}
-use Rattle.its_air.specs.Timetable.{Filed}
-use Rattle.its_air.specs.Timetable.Filed.{Happens, Leaves}
+use Rattle.its_air_model.specs.Timetable.{Filed}
+use Rattle.its_air_model.specs.Timetable.Filed.{Happens, Leaves}
 
 -- A row that makes a station, of this number; a row of a station that is there; a station leaves of
 -- which no row came for some time; an event or leave of the scenario.

@@ -4,7 +4,7 @@ use Rattle.std.specs.Prelude.{pos, ◌+ℤ◌, unsigned_abs, nat_le, count_by, s
 use Rattle.std.specs.Prelude.{Option, Some, None}
 use Rattle.its_gnvalue.specs.Values.{Position}
 use Rattle.its_station.specs.State.{StationState}
-use Rattle.its_air.specs.Reach.{is_within}
+use Rattle.its_air_model.specs.Range.{is_within}
 use Rattle.its_air.specs.declared.place_index.Standing.{Standing}
 
 -- how far north of the south pole a place is, in tenths of a microdegree

@@ -12,8 +12,8 @@ use Rattle.its_world.specs.Events.{event_of, IsInRange}
 use Rattle.its_scenario.specs.Airs.{moment_of as told_moment}
 use Rattle.its_scenario.specs.declared.event.FileEvent.{FileEvent as Told}
 use Rattle.its_scenario.specs.declared.event.FileEvent.TheVariants as told
-use Rattle.its_air.specs.Timetable.{Filed, is_tick, is_numbered}
-use Rattle.its_air.specs.Timetable.Filed.{Happens, Leaves}
+use Rattle.its_air_model.specs.Timetable.{Filed, is_tick, is_numbered}
+use Rattle.its_air_model.specs.Timetable.Filed.{Happens, Leaves}
 use Rattle.its_air.specs.declared.waiting.AirAction.{AirAction}
 use Rattle.its_air.specs.declared.waiting.AirAction.TheVariants as owns
 use Rattle.its_air.specs.declared.waiting.Scheduled.{Scheduled}

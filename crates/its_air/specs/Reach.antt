@@ -1,14 +1,9 @@
 -- Which stations hear what a station gives.
-use Rattle.std.specs.Prelude.{ℕ, ◌+◌, ◌*◌, ◌==◌, List, [], ◌∷◌, Bool, not, ◌&&◌, cond}
-use Rattle.std.specs.Prelude.{nat_le}
+use Rattle.std.specs.Prelude.{ℕ, ◌+◌, ◌==◌, List, [], ◌∷◌, Bool, not, ◌&&◌, cond}
 use Rattle.its_gnvalue.specs.Values.{Position}
-use Rattle.its_geometry.specs.Offsets.{squared_distance}
+use Rattle.its_air_model.specs.Range.{is_within}
 use Rattle.its_station.specs.State.{StationState}
 use Rattle.its_air.specs.declared.place_index.Standing.{Standing}
-
--- this place is at most so many metres from the giver's: distances are in centimetres
-abbrev pub is_within : ℕ → Position → Position → Bool
-is_within range giver place = nat_le (squared_distance giver place) (100 * range * (100 * range))
 
 -- the station of this number, which stands so, hears what another gives at this place
 abbrev pub hears : ℕ → ℕ → Position → ℕ → StationState → Bool

@@ -1,5 +1,5 @@
 -- A run that is under way.
-use Rattle.std.specs.Prelude.{List, take}
+use Rattle.std.specs.Prelude.{◌≡◌, List, take}
 use Rattle.its_model.specs.World.{Config, Event}
 use Rattle.its_world.specs.declared.entry.Entry.{Entry}
 use Rattle.its_simulation.specs.Simulated.{IsSimulated}
@@ -12,6 +12,13 @@ pub record IsUnderWay (configs : List Config) (events : List Event) (run : Run)
     (Took : List Event → List Entry → Type 0) : Type 0 where
   pub told : IsSimulated configs events run.world Took
   pub among : AreAmong (events_in (take run.queue.taken (filed_due run.queue))) events
+
+-- its rules, its world, and where the stations stand are as before
+pub record SameWorld (old new : Run) : Type 0 where
+  pub air : new.air ≡ old.air
+  pub every : new.every ≡ old.every
+  pub world : new.world ≡ old.world
+  pub standings : new.standings ≡ old.standings
 
 -- what a sink said of events and entries, it says of them still
 abbrev pub SaysAsBefore : (Before After : List Event → List Entry → Type 0) → Type 0

@@ -2,7 +2,7 @@
 use Rattle.std.specs.Prelude.{ℕ, suc, List, [], ◌∷◌, Option, Some, None, replicate}
 use Rattle.its_model.specs.Calls.{ShbRequest}
 use Rattle.its_scenario.specs.declared.traffic.Traffic.{Traffic as Told}
-use Rattle.its_air.specs.Timetable.{Traffic}
+use Rattle.its_air_model.specs.Timetable.{Traffic}
 use Rattle.its_air.specs.declared.waiting.AirAction.{AirAction}
 use Rattle.its_air.specs.declared.waiting.AirAction.TheVariants as owns
 

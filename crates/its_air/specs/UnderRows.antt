@@ -13,8 +13,8 @@ use Rattle.its_world.specs.declared.entry.Entry.{Entry}
 use Rattle.its_air.specs.Moving.{IsMoving}
 use Rattle.its_air.specs.Outside.{Came, InTurn, IsBrought, MayAsk, MayCome, asked_of, ids_of}
 use Rattle.its_air.specs.Outside.{opening_at, row_move, turn_of}
-use Rattle.its_air.specs.Timetable.{Filed, Rules}
-use Rattle.its_air.specs.Timetable.Filed.{Happens, Leaves}
+use Rattle.its_air_model.specs.Timetable.{Filed, Rules}
+use Rattle.its_air_model.specs.Timetable.Filed.{Happens, Leaves}
 use Rattle.its_air.specs.declared.moving_run.Coming.{Coming}
 use Rattle.its_air.specs.declared.moving_run.MovingRun.{MovingRun}
 use Rattle.its_air.specs.declared.moving_run.Outside.{Outside}

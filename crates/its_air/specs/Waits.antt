@@ -6,14 +6,14 @@ use Rattle.its_air.specs.declared.waiting.Scheduled.{Scheduled}
 use Rattle.its_air.specs.declared.waiting.Next.{Next}
 use Rattle.its_air.specs.declared.waiting.Next.TheVariants as nexts
 use Rattle.its_air.specs.Queues.{happening_of}
-use Rattle.its_air.specs.Timetable.{Put, Pending, Filed, of_file, put_all}
-use Rattle.its_air.specs.Timetable.Pending.{Does}
-use Rattle.its_air.specs.AirRun.{moment_in}
+use Rattle.its_air_model.specs.Timetable.{Planned, Pending, Filed, of_file, schedule_all}
+use Rattle.its_air_model.specs.Timetable.Pending.{Does}
+use Rattle.its_air_model.specs.Timetable.{moment_in}
 use Rattle.its_air.specs.Traffics.{traffic_in}
 
 -- what is put for one of the air's own
-abbrev pub put_of : Scheduled → Put
-put_of w = record { event = happening_of w; own = true; traffic = traffic_in w.own }
+abbrev pub planned_of : Scheduled → Planned
+planned_of w = record { event = happening_of w; own = true; traffic = traffic_in w.own }
 
 -- each was put later than those before it
 abbrev pub PlacesRise : List Scheduled → Type 0
@@ -22,7 +22,7 @@ PlacesRise (w ∷ own) = AllByRecursion (λ v. w.place < v.place) own × PlacesR
 
 -- as it waits
 abbrev pub pending_of : Scheduled → Pending
-pending_of w = Does (put_of w)
+pending_of w = Does (planned_of w)
 
 -- What waits are the file's events and leaves that are due, and later ones that no run reaches, and
 -- the air's own that are in the heap, of which so many were put: they are put in the order of their
@@ -35,7 +35,7 @@ pub record Waits (due : List Filed) (heap : List Scheduled) (count until : ℕ)
   pub same : (f : Scheduled → ℕ) → sum_by f own ≡ sum_by f heap
   pub rise : PlacesRise own
   pub below : AllByRecursion (λ w. w.place < count) own
-  pub is : waiting ≡ put_all (map pending_of own) (map of_file (due ++ late))
+  pub is : waiting ≡ schedule_all (map pending_of own) (map of_file (due ++ late))
 
 -- what is taken is no longer in the heap, if it was there
 abbrev pub IsLeft : Next → List Scheduled → List Scheduled → Type 0

@@ -2,7 +2,7 @@
 
 ghost use Rattle.std.specs.Prelude.{◌≡◌, ◌≤◌, ◌<◌, ◌%◌, ℕ, List, IsTrue, ◌↔◌};
 ghost use Rattle.rand_core.specs.Stream.{next_u64};
-ghost use Rattle.its_air.specs.Draws.{draws_at, draws_of};
+ghost use Rattle.its_air_model.specs.Draws.{draws_at, draws_of};
 
 use rand_core::{Rng, SeedableRng};
 use rand_xoshiro::Xoshiro256PlusPlus;

@@ -51,7 +51,8 @@ impl Counts {
             AreCounted self.old.kinds self.old.each.items own →
             IsPermutation (waiting.now ∷ own) new →
             OnOk result (AreCounted self.new.kinds self.new.each.items new) }
-        ensures failed { (own : List Scheduled) → AreCounted self.old.kinds self.old.each.items own →
+        ensures failed { (own : List Scheduled) →
+            AreCounted self.old.kinds self.old.each.items own →
             OnErr result (AreCounted self.new.kinds self.new.each.items own) }
     {
         let Some(at) = self.place_of(waiting) else {

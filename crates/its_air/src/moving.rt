@@ -24,7 +24,7 @@ ghost use Rattle.its_air.specs.Moving.{Awaits, IsMovedRun};
 ghost use Rattle.its_air.specs.Queues.{IsFiledInRange};
 ghost use Rattle.its_air.specs.PlaceIndexes.{AreStandingsOf};
 ghost use Rattle.its_air.specs.Outside.{Came, IsByMoment, row_move};
-ghost use Rattle.its_air.specs.Timetable.{Filed, Pending, Rules, air_opening, at};
+ghost use Rattle.its_air_model.specs.Timetable.{Filed, Pending, Rules, air_opening, at};
 ghost use Rattle.its_air.specs.Traffics.{all_traffic};
 ghost use Rattle.its_air.specs.UnderRows.{CameUnder, ComesFrom, DoesEvent, DoesLeave, DoesRow};
 ghost use Rattle.its_air.specs.UnderRows.{IsComing, IsNext, IsUnder, IsUnderSome, MakesUnder};
@@ -61,15 +61,16 @@ use std::io::BufRead;
 /// the last ones.
 ///
 /// Without a last moment the run goes on for ten seconds after the greatest moment of an event or a
-/// row, 0 where there is neither. A row is read once the one before it was run, and none once nothing
-/// that waits has its moment up to the last.
+/// row, 0 where there is neither. A row is read once the one before it was run, and none once
+/// nothing that waits has its moment up to the last.
 ///
 /// It is the run of an air, as `run_air` does one, of the scenario's stations and those that rows
 /// made, these absent at the start, whose file is what came from outside, in the order of moments:
 /// so the laws of airs hold of it.
 ///
 /// `Moves` where a row can't be read, or one that was read would need a station too many, or one of
-/// a MID that another has: the sink has the events before, as where an allocation or the sink failed.
+/// a MID that another has: the sink has the events before, as where an allocation or the sink
+/// failed.
 pub fn run_moves<R: BufRead + Drop, S: EventSink>(
     alloc: Global,
     scenario: &Scenario,
@@ -194,8 +195,8 @@ impl<'a> MovingRun<'a> {
         self.known.is_some() || self.next_config(row.place).is_some()
     }
 
-    /// How the next station begins that a row makes, at this place. `None` where it would be one too
-    /// many, or have the MID of another or of none.
+    /// How the next station begins that a row makes, at this place. `None` where it would be one
+    /// too many, or have the MID of another or of none.
     fn next_config(&self, place: Place) -> Option<Config>
         ensures { IfSome result IsConfig }
     {
@@ -260,8 +261,8 @@ impl<'a> MovingRun<'a> {
 
     /// Lets frames go whose deliveries are done, where the next of the air's own is of this moment.
     /// Each delivery comes the delay after its frame was given, and what waits is taken by its
-    /// moment: so those that had been given when they were last counted have all been delivered once
-    /// the delay after that is over, to whomever heard them. Then they are counted again.
+    /// moment: so those that had been given when they were last counted have all been delivered
+    /// once the delay after that is over, to whomever heard them. Then they are counted again.
     fn release_delivered(&mut self, moment: u64)
         requires moment { moment ≤ 2 ^ 63 + 10000 }
         ensures stands { (w : WorldModel) → RepresentsWorld self.old.run.world w →
@@ -668,8 +669,8 @@ fn first_of(former: Option<Coming>, latter: Option<Coming>) -> Option<Coming>
     }
 }
 
-/// The moment before which the air's own come first: that of what comes from outside, up to the last
-/// moment.
+/// The moment before which the air's own come first: that of what comes from outside, up to the
+/// last moment.
 fn limit_of(coming: Option<Coming>, end: u64) -> u64
     requires { end ≤ 2 ^ 63 + 10000 }
     ensures some { IfSome coming (λ coming. result ≡ coming.moment) }

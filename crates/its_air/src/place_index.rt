@@ -9,7 +9,8 @@ ghost use Rattle.std.specs.List.Sorted.{IsNonDecreasingBy, IsPartitionPoint};
 ghost use Rattle.its_station.specs.State.{StationState};
 ghost use Rattle.its_world.specs.Steps.{AreSameBut};
 ghost use Rattle.its_air.specs.Reach.{hearers, hears_there};
-ghost use Rattle.its_air.specs.PlaceIndexes.{northing, easting, row_key, is_between, is_off, Covers};
+ghost use Rattle.its_air.specs.PlaceIndexes.{northing, easting, row_key, is_between, is_off};
+ghost use Rattle.its_air.specs.PlaceIndexes.{Covers};
 ghost use Rattle.its_air.specs.PlaceIndexes.{hears_from, count_at, AreStandingsOf};
 
 use crate::reach::{find_hearers, is_within};

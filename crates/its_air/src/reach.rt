@@ -1,7 +1,8 @@
 //! Which stations hear a frame.
 
 ghost use Rattle.std.specs.Prelude.{◌≡◌, ◌+◌, ◌*◌, ◌≤◌, OnOk, [], IsTrue};
-ghost use Rattle.its_air.specs.Reach.{hearers, hears, is_within};
+ghost use Rattle.its_air_model.specs.Range.{is_within};
+ghost use Rattle.its_air.specs.Reach.{hearers, hears};
 
 use its_geometry::Centre;
 use its_gnvalue::Place;

@@ -22,19 +22,21 @@ ghost use Rattle.its_air.specs.AirTimed.{IsTimedRun, rules_of};
 ghost use Rattle.its_air.specs.Files.{SameFile, filed_due};
 ghost use Rattle.its_air.specs.Keeps.{Keeps, IsAnswered, IsTimed, GoesBy, GoesOn, follow_own};
 ghost use Rattle.its_air.specs.Outside.{IsDelivery};
-ghost use Rattle.its_air.specs.Timetable.{Timetable, send, send_all, is_refusal, is_present};
-ghost use Rattle.its_air.specs.Timetable.{put_first_ticks, put_first_sends, put_send};
-ghost use Rattle.its_air.specs.Timetable.{put_traffic, put_tick, heard_by};
-ghost use Rattle.its_air.specs.Timetable.{spread_frame, tick_again, take_one, of_file};
-ghost use Rattle.its_air.specs.Timetable.{come, come_ticking, come_sending, come_sending_all, comes};
-ghost use Rattle.its_air.specs.Timetable.{present_after, is_passed_over};
-ghost use Rattle.its_air.specs.Timetable.{Rules, AirModel, spread, air_opening};
-ghost use Rattle.its_air.specs.Timetable.Filed.{Happens};
-ghost use Rattle.its_air.specs.Runs.{IsUnderWay, SaysAsBefore};
+ghost use Rattle.its_air_model.specs.Timetable.{Timetable, send, send_all, is_refusal, is_present};
+ghost use Rattle.its_air_model.specs.Timetable.{schedule_first_ticks};
+ghost use Rattle.its_air_model.specs.Timetable.{schedule_first_sends, schedule_send};
+ghost use Rattle.its_air_model.specs.Timetable.{schedule_traffic, schedule_tick, heard_by};
+ghost use Rattle.its_air_model.specs.Timetable.{spread_frame, tick_again, take_one, of_file};
+ghost use Rattle.its_air_model.specs.Timetable.{come, come_ticking};
+ghost use Rattle.its_air_model.specs.Timetable.{come_sending, come_sending_all, comes};
+ghost use Rattle.its_air_model.specs.Timetable.{present_after, is_passed_over};
+ghost use Rattle.its_air_model.specs.Timetable.{Rules, AirModel, spread, air_opening};
+ghost use Rattle.its_air_model.specs.Timetable.Filed.{Happens};
+ghost use Rattle.its_air.specs.Runs.{IsUnderWay, SameWorld, SaysAsBefore};
 ghost use Rattle.its_air.specs.PlaceIndexes.{AreStandingsOf};
 ghost use Rattle.its_air.specs.Queues.{happening_of, filed_of, own_of, IsFiledInRange};
 ghost use Rattle.its_air.specs.Traffics.{all_traffic, traffic_of};
-ghost use Rattle.its_air.specs.Waits.{pending_of, put_of};
+ghost use Rattle.its_air.specs.Waits.{pending_of, planned_of};
 
 use crate::draws::Draws;
 use crate::fault::AirFault;
@@ -361,12 +363,9 @@ impl<'a> Run<'a> {
         moment: u64,
         sink: &mut S,
     ) -> Result<(), AirFault>
-        ensures air { self.new.air ≡ self.old.air }
-        ensures every { self.new.every ≡ self.old.every }
-        ensures world { self.new.world ≡ self.old.world }
+        ensures world { SameWorld self.old self.new }
         ensures queue { self.new.queue ≡ self.old.queue }
         ensures draws { self.new.draws ≡ self.old.draws }
-        ensures standings { self.new.standings ≡ self.old.standings }
         ensures told { OnOk result (SaysAsBefore (S.Took sink.old) (S.Took sink.new)) }
         ensures present { self.new.present.items ≡ slice_set self.old.present.items station false }
     {
@@ -417,7 +416,7 @@ impl<'a> Run<'a> {
 
     /// Whether one of the air's own isn't run: a tick or a send of an absent station.
     fn is_passed_over(&self, waiting: &Scheduled) -> bool
-        ensures { result ≡ is_passed_over self.now.present.items (put_of waiting.now) }
+        ensures { result ≡ is_passed_over self.now.present.items (planned_of waiting.now) }
     {
         !waiting.own.is_delivery() && !is_present(self.present.as_slice(), waiting.station)
     }
@@ -502,11 +501,8 @@ impl<'a> Run<'a> {
     ) -> Result<(), AirFault>
         requires moment { event.now.moment ≤ 2 ^ 63 + 10000 }
         requires standings { AreStandingsOf self.old.world.stations self.old.standings.order.items }
-        ensures air { self.new.air ≡ self.old.air }
-        ensures every { self.new.every ≡ self.old.every }
+        ensures world { SameWorld self.old self.new }
         ensures present { self.new.present ≡ self.old.present }
-        ensures world { self.new.world ≡ self.old.world }
-        ensures standings { self.new.standings ≡ self.old.standings }
         ensures file { SameFile self.old.queue self.new.queue }
         ensures told { OnOk result (SaysAsBefore (S.Took sink.old) (S.Took sink.new)) }
         ensures spread { (rules : Rules) (w : WorldModel) (t : Timetable) → GoesBy rules self.old →
@@ -536,11 +532,8 @@ impl<'a> Run<'a> {
     /// Finds who hears what a station gives: none where it is absent.
     fn find_hearers(&mut self, giver: usize) -> Result<(), AirFault>
         requires standings { AreStandingsOf self.old.world.stations self.old.standings.order.items }
-        ensures air { self.new.air ≡ self.old.air }
-        ensures every { self.new.every ≡ self.old.every }
+        ensures world { SameWorld self.old self.new }
         ensures present { self.new.present ≡ self.old.present }
-        ensures world { self.new.world ≡ self.old.world }
-        ensures standings { self.new.standings ≡ self.old.standings }
         ensures queue { self.new.queue ≡ self.old.queue }
         ensures draws { self.new.draws ≡ self.old.draws }
         ensures heard { (w : WorldModel) → RepresentsWorld self.old.world w → OnOk result
@@ -572,10 +565,7 @@ impl<'a> Run<'a> {
         sink: &mut S,
     ) -> Result<(), AirFault>
         requires moment { event.now.moment ≤ 2 ^ 63 + 10000 }
-        ensures air { self.new.air ≡ self.old.air }
-        ensures every { self.new.every ≡ self.old.every }
-        ensures world { self.new.world ≡ self.old.world }
-        ensures standings { self.new.standings ≡ self.old.standings }
+        ensures world { SameWorld self.old self.new }
         ensures file { SameFile self.old.queue self.new.queue }
         ensures told { OnOk result (SaysAsBefore (S.Took sink.old) (S.Took sink.new)) }
         ensures present { (after : WorldModel) → IsAnswered entry.now after → OnOk result
@@ -600,10 +590,7 @@ impl<'a> Run<'a> {
     /// note yet.
     fn admit(&mut self, event: &Event, entry: &Entry) -> Result<bool, AirFault>
         requires moment { event.now.moment ≤ 2 ^ 63 + 10000 }
-        ensures air { self.new.air ≡ self.old.air }
-        ensures every { self.new.every ≡ self.old.every }
-        ensures world { self.new.world ≡ self.old.world }
-        ensures standings { self.new.standings ≡ self.old.standings }
+        ensures world { SameWorld self.old self.new }
         ensures file { SameFile self.old.queue self.new.queue }
         ensures present { (after : WorldModel) → IsAnswered entry.now after → OnOk result
             (self.new.present.items
@@ -647,11 +634,8 @@ impl<'a> Run<'a> {
     /// Puts the first tick and the first sends of a station that comes, where none of them waits.
     fn schedule_coming(&mut self, station: usize, moment: u64) -> Result<(), AirFault>
         requires moment { moment ≤ 2 ^ 63 + 10000 }
-        ensures air { self.new.air ≡ self.old.air }
-        ensures every { self.new.every ≡ self.old.every }
+        ensures world { SameWorld self.old self.new }
         ensures present { self.new.present ≡ self.old.present }
-        ensures world { self.new.world ≡ self.old.world }
-        ensures standings { self.new.standings ≡ self.old.standings }
         ensures file { SameFile self.old.queue self.new.queue }
         ensures come { (rules : Rules) (t : Timetable) → GoesBy rules self.old →
             Keeps self.old.queue self.old.draws t → OnOk result
@@ -666,11 +650,8 @@ impl<'a> Run<'a> {
     /// wasn't refused, its next send after one of traffic.
     fn schedule_next(&mut self, done: &Scheduled, entry: &Entry) -> Result<(), AirFault>
         requires moment { done.now.moment ≤ 2 ^ 63 + 10000 }
-        ensures air { self.new.air ≡ self.old.air }
-        ensures every { self.new.every ≡ self.old.every }
+        ensures world { SameWorld self.old self.new }
         ensures present { self.new.present ≡ self.old.present }
-        ensures world { self.new.world ≡ self.old.world }
-        ensures standings { self.new.standings ≡ self.old.standings }
         ensures file { SameFile self.old.queue self.new.queue }
         ensures next { (w : WorldModel) (t : Timetable) (answer : Answer ℕ) →
             RepresentsWorld self.old.world w → TellsEntry entry.now answer →
@@ -691,11 +672,8 @@ impl<'a> Run<'a> {
 
     /// Puts the next tick of a station after one that wasn't refused.
     fn schedule_next_tick(&mut self, tick: &Scheduled, entry: &Entry) -> Result<(), AirFault>
-        ensures air { self.new.air ≡ self.old.air }
-        ensures every { self.new.every ≡ self.old.every }
+        ensures world { SameWorld self.old self.new }
         ensures present { self.new.present ≡ self.old.present }
-        ensures world { self.new.world ≡ self.old.world }
-        ensures standings { self.new.standings ≡ self.old.standings }
         ensures file { SameFile self.old.queue self.new.queue }
         ensures tick { (w : WorldModel) (t : Timetable) (answer : Answer ℕ) →
             RepresentsWorld self.old.world w → TellsEntry entry.now answer →
@@ -781,7 +759,7 @@ fn schedule_first_ticks(
 ) -> Result<(), AirFault>
     ensures file { SameFile queue.old queue.new }
     ensures ticks { (t : Timetable) → Keeps queue.old draws.old t → OnOk result
-        (Keeps queue.new draws.new (put_first_ticks present.now count t)) }
+        (Keeps queue.new draws.new (schedule_first_ticks present.now count t)) }
 {
     for station in 0..count {
         schedule_first_tick(queue, draws, present, station)?;
@@ -798,8 +776,8 @@ fn schedule_first_tick(
 ) -> Result<(), AirFault>
     ensures file { SameFile queue.old queue.new }
     ensures tick { (t : Timetable) → Keeps queue.old draws.old t → OnOk result
-        (Keeps queue.new draws.new (cond (is_present present.now station) (put_tick station 0 0 t)
-        t)) }
+        (Keeps queue.new draws.new (cond (is_present present.now station)
+        (schedule_tick station 0 0 t) t)) }
 {
     if is_present(present, station) {
         schedule_tick(queue, draws, station, 0, 0)
@@ -818,7 +796,7 @@ fn schedule_traffic(
 ) -> Result<(), AirFault>
     ensures file { SameFile queue.old queue.new }
     ensures sends { (t : Timetable) → Keeps queue.old draws.old t → OnOk result
-        (Keeps queue.new draws.new (put_traffic present.now (all_traffic every.now) count t)) }
+        (Keeps queue.new draws.new (schedule_traffic present.now (all_traffic every.now) count t)) }
 {
     for (number, traffic) in every.iter().enumerate() {
         schedule_first_sends(queue, draws, present, number, traffic, count)?;
@@ -838,7 +816,7 @@ fn schedule_first_sends(
 ) -> Result<(), AirFault>
     ensures file { SameFile queue.old queue.new }
     ensures sends { (t : Timetable) → Keeps queue.old draws.old t → OnOk result
-        (Keeps queue.new draws.new (put_first_sends present.now (traffic_of number traffic.now)
+        (Keeps queue.new draws.new (schedule_first_sends present.now (traffic_of number traffic.now)
         count t)) }
 {
     for station in 0..count {
@@ -859,7 +837,7 @@ fn schedule_first_send(
     ensures file { SameFile queue.old queue.new }
     ensures send { (t : Timetable) → Keeps queue.old draws.old t → OnOk result
         (Keeps queue.new draws.new (cond (is_present present.now station)
-        (put_send (traffic_of number traffic.now) station 0 t) t)) }
+        (schedule_send (traffic_of number traffic.now) station 0 t) t)) }
 {
     if is_present(present, station) {
         schedule_send(queue, draws, number, traffic, station, 0)
@@ -880,7 +858,8 @@ fn schedule_send(
     requires moment { moment ≤ 2 ^ 63 + 10000 }
     ensures file { SameFile queue.old queue.new }
     ensures send { (t : Timetable) → Keeps queue.old draws.old t → OnOk result
-        (Keeps queue.new draws.new (put_send (traffic_of number traffic.now) station moment t)) }
+        (Keeps queue.new draws.new
+        (schedule_send (traffic_of number traffic.now) station moment t)) }
 {
     let moment = moment + draws.within(traffic.period);
     queue.push(moment, station, AirAction::Send(number, *traffic))
@@ -941,7 +920,8 @@ fn schedule_coming_send(
     requires moment { moment ≤ 2 ^ 63 + 10000 }
     ensures file { SameFile queue.old queue.new }
     ensures send { (t : Timetable) → Keeps queue.old draws.old t → OnOk result
-        (Keeps queue.new draws.new (come_sending (traffic_of number traffic.now) station moment t)) }
+        (Keeps queue.new draws.new
+        (come_sending (traffic_of number traffic.now) station moment t)) }
 {
     if queue.has_no_send(number, station) {
         schedule_send(queue, draws, number, traffic, station, moment)
@@ -1016,7 +996,7 @@ fn schedule_tick(
     requires { beacon_from ≤ 2 ^ 63 + 10000 }
     ensures file { SameFile queue.old queue.new }
     ensures tick { (t : Timetable) → Keeps queue.old draws.old t → OnOk result
-        (Keeps queue.new draws.new (put_tick station moment beacon_from t)) }
+        (Keeps queue.new draws.new (schedule_tick station moment beacon_from t)) }
 {
     let jitter = draws.jitter();
     let due = beacon_from.saturating_add(u64::from(jitter));

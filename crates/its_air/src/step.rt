@@ -11,7 +11,7 @@ ghost use Rattle.its_air.specs.Moving.{DoesAsked, DoesFiled, DoesTaken, DoesTher
 ghost use Rattle.its_air.specs.Outside.{Delivers, at_station, opening_at, station_of_filed};
 ghost use Rattle.its_air.specs.Queues.{IsFiledInRange, filed_of, own_of};
 ghost use Rattle.its_air.specs.PlaceIndexes.{AreStandingsOf};
-ghost use Rattle.its_air.specs.Timetable.Filed.{Happens};
+ghost use Rattle.its_air_model.specs.Timetable.Filed.{Happens};
 
 use crate::copying::copy_of;
 use crate::fault::AirFault;
@@ -22,8 +22,8 @@ use its_simulation::EventSink;
 use its_world::{Event, What};
 use std::alloc::{AllocError, Global};
 
-/// Does an event or leave of the scenario at the station of this number. An area whose centre is left
-/// out lies round where that station stands.
+/// Does an event or leave of the scenario at the station of this number. An area whose centre is
+/// left out lies round where that station stands.
 pub(crate) fn do_at<S: EventSink>(
     alloc: Global,
     run: &mut Run<'_>,
@@ -88,8 +88,8 @@ pub(crate) fn do_filed<S: EventSink>(
     }
 }
 
-/// Whether the station is there of what the scenario has, and the frame that it delivers, if it does,
-/// is kept. Where stations move by rows a scenario delivers none.
+/// Whether the station is there of what the scenario has, and the frame that it delivers, if it
+/// does, is kept. Where stations move by rows a scenario delivers none.
 fn is_there(run: &Run<'_>, filed: &FileEvent) -> bool
     ensures there { IsTrue result → station_in filed.now < length run.now.world.stations }
     ensures kept { IsTrue result → All (λ event. IsKept run.now.world.released event.what)

@@ -3,13 +3,12 @@
 
 ghost use Rattle.std.specs.Prelude.{◌≡◌, ◌≤◌, ◌<◌, ◌+◌, ◌^◌, ◌∷◌, [], All, map, length, slice_get};
 ghost use Rattle.std.specs.Prelude.{ℕ, Some, IfOk, IfSome, IfNone, OnOk, nat_eq, ◌==◌, count_by};
-ghost use Rattle.std.specs.BinaryHeap.{IsHeap, IsUpperBound, HeapUnchanged, heap_items};
+ghost use Rattle.std.specs.BinaryHeap.{IsUpperBound};
 ghost use Rattle.std.specs.Cmp.{partial_order_from_own_ties};
 ghost use Rattle.std.specs.Cmp.Rules.{comparing};
 ghost use Rattle.std.specs.List.Sorted.{IsPermutation};
 ghost use Rattle.std.specs.Ordering.{nat_cmp, on, flip_args, then_cmp, as_partial_cmp, eq_of_both};
 ghost use Rattle.std.proofs.Common.{rules};
-ghost use Rattle.std.proofs.Props.{props};
 ghost use denote.Ref.{Bor};
 ghost use Rattle.its_scenario.specs.Airs.{moment_of as told_moment};
 ghost use Rattle.its_scenario.specs.declared.event.FileEvent.{FileEvent};
@@ -18,19 +17,18 @@ ghost use Rattle.its_air.specs.AirRun.{AreDue};
 ghost use Rattle.its_air.specs.Queues.{ComesFirst, IsFileFirst, IsTaken, waiting_cmp};
 ghost use Rattle.its_air.specs.Queues.{happening_of, filed_in, filed_of, moment_of, own_of};
 ghost use Rattle.its_air.specs.Queues.{is_tick_at, is_send_at, IsFiledInRange};
-ghost use Rattle.its_air.specs.Timetable.{is_delivery, is_tick, is_numbered};
+ghost use Rattle.its_air_model.specs.Timetable.{is_delivery, is_tick, is_numbered};
 ghost use Rattle.its_air.specs.Traffics.{traffic_in};
 ghost use Rattle.its_air.specs.Waits.{IsLeft};
-ghost use Rattle.its_air.specs.Counted.{AreCounted, kind_in};
+ghost use Rattle.its_air.specs.Counted.{kind_in};
 
 use crate::fault::AirFault;
-use crate::kinds::Counts;
+use crate::own_events::OwnEvents;
 use its_scenario::{FileEvent, Traffic};
 use its_station::OwnedShbRequest;
 use its_world::{Event, What};
 use std::alloc::{AllocError, Global};
 use std::cmp::Ordering;
-use std::collections::BinaryHeap;
 
 /// What an air does by itself.
 #[derive(Clone, Copy, Debug)]
@@ -52,14 +50,14 @@ impl AirAction {
     }
 
     /// Whether it is a tick.
-    fn is_tick(&self) -> bool
+    pub(crate) fn is_tick(&self) -> bool
         ensures { result ≡ is_tick (own_of self.now) }
     {
         matches!(self, AirAction::Tick(_))
     }
 
     /// Whether it is a send of the traffic of a number.
-    fn is_send_of(&self, number: usize) -> bool
+    pub(crate) fn is_send_of(&self, number: usize) -> bool
         ensures { result ≡ is_numbered number (traffic_in self.now) }
     {
         match self {
@@ -187,17 +185,12 @@ pub(crate) struct Queue<'a> {
     due: Vec<&'a FileEvent>,
     /// How many of these were taken.
     taken: usize,
-    own: BinaryHeap<Scheduled>,
-    /// How many of these there are of each kind, at each station.
-    counts: Counts,
+    own: OwnEvents,
     /// How many of the air's own were put.
     pushed: u64,
     until: u64,
     ghost within: { All (λ filed. told_moment filed.now ≤ until) due.items },
     ghost last: { until ≤ 2 ^ 63 + 10000 },
-    ghost ordered: { IsHeap (then_cmp (flip_args (on (λ w. w.moment) nat_cmp))
-        (flip_args (on (λ w. w.place) nat_cmp))) (heap_items own) } by { Prim.hlevel props },
-    ghost counted: { AreCounted counts.kinds counts.each.items (heap_items own) },
 }
 
 impl<'a> Queue<'a> {
@@ -213,7 +206,7 @@ impl<'a> Queue<'a> {
         ensures due { IfOk result (λ queue.
             AreDue (map filed_of file.now) until (filed_in queue.due.items)) }
         ensures start { IfOk result (λ queue. queue.taken ≡ 0) }
-        ensures empty { IfOk result (λ queue. (heap_items queue.own ≡ []) × (queue.pushed ≡ 0)
+        ensures empty { IfOk result (λ queue. (queue.own ≡ []) × (queue.pushed ≡ 0)
             × (queue.until ≡ until)) }
         ensures ranges { IfOk result (λ queue.
             All (λ filed. IsFiledInRange filed.now) queue.due.items) }
@@ -228,8 +221,7 @@ impl<'a> Queue<'a> {
         Ok(Queue {
             due,
             taken: 0,
-            own: BinaryHeap::new(alloc),
-            counts: Counts::new(alloc, traffics.saturating_add(1)),
+            own: OwnEvents::new(alloc, traffics.saturating_add(1)),
             pushed: 0,
             until,
         })
@@ -250,23 +242,19 @@ impl<'a> Queue<'a> {
           place = self.old.pushed;
           station = station;
           own = own;
-        } ∷ heap_items self.old.own) (heap_items self.new.own)) }
+        } ∷ self.old.own) self.new.own) }
         ensures count { OnOk result (self.new.pushed ≡ self.old.pushed + 1) }
     {
-        let Some(put) = self.pushed.checked_add(1) else {
+        let Some(pushed) = self.pushed.checked_add(1) else {
             return Err(AirFault::TooManyEvents);
         };
-        let waiting = Scheduled {
+        self.own.push(Scheduled {
             moment,
             place: self.pushed,
             station,
             own,
-        };
-        // It is counted only where there is room for it, so that each that is counted waits.
-        self.own.reserve(1)?;
-        self.counts.add(&waiting)?;
-        self.own.push(waiting)?;
-        self.pushed = put;
+        })?;
+        self.pushed = pushed;
         Ok(())
     }
 
@@ -278,14 +266,13 @@ impl<'a> Queue<'a> {
             IsTaken self.old.due.items next self.old.taken self.new.taken) }
         ensures none { IfNone result ((length self.old.due.items ≤ self.old.taken)
             × (self.new.taken ≡ self.old.taken)
-            × (heap_items self.new.own ≡ heap_items self.old.own)) }
+            × (self.new.own ≡ self.old.own)) }
         ensures late { IfNone result (All (λ waiting. self.old.until < waiting.moment)
-            (heap_items self.old.own)) }
-        ensures left { IfSome result (λ next.
-            IsLeft next (heap_items self.old.own) (heap_items self.new.own)) }
+            self.old.own) }
+        ensures left { IfSome result (λ next. IsLeft next self.old.own self.new.own) }
         ensures put { self.new.pushed ≡ self.old.pushed }
         ensures moment { IfSome result (λ next. moment_of next ≤ self.old.until) }
-        ensures first { IfSome result (λ next. ComesFirst next (heap_items self.new.own)) }
+        ensures first { IfSome result (λ next. ComesFirst next self.new.own) }
         ensures file_first { (e : Bor FileEvent) →
             slice_get self.old.due.items self.old.taken ≡ Some e →
             IfSome result (IsFileFirst (told_moment e.now)) }
@@ -310,30 +297,16 @@ impl<'a> Queue<'a> {
 
     /// Whether no tick of the air's own waits at a station.
     pub(crate) fn has_no_tick(&self, station: usize) -> bool
-        ensures { result ≡ (count_by (is_tick_at station) (heap_items self.now.own) == 0) }
+        ensures { result ≡ (count_by (is_tick_at station) self.now.own == 0) }
     {
-        match self.counts.get(0, station) {
-            Some(count) => count == 0,
-            None => count_ticks(self.own.as_slice(), station) == 0,
-        }
+        self.own.has_no_tick(station)
     }
 
     /// Whether no send of the traffic of a number waits at a station.
     pub(crate) fn has_no_send(&self, number: usize, station: usize) -> bool
-        ensures { result ≡ (count_by (is_send_at number station) (heap_items self.now.own) == 0) }
+        ensures { result ≡ (count_by (is_send_at number station) self.now.own == 0) }
     {
-        match self.count_of_sends(number, station) {
-            Some(count) => count == 0,
-            None => count_sends(self.own.as_slice(), number, station) == 0,
-        }
-    }
-
-    /// How many sends of the traffic of a number wait at a station, if these are counted.
-    fn count_of_sends(&self, number: usize, station: usize) -> Option<usize>
-        ensures { IfSome result (λ count.
-            count ≡ count_by (is_send_at number station) (heap_items self.now.own)) }
-    {
-        self.counts.get(number.checked_add(1)?, station)
+        self.own.has_no_send(number, station)
     }
 
     /// Takes the first of the air's own, if its moment lies before this one.
@@ -343,47 +316,12 @@ impl<'a> Queue<'a> {
         ensures until { self.new.until ≡ self.old.until }
         ensures put { self.new.pushed ≡ self.old.pushed }
         ensures before { IfSome result (λ waiting. waiting.moment < moment) }
-        ensures first { IfSome result (λ waiting.
-            IsUpperBound waiting_cmp waiting (heap_items self.new.own)) }
+        ensures first { IfSome result (λ waiting. IsUpperBound waiting_cmp waiting self.new.own) }
         ensures left { IfSome result (λ waiting.
-            IsPermutation (heap_items self.old.own) (waiting ∷ heap_items self.new.own)) }
-        ensures none { IfNone result (HeapUnchanged self.old.own self.new.own) }
-        ensures late { IfNone result (All (λ waiting. moment ≤ waiting.moment)
-            (heap_items self.old.own)) }
+            IsPermutation self.old.own (waiting ∷ self.new.own)) }
+        ensures none { IfNone result (self.new.own ≡ self.old.own) }
+        ensures late { IfNone result (All (λ waiting. moment ≤ waiting.moment) self.old.own) }
     {
-        match self.own.peek() {
-            Some(first) if first.moment < moment => {
-                let waiting = self.own.pop()?;
-                self.counts.remove(&waiting);
-                Some(waiting)
-            }
-            _ => None,
-        }
+        self.own.pop_before(moment)
     }
-}
-
-/// How many of these are ticks at a station.
-fn count_ticks(own: &[Scheduled], station: usize) -> usize
-    ensures count { result ≡ count_by (is_tick_at station) own.now }
-{
-    let mut ticks = 0;
-    for waiting in own {
-        if waiting.own.is_tick() && waiting.station == station {
-            ticks += 1;
-        }
-    }
-    ticks
-}
-
-/// How many of these are sends of the traffic of a number by a station.
-fn count_sends(own: &[Scheduled], number: usize, station: usize) -> usize
-    ensures count { result ≡ count_by (is_send_at number station) own.now }
-{
-    let mut sends = 0;
-    for waiting in own {
-        if waiting.own.is_send_of(number) && waiting.station == station {
-            sends += 1;
-        }
-    }
-    sends
 }

@@ -6,10 +6,10 @@ use Rattle.its_model.specs.Calls.{Answer}
 use Rattle.its_model.specs.World.{Config, LogLine, opening, world_run, entries}
 use Rattle.its_world.specs.declared.entry.Entry.{Entry}
 use Rattle.its_world.specs.Entries.{AreEntries}
-use Rattle.its_air.specs.Carried.{world_at}
-use Rattle.its_air.specs.Heard.{air_at}
-use Rattle.its_air.specs.Timetable.{Rules, Filed, AirModel}
-use Rattle.its_air.proofs.OneRun.{one_run}
+use Rattle.its_air_model.specs.Carried.{world_at}
+use Rattle.its_air_model.specs.Heard.{air_at}
+use Rattle.its_air_model.specs.Timetable.{Rules, Filed, AirModel}
+use Rattle.its_air_model.proofs.OneRun.{one_run}
 use Rattle.its_air_rows.specs.Lines.{Line, lines_of, line_of, IsRun, RunsTake}
 
 -- the answers of a log are those of its lines

@@ -11,8 +11,8 @@ use Rattle.its_model.specs.Calls.Answer.{Opened, Sent, Ignored, Accepted}
 use Rattle.its_model.specs.Calls.Why.{NotForMe, OwnSource, Duplicate}
 use Rattle.its_model.specs.World.{Config, What}
 use Rattle.its_model.specs.World.What.{Calls, Deliver}
-use Rattle.its_air.specs.Timetable.{Rules, Filed}
-use Rattle.its_air.specs.Timetable.Filed.{Happens}
+use Rattle.its_air_model.specs.Timetable.{Rules, Filed}
+use Rattle.its_air_model.specs.Timetable.Filed.{Happens}
 use Rattle.its_air_rows.specs.Lines.{Line}
 
 -- so far north of (0, 0), in tenths of a microdegree

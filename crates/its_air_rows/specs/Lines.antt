@@ -6,9 +6,9 @@ use Rattle.its_world.specs.declared.entry.Entry.{Entry}
 use Rattle.its_world.specs.Entries.{AreEntries}
 use Rattle.its_world.specs.State.{WorldState}
 use Rattle.its_air.specs.AirTimed.{IsTimedRun}
-use Rattle.its_air.specs.Carried.{world_at}
-use Rattle.its_air.specs.Heard.{air_at}
-use Rattle.its_air.specs.Timetable.{Rules, Filed, IsOver}
+use Rattle.its_air_model.specs.Carried.{world_at}
+use Rattle.its_air_model.specs.Heard.{air_at}
+use Rattle.its_air_model.specs.Timetable.{Rules, Filed, IsOver}
 
 -- a line: the number of an event, at which moment what happens to which station, and what is
 -- answered

@@ -11,7 +11,7 @@ use Rattle.its_scenario.specs.declared.scenario.Scenario.{Scenario}
 use Rattle.its_air.specs.AirTimed.{IsTimedRun}
 use Rattle.its_air.specs.Moving.{IsMovedRun}
 use Rattle.its_air.specs.Scenarios.{IsRunIn}
-use Rattle.its_air.specs.Timetable.{Filed, Rules}
+use Rattle.its_air_model.specs.Timetable.{Filed, Rules}
 
 -- what follows of all that was taken may be said in its place
 timed_follows : (rules : Rules) (configs : List Config) (file : List Filed) (world : WorldState)

@@ -1,6 +1,6 @@
 use Rattle.std.proofs.Common.{◌≡◌, ◌∙◌, ap, sym, subst, false}
 use Rattle.its_gnvalue.specs.Values.{Position}
-use Rattle.its_air.specs.Reach.{is_within}
+use Rattle.its_air_model.specs.Range.{is_within}
 use Rattle.its_air.specs.PlaceIndexes.{Covers, easting}
 use Rattle.its_air.proofs.Bands.{covers}
 use Rattle.its_air.proofs.place_index.stretch_of.Goals as goal

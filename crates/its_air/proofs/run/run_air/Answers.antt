@@ -11,7 +11,7 @@ use Rattle.its_air.proofs.Under.{begins, ended}
 use Rattle.std.proofs.Common.{Bool, false, suc}
 use Rattle.its_air.specs.AirTimed.{rules_of}
 use Rattle.its_air.specs.Keeps.{GoesOn}
-use Rattle.its_air.specs.Timetable.{air_opening, air_run}
+use Rattle.its_air_model.specs.Timetable.{air_opening, air_run}
 use Rattle.its_air.specs.Traffics.{all_traffic}
 use Rattle.its_air.proofs.run.run_air.Goals as goal
 
@@ -49,7 +49,8 @@ loop-preserved g c =
     record {
       due =
           subst (λ (d : Vec (Bor FileEvent) Global).
-          AreDue (map filed_of c.args.file.now) (end_of c.args.air.now.until c.args.file.now) (filed_in d.items))
+          AreDue (map filed_of c.args.file.now) (end_of c.args.air.now.until c.args.file.now)
+          (filed_in d.items))
           (sym due) c.loop.invariant.due;
       kept = c.go_on.ensures.kept;
       standings = c.in_ok-go_on.ensures.standings;
@@ -81,10 +82,12 @@ returns-then-not-branch-clause-file g c =
     let after = c.in_ok-go_on.ensures.run configs before.0 before.1 in
     let all : length c.go_on.new.self.queue.due.items ≤ c.go_on.new.self.queue.taken =
     c.in_ok-go_on.ensures.ended c.if-not-branch.true in
-    ended configs (map filed_of c.args.file.now) after.0 (end_of c.args.air.now.until c.args.file.now)
+    ended configs (map filed_of c.args.file.now) after.0
+    (end_of c.args.air.now.until c.args.file.now)
     c.go_on.new.self (g.S.EventSink.Took c.go_on.new.sink)
     (subst (λ (d : Vec (Bor FileEvent) Global).
-    AreDue (map filed_of c.args.file.now) (end_of c.args.air.now.until c.args.file.now) (filed_in d.items))
+    AreDue (map filed_of c.args.file.now) (end_of c.args.air.now.until c.args.file.now)
+    (filed_in d.items))
     (sym c.go_on.ensures.due) c.loop.invariant.due)
     all after.1
 

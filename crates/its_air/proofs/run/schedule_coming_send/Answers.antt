@@ -1,7 +1,7 @@
 use Rattle.std.proofs.Common.{◌≡◌, ◌∙◌, sym, subst, Bool, cond, true, false}
 use Rattle.std.specs.Prelude.{OnOk}
 use Rattle.its_air.specs.Keeps.{Keeps}
-use Rattle.its_air.specs.Timetable.{put_send, none_waits, is_send_of}
+use Rattle.its_air_model.specs.Timetable.{schedule_send, none_waits, is_send_of}
 use Rattle.its_air.specs.Traffics.{traffic_of}
 use Rattle.its_air.proofs.Counting.{no_send_waits}
 use Rattle.its_air.proofs.run.schedule_coming_send.Goals as goal
@@ -15,7 +15,7 @@ returns-then-has_no_send-clause-send c = λ t h.
     no_send_waits c.args.queue.now c.args.draws.now t c.args.number n h
     ∙ sym c.has_no_send.ensures ∙ c.if-has_no_send.true in
     subst (λ (b : Bool). OnOk c.schedule_send.result
-    (Keeps c.schedule_send.new.queue c.schedule_send.new.draws (cond b (put_send x n m t) t)))
+    (Keeps c.schedule_send.new.queue c.schedule_send.new.draws (cond b (schedule_send x n m t) t)))
     (sym none) (c.schedule_send.ensures.send t h)
 
 pub returns-else-has_no_send-clause-send : goal.returns-else-has_no_send-clause-send
@@ -26,5 +26,5 @@ returns-else-has_no_send-clause-send c = λ t h.
     let waits : none_waits (is_send_of c.args.number n) t ≡ false =
     no_send_waits c.args.queue.now c.args.draws.now t c.args.number n h
     ∙ sym c.has_no_send.ensures ∙ c.if-has_no_send.false in
-    subst (λ (b : Bool). Keeps c.args.queue.now c.args.draws.now (cond b (put_send x n m t) t))
+    subst (λ (b : Bool). Keeps c.args.queue.now c.args.draws.now (cond b (schedule_send x n m t) t))
     (sym waits) h

@@ -1,7 +1,7 @@
 use Rattle.std.proofs.Common.{◌≡◌, ◌+◌, ◌∙◌, List, ℕ, rules, ap, sym, subst, take, take_all, get_or}
 use Rattle.std.proofs.lemmas.List.{take_more}
 use Rattle.its_air.specs.Keeps.{Keeps}
-use Rattle.its_air.specs.Timetable.{Timetable, send, send_all}
+use Rattle.its_air_model.specs.Timetable.{Timetable, send, send_all}
 use Rattle.its_air.proofs.Keeping.{send_all_more}
 use Rattle.its_air.proofs.run.schedule_deliveries.Goals as goal
 
@@ -23,7 +23,8 @@ loop-station-preserved g c =
           let more : send_all loss k m (take (i + 1) js) t ≡ send loss k m j u =
           ap (λ (l : List ℕ). send_all loss k m l t) (take_more js i 0 c.loop-station-test.true)
           ∙ send_all_more loss k m (take i js) j t in
-          subst (λ (v : Timetable). Keeps c.schedule_delivery.new.queue c.schedule_delivery.new.draws v)
+          subst (λ (v : Timetable). Keeps c.schedule_delivery.new.queue
+          c.schedule_delivery.new.draws v)
           (sym more) (c.in_ok-note.ensures.sent u before);
     }
 

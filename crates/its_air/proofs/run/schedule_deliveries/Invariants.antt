@@ -2,7 +2,7 @@ use Rattle.std.proofs.Common.{take}
 use Rattle.its_air.specs.Files.{SameFile}
 use Rattle.its_air.specs.Keeps.{Keeps}
 use Rattle.its_air.specs.Runs.{SaysAsBefore}
-use Rattle.its_air.specs.Timetable.{Timetable, send_all}
+use Rattle.its_air_model.specs.Timetable.{Timetable, send_all}
 use Rattle.its_air.proofs.run.schedule_deliveries.Given as goal
 
 -- the file waits as before, and the deliveries to the stations so far

@@ -6,6 +6,10 @@ pub returns-clause-sent : goal.returns-clause-sent
 returns-clause-sent c = λ t h.
     keeps_sent c.args.queue.now c.push.new.self c.args.draws.now c.is_lost.new.self t c.args.loss
     c.args.given.frame c.args.given.heard_at c.args.station
-    (record { due = c.push.ensures.due; taken = c.push.ensures.taken; until = c.push.ensures.until })
+    (record {
+      due = c.push.ensures.due;
+      taken = c.push.ensures.taken;
+      until = c.push.ensures.until;
+    })
     c.in_ok-push.ensures.put c.in_ok-push.ensures.count c.is_lost.ensures.rest
     (λ lt. true≢false (sym (c.is_lost.ensures.lost.1 lt) ∙ c.if-is_lost.false)) h

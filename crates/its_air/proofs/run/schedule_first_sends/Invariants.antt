@@ -1,6 +1,6 @@
 use Rattle.its_air.specs.Files.{SameFile}
 use Rattle.its_air.specs.Keeps.{Keeps}
-use Rattle.its_air.specs.Timetable.{Timetable, put_first_sends}
+use Rattle.its_air_model.specs.Timetable.{Timetable, schedule_first_sends}
 use Rattle.its_air.specs.Traffics.{traffic_of}
 use Rattle.its_air.proofs.run.schedule_first_sends.Given as goal
 
@@ -10,5 +10,6 @@ invariant-loop-station l =
     record {
       file : SameFile l.fn.queue l.queue;
       sends : (t : Timetable) → Keeps l.fn.queue l.fn.draws t
-          → Keeps l.queue l.draws (put_first_sends l.present (traffic_of l.number l.traffic) l.station t);
+          → Keeps l.queue l.draws (schedule_first_sends l.present (traffic_of l.number l.traffic)
+          l.station t);
     }

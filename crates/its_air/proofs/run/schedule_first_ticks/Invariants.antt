@@ -1,6 +1,6 @@
 use Rattle.its_air.specs.Files.{SameFile}
 use Rattle.its_air.specs.Keeps.{Keeps}
-use Rattle.its_air.specs.Timetable.{Timetable, put_first_ticks}
+use Rattle.its_air_model.specs.Timetable.{Timetable, schedule_first_ticks}
 use Rattle.its_air.proofs.run.schedule_first_ticks.Given as goal
 
 -- the file waits as before, and the ticks of the stations so far
@@ -9,5 +9,5 @@ invariant-loop-station l =
     record {
       file : SameFile l.fn.queue l.queue;
       ticks : (t : Timetable) → Keeps l.fn.queue l.fn.draws t
-          → Keeps l.queue l.draws (put_first_ticks l.present l.station t);
+          → Keeps l.queue l.draws (schedule_first_ticks l.present l.station t);
     }

@@ -1,7 +1,7 @@
-use Rattle.std.proofs.Common.{◌≡◌, ◌+◌, ◌%◌, ◌∙◌, refl, ap, sym, ◌∷◌, IsPermutation, heap_items}
+use Rattle.std.proofs.Common.{◌≡◌, ◌+◌, ◌%◌, ◌∙◌, refl, ap, sym, ◌∷◌, IsPermutation}
 use Rattle.its_air.specs.declared.waiting.Scheduled.{Scheduled}
 use Rattle.its_air.specs.declared.waiting.AirAction.TheVariants as owns
-use Rattle.its_air.specs.Timetable.{put_send, sending, draw}
+use Rattle.its_air_model.specs.Timetable.{schedule_send, sending, draw}
 use Rattle.its_air.specs.Traffics.{traffic_of}
 use Rattle.its_air.specs.Keeps.{Keeps}
 use Rattle.its_air.proofs.Keeping.{keeps_put, drawn_is, on_ok_both}
@@ -19,13 +19,14 @@ returns-clause-send c = λ t h.
       station = c.args.station;
       own = owns.Send c.args.number c.args.traffic.now;
     } in
-    on_ok_both c.push.result (IsPermutation (x ∷ heap_items queue.own) (heap_items c.push.new.self.own))
+    on_ok_both c.push.result (IsPermutation (x ∷ queue.own) c.push.new.self.own)
     (c.push.new.self.pushed ≡ queue.pushed + 1)
-    (Keeps c.push.new.self c.within.new.self (put_send flow c.args.station c.args.moment t))
+    (Keeps c.push.new.self c.within.new.self (schedule_send flow c.args.station c.args.moment t))
     (λ moves count.
     keeps_put queue c.push.new.self words c.within.new.self t x
     (sending flow c.args.station (c.args.moment + draw t % flow.period))
-    (record { due = c.push.ensures.due; taken = c.push.ensures.taken; until = c.push.ensures.until })
+    (record { due = c.push.ensures.due; taken = c.push.ensures.taken; until = c.push.ensures.until
+    })
     moves count refl
     (ap (λ n. sending flow c.args.station (c.args.moment + n))
     (c.within.ensures.value ∙ ap (λ n. n % flow.period) (sym (drawn_is queue words t h))))

@@ -1,8 +1,8 @@
 use Rattle.std.proofs.Common.{◌≡◌, ◌+◌, ◌%◌, ◌∙◌, max, refl, arith, ap, sym}
-use Rattle.std.proofs.Common.{◌∷◌, IsPermutation, heap_items}
+use Rattle.std.proofs.Common.{◌∷◌, IsPermutation}
 use Rattle.its_air.specs.declared.waiting.Scheduled.{Scheduled}
 use Rattle.its_air.specs.declared.waiting.AirAction.TheVariants as owns
-use Rattle.its_air.specs.Timetable.{put_tick, tick, draw}
+use Rattle.its_air_model.specs.Timetable.{schedule_tick, tick, draw}
 use Rattle.its_air.specs.Keeps.{Keeps}
 use Rattle.its_air.proofs.Keeping.{keeps_put, tick_is, drawn_is, on_ok_both}
 use Rattle.its_air.proofs.run.schedule_tick.Goals as goal
@@ -21,16 +21,18 @@ returns-clause-tick c = λ t h.
       station = c.args.station;
       own = owns.Tick jitter;
     } in
-    on_ok_both c.push.result (IsPermutation (x ∷ heap_items queue.own) (heap_items c.push.new.self.own))
+    on_ok_both c.push.result (IsPermutation (x ∷ queue.own) c.push.new.self.own)
     (c.push.new.self.pushed ≡ queue.pushed + 1)
     (Keeps c.push.new.self c.jitter-jitter.new.self
-    (put_tick c.args.station c.args.moment c.args.beacon_from t))
+    (schedule_tick c.args.station c.args.moment c.args.beacon_from t))
     (λ moves count.
     keeps_put queue c.push.new.self words c.jitter-jitter.new.self t x
     (tick c.args.station c.args.moment c.args.beacon_from (draw t % 751))
-    (record { due = c.push.ensures.due; taken = c.push.ensures.taken; until = c.push.ensures.until })
+    (record { due = c.push.ensures.due; taken = c.push.ensures.taken; until = c.push.ensures.until
+    })
     moves count refl
-    (tick_is c.args.station c.args.moment c.args.beacon_from c.max.result queue.pushed jitter (draw t)
+    (tick_is c.args.station c.args.moment c.args.beacon_from c.max.result queue.pushed jitter
+    (draw t)
     m (c.jitter-jitter.ensures.value ∙ ap (λ n. n % 751) (sym (drawn_is queue words t h))))
     c.jitter-jitter.ensures.rest h)
     c.push.ensures.put c.push.ensures.count

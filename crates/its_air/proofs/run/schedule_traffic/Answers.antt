@@ -1,8 +1,10 @@
-use Rattle.std.proofs.Common.{◌≡◌, ◌+◌, ◌∷◌, ◌++◌, ◌∙◌, [], List, rules, arith, ap, sym, subst, take, take_all}
+use Rattle.std.proofs.Common.{◌≡◌, ◌+◌, ◌∷◌, ◌++◌, ◌∙◌, [], List, rules, arith, ap, sym, subst}
+use Rattle.std.proofs.Common.{take, take_all}
 use Rattle.std.proofs.lemmas.List.{take_more, length-take-le}
 use Rattle.its_scenario.specs.declared.traffic.Traffic.{Traffic as Flow}
 use Rattle.its_air.specs.Keeps.{Keeps}
-use Rattle.its_air.specs.Timetable.{Timetable, Traffic, put_traffic, put_first_sends}
+use Rattle.its_air_model.specs.Timetable.{Timetable, Traffic, schedule_traffic}
+use Rattle.its_air_model.specs.Timetable.{schedule_first_sends}
 use Rattle.its_air.specs.Traffics.{all_traffic, traffic_of}
 use Rattle.its_air.proofs.Keeping.{traffic_more, first_sends_more}
 use Rattle.its_air.proofs.run.schedule_traffic.Goals as goal
@@ -20,13 +22,13 @@ loop-number-preserved c =
       file = search rules;
       sends = λ t h.
           let before = c.loop-number.invariant.sends t h in
-          let u = put_traffic present (all_traffic (take i every)) n t in
-          let more : put_traffic present (all_traffic (take (i + 1) every)) n t
-          ≡ put_first_sends present (traffic_of i x) n u =
-          ap (λ (l : List Flow). put_traffic present (all_traffic l) n t)
+          let u = schedule_traffic present (all_traffic (take i every)) n t in
+          let more : schedule_traffic present (all_traffic (take (i + 1) every)) n t
+          ≡ schedule_first_sends present (traffic_of i x) n u =
+          ap (λ (l : List Flow). schedule_traffic present (all_traffic l) n t)
           (take_more every i x (omega (arith, below))
           ∙ ap (λ (y : Flow). take i every ++ y ∷ []) (sym c.index-every-number.is))
-          ∙ ap (λ (l : List Traffic). put_traffic present l n t)
+          ∙ ap (λ (l : List Traffic). schedule_traffic present l n t)
           (traffic_more (take i every) x 0 i (omega (arith, long)))
           ∙ first_sends_more present (all_traffic (take i every)) (traffic_of i x) n t in
           subst (λ (v : Timetable). Keeps c.schedule_first_sends.new.queue
@@ -37,6 +39,6 @@ loop-number-preserved c =
 pub returns-clause-sends : goal.returns-clause-sends
 returns-clause-sends c = λ t h.
     subst (λ (l : List Flow). Keeps c.loop-number.queue c.loop-number.draws
-    (put_traffic c.args.present.now (all_traffic l) c.args.count t))
+    (schedule_traffic c.args.present.now (all_traffic l) c.args.count t))
     (take_all c.loop-number.number c.args.every.now (omega (arith, c.loop-number-test.false)))
     (c.loop-number.invariant.sends t h)

@@ -1,7 +1,7 @@
 use Rattle.std.proofs.Common.{take}
 use Rattle.its_air.specs.Files.{SameFile}
 use Rattle.its_air.specs.Keeps.{Keeps}
-use Rattle.its_air.specs.Timetable.{Timetable, put_traffic}
+use Rattle.its_air_model.specs.Timetable.{Timetable, schedule_traffic}
 use Rattle.its_air.specs.Traffics.{all_traffic}
 use Rattle.its_air.proofs.run.schedule_traffic.Given as goal
 
@@ -11,5 +11,5 @@ invariant-loop-number l =
     record {
       file : SameFile l.fn.queue l.queue;
       sends : (t : Timetable) → Keeps l.fn.queue l.fn.draws t → Keeps l.queue l.draws
-          (put_traffic l.present (all_traffic (take l.number l.every)) l.count t);
+          (schedule_traffic l.present (all_traffic (take l.number l.every)) l.count t);
     }

@@ -2,8 +2,8 @@ use Rattle.std.proofs.Common.{sym, subst, ◌<◌, ◌++◌, ◌∷◌, [], ℕ,
 use Rattle.its_world.specs.Events.{event_of}
 use Rattle.its_air.specs.Moving.{IsMoving}
 use Rattle.its_air.specs.Outside.{opening_at}
-use Rattle.its_air.specs.Timetable.{Filed}
-use Rattle.its_air.specs.Timetable.Filed.{Happens}
+use Rattle.its_air_model.specs.Timetable.{Filed}
+use Rattle.its_air_model.specs.Timetable.Filed.{Happens}
 use Rattle.its_air.proofs.Moved.{comes_at, says_moving}
 use Rattle.its_air.proofs.step.move_in.Goals as goal
 

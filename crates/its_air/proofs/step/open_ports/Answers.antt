@@ -3,7 +3,7 @@ use Rattle.std.proofs.Common.{append_assoc, map, slice_index_or, take, take_all}
 use Rattle.std.proofs.lemmas.List.{map_more}
 use Rattle.its_air.specs.Moving.{DoesThere, IsMoving}
 use Rattle.its_air.specs.Outside.{opening_at}
-use Rattle.its_air.specs.Timetable.{Filed}
+use Rattle.its_air_model.specs.Timetable.{Filed}
 use Rattle.its_air.proofs.Moved.{event_comes_at, none_at}
 use Rattle.its_air.proofs.step.open_ports.Goals as goal
 

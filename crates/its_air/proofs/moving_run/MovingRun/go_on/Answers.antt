@@ -1,5 +1,4 @@
 use Rattle.std.proofs.Common.{◌≡◌, ◌≤◌, ◌+◌, ◌∙◌, ℕ, refl, subst, ap, arith, All, length}
-use Rattle.std.specs.BinaryHeap.{heap_items}
 use Rattle.its_air.specs.Moving.{IsMoving, IsTaken}
 use Rattle.its_air.specs.UnderRows.{ComesFrom, end_in, turn_in}
 use Rattle.its_air.specs.declared.run.Run.{Run}
@@ -91,8 +90,8 @@ returns-in_ok-take_in-in-Some-coming-clause-moving g c = λ is rules configs u.
       hearers = old.run.hearers;
       done = old.run.done;
     } in
-    let late : All (λ (w : Scheduled). m ≤ w.moment) (heap_items old.run.queue.own) =
-    subst (λ (k : ℕ). All (λ (w : Scheduled). k ≤ w.moment) (heap_items old.run.queue.own)) n.1
+    let late : All (λ (w : Scheduled). m ≤ w.moment) old.run.queue.own =
+    subst (λ (k : ℕ). All (λ (w : Scheduled). k ≤ w.moment) old.run.queue.own) n.1
     c.in_default.ensures.late in
     let moving : IsMoving rules configs u.made u.past m m (end_in old) old.frames_before
     old.delivered_by one A =
@@ -137,7 +136,7 @@ returns-in-None-clause-ended g c = λ is rules configs asked by u.
     ended rules configs u.made u.past u.last u.from end old.frames_before old.delivered_by
     old.run (g.S.EventSink.Took c.args.sink.now) old.moves.now asked old.until
     (end_given old.until old.greatest)
-    (subst (λ (k : ℕ). All (λ (w : Scheduled). k ≤ w.moment) (heap_items old.run.queue.own)) last
+    (subst (λ (k : ℕ). All (λ (w : Scheduled). k ≤ w.moment) old.run.queue.own) last
     c.in_default.ensures.late) u.under.moving
     (is_outside (length configs) (length u.made) u.came u.past u.turn end old asked by comes
     u.outside)

@@ -2,7 +2,8 @@ use Rattle.std.proofs.Common.{[], ◌∷◌, ◌++◌, sym, subst, ◌∙◌}
 use Rattle.its_world.specs.Events.{event_of}
 use Rattle.its_world.specs.State.{WorldState}
 use Rattle.its_simulation.specs.Simulated.{IsSimulated}
-use Rattle.its_air.proofs.run.Run.do_event.Goals.{in-Some-frame+in_ok-schedule_frame, in_default-frame}
+use Rattle.its_air.proofs.run.Run.do_event.Goals.{in-Some-frame+in_ok-schedule_frame}
+use Rattle.its_air.proofs.run.Run.do_event.Goals.{in_default-frame}
 use Rattle.its_air.proofs.run.Run.do_event.Goals as goal
 use Rattle.std.proofs.Common.{◌≡◌, ap, List, ℕ, Option, Some, Bool}
 use Rattle.std.specs.Prelude.{Vec}
@@ -10,7 +11,7 @@ use Rattle.std.specs.declared.alloc.Global.{Global}
 use Rattle.its_model.specs.World.{opening, world_run, entries}
 use Rattle.its_world.specs.State.{RepresentsWorld}
 use Rattle.its_air.specs.Keeps.{Keeps}
-use Rattle.its_air.specs.Timetable.{given, spread_frame}
+use Rattle.its_air_model.specs.Timetable.{given, spread_frame}
 use Rattle.its_air.specs.declared.waiting.Queue.{Queue}
 use Rattle.its_air.proofs.Keeping.{answered_last, goes_on}
 use Rattle.its_air.proofs.Under.{told_on}
@@ -23,7 +24,7 @@ returns-clause-run g c = λ configs events before.
       | in-Some-frame+in_ok-schedule_frame w ↦ rw w.self-is (rw w.sink-is (
           subst (λ (x : WorldState). IsSimulated configs (events ++ e ∷ []) x
           (g.S.EventSink.Took w.schedule_frame.new.sink))
-          (sym (w.schedule_frame.ensures.world ∙ c.update_place.ensures.world))
+          (sym (w.schedule_frame.ensures.world.world ∙ c.update_place.ensures.world))
           (told_on configs (events ++ e ∷ []) c.do_event.new.world
           (g.S.EventSink.Took c.do_event.new.sink) (g.S.EventSink.Took w.schedule_frame.new.sink)
           w.in_ok-schedule_frame.ensures.told done)))
@@ -58,14 +59,17 @@ returns-clause-spread g c = λ rules configs events t goes_by before keeps.
     let kept : Keeps moved.queue moved.draws t =
     subst (λ (q : Queue). Keeps q moved.draws t) (sym c.update_place.ensures.queue)
     (subst (λ (ws : List ℕ). Keeps run.queue ws t) (sym c.update_place.ensures.draws) keeps) in
-    let goes = goes_on rules run moved goes_by c.update_place.ensures.air c.update_place.ensures.every
+    let goes = goes_on rules run moved goes_by c.update_place.ensures.air
+    c.update_place.ensures.every
     (ap (λ (q : Queue). q.until) c.update_place.ensures.queue) in
     let frame : c.frame.result ≡ given after.log = c.frame.ensures a.answer a.tells ∙ sym l.0 in
     elim c.match-frame.branch [
       | in-Some-frame+in_ok-schedule_frame w ↦ rw w.self-is (
-          subst (λ (o : Option ℕ). Keeps w.schedule_frame.new.self.queue w.schedule_frame.new.self.draws
+          subst (λ (o : Option ℕ). Keeps w.schedule_frame.new.self.queue
+          w.schedule_frame.new.self.draws
           (spread_frame rules present e after o t)) (sym w.in-Some-frame.is ∙ frame)
-          (subst (λ (l : List Bool). Keeps w.schedule_frame.new.self.queue w.schedule_frame.new.self.draws
+          (subst (λ (l : List Bool). Keeps w.schedule_frame.new.self.queue
+          w.schedule_frame.new.self.draws
           (spread_frame rules l e after (Some w.in-Some-frame.frame) t)) same
           (w.in_ok-schedule_frame.ensures.spread rules after t goes stands kept)))
       | in_default-frame w ↦ rw w.self-is (

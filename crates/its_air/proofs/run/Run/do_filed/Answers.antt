@@ -8,7 +8,7 @@ use Rattle.its_world.specs.State.{WorldState}
 use Rattle.its_air.specs.AirRun.{events_in}
 use Rattle.its_air.specs.Keeps.{Keeps, IsTimed}
 use Rattle.its_air.specs.Queues.{filed_of}
-use Rattle.its_air.specs.Timetable.{of_file, take_one}
+use Rattle.its_air_model.specs.Timetable.{of_file, take_one}
 use Rattle.std.proofs.lemmas.List.{append-nil}
 use Rattle.its_air.specs.declared.waiting.Queue.{Queue}
 use Rattle.its_air.proofs.Keeping.{on_ok, goes_on}
@@ -25,7 +25,8 @@ returns-in-Leaves-clause-run g c = λ configs events before.
     (λ says. subst (λ (f : FileEvent). IsSimulated configs
     (events ++ events_in (filed_of f ∷ [])) last.world After) (sym c.in-Leaves.is)
     (subst (λ (l : List Event). IsSimulated configs l last.world After) (sym (append-nil events))
-    (subst (λ (x : WorldState). IsSimulated configs events x After) (sym c.leave.ensures.world)
+    (subst (λ (x : WorldState). IsSimulated configs events x After)
+    (sym c.leave.ensures.world.world)
     (told_on configs events c.args.self.now.world (g.S.EventSink.Took c.args.sink.now) After says
     before))))
     c.leave.ensures.told
@@ -40,10 +41,11 @@ returns-in-Leaves-clause-timed g c = λ rules configs a h.
     (λ says. subst (λ (f : FileEvent). IsTimed rules configs
     (take_one rules configs a (of_file (filed_of f)) a.timetable) last After) (sym c.in-Leaves.is)
     (record {
-      goes_by = goes_on rules run last h.goes_by c.leave.ensures.air c.leave.ensures.every
+      goes_by = goes_on rules run last h.goes_by c.leave.ensures.world.air
+          c.leave.ensures.world.every
           (ap (λ (q : Queue). q.until) c.leave.ensures.queue);
       told = subst (λ (x : WorldState). IsSimulated configs a.done x After)
-          (sym c.leave.ensures.world)
+          (sym c.leave.ensures.world.world)
           (told_on configs a.done run.world (g.S.EventSink.Took c.args.sink.now) After says h.told);
       keeps = subst (λ (q : Queue). Keeps q last.draws a.timetable) (sym c.leave.ensures.queue)
           (subst (λ (ws : List ℕ). Keeps run.queue ws a.timetable) (sym c.leave.ensures.draws)

@@ -6,7 +6,7 @@ use Rattle.its_simulation.specs.Simulated.{IsSimulated}
 use Rattle.its_world.specs.Events.{event_of}
 use Rattle.its_world.specs.State.{WorldState}
 use Rattle.its_air.specs.Keeps.{Keeps, IsAnswered}
-use Rattle.its_air.specs.Timetable.{come, comes, present_after, spread}
+use Rattle.its_air_model.specs.Timetable.{come, comes, present_after, spread}
 use Rattle.its_air.proofs.Keeping.{on_ok_both, goes_on}
 use Rattle.its_air.proofs.Stepping.{filed_event}
 use Rattle.its_air.proofs.run.Run.do_outer.Goals as goal
@@ -21,7 +21,8 @@ returns-clause-timed g c = λ rules configs a h.
     let after = world_run (opening configs) (a.done ++ e ∷ []) in
     let goes = goes_on rules run done h.goes_by c.do_event.ensures.air c.do_event.ensures.every
     c.do_event.ensures.file.until in
-    let goes_last = goes_on rules done last goes c.admit.ensures.air c.admit.ensures.every
+    let goes_last = goes_on rules done last goes c.admit.ensures.world.air
+    c.admit.ensures.world.every
     c.admit.ensures.file.until in
     let present : done.present.items ≡ a.present =
     ap (λ (v : Vec Bool Global). v.items) c.do_event.ensures.present ∙ h.present in
@@ -39,7 +40,7 @@ returns-clause-timed g c = λ rules configs a h.
     on_ok_both c.admit.result Presence Timing _
     (λ presence timing. filed_event rules configs a e last After goes_last
     (subst (λ (x : WorldState). IsSimulated configs (a.done ++ e ∷ []) x After)
-    (sym c.admit.ensures.world) told)
+    (sym c.admit.ensures.world.world) told)
     (subst (λ (l : List Bool). Keeps last.queue last.draws
     (cond (comes l e after) (come rules e.station e.moment t) t)) present timing)
     (subst (λ (l : List Bool). last.present.items ≡ present_after l e after) present presence))

@@ -11,9 +11,10 @@ use Rattle.its_world.specs.State.{WorldState}
 use Rattle.its_air.specs.Keeps.{Keeps, IsAnswered}
 use Rattle.its_air.specs.Queues.{happening_of}
 use Rattle.its_air.specs.Runs.{SaysAsBefore}
-use Rattle.its_air.specs.Timetable.{Timetable, come, comes, follow_all, is_passed_over, is_refusal}
-use Rattle.its_air.specs.Timetable.{present_after, spread}
-use Rattle.its_air.specs.Waits.{put_of}
+use Rattle.its_air_model.specs.Timetable.{Timetable, come, comes, follow_all, is_passed_over}
+use Rattle.its_air_model.specs.Timetable.{is_refusal}
+use Rattle.its_air_model.specs.Timetable.{present_after, spread}
+use Rattle.its_air.specs.Waits.{planned_of}
 use Rattle.its_air.proofs.Keeping.{on_ok, on_ok_both, goes_on, same_file}
 use Rattle.its_air.proofs.Stepping.{follows, own_done, own_passed_over}
 use Rattle.its_air.proofs.Under.{told_on}
@@ -30,7 +31,7 @@ pub returns-then-is_passed_over-clause-timed : goal.returns-then-is_passed_over-
 returns-then-is_passed_over-clause-timed g c = λ rules configs a h.
     own_passed_over rules configs a c.args.waiting.now c.args.self.now
     (g.S.EventSink.Took c.args.sink.now)
-    (ap (λ (l : List Bool). is_passed_over l (put_of c.args.waiting.now)) (sym h.present)
+    (ap (λ (l : List Bool). is_passed_over l (planned_of c.args.waiting.now)) (sym h.present)
     ∙ sym c.is_passed_over.ensures ∙ c.if-is_passed_over.true) h
 
 pub returns-clause-run : goal.returns-clause-run
@@ -43,7 +44,7 @@ returns-clause-run g c = λ configs events before.
     (λ says. (
       e ∷ [],
       subst (λ (x : WorldState). IsSimulated configs (events ++ e ∷ []) x After)
-          (sym (c.come.ensures.world ∙ c.schedule_next.ensures.world))
+          (sym (c.come.ensures.world.world ∙ c.schedule_next.ensures.world.world))
           (told_on configs (events ++ e ∷ []) done.world (g.S.EventSink.Took c.do_event.new.sink)
           After says (c.in_ok-entry.ensures.run configs events before)),
     ))
@@ -64,15 +65,16 @@ returns-clause-timed g c = λ rules configs a h.
     let after = world_run (opening configs) (a.done ++ e ∷ []) in
     let goes = goes_on rules run done h.goes_by c.do_event.ensures.air c.do_event.ensures.every
     c.do_event.ensures.file.until in
-    let goes_next = goes_on rules done next goes c.schedule_next.ensures.air
-    c.schedule_next.ensures.every c.schedule_next.ensures.file.until in
-    let goes_last = goes_on rules next last goes_next c.come.ensures.air c.come.ensures.every
+    let goes_next = goes_on rules done next goes c.schedule_next.ensures.world.air
+    c.schedule_next.ensures.world.every c.schedule_next.ensures.file.until in
+    let goes_last = goes_on rules next last goes_next c.come.ensures.world.air
+    c.come.ensures.world.every
     c.come.ensures.file.until in
     let present : next.present.items ≡ a.present =
     ap (λ (v : Vec Bool Global). v.items)
     (c.schedule_next.ensures.present ∙ c.do_event.ensures.present) ∙ h.present in
-    let run_it : is_passed_over a.present (put_of w) ≡ false =
-    ap (λ (l : List Bool). is_passed_over l (put_of w)) (sym h.present)
+    let run_it : is_passed_over a.present (planned_of w) ≡ false =
+    ap (λ (l : List Bool). is_passed_over l (planned_of w)) (sym h.present)
     ∙ sym c.is_passed_over.ensures ∙ c.if-is_passed_over.false in
     let told : IsSimulated configs (a.done ++ e ∷ []) done.world Before =
     subst (λ (x : Event). IsSimulated configs (a.done ++ x ∷ []) done.world Before) is
@@ -88,7 +90,7 @@ returns-clause-timed g c = λ rules configs a h.
     (subst (λ (l : List Bool). Keeps done.queue done.draws (spread rules l ev
     (world_run (opening configs) (a.done ++ ev ∷ [])) a.timetable)) h.present
     (c.in_ok-entry.ensures.spread rules configs a.done a.timetable h.goes_by h.told h.keeps)) in
-    let t = follow_all rules a.present (put_of w) after a.timetable in
+    let t = follow_all rules a.present (planned_of w) after a.timetable in
     let followed : Keeps next.queue next.draws t =
     subst (λ (u : Timetable). Keeps next.queue next.draws u)
     (follows w after s (is_refusal said.answer) said.refused)
@@ -100,7 +102,7 @@ returns-clause-timed g c = λ rules configs a h.
     (λ (says : SaysAsBefore Before After) (both : Presence × Timing).
     own_done rules configs a w last After run_it goes_last
     (subst (λ (x : WorldState). IsSimulated configs (a.done ++ e ∷ []) x After)
-    (sym (c.come.ensures.world ∙ c.schedule_next.ensures.world))
+    (sym (c.come.ensures.world.world ∙ c.schedule_next.ensures.world.world))
     (told_on configs (a.done ++ e ∷ []) done.world Before After says told))
     (subst (λ (l : List Bool). Keeps last.queue last.draws
     (cond (comes l e after) (come rules e.station e.moment t) t)) present
@@ -139,7 +141,7 @@ returns-clause-own g c = λ configs events before.
           (ap (λ (x : Event). x.station) c.in_ok-event.ensures.event)
           (All-nil (λ (x : Event). x.station ≡ c.args.waiting.now.station)),
       subst (λ (x : WorldState). IsSimulated configs (events ++ e ∷ []) x After)
-          (sym (c.come.ensures.world ∙ c.schedule_next.ensures.world))
+          (sym (c.come.ensures.world.world ∙ c.schedule_next.ensures.world.world))
           (told_on configs (events ++ e ∷ []) done.world (g.S.EventSink.Took c.do_event.new.sink)
           After says (c.in_ok-entry.ensures.run configs events before)),
     ))

@@ -1,10 +1,11 @@
-use Rattle.std.proofs.Common.{◌≡◌, ◌∙◌, ap, sym, List, [], ℕ, Some, None, Bool, cond, false, true, refl, rules}
+use Rattle.std.proofs.Common.{◌≡◌, ◌∙◌, ap, sym, List, [], ℕ, Some, None, Bool, cond, false, true}
+use Rattle.std.proofs.Common.{refl, rules}
 use Rattle.std.specs.Prelude.{slice_get}
 use Rattle.std.specs.List.{filter}
 use Rattle.its_gnvalue.specs.Values.{PositionVector}
 use Rattle.its_station.specs.State.{StationState}
 use Rattle.its_air.specs.Reach.{hearers}
-use Rattle.its_air.specs.Timetable.{hear_it, in_reach_of, is_present}
+use Rattle.its_air_model.specs.Timetable.{hear_it, in_reach_of, is_present}
 use Rattle.its_air.proofs.Keeping.{hear_same, no_model, found_some, found_none}
 use Rattle.its_air.proofs.run.Run.find_hearers.Goals as goal
 

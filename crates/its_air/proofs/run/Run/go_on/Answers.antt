@@ -2,7 +2,7 @@ use Rattle.std.proofs.Common.{◌≡◌, ◌≤◌, ◌∙◌, [], ◌∷◌, �
 use Rattle.its_scenario.specs.Airs.{moment_of as told_moment}
 use Rattle.its_air.specs.AirRun.{events_in}
 use Rattle.its_air.specs.Queues.{filed_of}
-use Rattle.its_air.specs.Timetable.{Rules, NoneWaits, of_file}
+use Rattle.its_air_model.specs.Timetable.{Rules, NoneWaits, of_file}
 use Rattle.its_air.specs.Waits.{pending_of}
 use Rattle.its_air.proofs.Files.{same_moment}
 use Rattle.its_air.proofs.Keeping.{goes_on}
@@ -53,7 +53,8 @@ returns-in_ok-do_filed-in-Some-OfFile-clause-timed g c = λ rules configs a h.
     let last : run.queue.until ≡ rules.until = ap (λ (r : Rules). r.until) h.goes_by in
     timed_one rules configs a (of_file (filed_of f.now)) got.0 c.do_filed.new.self
     (g.S.EventSink.Took c.do_filed.new.sink) got.1
-    (subst (λ n. n ≤ rules.until) (sym (same_moment f.now)) (subst (λ n. told_moment f.now ≤ n) last moment))
+    (subst (λ n. n ≤ rules.until) (sym (same_moment f.now)) (subst (λ n. told_moment f.now ≤ n) last
+    moment))
     (c.in_ok-do_filed-in-Some-OfFile.ensures.timed rules configs (without_first a got.0)
     (record {
       goes_by = goes_on rules run (record run { queue = queue }) h.goes_by refl refl

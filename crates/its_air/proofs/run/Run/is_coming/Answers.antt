@@ -1,5 +1,5 @@
 use Rattle.std.proofs.Common.{◌≡◌, ◌∙◌, ap, sym, Bool, not, ◌&&◌, true, false, rules}
-use Rattle.its_air.specs.Timetable.{is_present, was_moved}
+use Rattle.its_air_model.specs.Timetable.{is_present, was_moved}
 use Rattle.its_air.proofs.run.Run.is_coming.Goals as goal
 
 pub returns-then-is_move : goal.returns-then-is_move

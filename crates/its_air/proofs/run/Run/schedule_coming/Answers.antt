@@ -1,7 +1,7 @@
 use Rattle.std.proofs.Common.{subst}
 use Rattle.std.specs.Prelude.{OnOk}
 use Rattle.its_air.specs.Keeps.{Keeps}
-use Rattle.its_air.specs.Timetable.{Rules, come, come_ticking}
+use Rattle.its_air_model.specs.Timetable.{Rules, come, come_ticking}
 use Rattle.its_air.proofs.run.Run.schedule_coming.Goals as goal
 
 pub returns-clause-come : goal.returns-clause-come

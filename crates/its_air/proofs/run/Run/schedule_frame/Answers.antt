@@ -4,7 +4,7 @@ use Rattle.its_scenario.specs.declared.air.Air.{Air}
 use Rattle.its_world.specs.Events.{event_of}
 use Rattle.its_air.specs.Files.{SameFile}
 use Rattle.its_air.specs.Keeps.{Keeps}
-use Rattle.its_air.specs.Timetable.{Rules, send_all, spread_frame, heard_by}
+use Rattle.its_air_model.specs.Timetable.{Rules, send_all, spread_frame, heard_by}
 use Rattle.its_air.specs.declared.waiting.Queue.{Queue}
 use Rattle.its_air.proofs.run.Run.schedule_frame.Goals as goal
 
@@ -25,7 +25,8 @@ returns-clause-spread g c = λ rules w t goes_by stands h.
     subst (λ (r : Rules). OnOk c.schedule_deliveries.result
     (Keeps queue words (spread_frame r run.present.items (event_of e) w (Some k) t))) goes_by
     (subst (λ (a : Air). OnOk c.schedule_deliveries.result
-    (Keeps queue words (send_all a.loss k (e.moment + a.delay) js t))) c.find_hearers.ensures.air
+    (Keeps queue words (send_all a.loss k (e.moment + a.delay) js t)))
+    c.find_hearers.ensures.world.air
     (subst (λ (l : List ℕ). OnOk c.schedule_deliveries.result
     (Keeps queue words (send_all found.air.loss k (e.moment + found.air.delay) l t))) heard
     (subst (λ d. OnOk c.schedule_deliveries.result

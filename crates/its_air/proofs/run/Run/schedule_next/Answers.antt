@@ -1,9 +1,9 @@
-use Rattle.std.proofs.Common.{◌≡◌, ◌+◌, ◌∷◌, refl, ap, subst, rules, IsPermutation, heap_items}
+use Rattle.std.proofs.Common.{◌≡◌, ◌+◌, ◌∷◌, refl, ap, subst, rules, IsPermutation}
 use Rattle.std.specs.Prelude.{slice_get, OnOk}
 use Rattle.its_air.specs.declared.waiting.Scheduled.{Scheduled}
 use Rattle.its_air.specs.declared.waiting.AirAction.TheVariants as owns
 use Rattle.its_air.specs.Keeps.{Keeps, follow_own}
-use Rattle.its_air.specs.Timetable.{Timetable, is_refusal, sending}
+use Rattle.its_air_model.specs.Timetable.{Timetable, is_refusal, sending}
 use Rattle.its_air.specs.Traffics.{traffic_of}
 use Rattle.its_air.proofs.Following.{follows_tick, follows_delivery, follows_send}
 use Rattle.its_air.proofs.Keeping.{keeps_put_alone, on_ok_both}
@@ -34,21 +34,22 @@ returns-in-Send-clause-next c = λ w t answer stands tells h.
     let x = c.in-Send.traffic in
     let m = done.moment + c.from.result in
     let later : m ≡ done.moment + x.period = search rules in
-    let put : Scheduled = record {
+    let schedule : Scheduled = record {
       moment = m;
       place = queue.pushed;
       station = done.station;
       own = owns.Send n x;
     } in
-    on_ok_both c.push.result (IsPermutation (put ∷ heap_items queue.own) (heap_items c.push.new.self.own))
+    on_ok_both c.push.result (IsPermutation (schedule ∷ queue.own) c.push.new.self.own)
     (c.push.new.self.pushed ≡ queue.pushed + 1)
     (Keeps c.push.new.self words (follow_own done (is_refusal answer)
     (slice_get w.stations done.station) t))
     (λ moves count.
     subst (λ (u : Timetable). Keeps c.push.new.self words u)
     (follows_send done n x (is_refusal answer) (slice_get w.stations done.station) t c.in-Send.is)
-    (keeps_put_alone queue c.push.new.self words t put
+    (keeps_put_alone queue c.push.new.self words t schedule
     (sending (traffic_of n x) done.station (done.moment + x.period))
-    (record { due = c.push.ensures.due; taken = c.push.ensures.taken; until = c.push.ensures.until })
+    (record { due = c.push.ensures.due; taken = c.push.ensures.taken; until = c.push.ensures.until
+    })
     moves count refl (ap (sending (traffic_of n x) done.station) later) h))
     c.push.ensures.put c.push.ensures.count

@@ -1,11 +1,13 @@
-use Rattle.std.proofs.Common.{◌≡◌, ◌∙◌, ap, sym, subst, Some, None, Option, cond, false, Bool, true≢false}
+use Rattle.std.proofs.Common.{◌≡◌, ◌∙◌, ap, sym, subst, Some, None, Option, cond, false, Bool}
+use Rattle.std.proofs.Common.{true≢false}
 use Rattle.std.specs.Prelude.{slice_get, OnOk}
 use Rattle.its_model.specs.Station.{StationModel}
 use Rattle.its_world.proofs.Worlds.{get_station}
 use Rattle.its_air.specs.Queues.{happening_of}
 use Rattle.its_air.specs.Keeps.{Keeps}
-use Rattle.its_air.specs.Timetable.{Timetable, is_refusal, tick_again, put_tick}
-use Rattle.its_air.proofs.Keeping.{beacon_same, no_model, either, found_some, found_none, tells_refusal, not_refused_is}
+use Rattle.its_air_model.specs.Timetable.{Timetable, is_refusal, tick_again, schedule_tick}
+use Rattle.its_air.proofs.Keeping.{beacon_same, no_model, either, found_some, found_none}
+use Rattle.its_air.proofs.Keeping.{tells_refusal, not_refused_is}
 use Rattle.its_air.proofs.run.Run.schedule_next_tick.Goals.{in-Refused, in_default}
 use Rattle.its_air.proofs.run.Run.schedule_next_tick.Goals as goal
 
@@ -37,11 +39,13 @@ returns-clause-tick c = λ w t answer stands tells h.
       | in-Refused v ↦ absurd (true≢false (sym v.matches-is ∙ c.if-matches.false))
       | in_default v ↦ not_refused_is c.args.entry.now v.in_default.not-Refused
     ]) in
-    let same : put_tick n c.args.tick.now.moment c.beacon_from.result t
-    ≡ cond (is_refusal answer) t (tick_again (happening_of c.args.tick.now) (slice_get w.stations n) t) =
-    ap (λ b. put_tick n c.args.tick.now.moment b t) (sym due)
+    let same : schedule_tick n c.args.tick.now.moment c.beacon_from.result t
+    ≡ cond (is_refusal answer) t (tick_again (happening_of c.args.tick.now) (slice_get w.stations n)
+    t) =
+    ap (λ b. schedule_tick n c.args.tick.now.moment b t) (sym due)
     ∙ ap (λ (o : Option StationModel). tick_again (happening_of c.args.tick.now) o t) (sym s.1)
-    ∙ ap (λ (b : Bool). cond b t (tick_again (happening_of c.args.tick.now) (slice_get w.stations n) t))
+    ∙ ap (λ (b : Bool). cond b t (tick_again (happening_of c.args.tick.now) (slice_get w.stations n)
+    t))
     (sym not_refused) in
     subst (λ (v : Timetable). OnOk c.schedule_tick.result (Keeps c.schedule_tick.new.queue
     c.schedule_tick.new.draws v)) same (c.schedule_tick.ensures.tick t h)

@@ -5,9 +5,9 @@ use Rattle.std.proofs.lemmas.Fn.{always_returns_same}
 use Rattle.its_scenario.specs.Airs.{moment_of}
 use Rattle.its_scenario.specs.declared.event.FileEvent.{FileEvent}
 use Rattle.its_air.specs.Queues.{IsFiledInRange}
-use Rattle.its_air.specs.Counted.{AreCounted}
 use Rattle.its_air.proofs.Files.{Kept, kept_push, kept_skip, due_in_order}
-use Rattle.its_air.proofs.waiting.Queue.of_file.Goals.{then-moment-until+in_ok-push, else-moment-until}
+use Rattle.its_air.proofs.waiting.Queue.of_file.Goals.{then-moment-until+in_ok-push}
+use Rattle.its_air.proofs.waiting.Queue.of_file.Goals.{else-moment-until}
 use Rattle.its_air.proofs.waiting.Queue.of_file.Goals as goal
 
 pub loop-filed-preserved : goal.loop-filed-preserved
@@ -23,7 +23,8 @@ loop-filed-preserved c =
           subst (λ (xs : List (Bor FileEvent)). Kept c.args.until xs events (i + 1))
           (sym w.in_ok-push.ensures.items)
           (kept_push c.args.until c.loop-filed.due.items events i _ c.loop-filed.invariant lt
-          c.filed-item.is (subst (λ n. n ≤ c.args.until) c.moment.ensures w.if-moment-until.true) range))
+          c.filed-item.is
+          (subst (λ n. n ≤ c.args.until) c.moment.ensures w.if-moment-until.true) range))
       | else-moment-until w ↦ rw w.due-is (
           kept_skip c.args.until c.loop-filed.due.items events i e c.loop-filed.invariant lt
           c.filed-item.is (subst (λ n. c.args.until < n) c.moment.ensures w.if-moment-until.false))
@@ -33,13 +34,10 @@ pub invariant_of-result : goal.invariant_of-result
 invariant_of-result c =
     record {
       within =
-          All-permutation (λ (e : Bor FileEvent). moment_of e.now ≤ c.args.until) c.loop-filed.due.items
-          c.sort_by_key.new.self.items c.sort_by_key.ensures.permutation
+          All-permutation (λ (e : Bor FileEvent). moment_of e.now ≤ c.args.until)
+          c.loop-filed.due.items c.sort_by_key.new.self.items c.sort_by_key.ensures.permutation
           c.loop-filed.invariant.within;
       last = c.requires.last;
-      ordered = c.new.ensures.heap_order;
-      counted = subst (AreCounted c.new-2.result.kinds c.new-2.result.each.items)
-          (sym c.new.ensures.items) c.new-2.ensures;
     }
 
 pub returns : goal.returns

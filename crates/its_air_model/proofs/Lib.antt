@@ -1,0 +1,12 @@
+pub mod Putting
+pub mod OneRun
+pub mod Moments
+pub mod Lasting
+pub mod Heard
+pub mod Ticks
+pub mod Logs
+pub mod InLine
+pub mod Once
+pub mod Carried
+pub mod Comings
+pub mod Sends

@@ -1,0 +1,5 @@
+pub mod Draws
+pub mod Range
+pub mod Timetable
+pub mod Heard
+pub mod Carried
