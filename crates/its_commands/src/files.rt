@@ -34,7 +34,7 @@ pub fn show_file<R: Files + AllocGlobal, I: Read + Drop, W: Write, E: Write>(
 ) -> Status
 where
     R::File: Read + Drop,
-    ensures { ¬ (showing.time ≡ times.Utc) → IsCommandStatus result }
+    ensures { ¬ (showing.entry.time ≡ times.Utc) → IsCommandStatus result }
 {
     let ended = show_named(rt, file, input, selection, showing, io);
     io.status_of(ended)
@@ -52,7 +52,7 @@ fn show_named<'a, R: Files + AllocGlobal, I: Read + Drop, W: Write, E: Write>(
 where
     R::File: Read + Drop,
     ensures done { IfOk result IsCommandStatus }
-    ensures stopped { ¬ (showing.time ≡ times.Utc) →
+    ensures stopped { ¬ (showing.entry.time ≡ times.Utc) →
         IfErr result (λ fault. IsCommandStatus (show_fault_status fault)) }
 {
     let reader = open(rt, file, input)?;

@@ -126,7 +126,7 @@ pub fn show<R: Read + Drop, W: Write, E: Write>(
     showing: Showing<'_>,
     io: &mut Io<W, E>,
 ) -> Status
-    ensures { ¬ (showing.time ≡ times.Utc) → IsCommandStatus result }
+    ensures { ¬ (showing.entry.time ≡ times.Utc) → IsCommandStatus result }
 {
     let ended = show_records(alloc, file, reader, selection, showing, io);
     io.status_of(ended)
@@ -142,7 +142,7 @@ pub(crate) fn show_records<'a, R: Read + Drop, W: Write, E: Write>(
     io: &mut Io<W, E>,
 ) -> Result<Status, ShowFault<'a>>
     ensures done { IfOk result IsCommandStatus }
-    ensures stopped { ¬ (showing.time ≡ times.Utc) →
+    ensures stopped { ¬ (showing.entry.time ≡ times.Utc) →
         IfErr result (λ fault. IsCommandStatus (show_fault_status fault)) }
 {
     let mut source = open_records(alloc, file, selection.format, reader)?;
