@@ -73,7 +73,7 @@ pub schedule_all_in_order : (ws : List Pending) → InOrder ws → schedule_all 
 schedule_all_in_order [] h = refl
 schedule_all_in_order (p ∷ ws) h =
     schedule_all_behind ws p [] h.0 ∙ ap (λ (l : List Pending). p ∷ l)
-        (schedule_all_in_order ws h.1)
+    (schedule_all_in_order ws h.1)
 
 -- a file whose moments never fall waits as it stands
 pub file_in_order : (file : List Filed) → Rises file → InOrder (map of_file file)

@@ -127,8 +127,13 @@ pub tick_is : (station moment beacon_from m place jitter drawn : ℕ)
     → planned_of (record { moment = m; place = place; station = station; own = owns.Tick jitter })
     ≡ tick station moment beacon_from (drawn % 751)
 tick_is station moment beacon_from m place jitter drawn at is =
-    ap (λ n. planned_of (record { moment = n; place = place; station = station; own = owns.Tick
-    jitter })) at
+    ap (λ n. planned_of (record {
+      moment = n;
+      place = place;
+      station = station;
+      own = owns.Tick
+          jitter;
+    })) at
     ∙ ap (tick station moment beacon_from) is
 
 -- one traffic more
@@ -170,8 +175,13 @@ keeps_lost queue before after t loss frame moment station drawn lost h =
 
 pub keeps_sent : (old new : Queue) (before after : List ℕ) (t : Timetable)
     (loss frame moment station : ℕ) → SameFile old new
-    → IsPermutation (record { moment = moment; place = old.pushed; station = station; own =
-    owns.Deliver frame }
+    → IsPermutation (record {
+      moment = moment;
+      place = old.pushed;
+      station = station;
+      own =
+          owns.Deliver frame;
+    }
     ∷ old.own) new.own
     → new.pushed ≡ old.pushed + 1 → draws_at after ≡ (next_u64 (draws_at before)).1
     → ((next_u64 (draws_at before)).0 % 100 < loss → ⊥) → Keeps old before t

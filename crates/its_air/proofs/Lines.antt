@@ -1,20 +1,21 @@
 -- The line of deliveries beside the heap: its order, and what comes first of both.
-use Rattle.std.proofs.Common.{◌≡◌, ℕ, ◌+◌, ◌≤◌, ◌<◌, List, [], ◌∷◌, ◌++◌, length, refl, sym, ap}
-use Rattle.std.proofs.Common.{◌∙◌, arith, tests, Bool, true, false, subst, ◌&&◌, ◌⊎◌, inl, inr}
+use Rattle.std.proofs.Common.{◌≡◌, ℕ, ◌+◌, ◌-◌, ◌≤◌, ◌<◌, List, [], ◌∷◌, ◌++◌, length, refl, sym, ap}
+use Rattle.std.proofs.Common.{◌∙◌, arith, tests, Bool, true, false, subst, ◌&&◌, cond, inl, inr}
 use Rattle.std.specs.Prelude.{slice_index_or, All, count_by, ◌==◌}
 use Rattle.std.specs.BinaryHeap.{IsUpperBound, lt_by_cmp}
 use Rattle.std.specs.List.{AllByRecursion}
 use Rattle.std.specs.List.Sorted.{IsPermutation}
 use Rattle.std.proofs.lemmas.List.{append_assoc}
-use Rattle.std.proofs.lemmas.List.Elements.{recursion_from_All, All-from_recursion}
+use Rattle.std.proofs.lemmas.List.Elements.{All-from_recursion}
 use Rattle.std.proofs.lemmas.List.Sorted.{IsPermutation-append_comm, IsPermutation-append_left}
 use Rattle.std.proofs.lemmas.List.Sums.{sum_by-append}
 use Rattle.its_air.specs.declared.waiting.Scheduled.{Scheduled}
 use Rattle.its_air.specs.Line.{StandInLine, IsBehind, IsLineFirst, IsHeapFirst, IsLate}
+use Rattle.its_air.specs.Line.{IsFrontLate}
 use Rattle.its_air.specs.Queues.{waiting_cmp}
 
 -- x is taken after y
-abbrev lt : Scheduled → Scheduled → Bool
+abbrev pub lt : Scheduled → Scheduled → Bool
 lt x y = lt_by_cmp waiting_cmp x y
 
 not_after : (x y z : Scheduled) → lt x y ≡ false → lt y z ≡ false → lt x z ≡ false
@@ -43,6 +44,16 @@ pub behind_last : (y : Scheduled) (line : List Scheduled) (last x : Scheduled)
 behind_last y [] last x s is h = (subst (λ z. lt z x ≡ false) is h, tt)
 behind_last y (z ∷ line) last x s is h =
     let rest = behind_last z line last x s.1 is h in (not_after y z x s.0.0 rest.0, rest)
+
+-- the same of a line of which the last is looked up
+pub behind_all : (line : List Scheduled) (last x : Scheduled) → StandInLine line
+    → 0 < length line → last ≡ slice_index_or line (length line - 1) last → lt last x ≡ false
+    → IsBehind x line
+behind_all [] last x stand some is h = absurd (omega (arith, some))
+behind_all (y ∷ line) last x stand some is h =
+    let at : length (y ∷ line) - 1 ≡ length line = omega arith in
+    behind_last y line last x stand
+    (is ∙ ap (λ n. slice_index_or (y ∷ line) n last) at) h
 
 over_all : (x y : Scheduled) (ys : List Scheduled) → lt x y ≡ false
     → IsUpperBound waiting_cmp y ys → IsUpperBound waiting_cmp x ys
@@ -81,3 +92,111 @@ moves_front x heap line =
 pub moves_top : (x : Scheduled) (heap new line : List Scheduled) → IsPermutation heap (x ∷ new)
     → IsPermutation (heap ++ line) (x ∷ (new ++ line))
 moves_top x heap new line h = IsPermutation-append_left line heap (x ∷ new) h
+
+-- ---- what comes first
+
+pub empty : (xs : List Scheduled) → length xs ≤ 0 → xs ≡ []
+empty [] h = refl
+empty (x ∷ xs) h = absurd (omega (arith, h))
+
+-- the first in line comes before all on the heap
+pub line_first : (heap line : List Scheduled) (top front : Scheduled) → 0 < length line
+    → front ≡ slice_index_or line 0 front → IsUpperBound waiting_cmp top heap
+    → lt top front ≡ true → IsLineFirst heap line
+line_first heap [] top front some is bound after = absurd (omega (arith, some))
+line_first heap (y ∷ line) top front some is bound after =
+    record {
+      some = λ none. let size = ap length none in absurd (omega (arith, size));
+      first = λ x rest split.
+          let same : front ≡ x =
+          is ∙ ap (λ (l : List Scheduled). slice_index_or l 0 front) split in
+          subst (λ z. IsUpperBound waiting_cmp z heap) same (before_heap top front heap after bound);
+    }
+
+-- the first on the heap comes before all in line
+pub heap_first : (heap line : List Scheduled) (top front : Scheduled) → 0 < length heap
+    → top ≡ slice_index_or heap 0 top → front ≡ slice_index_or line 0 front → StandInLine line
+    → lt top front ≡ false → IsHeapFirst heap line
+heap_first [] line top front some at_top at_front stand after = absurd (omega (arith, some))
+heap_first (h ∷ heap) [] top front some at_top at_front stand after =
+    record { none = λ is. refl; first = λ x bound. tt }
+heap_first (h ∷ heap) (y ∷ line) top front some at_top at_front stand after =
+    let before : lt h y ≡ false =
+    subst (λ z. lt h z ≡ false) at_front (subst (λ z. lt z front ≡ false) at_top after) in
+    record {
+      none = λ none. let size = ap length none in absurd (omega (arith, size));
+      first = λ x bound. (
+        not_after x h y bound.0 before,
+        over_all x y line (not_after x h y bound.0 before) stand.0,
+      );
+    }
+
+-- nothing in line, nothing to come before
+pub heap_alone : (heap : List Scheduled) → IsHeapFirst heap []
+heap_alone heap = record { none = λ is. refl; first = λ x bound. tt }
+
+pub bound_both : (x : Scheduled) (xs ys : List Scheduled) → IsUpperBound waiting_cmp x xs
+    → IsUpperBound waiting_cmp x ys → IsUpperBound waiting_cmp x (xs ++ ys)
+bound_both x [] ys h k = k
+bound_both x (z ∷ xs) ys h k = (h.0, bound_both x xs ys h.1 k)
+
+-- ---- none before a moment
+
+abbrev AllLate : ℕ → List Scheduled → Type 0
+AllLate moment xs = AllByRecursion (λ (y : Scheduled). moment ≤ y.moment) xs
+
+no_later : (x y : Scheduled) → lt x y ≡ false → x.moment ≤ y.moment
+no_later x y h = grind (arith, tests)
+
+late_all : (moment : ℕ) (x : Scheduled) (xs : List Scheduled) → moment ≤ x.moment
+    → IsUpperBound waiting_cmp x xs → AllLate moment xs
+late_all moment x [] le h = tt
+late_all moment x (y ∷ xs) le h =
+    let a = no_later x y h.0 in (omega (arith, le, a), late_all moment x xs le h.1)
+
+late_both : (moment : ℕ) (xs ys : List Scheduled) → AllLate moment xs → AllLate moment ys
+    → AllLate moment (xs ++ ys)
+late_both moment [] ys h k = k
+late_both moment (x ∷ xs) ys h k = (h.0, late_both moment xs ys h.1 k)
+
+-- where the first of all stands in line
+pub late_in_line : (moment : ℕ) (heap line : List Scheduled) → IsLineFirst heap line
+    → StandInLine line → IsFrontLate moment line
+    → All (λ (y : Scheduled). moment ≤ y.moment) (heap ++ line)
+late_in_line moment heap [] first stand late = absurd (first.some refl)
+late_in_line moment heap (x ∷ line) first stand late =
+    let le = late x line refl in
+    All-from_recursion (λ (y : Scheduled). moment ≤ y.moment) (heap ++ x ∷ line)
+    (late_both moment heap (x ∷ line) (late_all moment x heap le (first.first x line refl))
+    (le, late_all moment x line le stand.0))
+
+-- and where it stands on the heap
+pub late_on_heap : (moment : ℕ) (heap line : List Scheduled) → IsHeapFirst heap line
+    → IsLate moment heap → All (λ (y : Scheduled). moment ≤ y.moment) (heap ++ line)
+late_on_heap moment heap line first (inl none) =
+    All-from_recursion (λ (y : Scheduled). moment ≤ y.moment) (heap ++ line)
+    (subst (λ (l : List Scheduled). AllLate moment (heap ++ l)) (sym (first.none none))
+    (subst (λ (h : List Scheduled). AllLate moment (h ++ [])) (sym none) tt))
+late_on_heap moment heap line first (inr late) =
+    All-from_recursion (λ (y : Scheduled). moment ≤ y.moment) (heap ++ line)
+    (late_both moment heap line (late_all moment late.0 heap late.2 late.1)
+    (late_all moment late.0 line late.2 (first.first late.0 late.1)))
+
+-- ---- how many of a kind
+
+-- none of three
+pub none_of_three : (kind : Scheduled → Bool) (heap front back line own : List Scheduled)
+    → front ++ back ≡ line → heap ++ line ≡ own
+    → (count_by kind heap == 0) && ((count_by kind front == 0) && (count_by kind back == 0))
+    ≡ (count_by kind own == 0)
+none_of_three kind heap front back line own is whole =
+    let a = sum_by-append (λ y. cond (kind y) 1 0) heap line in
+    let b = sum_by-append (λ y. cond (kind y) 1 0) front back in
+    let c = ap (count_by kind) is in
+    let d = ap (count_by kind) whole in
+    let e : count_by kind own ≡ count_by kind heap + (count_by kind front + count_by kind back) =
+    omega (arith, a, b, c, d) in
+    three (count_by kind heap) (count_by kind front) (count_by kind back) ∙ ap (λ n. n == 0) (sym e)
+  where
+    three : (i j k : ℕ) → (i == 0) && ((j == 0) && (k == 0)) ≡ (i + (j + k) == 0)
+    three i j k = grind (arith, tests)

@@ -126,7 +126,7 @@ enter_of m e (x ∷ xs) h = by (cases_lt (moment_in e) (moment_in x)) (enter_of 
         none_of m (x ∷ xs) (
           omega (arith, lt, same),
           weaker (λ y. moment_in x ≤ moment_in y) (λ y. m < (moment_in y))
-          (λ y le. omega (arith, lt, same, le))
+              (λ y le. omega (arith, lt, same, le))
               xs h.0,
         ) in
         ap (λ (b : Bool). cond b (e ∷ of_moment m (x ∷ xs)) (of_moment m (x ∷ xs))) is

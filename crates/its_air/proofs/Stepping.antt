@@ -186,8 +186,11 @@ follows w after t b refused =
 pub keeps_opening : (queue : Queue) (words : List ℕ) (file : List Filed) (until seed : ℕ)
     → AreDue file until (filed_due queue) → queue.taken ≡ 0 → queue.own ≡ []
     → queue.pushed ≡ 0 → queue.until ≡ until → draws_at words ≡ draws_of seed
-    → Keeps queue words (record { waiting = schedule_all (map of_file file) []; draws = draws_of
-    seed })
+    → Keeps queue words (record {
+      waiting = schedule_all (map of_file file) [];
+      draws = draws_of
+          seed;
+    })
 keeps_opening queue words file until seed due taken heap schedule last drawn =
     let all : drop queue.taken (filed_due queue) ≡ filed_due queue =
     ap (λ k. drop k (filed_due queue)) taken in

@@ -79,13 +79,15 @@ impl OwnEvents {
         ensures none { IfNone result (self.new ≡ self.old) }
         ensures late { IfNone result (All (λ event. moment ≤ event.moment) self.old) }
     {
-        let event = if is_line_first(&self.heap, &self.line) {
-            pop_line(&mut self.line, moment)?
+        if is_line_first(&self.heap, &self.line) {
+            let event = pop_line(&mut self.line, moment)?;
+            self.counts.remove(&event);
+            Some(event)
         } else {
-            pop_heap(&mut self.heap, moment)?
-        };
-        self.counts.remove(&event);
-        Some(event)
+            let event = pop_heap(&mut self.heap, moment)?;
+            self.counts.remove(&event);
+            Some(event)
+        }
     }
 
     /// Whether no tick waits at a station.
@@ -132,7 +134,7 @@ fn is_behind(line: &VecDeque<Scheduled>, event: &Scheduled) -> bool
     ensures { IsTrue result → IsBehind event.now line.now.items }
 {
     match line.back() {
-        Some(last) => !(*last < *event),
+        Some(last) => !last.comes_after(event),
         None => true,
     }
 }
@@ -148,7 +150,7 @@ fn is_line_first(heap: &BinaryHeap<Scheduled>, line: &VecDeque<Scheduled>) -> bo
         return false;
     };
     match heap.peek() {
-        Some(on_heap) => *on_heap < *in_line,
+        Some(on_heap) => on_heap.comes_after(in_line),
         None => true,
     }
 }
@@ -178,9 +180,13 @@ fn pop_heap(heap: &mut BinaryHeap<Scheduled>, moment: u64) -> Option<Scheduled>
     ensures none { IfNone result (heap_items heap.new ≡ heap_items heap.old) }
     ensures late { IfNone result (IsLate moment (heap_items heap.old)) }
 {
-    match heap.peek() {
-        Some(first) if first.moment < moment => heap.pop(),
-        _ => None,
+    let Some(first) = heap.peek() else {
+        return None;
+    };
+    if first.moment < moment {
+        heap.pop()
+    } else {
+        None
     }
 }
 

@@ -3,7 +3,7 @@
 
 ghost use Rattle.std.specs.Prelude.{◌≡◌, ◌≤◌, ◌<◌, ◌+◌, ◌^◌, ◌∷◌, [], All, map, length, slice_get};
 ghost use Rattle.std.specs.Prelude.{ℕ, Some, IfOk, IfSome, IfNone, OnOk, nat_eq, ◌==◌, count_by};
-ghost use Rattle.std.specs.BinaryHeap.{IsUpperBound};
+ghost use Rattle.std.specs.BinaryHeap.{IsUpperBound, lt_by_cmp};
 ghost use Rattle.std.specs.Cmp.{partial_order_from_own_ties};
 ghost use Rattle.std.specs.Cmp.Rules.{comparing};
 ghost use Rattle.std.specs.List.Sorted.{IsPermutation};
@@ -156,6 +156,13 @@ impl PartialOrd for Scheduled {
 }
 
 impl Scheduled {
+    /// Whether another one is taken before it.
+    pub(crate) fn comes_after(&self, other: &Scheduled) -> bool
+        ensures { result ≡ lt_by_cmp waiting_cmp self.now other.now }
+    {
+        *self < *other
+    }
+
     /// The event of the world.
     pub(crate) fn event(&self, alloc: Global) -> Result<Event, AllocError>
         ensures event { IfOk result (λ event. event_of event ≡ happening_of self.now) }

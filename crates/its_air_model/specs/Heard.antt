@@ -200,14 +200,14 @@ SendsGoOn r configs file =
 -- one of the first sends of a traffic of these, by a station that is present at the start: at a
 -- draw modulo the period
 pub record IsFirstSend (r : Rules) (configs : List Config) (q : Planned) (x : Traffic) : Type 0
-    where
-  pub place : ℕ
-  pub traffic : slice_get r.every place ≡ Some x
-  pub station : ℕ
-  pub among : station < length configs
-  pub present : is_present r.present station ≡ true
-  pub drawn : ℕ
-  pub is : q ≡ sending x station (drawn % x.period)
+  where
+    pub place : ℕ
+    pub traffic : slice_get r.every place ≡ Some x
+    pub station : ℕ
+    pub among : station < length configs
+    pub present : is_present r.present station ≡ true
+    pub drawn : ℕ
+    pub is : q ≡ sending x station (drawn % x.period)
 
 -- it is the next one of a station that sent the same by an earlier step than this
 pub record IsNextSend (r : Rules) (configs : List Config) (file : List Filed) (m : ℕ)

@@ -113,8 +113,10 @@ draw t = (next_u64 t.draws).0
 
 -- with this put, and the next number drawn
 abbrev pub draw_and_schedule : Planned → Timetable → Timetable
-draw_and_schedule p t = record { waiting = schedule (Does p) t.waiting; draws = (next_u64 t.draws).1
-    }
+draw_and_schedule p t = record {
+  waiting = schedule (Does p) t.waiting;
+  draws = (next_u64 t.draws).1;
+}
 
 -- with the next number drawn
 abbrev pub draw_alone : Timetable → Timetable

@@ -25,7 +25,10 @@ returns-clause-send c = λ t h.
     (λ moves count.
     keeps_put queue c.push.new.self words c.within.new.self t x
     (sending flow c.args.station (c.args.moment + draw t % flow.period))
-    (record { due = c.push.ensures.due; taken = c.push.ensures.taken; until = c.push.ensures.until
+    (record {
+      due = c.push.ensures.due;
+      taken = c.push.ensures.taken;
+      until = c.push.ensures.until;
     })
     moves count refl
     (ap (λ n. sending flow c.args.station (c.args.moment + n))

@@ -28,7 +28,10 @@ returns-clause-tick c = λ t h.
     (λ moves count.
     keeps_put queue c.push.new.self words c.jitter-jitter.new.self t x
     (tick c.args.station c.args.moment c.args.beacon_from (draw t % 751))
-    (record { due = c.push.ensures.due; taken = c.push.ensures.taken; until = c.push.ensures.until
+    (record {
+      due = c.push.ensures.due;
+      taken = c.push.ensures.taken;
+      until = c.push.ensures.until;
     })
     moves count refl
     (tick_is c.args.station c.args.moment c.args.beacon_from c.max.result queue.pushed jitter

@@ -98,7 +98,7 @@ returns-in_ok-take_in-in-Some-coming-clause-moving g c = λ is rules configs u.
     is_next rules configs u.made u.past u.last u.from (end_in old) old.frames_before
     old.delivered_by m old.run one
     A refl refl refl refl refl c.pop_before.ensures.due c.pop_before.ensures.taken
-    c.pop_before.ensures.until c.pop_before.ensures.put c.in_default.ensures.none.0 late
+    c.pop_before.ensures.until c.pop_before.ensures.put c.in_default.ensures.none late
     (from_coming old u.from m coming.outside n.0.is u.under.comings) u.under.moving in
     let first = n.0.first in
     let turn = n.0.turn in

@@ -17,8 +17,11 @@ returns-clause-timed c =
     let configs = c.args.configs.now in
     let file = map filed_of c.args.file.now in
     let empty = c.in_ok-queue.ensures.empty in
-    let t : Timetable = record { waiting = schedule_all (map of_file file) []; draws = draws_of
-    air.seed } in
+    let t : Timetable = record {
+      waiting = schedule_all (map of_file file) [];
+      draws = draws_of
+          air.seed;
+    } in
     let kept : Keeps c.in_ok-queue.queue c.of_seed-draws.result t =
     keeps_opening c.in_ok-queue.queue c.of_seed-draws.result file c.end.result air.seed
     c.in_ok-queue.ensures.due c.in_ok-queue.ensures.start empty.0 empty.1 empty.2

@@ -49,7 +49,10 @@ returns-in-Send-clause-next c = λ w t answer stands tells h.
     (follows_send done n x (is_refusal answer) (slice_get w.stations done.station) t c.in-Send.is)
     (keeps_put_alone queue c.push.new.self words t schedule
     (sending (traffic_of n x) done.station (done.moment + x.period))
-    (record { due = c.push.ensures.due; taken = c.push.ensures.taken; until = c.push.ensures.until
+    (record {
+      due = c.push.ensures.due;
+      taken = c.push.ensures.taken;
+      until = c.push.ensures.until;
     })
     moves count refl (ap (sending (traffic_of n x) done.station) later) h))
     c.push.ensures.put c.push.ensures.count

@@ -1,0 +1,17 @@
+use Rattle.std.proofs.Common.{List, ◌++◌, sym, subst}
+use Rattle.its_air.specs.Counted.{AreCounted}
+use Rattle.its_air.specs.Line.{StandInLine}
+use Rattle.its_air.specs.declared.waiting.Scheduled.{Scheduled}
+use Rattle.its_air.proofs.own_events.OwnEvents.new.Goals as goal
+
+pub invariant_of-result : goal.invariant_of-result
+invariant_of-result c =
+    let kinds = c.new-3.result.kinds in
+    let counts = c.new-3.result.each.items in
+    record {
+      on_heap = c.new.ensures.heap_order;
+      in_line = subst StandInLine (sym c.new-2.ensures.items) tt;
+      counted = subst (λ (h : List Scheduled). AreCounted kinds counts (h ++ c.new-2.result.items))
+          (sym c.new.ensures.items)
+          (subst (AreCounted kinds counts) (sym c.new-2.ensures.items) c.new-3.ensures);
+    }
