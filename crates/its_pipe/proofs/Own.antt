@@ -1,7 +1,7 @@
 -- Calls of a station's own applications, by the members of an object.
 use Rattle.std.proofs.Common.{◌≡◌, ℕ, Option, Some, None, codes, refl, sym, subst, ◌∙◌}
 use Rattle.std.proofs.lemmas.Option.{none-some}
-use Rattle.std.specs.Prelude.{IsSomeAnd}
+use Rattle.std.specs.Prelude.{IfErr, IfNone, IsSome, IsSomeAnd, Result, Ok, Err}
 use Rattle.serde_json.specs.Data.{Data}
 use Rattle.its_model.specs.Calls.{OwnCall}
 use Rattle.its_model.specs.Calls.Call.{Own}
@@ -17,6 +17,8 @@ use Rattle.its_station.specs.declared.run.Call.{Call}
 use Rattle.its_station.specs.declared.run.Call.TheVariants as calls
 use Rattle.its_world.specs.Events.{IsOwn}
 use Rattle.its_pipe.specs.Requests.{AsksCall, IsBadCallKeyOf, IsWord, SaysCall, values_in}
+use Rattle.its_pipe.specs.Words.{line_word}
+use Rattle.its_pipe.specs.declared.word.LineWord.{LineWord}
 
 -- the call that is made of what is said
 pub says_call : (members : Data) (what : What) (made : Option Call) (call : Call)
@@ -68,3 +70,20 @@ bad_own members (key_faults.Refused key wrong) receive deliver what bad =
       frame = λ is. absurd (receive is);
     }
 bad_own members key_faults.OutOfMemory receive deliver what bad = tt
+
+-- the same of what was read
+pub bad_own_of : (members : Data) (read : Result Call KeyFault)
+    → (¬ IsWord members (codes "receive")) → (¬ IsWord members (codes "deliver"))
+    → IfErr read IsWhatFault
+    → ((¬ IsWord members (codes "deliver")) → IfErr read (IsBadKeyOf (values_in members)))
+    → IfErr read (IsBadCallKeyOf members)
+bad_own_of members (Ok call) receive deliver what bad = tt
+bad_own_of members (Err fault) receive deliver what bad =
+    bad_own members fault receive deliver what (bad deliver)
+
+-- a word that isn't read, where none is and where one is
+pub not_word : (members : Data) (found : Option LineWord) (word : LineWord)
+    → IfNone found ((other : LineWord) → ¬ IsWord members (line_word other))
+    → (IsSome found → ¬ IsWord members (line_word word)) → ¬ IsWord members (line_word word)
+not_word members None word none some = none word
+not_word members (Some other) word none some = some refl

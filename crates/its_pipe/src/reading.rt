@@ -13,13 +13,14 @@ ghost use Rattle.its_pipe.specs.Requests.{IsAskedAt, IsBadOf, IsBadCallKeyOf, Is
 ghost use Rattle.its_pipe.specs.Requests.{IsIdFault, IsJitter, IsJsonObject, IsMomentFault, IsMomentOf, IsObject};
 ghost use Rattle.its_pipe.specs.Requests.{IsOfQuery, IsQueryFault, IsToldAs, IsWord, SaysCall, line_of};
 ghost use Rattle.its_pipe.specs.Requests.{values_in};
+ghost use Rattle.its_pipe.specs.Words.{line_word};
 
 use crate::lines::is_blank;
 use crate::members::Members;
 use crate::request::{Id, LineFault, LineRequest, Query, QueryKey, Request};
 use crate::word::LineWord;
 use its_gnvalue::GnAddress;
-use its_scenario::{Fields, Key, KeyFault, Wrong, read_what};
+use its_scenario::{Fields, Key, KeyFault, Verb, Wrong, read_what};
 use its_station::Call;
 use serde_json::Value;
 use std::alloc::{AllocError, Global};
@@ -212,14 +213,23 @@ fn read_query(alloc: Global, members: &Members<'_>) -> Result<Option<Query>, Rea
     ensures query { IfOk result (λ query. IfSome query (AsksQuery (view members.now.0.now))) }
     ensures fault { IfErr result (IsQueryFault (view members.now.0.now)) }
 {
-    Ok(match members.text("do") {
-        Some("next_beacon") => Some(Query::NextBeacon(read_jitter(members)?)),
-        Some("neighbours") => Some(Query::Neighbours(read_after(members)?)),
-        Some("look_up") => Some(Query::LookUp(read_address(members, QueryKey::Address)?)),
-        Some("read_frame") => Some(Query::ReadFrame(read_octets(alloc, members)?)),
-        Some("counts") => Some(Query::Counts),
+    Ok(match word_under(members) {
+        Some(LineWord::NextBeacon) => Some(Query::NextBeacon(read_jitter(members)?)),
+        Some(LineWord::Neighbours) => Some(Query::Neighbours(read_after(members)?)),
+        Some(LineWord::LookUp) => Some(Query::LookUp(read_address(members, QueryKey::Address)?)),
+        Some(LineWord::ReadFrame) => Some(Query::ReadFrame(read_octets(alloc, members)?)),
+        Some(LineWord::Counts) => Some(Query::Counts),
         _ => None,
     })
+}
+
+/// The word under `do`, where it is one of a line's.
+fn word_under(members: &Members<'_>) -> Option<LineWord>
+    ensures word { IfSome result (λ word. IsWord (view members.now.0.now) (line_word word)) }
+    ensures none { IfNone result ((word : LineWord)
+        → ¬ IsWord (view members.now.0.now) (line_word word)) }
+{
+    LineWord::named(members.text("do")?)
 }
 
 /// Reads the jitter that is asked with.
@@ -298,15 +308,15 @@ fn unlike(members: &Members<'_>, word: &str, key: QueryKey) -> ReadFault
 
 /// Reads the call of a line. It has the keys of a scenario's event but for `deliver`, and beside
 /// these a frame that came.
-#[tactic(auto, using(crate::proofs::Own::asks_own, crate::proofs::Own::bad_own))]
+#[tactic(auto, using(crate::proofs::Own::asks_own, crate::proofs::Own::bad_own_of))]
 fn read_call(alloc: Global, members: &Members<'_>) -> Result<Call, KeyFault>
     ensures call { IfOk result (AsksCall (view members.now.0.now)) }
     ensures range { IfOk result IsInRange }
     ensures fault { IfErr result (IsBadCallKeyOf (view members.now.0.now)) }
 {
-    match members.text("do") {
-        Some("receive") => Ok(Call::Receive(read_frame(alloc, members)?)),
-        Some("deliver") => Err(KeyFault::Refused(Key::Do, Wrong::Value)),
+    match word_under(members) {
+        Some(LineWord::Receive) => Ok(Call::Receive(read_frame(alloc, members)?)),
+        Some(LineWord::Own(Verb::Deliver)) => Err(KeyFault::Refused(Key::Do, Wrong::Value)),
         _ => read_own(alloc, members),
     }
 }

@@ -1,6 +1,6 @@
 //! The words that a line takes under `do`.
 
-ghost use Rattle.std.specs.Prelude.{◌≡◌};
+ghost use Rattle.std.specs.Prelude.{◌≡◌, IfNone, IfSome};
 ghost use Rattle.its_pipe.specs.Words.{line_word};
 
 use its_scenario::{Spelled, Verb, nearest};
@@ -45,6 +45,22 @@ const WORDS: [LineWord; 14] = [
 ];
 
 impl LineWord {
+    /// The one of this word; `None` where it is the word of none of them.
+    pub(crate) fn named(word: &str) -> Option<LineWord>
+        ensures word { IfSome result (λ asked. word.now ≡ line_word asked) }
+        ensures none { IfNone result ((asked : LineWord) → ¬ (word.now ≡ line_word asked)) }
+    {
+        match word {
+            "receive" => Some(LineWord::Receive),
+            "next_beacon" => Some(LineWord::NextBeacon),
+            "neighbours" => Some(LineWord::Neighbours),
+            "look_up" => Some(LineWord::LookUp),
+            "read_frame" => Some(LineWord::ReadFrame),
+            "counts" => Some(LineWord::Counts),
+            _ => Verb::named(word).map(LineWord::Own),
+        }
+    }
+
     /// The word.
     pub fn word(self) -> &'static str
         ensures { result.now ≡ line_word self }
