@@ -1,7 +1,5 @@
 //! What a run goes by: a scenario, how it is run and, where they are given, the moves of a file.
 
-ghost use Rattle.std.specs.Prelude.{◌≡◌, None};
-
 use crate::fault::{RunFault, fault_of_moves};
 use crate::options::RunOptions;
 use its_moves::Rows;
@@ -44,18 +42,6 @@ pub(crate) struct Course<'s, 'a, M: BufRead + Drop> {
 }
 
 impl<'s, 'a, M: BufRead + Drop> Course<'s, 'a, M> {
-    /// A scenario alone.
-    pub(crate) fn alone(scenario: &'s Scenario, options: &'s RunOptions) -> Course<'s, 'a, M>
-        ensures scenario { result.scenario.now ≡ scenario.now }
-        ensures moves { result.moves ≡ None }
-    {
-        Course {
-            scenario,
-            options,
-            moves: None,
-        }
-    }
-
     /// The name of the file of moves, where there are any.
     pub(crate) fn name(&self) -> Option<&'a str> {
         match &self.moves {

@@ -91,12 +91,12 @@ where
     R::File: Read + Write + Drop,
     ensures { IfOk result IsCommandStatus }
 {
-    let given = read_files(rt, files, input, options)?;
+    let Given { scenario, moves } = read_files(rt, files, input, options)?;
     let results: Results<'_, Vec<u8>> = Results::none();
     let mut course = Course {
-        scenario: &given.scenario,
+        scenario: &scenario,
         options,
-        moves: given.moves,
+        moves,
     };
     Ok(run_without_frames(rt.alloc(), &mut course, results, io)?)
 }
@@ -114,13 +114,13 @@ where
     R::File: Read + Write + Drop,
     ensures { IfOk result IsCommandStatus }
 {
-    let given = read_files(rt, files, input, options)?;
+    let Given { scenario, moves } = read_files(rt, files, input, options)?;
     keep_all_apart(rt, files)?;
-    let outputs = begin_outputs(rt, &given.scenario, target, files.results)?;
+    let outputs = begin_outputs(rt, &scenario, target, files.results)?;
     let mut course = Course {
-        scenario: &given.scenario,
+        scenario: &scenario,
         options,
-        moves: given.moves,
+        moves,
     };
     Ok(run_into(rt.alloc(), &mut course, outputs, io)?)
 }

@@ -75,7 +75,12 @@ pub fn simulate_scenario<'f, W: Write, E: Write>(
     ensures { IfOk result IsCommandStatus }
 {
     let results: Results<'_, Vec<u8>> = Results::none();
-    let mut course: Course<'_, '_, BufReader<io::Empty>> = Course::alone(scenario, options);
+    let options = *options;
+    let mut course: Course<'_, '_, BufReader<io::Empty>> = Course {
+        scenario,
+        options: &options,
+        moves: None,
+    };
     run_without_frames(alloc, &mut course, results, io)
 }
 
