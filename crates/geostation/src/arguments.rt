@@ -1,10 +1,11 @@
 //! The arguments of the program.
 
 use crate::forms::add_commands;
-use crate::subcommand::{Invocation, invocation_of};
+use crate::subcommand::{Subcommand, matched_format, subcommand_of};
 use crate::tip::tip_of;
 use clap::error::ErrorKind;
 use clap::{Command, Error};
+use its_reporting::OutputFormat;
 use its_terminal::Console;
 use std::alloc::{AllocError, Global};
 
@@ -26,11 +27,12 @@ pub fn read<'a>(
     alloc: Global,
     arguments: &'a [String],
     console: Console,
-) -> Result<Invocation<'a>, Error> {
+) -> Result<(Subcommand<'a>, OutputFormat), Error> {
     let mut program = whole(alloc)?;
     let matches = program.try_get_matches_from_mut(arguments)?;
-    match invocation_of(&matches, console) {
-        Ok(Some(invocation)) => Ok(invocation),
+    let format = matched_format(&matches, console);
+    match subcommand_of(&matches, console) {
+        Ok(Some(subcommand)) => Ok((subcommand, format)),
         Ok(None) => Err(program.error(ErrorKind::MissingSubcommand, "no command was given")?),
         Err(bad) => {
             let sentence = match tip_of(alloc, &bad)? {

@@ -7,9 +7,7 @@ ghost use Rattle.its_world.specs.Events.{IsConfig};
 use crate::arguments;
 use crate::fault::ArgumentFault;
 use crate::station::StationArguments;
-use crate::subcommand::{
-    Convert, Import, Invocation, Mesh, Records, Replay, Show, Sim, Subcommand,
-};
+use crate::subcommand::{Convert, Import, Mesh, Records, Replay, Show, Sim, Subcommand};
 use its_commands::{check_file, convert_file, import_file, show_file};
 use its_mesh::mesh_file;
 use its_page::{Viewing, view_file};
@@ -107,7 +105,7 @@ where
     R::File: Read + Write + Drop,
 {
     match arguments::read(rt.alloc(), arguments, console) {
-        Ok(invocation) => { run_subcommand(rt, &invocation, input, out, err) }
+        Ok((subcommand, format)) => { run_subcommand(rt, &subcommand, format, input, out, err) }
         Err(error) => answer(&error, out, err),
     }
 }
@@ -117,12 +115,18 @@ fn run_subcommand<
     I: Read + Drop,
     W: Write,
     E: Write,
->(rt: &R, invocation: &Invocation<'_>, input: I, out: &mut W, err: &mut E) -> Status
+>(
+    rt: &R,
+    subcommand: &Subcommand<'_>,
+    format: OutputFormat,
+    input: I,
+    out: &mut W,
+    err: &mut E,
+) -> Status
 where
     R::File: Read + Write + Drop,
 {
-    let format = invocation.format;
-    match &invocation.subcommand {
+    match subcommand {
         Subcommand::Show(show) => show_records(rt, show, format, input, out, err),
         Subcommand::Check(records) => check_records(rt, records, format, input, out, err),
         Subcommand::Stats(records, top) => {
@@ -170,12 +174,24 @@ fn show_records<R: Files + AllocGlobal, I: Read + Drop, W: Write, E: Write>(
 where
     R::File: Read + Drop,
 {
-    let mut io = Io {
-        out: Screen::plain(rt.alloc(), out).painted(show.painter),
-        err,
-        format,
-    };
+    let mut screen = Screen::plain(rt.alloc(), out).painted(show.painter);
+    show_on(rt, show, format, input, &mut screen, err)
+}
+
+/// `show`, on a screen.
+fn show_on<R: Files + AllocGlobal, I: Read + Drop, W: Write, E: Write>(
+    rt: &R,
+    show: &Show<'_>,
+    format: OutputFormat,
+    input: I,
+    out: &mut W,
+    err: &mut E,
+) -> Status
+where
+    R::File: Read + Drop,
+{
     let records = &show.records;
+    let mut io = Io { out, err, format };
     show_file(
         rt,
         records.file,
@@ -199,18 +215,24 @@ where
     R::File: Read + Write + Drop,
 {
     let reading = Reading::of(rt, convert.conversion.file, convert.progress);
-    let mut io = Io {
-        out,
-        err: Meter::new(rt.alloc(), rt, err, convert.progress),
-        format,
-    };
-    convert_file(
-        &reading,
-        convert.conversion,
-        &convert.selection,
-        input,
-        &mut io,
-    )
+    let mut meter = Meter::new(rt.alloc(), rt, err, convert.progress);
+    convert_metered(&reading, convert, format, input, out, &mut meter)
+}
+
+/// `convert`, with what shows how far it is.
+fn convert_metered<R: Files + AllocGlobal, I: Read + Drop, W: Write, E: Write>(
+    rt: &R,
+    convert: &Convert<'_>,
+    format: OutputFormat,
+    input: I,
+    out: &mut W,
+    err: &mut E,
+) -> Status
+where
+    R::File: Read + Write + Drop,
+{
+    let mut io = Io { out, err, format };
+    convert_file(rt, convert.conversion, &convert.selection, input, &mut io)
 }
 
 /// `import`, which tells how far it is.
@@ -226,12 +248,24 @@ where
     R::File: Read + Write + Drop,
 {
     let reading = Reading::of(rt, import.file, import.progress);
-    let mut io = Io {
-        out,
-        err: Meter::new(rt.alloc(), rt, err, import.progress),
-        format,
-    };
-    import_file(&reading, import.file, input, import.target, &mut io)
+    let mut meter = Meter::new(rt.alloc(), rt, err, import.progress);
+    import_metered(&reading, import, format, input, out, &mut meter)
+}
+
+/// `import`, with what shows how far it is.
+fn import_metered<R: Files + AllocGlobal, I: Read + Drop, W: Write, E: Write>(
+    rt: &R,
+    import: &Import<'_>,
+    format: OutputFormat,
+    input: I,
+    out: &mut W,
+    err: &mut E,
+) -> Status
+where
+    R::File: Read + Write + Drop,
+{
+    let mut io = Io { out, err, format };
+    import_file(rt, import.file, input, import.target, &mut io)
 }
 
 /// `sim`, its lines in colours where they are, which tells how far it is.
@@ -246,14 +280,27 @@ fn simulate<R: Files + Clock + AllocGlobal, I: Read + Drop, W: Write, E: Write>(
 where
     R::File: Read + Write + Drop,
 {
-    let mut io = Io {
-        out: Screen::plain(rt.alloc(), out).painted(sim.painter),
-        err: Meter::new(rt.alloc(), rt, err, sim.options.progress),
-        format,
-    };
-    let status = simulate_file(rt, &sim.files, input, &sim.options, &mut io);
-    let _ = io.err.flush();
+    let mut screen = Screen::plain(rt.alloc(), out).painted(sim.painter);
+    let mut meter = Meter::new(rt.alloc(), rt, err, sim.options.progress);
+    let status = simulate_on(rt, sim, format, input, &mut screen, &mut meter);
+    let _ = meter.flush();
     status
+}
+
+/// `sim`, on a screen, with what shows how far it is.
+fn simulate_on<R: Files + AllocGlobal, I: Read + Drop, W: Write, E: Write>(
+    rt: &R,
+    sim: &Sim<'_>,
+    format: OutputFormat,
+    input: I,
+    out: &mut W,
+    err: &mut E,
+) -> Status
+where
+    R::File: Read + Write + Drop,
+{
+    let mut io = Io { out, err, format };
+    simulate_file(rt, &sim.files, input, &sim.options, &mut io)
 }
 
 /// `view`, which tells how far the run is.
@@ -268,14 +315,26 @@ fn view<R: Files + Clock + AllocGlobal, I: Read + Drop, W: Write, E: Write>(
 where
     R::File: Read + Write + Drop,
 {
-    let mut io = Io {
-        out,
-        err: Meter::new(rt.alloc(), rt, err, viewing.options.progress),
-        format,
-    };
-    let status = view_file(rt, viewing, input, &mut io);
-    let _ = io.err.flush();
+    let mut meter = Meter::new(rt.alloc(), rt, err, viewing.options.progress);
+    let status = view_metered(rt, viewing, format, input, out, &mut meter);
+    let _ = meter.flush();
     status
+}
+
+/// `view`, with what shows how far the run is.
+fn view_metered<R: Files + AllocGlobal, I: Read + Drop, W: Write, E: Write>(
+    rt: &R,
+    viewing: &Viewing<'_>,
+    format: OutputFormat,
+    input: I,
+    out: &mut W,
+    err: &mut E,
+) -> Status
+where
+    R::File: Read + Write + Drop,
+{
+    let mut io = Io { out, err, format };
+    view_file(rt, viewing, input, &mut io)
 }
 
 /// `mesh`, with its column heads where someone looks.
@@ -291,11 +350,23 @@ where
     R::File: Read + Write + Drop,
 {
     let heads = mesh.heads.then_some(MESH_HEADS);
-    let mut io = Io {
-        out: Screen::plain(rt.alloc(), out).headed(heads),
-        err,
-        format,
-    };
+    let mut screen = Screen::plain(rt.alloc(), out).headed(heads);
+    mesh_on(rt, mesh, format, input, &mut screen, err)
+}
+
+/// `mesh`, on a screen.
+fn mesh_on<R: Files + Net + AllocGlobal, I: Read + Drop, W: Write, E: Write>(
+    rt: &R,
+    mesh: &Mesh<'_>,
+    format: OutputFormat,
+    input: I,
+    out: &mut W,
+    err: &mut E,
+) -> Status
+where
+    R::File: Read + Write + Drop,
+{
+    let mut io = Io { out, err, format };
     mesh_file(rt, mesh.file, input, mesh.frames, mesh.options, &mut io)
 }
 

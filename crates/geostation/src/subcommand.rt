@@ -15,15 +15,6 @@ use its_runs::{ResultFiles, RunFiles, RunOptions};
 use its_scenario::{AirSettings, SettingFault};
 use its_terminal::{Coloring, Console, Painter};
 
-/// What the program is to do, and how it prints lines.
-#[derive(Clone, Copy, Debug, PartialEq, Eq)]
-pub struct Invocation<'a> {
-    /// How lines are printed.
-    pub format: OutputFormat,
-    /// What it is to do.
-    pub subcommand: Subcommand<'a>,
-}
-
 /// What the program is to do.
 #[derive(Clone, Copy, Debug, PartialEq, Eq)]
 pub enum Subcommand<'a> {
@@ -124,22 +115,28 @@ pub struct Replay<'a> {
 
 /// The subcommand that was matched, of a program whose streams are these. One is required, as are
 /// its arguments, so there is an answer.
-pub(crate) fn invocation_of<'a>(
+pub(crate) fn subcommand_of<'a>(
     matches: &ArgMatches<'a>,
     console: Console,
-) -> Result<Option<Invocation<'a>>, BadArgument<'a>> {
+) -> Result<Option<Subcommand<'a>>, BadArgument<'a>> {
     let Some((name, inner)) = matches.subcommand() else {
         return Ok(None);
     };
-    let format = output_format_of(name, inner, console);
-    let subcommand = match name {
-        "show" | "check" | "stats" | "convert" => over_capture(name, inner, console)?,
-        "station" => StationArguments::of(inner).map(Subcommand::Station),
-        "replay" => replaying(inner)?,
-        "sim" => simulating(inner, console)?,
-        _ => other(name, inner, console),
-    };
-    Ok(subcommand.map(|subcommand| Invocation { format, subcommand }))
+    match name {
+        "show" | "check" | "stats" | "convert" => over_capture(name, inner, console),
+        "station" => Ok(StationArguments::of(inner).map(Subcommand::Station)),
+        "replay" => replaying(inner),
+        "sim" => simulating(inner, console),
+        _ => Ok(other(name, inner, console)),
+    }
+}
+
+/// How the lines of the subcommand that was matched are printed.
+pub(crate) fn matched_format(matches: &ArgMatches<'_>, console: Console) -> OutputFormat {
+    match matches.subcommand() {
+        Some((name, inner)) => output_format_of(name, inner, console),
+        None => OutputFormat::default(),
+    }
 }
 
 /// How the lines of the command of this name are printed. Codes are explained where that is asked
@@ -179,34 +176,37 @@ fn over_capture<'a>(
         return Ok(None);
     };
     let selection = selection_of(matches, format_of(matches, "format"))?;
-    let records = Records { file, selection };
     match name {
         "show" => {
             let names = fields_of(matches)?;
-            Ok(Some(Subcommand::Show(showing(records, names, matches, console))))
+            Ok(Some(showing(file, selection, names, matches, console)))
         }
-        "stats" => Ok(Some(Subcommand::Stats(records, count_of(matches, "top")?))),
-        "check" => Ok(Some(Subcommand::Check(records))),
-        _ => Ok(converting(records, matches, console).map(Subcommand::Convert)),
+        "stats" => {
+            let top = count_of(matches, "top")?;
+            Ok(Some(Subcommand::Stats(Records { file, selection }, top)))
+        }
+        "check" => Ok(Some(Subcommand::Check(Records { file, selection }))),
+        _ => Ok(converting(file, selection, matches, console)),
     }
 }
 
 /// `show`. Rows of values are never coloured.
 fn showing<'a>(
-    records: Records<'a>,
+    file: &'a str,
+    selection: Selection,
     names: Option<&'a str>,
     matches: &ArgMatches<'a>,
     console: Console,
-) -> Show<'a> {
+) -> Subcommand<'a> {
     let painter = painter_of(matches, console, Painter::Records);
-    Show {
-        records,
+    Subcommand::Show(Show {
+        records: Records { file, selection },
         showing: Showing {
             time: time_of(matches),
             names,
         },
         painter: painter.filter(|_| names.is_none()),
-    }
+    })
 }
 
 /// The name of the file that is made: an option, or in its place.
@@ -216,23 +216,24 @@ fn output_of<'a>(matches: &ArgMatches<'a>) -> Option<&'a str> {
 
 /// `convert`.
 fn converting<'a>(
-    records: Records<'a>,
+    file: &'a str,
+    selection: Selection,
     matches: &ArgMatches<'a>,
     console: Console,
-) -> Option<Convert<'a>> {
+) -> Option<Subcommand<'a>> {
     let name = output_of(matches)?;
-    Some(Convert {
+    Some(Subcommand::Convert(Convert {
         conversion: Conversion {
-            file: records.file,
+            file,
             target: Target {
                 name,
                 to: format_of(matches, "to"),
             },
             frames_only: matches.get_flag("frames-only"),
         },
-        selection: records.selection,
+        selection,
         progress: shows_progress(matches, console, name),
-    })
+    }))
 }
 
 /// `import`.

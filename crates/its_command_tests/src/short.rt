@@ -59,7 +59,7 @@ fn was_done_silently(status: Status, said: &[u8]) -> Option<bool> {
     }
 }
 
-fn over(alloc: Global, command: Command, input: &[u8], whole: &[u8]) -> Option<bool> {
+fn ran_over(alloc: Global, command: Command, input: &[u8], whole: &[u8]) -> Option<bool> {
     let left = left_of(alloc, command, input);
     match command {
         Command::Check => was_done(&left, whole, b""),
@@ -163,7 +163,7 @@ fn create_a_file(rt: &HostRuntime, file: &str) -> Option<bool> {
 /// Whether it is done, or memory runs out; `None` where it ends otherwise.
 pub(crate) fn is_done(rt: &HostRuntime, one: Try<'_>) -> Option<bool> {
     match one {
-        Try::Over(command, input, whole) => over(rt.alloc(), command, input, whole),
+        Try::Over(command, input, whole) => ran_over(rt.alloc(), command, input, whole),
         Try::Import => import(rt.alloc()),
         Try::ShowFile(file, whole) => over_a_file(rt, Over::Show, file, whole),
         Try::CheckFile(file, whole) => over_a_file(rt, Over::Check, file, whole),
