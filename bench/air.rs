@@ -113,12 +113,19 @@ fn print_road(stations: usize, seconds: usize) {
 #[derive(PartialEq, Eq, PartialOrd, Ord)]
 enum Own {
     Tick(u16),
-    Deliver(usize),
     Send(usize),
 }
 
-/// What waits beside the events of the file: moment, place, station, and what it does.
+/// What waits on the heap: moment, place, station, and what it does.
 type Waiting = (u64, u64, usize, Own);
+
+/// A delivery, which waits in line.
+struct Delivery {
+    moment: u64,
+    place: u64,
+    station: usize,
+    frame: usize,
+}
 
 #[derive(Clone, Copy)]
 struct Carried {
@@ -236,7 +243,7 @@ struct Air {
     /// Ticks and sends, the first on top.
     heap: BinaryHeap<Reverse<Waiting>>,
     /// Deliveries, which come in the order in which they were put, the first in front.
-    line: VecDeque<Waiting>,
+    line: VecDeque<Delivery>,
     placed: u64,
     found: Vec<usize>,
 }
@@ -265,18 +272,21 @@ impl Air {
     }
 
     fn put(&mut self, moment: u64, station: usize, own: Own) {
-        let waiting = (moment, self.placed, station, own);
-        match waiting.3 {
-            Own::Deliver(_) => self.line.push_back(waiting),
-            Own::Tick(_) | Own::Send(_) => self.heap.push(Reverse(waiting)),
-        }
+        self.heap.push(Reverse((moment, self.placed, station, own)));
+        self.placed += 1;
+    }
+
+    fn put_delivery(&mut self, moment: u64, station: usize, frame: usize) {
+        self.line.push_back(Delivery { moment, place: self.placed, station, frame });
         self.placed += 1;
     }
 
     /// Whether the first of the air's own is a delivery.
     fn is_line_first(&self) -> bool {
         match (self.line.front(), self.heap.peek()) {
-            (Some(in_line), Some(Reverse(on_heap))) => in_line < on_heap,
+            (Some(in_line), Some(Reverse(on_heap))) => {
+                (in_line.moment, in_line.place) < (on_heap.0, on_heap.1)
+            }
             (in_line, _) => in_line.is_some(),
         }
     }
@@ -284,16 +294,19 @@ impl Air {
     /// The moment of the first of the air's own.
     fn next_moment(&self) -> Option<u64> {
         let on_heap = self.heap.peek().map(|Reverse(waiting)| waiting.0);
-        let in_line = self.line.front().map(|waiting| waiting.0);
+        let in_line = self.line.front().map(|delivery| delivery.moment);
         on_heap.into_iter().chain(in_line).min()
     }
 
-    /// Takes the first of the air's own.
-    fn pop(&mut self) -> Option<Waiting> {
+    /// Takes the first of the air's own: its event, and the traffic that it is of.
+    fn pop(&mut self) -> Option<(Event, Option<usize>)> {
         if self.is_line_first() {
-            return self.line.pop_front();
+            let Delivery { moment, station, frame, .. } = self.line.pop_front()?;
+            return Some((Event { station, moment, what: What::Deliver(frame) }, None));
         }
-        self.heap.pop().map(|Reverse(waiting)| waiting)
+        let Reverse((moment, _, station, own)) = self.heap.pop()?;
+        let (what, sent) = self.what_of(own);
+        Some((Event { station, moment, what }, sent))
     }
 
     fn put_tick(&mut self, moment: u64, due: u64, station: usize) {
@@ -305,7 +318,6 @@ impl Air {
     fn what_of(&self, own: Own) -> (What, Option<usize>) {
         match own {
             Own::Tick(jitter) => (What::Tick(jitter), None),
-            Own::Deliver(frame) => (What::Deliver(frame), None),
             Own::Send(number) => {
                 let every = self.scenario.every[number];
                 let payload = vec![0; every.octets];
@@ -328,7 +340,7 @@ impl Air {
             for station in &found {
                 // No frame is lost, but each has its draw.
                 let _ = self.draws.next();
-                self.put(event.moment + DELAY, *station, Own::Deliver(frame));
+                self.put_delivery(event.moment + DELAY, *station, frame);
             }
             self.found = found;
         }
@@ -357,9 +369,8 @@ fn run(mut scenario: Scenario) -> Tally {
             (None, None) => break,
             (Some(f), o) if o.is_none_or(|o| f <= o) => (file.next().unwrap(), None),
             _ => {
-                let Some((moment, _, station, own)) = air.pop() else { break };
-                let (what, sent) = air.what_of(own);
-                (Event { station, moment, what }, sent)
+                let Some(taken) = air.pop() else { break };
+                taken
             }
         };
         if event.moment > until {

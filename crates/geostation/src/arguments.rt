@@ -1,10 +1,9 @@
 //! The arguments of the program.
 
-use crate::forms::add_commands;
 use crate::subcommand::{Subcommand, matched_format, subcommand_of};
-use crate::tip::tip_of;
 use clap::error::ErrorKind;
 use clap::{Command, Error};
+use its_arguments::add_commands;
 use its_reporting::OutputFormat;
 use its_terminal::Console;
 use std::alloc::{AllocError, Global};
@@ -21,8 +20,8 @@ fn whole<'a>(alloc: Global) -> Result<Command<'a>, AllocError> {
     add_commands(alloc, program)
 }
 
-/// Reads the arguments, the program's own name first, of a program whose streams are these. An error
-/// is help or the version, where these were asked for, or why the arguments were refused.
+/// Reads the arguments, the program's own name first, of a program whose streams are these. An
+/// error is help or the version, where these were asked for, or why the arguments were refused.
 pub fn read<'a>(
     alloc: Global,
     arguments: &'a [String],
@@ -35,7 +34,7 @@ pub fn read<'a>(
         Ok(Some(subcommand)) => Ok((subcommand, format)),
         Ok(None) => Err(program.error(ErrorKind::MissingSubcommand, "no command was given")?),
         Err(bad) => {
-            let sentence = match tip_of(alloc, &bad)? {
+            let sentence = match bad.tip(alloc)? {
                 Some(word) => {
                     format!(in alloc; "{bad}\n\n  tip: a similar value exists: '{word}'")?
                 }

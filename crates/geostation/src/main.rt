@@ -3,13 +3,9 @@
 #![tactic(auto)]
 
 mod arguments;
-mod choosing;
 mod fault;
-mod forms;
 mod program;
-mod station;
 mod subcommand;
-mod tip;
 
 use its_terminal::Console;
 use std::env;

@@ -6,8 +6,8 @@ ghost use Rattle.its_world.specs.Events.{IsConfig};
 
 use crate::arguments;
 use crate::fault::ArgumentFault;
-use crate::station::StationArguments;
 use crate::subcommand::{Convert, Import, Mesh, Records, Replay, Show, Sim, Subcommand};
+use its_arguments::StationArguments;
 use its_commands::{check_file, convert_file, import_file, show_file};
 use its_mesh::mesh_file;
 use its_page::{Viewing, view_file};
@@ -25,9 +25,6 @@ use std::io;
 use std::io::{BufWriter, Eprint, ErrorKind, Read, Write};
 use std::net::Net;
 use std::rt::{Clock, Files};
-
-/// The column heads of `mesh`.
-const MESH_HEADS: &str = "time station result";
 
 /// Runs the command that the arguments name, the program's own name being the first of them, and
 /// writes out all that it prints. `input` is standard input, which is read where a file is `-`.
@@ -93,6 +90,7 @@ where
     }
 }
 
+/// Runs the command that the arguments name, or answers arguments that name none.
 fn dispatch<R: Files + Net + Clock + Eprint + AllocGlobal, I: Read + Drop, W: Write, E: Write>(
     rt: &R,
     arguments: &[String],
@@ -105,11 +103,34 @@ where
     R::File: Read + Write + Drop,
 {
     match arguments::read(rt.alloc(), arguments, console) {
-        Ok((subcommand, format)) => { run_subcommand(rt, &subcommand, format, input, out, err) }
+        Ok((subcommand, format)) => { run_shown(rt, &subcommand, format, input, out, err) }
         Err(error) => answer(&error, out, err),
     }
 }
 
+/// Runs a subcommand, its lines under heads and in colours where they are, and its progress shown
+/// where someone looks.
+fn run_shown<R: Files + Net + Clock + Eprint + AllocGlobal, I: Read + Drop, W: Write, E: Write>(
+    rt: &R,
+    subcommand: &Subcommand<'_>,
+    format: OutputFormat,
+    input: I,
+    out: &mut W,
+    err: &mut E,
+) -> Status
+where
+    R::File: Read + Write + Drop,
+{
+    let mut screen = Screen::plain(rt.alloc(), out)
+        .headed(subcommand.heads())
+        .painted(subcommand.painter());
+    let mut meter = Meter::new(rt.alloc(), rt, err, subcommand.shows_progress());
+    let status = run_subcommand(rt, subcommand, format, input, &mut screen, &mut meter);
+    let _ = meter.flush();
+    status
+}
+
+/// Runs a subcommand.
 fn run_subcommand<
     R: Files + Net + Clock + Eprint + AllocGlobal,
     I: Read + Drop,
@@ -162,24 +183,8 @@ where
     check_file(rt, records.file, input, &records.selection, &mut io)
 }
 
-/// `show`, its lines in colours where they are.
+/// `show`.
 fn show_records<R: Files + AllocGlobal, I: Read + Drop, W: Write, E: Write>(
-    rt: &R,
-    show: &Show<'_>,
-    format: OutputFormat,
-    input: I,
-    out: &mut W,
-    err: &mut E,
-) -> Status
-where
-    R::File: Read + Drop,
-{
-    let mut screen = Screen::plain(rt.alloc(), out).painted(show.painter);
-    show_on(rt, show, format, input, &mut screen, err)
-}
-
-/// `show`, on a screen.
-fn show_on<R: Files + AllocGlobal, I: Read + Drop, W: Write, E: Write>(
     rt: &R,
     show: &Show<'_>,
     format: OutputFormat,
@@ -215,24 +220,14 @@ where
     R::File: Read + Write + Drop,
 {
     let reading = Reading::of(rt, convert.conversion.file, convert.progress);
-    let mut meter = Meter::new(rt.alloc(), rt, err, convert.progress);
-    convert_metered(&reading, convert, format, input, out, &mut meter)
-}
-
-/// `convert`, with what shows how far it is.
-fn convert_metered<R: Files + AllocGlobal, I: Read + Drop, W: Write, E: Write>(
-    rt: &R,
-    convert: &Convert<'_>,
-    format: OutputFormat,
-    input: I,
-    out: &mut W,
-    err: &mut E,
-) -> Status
-where
-    R::File: Read + Write + Drop,
-{
     let mut io = Io { out, err, format };
-    convert_file(rt, convert.conversion, &convert.selection, input, &mut io)
+    convert_file(
+        &reading,
+        convert.conversion,
+        &convert.selection,
+        input,
+        &mut io,
+    )
 }
 
 /// `import`, which tells how far it is.
@@ -248,47 +243,12 @@ where
     R::File: Read + Write + Drop,
 {
     let reading = Reading::of(rt, import.file, import.progress);
-    let mut meter = Meter::new(rt.alloc(), rt, err, import.progress);
-    import_metered(&reading, import, format, input, out, &mut meter)
-}
-
-/// `import`, with what shows how far it is.
-fn import_metered<R: Files + AllocGlobal, I: Read + Drop, W: Write, E: Write>(
-    rt: &R,
-    import: &Import<'_>,
-    format: OutputFormat,
-    input: I,
-    out: &mut W,
-    err: &mut E,
-) -> Status
-where
-    R::File: Read + Write + Drop,
-{
     let mut io = Io { out, err, format };
-    import_file(rt, import.file, input, import.target, &mut io)
+    import_file(&reading, import.file, input, import.target, &mut io)
 }
 
-/// `sim`, its lines in colours where they are, which tells how far it is.
-fn simulate<R: Files + Clock + AllocGlobal, I: Read + Drop, W: Write, E: Write>(
-    rt: &R,
-    sim: &Sim<'_>,
-    format: OutputFormat,
-    input: I,
-    out: &mut W,
-    err: &mut E,
-) -> Status
-where
-    R::File: Read + Write + Drop,
-{
-    let mut screen = Screen::plain(rt.alloc(), out).painted(sim.painter);
-    let mut meter = Meter::new(rt.alloc(), rt, err, sim.options.progress);
-    let status = simulate_on(rt, sim, format, input, &mut screen, &mut meter);
-    let _ = meter.flush();
-    status
-}
-
-/// `sim`, on a screen, with what shows how far it is.
-fn simulate_on<R: Files + AllocGlobal, I: Read + Drop, W: Write, E: Write>(
+/// `sim`.
+fn simulate<R: Files + AllocGlobal, I: Read + Drop, W: Write, E: Write>(
     rt: &R,
     sim: &Sim<'_>,
     format: OutputFormat,
@@ -303,26 +263,8 @@ where
     simulate_file(rt, &sim.files, input, &sim.options, &mut io)
 }
 
-/// `view`, which tells how far the run is.
-fn view<R: Files + Clock + AllocGlobal, I: Read + Drop, W: Write, E: Write>(
-    rt: &R,
-    viewing: &Viewing<'_>,
-    format: OutputFormat,
-    input: I,
-    out: &mut W,
-    err: &mut E,
-) -> Status
-where
-    R::File: Read + Write + Drop,
-{
-    let mut meter = Meter::new(rt.alloc(), rt, err, viewing.options.progress);
-    let status = view_metered(rt, viewing, format, input, out, &mut meter);
-    let _ = meter.flush();
-    status
-}
-
-/// `view`, with what shows how far the run is.
-fn view_metered<R: Files + AllocGlobal, I: Read + Drop, W: Write, E: Write>(
+/// `view`.
+fn view<R: Files + AllocGlobal, I: Read + Drop, W: Write, E: Write>(
     rt: &R,
     viewing: &Viewing<'_>,
     format: OutputFormat,
@@ -337,25 +279,8 @@ where
     view_file(rt, viewing, input, &mut io)
 }
 
-/// `mesh`, with its column heads where someone looks.
+/// `mesh`.
 fn run_mesh<R: Files + Net + AllocGlobal, I: Read + Drop, W: Write, E: Write>(
-    rt: &R,
-    mesh: &Mesh<'_>,
-    format: OutputFormat,
-    input: I,
-    out: &mut W,
-    err: &mut E,
-) -> Status
-where
-    R::File: Read + Write + Drop,
-{
-    let heads = mesh.heads.then_some(MESH_HEADS);
-    let mut screen = Screen::plain(rt.alloc(), out).headed(heads);
-    mesh_on(rt, mesh, format, input, &mut screen, err)
-}
-
-/// `mesh`, on a screen.
-fn mesh_on<R: Files + Net + AllocGlobal, I: Read + Drop, W: Write, E: Write>(
     rt: &R,
     mesh: &Mesh<'_>,
     format: OutputFormat,

@@ -1,10 +1,10 @@
 //! What the arguments ask for.
 
-use crate::choosing::{
-    BadArgument, count_of, fields_of, ports_of, selection_of, selection_to_any_port, time_of,
-};
-use crate::station::StationArguments;
 use clap::ArgMatches;
+use its_arguments::{
+    BadArgument, StationArguments, count_of, fields_of, ports_of, selection_of,
+    selection_to_any_port, time_of,
+};
 use its_commands::{Conversion, Selection, Showing};
 use its_mesh::MeshOptions;
 use its_page::Viewing;
@@ -111,6 +111,36 @@ pub struct Replay<'a> {
     pub ports: PortList,
     /// The file of the frames that it passes on, where they are written.
     pub frames: Option<Target<'a>>,
+}
+
+impl Subcommand<'_> {
+    /// The column heads before its lines, where there are any that it doesn't print by itself.
+    pub fn heads(&self) -> Option<&'static str> {
+        match self {
+            Subcommand::Mesh(mesh) if mesh.heads => Some("time station result"),
+            _ => None,
+        }
+    }
+
+    /// How its lines in words are coloured, where they are.
+    pub fn painter(&self) -> Option<Painter> {
+        match self {
+            Subcommand::Show(show) => show.painter,
+            Subcommand::Sim(sim) => sim.painter,
+            _ => None,
+        }
+    }
+
+    /// Whether it is told on standard error how far it is.
+    pub fn shows_progress(&self) -> bool {
+        match self {
+            Subcommand::Convert(convert) => convert.progress,
+            Subcommand::Import(import) => import.progress,
+            Subcommand::Sim(sim) => sim.options.progress,
+            Subcommand::View(viewing) => viewing.options.progress,
+            _ => false,
+        }
+    }
 }
 
 /// The subcommand that was matched, of a program whose streams are these. One is required, as are

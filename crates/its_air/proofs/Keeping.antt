@@ -28,7 +28,7 @@ use Rattle.std.specs.Prelude.{IsSomeAnd, reverse, map}
 use Rattle.its_station.specs.State.{StationState, RepresentsStation}
 use Rattle.its_world.specs.State.{RepresentStations}
 use Rattle.its_world.proofs.Worlds.{get_station}
-use Rattle.its_scenario.specs.declared.event.FileEvent.{FileEvent as Told}
+use Rattle.its_scenario.specs.declared.event.FileEvent.{FileEvent}
 use Rattle.its_air.specs.declared.waiting.AirAction.TheVariants as owns
 use Rattle.its_air.specs.declared.waiting.Scheduled.{Scheduled}
 use Rattle.its_air.specs.declared.waiting.Queue.{Queue}
@@ -41,7 +41,7 @@ use Rattle.its_air_model.specs.Timetable.{Rules}
 use Rattle.its_air.specs.declared.run.Run.{Run}
 use Rattle.its_air.specs.Queues.{filed_in}
 use Rattle.its_air_model.specs.Range.{is_within}
-use Rattle.its_air.specs.Reach.{numbers_from, hears, hearers}
+use Rattle.its_places.specs.Reach.{numbers_from, hears, hearers}
 use Rattle.its_air_model.specs.Timetable.{Timetable, Planned, draw, draw_and_schedule, draw_alone}
 use Rattle.its_air_model.specs.Timetable.{delivery, send}
 use Rattle.its_air_model.specs.Timetable.{send_all, tick, heard_from, hear_it, given, was_refused}
@@ -69,7 +69,7 @@ left_same : (old new : Queue) → SameFile old new
     → drop new.taken (filed_due new) ≡ drop old.taken (filed_due old)
 left_same old new same =
     ap (λ k. drop k (filed_due new)) same.taken
-    ∙ ap (λ (d : Vec (Bor Told) Global). drop old.taken (filed_in d.items)) same.due
+    ∙ ap (λ (d : Vec (Bor FileEvent) Global). drop old.taken (filed_in d.items)) same.due
 
 -- one more was put, by one draw
 pub keeps_put : (old new : Queue) (before after : List ℕ) (t : Timetable) (x : Scheduled)

@@ -1,11 +1,6 @@
 pub mod Files
-pub mod Hearing
 pub mod Among
 pub mod Under
-pub mod Bands
-pub mod Between
-pub mod Rows
-pub mod Counts
 pub mod BesideOrder
 pub mod BesideLater
 pub mod BesideMade
@@ -21,7 +16,6 @@ pub mod Stepping
 pub mod Counting
 pub mod Following
 pub mod Ranges
-pub mod Shifts
 pub mod Counted
 pub mod Moved
 pub mod UnderRows

@@ -1,6 +1,8 @@
 -- The line of deliveries beside the heap: its order, and what comes first of both.
-use Rattle.std.proofs.Common.{◌≡◌, ℕ, ◌+◌, ◌-◌, ◌≤◌, ◌<◌, List, [], ◌∷◌, ◌++◌, length, refl, sym, ap}
+use Rattle.std.proofs.Common.{◌≡◌, ℕ, zero, suc, ◌-◌, ◌≤◌, ◌<◌, List, [], ◌∷◌, ◌++◌, length}
+use Rattle.std.proofs.Common.{refl, sym, ap}
 use Rattle.std.proofs.Common.{◌∙◌, arith, tests, Bool, true, false, subst, ◌&&◌, cond, inl, inr}
+use Rattle.std.proofs.Common.{not}
 use Rattle.std.specs.Prelude.{slice_index_or, All, count_by, ◌==◌}
 use Rattle.std.specs.BinaryHeap.{IsUpperBound, lt_by_cmp}
 use Rattle.std.specs.List.{AllByRecursion}
@@ -8,11 +10,18 @@ use Rattle.std.specs.List.Sorted.{IsPermutation}
 use Rattle.std.proofs.lemmas.List.{append_assoc}
 use Rattle.std.proofs.lemmas.List.Elements.{All-from_recursion}
 use Rattle.std.proofs.lemmas.List.Sorted.{IsPermutation-append_comm, IsPermutation-append_left}
-use Rattle.std.proofs.lemmas.List.Sums.{sum_by-append}
+use Rattle.std.proofs.lemmas.List.Sums.{sum_by-append, sum_by-cons}
+use Rattle.std.proofs.lemmas.List.{length-map, map-append}
+use Rattle.its_air.specs.Counted.{is_kind_at, is_of_kind, is_of_kind_at, number_of}
+use Rattle.its_air.specs.declared.kinds.Kind.{Kind}
+use Rattle.its_air.specs.declared.kinds.Kind.TheVariants as kinds
+use Rattle.its_air.specs.declared.waiting.AirAction.TheVariants as owns
+use Rattle.its_air.specs.declared.waiting.Delivery.{Delivery}
 use Rattle.its_air.specs.declared.waiting.Scheduled.{Scheduled}
 use Rattle.its_air.specs.Line.{StandInLine, IsBehind, IsLineFirst, IsHeapFirst, IsLate}
 use Rattle.its_air.specs.Line.{IsFrontLate}
-use Rattle.its_air.specs.Queues.{waiting_cmp}
+use Rattle.its_air.specs.Queues.{delivery_of, in_line, waiting_cmp}
+use Rattle.its_air.proofs.Counted.{counted_ticks, counted_sends}
 
 -- x is taken after y
 abbrev pub lt : Scheduled → Scheduled → Bool
@@ -45,15 +54,45 @@ behind_last y [] last x s is h = (subst (λ z. lt z x ≡ false) is h, tt)
 behind_last y (z ∷ line) last x s is h =
     let rest = behind_last z line last x s.1 is h in (not_after y z x s.0.0 rest.0, rest)
 
+pub was_false : (b : Bool) → not b ≡ true → b ≡ false
+was_false false h = refl
+was_false true h = let no : ⊥ = cc in absurd no
+
+-- where a delivery stands in line, so does its event
+in_line_at : (line : List Delivery) (n : ℕ) (d : Delivery)
+    → slice_index_or (in_line line) n (delivery_of d) ≡ delivery_of (slice_index_or line n d)
+in_line_at [] zero d = refl
+in_line_at [] (suc n) d = refl
+in_line_at (x ∷ line) zero d = refl
+in_line_at (x ∷ line) (suc n) d = in_line_at line n d
+
+-- one more stands in line
+pub one_more : (line : List Delivery) (d : Delivery)
+    → in_line (line ++ d ∷ []) ≡ in_line line ++ delivery_of d ∷ []
+one_more line d = map-append delivery_of line (d ∷ [])
+
+-- the first in line
+pub front_of : (line : List Delivery) (front : Delivery) → front ≡ slice_index_or line 0 front
+    → delivery_of front ≡ slice_index_or (in_line line) 0 (delivery_of front)
+front_of line front is = ap delivery_of is ∙ sym (in_line_at line 0 front)
+
+-- there is one in line
+pub some_in_line : (line : List Delivery) → 0 < length line → 0 < length (in_line line)
+some_in_line line some = let size = length-map line delivery_of in omega (arith, size, some)
+
 -- the same of a line of which the last is looked up
-pub behind_all : (line : List Scheduled) (last x : Scheduled) → StandInLine line
-    → 0 < length line → last ≡ slice_index_or line (length line - 1) last → lt last x ≡ false
-    → IsBehind x line
+pub behind_all : (line : List Delivery) (last : Delivery) (x : Scheduled)
+    → StandInLine (in_line line)
+    → 0 < length line → last ≡ slice_index_or line (length line - 1) last
+    → lt (delivery_of last) x ≡ false → IsBehind x (in_line line)
 behind_all [] last x stand some is h = absurd (omega (arith, some))
 behind_all (y ∷ line) last x stand some is h =
-    let at : length (y ∷ line) - 1 ≡ length line = omega arith in
-    behind_last y line last x stand
-    (is ∙ ap (λ n. slice_index_or (y ∷ line) n last) at) h
+    let size = length-map line delivery_of in
+    let at : length (y ∷ line) - 1 ≡ length (in_line line) = omega (arith, size) in
+    behind_last (delivery_of y) (in_line line) (delivery_of last) x stand
+    (ap delivery_of is
+    ∙ sym (in_line_at (y ∷ line) (length (y ∷ line) - 1) last)
+    ∙ ap (λ n. slice_index_or (in_line (y ∷ line)) n (delivery_of last)) at) h
 
 over_all : (x y : Scheduled) (ys : List Scheduled) → lt x y ≡ false
     → IsUpperBound waiting_cmp y ys → IsUpperBound waiting_cmp x ys
@@ -110,7 +149,8 @@ line_first heap (y ∷ line) top front some is bound after =
       first = λ x rest split.
           let same : front ≡ x =
           is ∙ ap (λ (l : List Scheduled). slice_index_or l 0 front) split in
-          subst (λ z. IsUpperBound waiting_cmp z heap) same (before_heap top front heap after bound);
+          subst (λ z. IsUpperBound waiting_cmp z heap) same
+          (before_heap top front heap after bound);
     }
 
 -- the first on the heap comes before all in line
@@ -184,19 +224,35 @@ late_on_heap moment heap line first (inr late) =
 
 -- ---- how many of a kind
 
--- none of three
-pub none_of_three : (kind : Scheduled → Bool) (heap front back line own : List Scheduled)
-    → front ++ back ≡ line → heap ++ line ≡ own
-    → (count_by kind heap == 0) && ((count_by kind front == 0) && (count_by kind back == 0))
-    ≡ (count_by kind own == 0)
-none_of_three kind heap front back line own is whole =
-    let a = sum_by-append (λ y. cond (kind y) 1 0) heap line in
-    let b = sum_by-append (λ y. cond (kind y) 1 0) front back in
-    let c = ap (count_by kind) is in
-    let d = ap (count_by kind) whole in
-    let e : count_by kind own ≡ count_by kind heap + (count_by kind front + count_by kind back) =
-    omega (arith, a, b, c, d) in
-    three (count_by kind heap) (count_by kind front) (count_by kind back) ∙ ap (λ n. n == 0) (sym e)
+-- none in line is of a kind that is counted
+none_in_line : (kind : Kind) (station : ℕ) (line : List Delivery)
+    → count_by (is_of_kind_at kind station) (in_line line) ≡ 0
+none_in_line kind station [] = refl
+none_in_line kind station (d ∷ line) =
+    let one = sum_by-cons (λ y. cond (is_of_kind_at kind station y) 1 0) (delivery_of d)
+    (in_line line) in
+    let here : ◌≡◌ {A = ℕ} (cond (is_of_kind_at kind station (delivery_of d)) 1 0) 0 =
+    ap (λ (b : Bool). cond b 1 0) (none kind (d.station == station)) in
+    let rest = none_in_line kind station line in
+    omega (arith, one, here, rest)
   where
-    three : (i j k : ℕ) → (i == 0) && ((j == 0) && (k == 0)) ≡ (i + (j + k) == 0)
-    three i j k = grind (arith, tests)
+    none : (k : Kind) (b : Bool) → is_of_kind k (owns.Deliver d.frame) && b ≡ false
+    none kinds.Tick b = refl
+    none (kinds.Send number) b = refl
+
+-- so all of a kind are on the heap
+pub all_on_heap : (kind : Kind) (station : ℕ) (heap own : List Scheduled) (line : List Delivery)
+    → heap ++ in_line line ≡ own
+    → count_by (is_of_kind_at kind station) heap ≡ count_by (is_of_kind_at kind station) own
+all_on_heap kind station heap own line is =
+    let both = sum_by-append (λ y. cond (is_of_kind_at kind station y) 1 0) heap (in_line line) in
+    let none = none_in_line kind station line in
+    let same = ap (count_by (is_of_kind_at kind station)) is in
+    omega (arith, both, none, same)
+
+-- those that are counted by the number of their kind
+pub counted_of : (kind : Kind) (station : ℕ) (own : List Scheduled)
+    → count_by (is_kind_at (number_of kind) station) own
+    ≡ count_by (is_of_kind_at kind station) own
+counted_of kinds.Tick station own = counted_ticks station own
+counted_of (kinds.Send number) station own = counted_sends number station own

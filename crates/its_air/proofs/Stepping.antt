@@ -10,8 +10,8 @@ use denote.Ref.{Bor}
 use Rattle.std.proofs.lemmas.Bool.{le-leb}
 use Rattle.its_model.specs.World.{Config, Event, WorldModel, opening, world_run}
 use Rattle.its_world.specs.declared.entry.Entry.{Entry}
-use Rattle.its_scenario.specs.Airs.{moment_of as told_moment}
-use Rattle.its_scenario.specs.declared.event.FileEvent.{FileEvent as Told}
+use Rattle.its_scenario.specs.Airs.{moment_of as file_moment}
+use Rattle.its_scenario.specs.declared.event.FileEvent.{FileEvent}
 use Rattle.its_simulation.specs.Simulated.{IsSimulated}
 use Rattle.its_air.specs.declared.waiting.Scheduled.{Scheduled}
 use Rattle.its_air.specs.declared.waiting.Queue.{Queue}
@@ -32,28 +32,28 @@ use Rattle.its_air_model.specs.Timetable.Pending.{Does, Departs}
 use Rattle.its_air.specs.Traffics.{traffic_in}
 use Rattle.its_air.specs.Waits.{Waits, planned_of, pending_of}
 use Rattle.its_air.proofs.Files.{same_moment}
-use Rattle.its_air.proofs.Keeping.{waits_at}
+use Rattle.its_air.proofs.Keeping.{goes_on, waits_at}
 use Rattle.its_air.proofs.Opening.{waits_opening}
 use Rattle.its_air_model.specs.Timetable.{at, Pending, Filed}
 use Rattle.its_air.proofs.Waits.{waits_file, waits_own, waits_none, FileIsLater}
 
 -- the next event of the file
-drop_next : (due : List (Bor Told)) (n : ℕ) (e : Bor Told) → slice_get due n ≡ Some e
+drop_next : (due : List (Bor FileEvent)) (n : ℕ) (e : Bor FileEvent) → slice_get due n ≡ Some e
     → drop n (filed_in due) ≡ filed_of e.now ∷ drop (suc n) (filed_in due)
 drop_next [] n e is = let no : ⊥ = cc in absurd no
 drop_next (x ∷ due) zero e is =
     let same : x ≡ e = cc in
-    ap (λ (y : Bor Told). filed_of y.now ∷ filed_in due) same
+    ap (λ (y : Bor FileEvent). filed_of y.now ∷ filed_in due) same
 drop_next (x ∷ due) (suc n) e is = drop_next due n e is
 
-drop_past : (due : List (Bor Told)) (n : ℕ) → length due ≤ n → drop n (filed_in due) ≡ []
+drop_past : (due : List (Bor FileEvent)) (n : ℕ) → length due ≤ n → drop n (filed_in due) ≡ []
 drop_past [] zero le = refl
 drop_past [] (suc n) le = refl
 drop_past (x ∷ due) zero le = absurd (omega arith)
 drop_past (x ∷ due) (suc n) le = drop_past due n (omega arith)
 
-file_is_later : (due : List (Bor Told)) (n m : ℕ)
-    → ((e : Bor Told) → slice_get due n ≡ Some e → m < told_moment e.now)
+file_is_later : (due : List (Bor FileEvent)) (n m : ℕ)
+    → ((e : Bor FileEvent) → slice_get due n ≡ Some e → m < file_moment e.now)
     → FileIsLater m (drop n (filed_in due))
 file_is_later [] zero m h = tt
 file_is_later [] (suc n) m h = tt
@@ -61,25 +61,25 @@ file_is_later (x ∷ due) zero m h =
     subst (λ k. m < k) (sym (same_moment x.now)) (h x refl)
 file_is_later (x ∷ due) (suc n) m h = file_is_later due n m h
 
-pub takes_file : (old new : Queue) (words : List ℕ) (t : Timetable) (e : Bor Told)
+pub takes_file : (old new : Queue) (words : List ℕ) (t : Timetable) (e : Bor FileEvent)
     → slice_get old.due.items old.taken ≡ Some e → new.due ≡ old.due
     → new.taken ≡ old.taken + 1 → new.until ≡ old.until → new.pushed ≡ old.pushed
     → new.own ≡ old.own
-    → All (λ w. told_moment e.now ≤ w.moment) new.own → Keeps old words t
+    → All (λ w. file_moment e.now ≤ w.moment) new.own → Keeps old words t
     → (rest : List Pending) × (t.waiting ≡ of_file (filed_of e.now) ∷ rest)
     × Keeps new words (record { waiting = rest; draws = t.draws })
 takes_file old new words t e is due taken until schedule heap first h =
     let left = drop (suc old.taken) (filed_in old.due.items) in
     let got = waits_file (filed_of e.now) left old.own old.pushed old.until t.waiting
     (subst (λ k. All (λ (w : Scheduled). k ≤ w.moment) old.own)
-    (sym (same_moment e.now)) (subst (All (λ (w : Scheduled). told_moment e.now ≤ w.moment)) heap
+    (sym (same_moment e.now)) (subst (All (λ (w : Scheduled). file_moment e.now ≤ w.moment)) heap
     first))
     (subst (λ (l : List Filed). Waits l old.own old.pushed old.until t.waiting)
     (drop_next old.due.items old.taken e is) h.waits) in
     let next : new.taken ≡ suc old.taken = omega (arith, taken) in
     let same : drop new.taken (filed_due new) ≡ left =
     ap (λ k. drop k (filed_due new)) next
-    ∙ ap (λ (d : Vec (Bor Told) Global). drop (suc old.taken) (filed_in d.items)) due in (
+    ∙ ap (λ (d : Vec (Bor FileEvent) Global). drop (suc old.taken) (filed_in d.items)) due in (
       got.0,
       got.1,
       record {
@@ -94,7 +94,8 @@ pub takes_own : (old new : Queue) (words : List ℕ) (t : Timetable) (w : Schedu
     → new.due ≡ old.due → new.taken ≡ old.taken → new.until ≡ old.until → new.pushed ≡ old.pushed
     → IsPermutation old.own (w ∷ new.own)
     → IsUpperBound waiting_cmp w new.own → w.moment ≤ old.until
-    → ((e : Bor Told) → slice_get old.due.items old.taken ≡ Some e → w.moment < told_moment e.now)
+    → ((e : Bor FileEvent) → slice_get old.due.items old.taken ≡ Some e →
+    w.moment < file_moment e.now)
     → Keeps old words t
     → (rest : List Pending) × (t.waiting ≡ pending_of w ∷ rest)
     × Keeps new words (record { waiting = rest; draws = t.draws })
@@ -104,7 +105,7 @@ takes_own old new words t w due taken until schedule moves first le later h =
     moves first le (file_is_later old.due.items old.taken w.moment later) h.waits in
     let same : drop new.taken (filed_due new) ≡ left =
     ap (λ k. drop k (filed_due new)) taken
-    ∙ ap (λ (d : Vec (Bor Told) Global). drop old.taken (filed_in d.items)) due in (
+    ∙ ap (λ (d : Vec (Bor FileEvent) Global). drop old.taken (filed_in d.items)) due in (
       got.0,
       got.1,
       record {
@@ -122,7 +123,7 @@ takes_none old new words t all due taken until schedule heap late h =
     let left = drop old.taken (filed_in old.due.items) in
     let same : drop new.taken (filed_due new) ≡ left =
     ap (λ k. drop k (filed_due new)) taken
-    ∙ ap (λ (d : Vec (Bor Told) Global). drop old.taken (filed_in d.items)) due in (
+    ∙ ap (λ (d : Vec (Bor FileEvent) Global). drop old.taken (filed_in d.items)) due in (
       waits_none old.own old.pushed old.until t.waiting late
           (subst (λ (l : List Filed). Waits l old.own old.pushed old.until t.waiting)
           (drop_past old.due.items old.taken all) h.waits),
@@ -134,6 +135,32 @@ takes_none old new words t all due taken until schedule heap late h =
         draws = h.draws;
       },
     )
+
+-- nothing was taken, and all waits as before
+pub same_timed : (rules : Rules) (configs : List Config) (a : AirModel) (old : Run) (queue : Queue)
+    (Took : List Event → List Entry → Type 0)
+    → queue.due ≡ old.queue.due → queue.taken ≡ old.queue.taken
+    → queue.until ≡ old.queue.until → queue.pushed ≡ old.queue.pushed
+    → queue.own ≡ old.queue.own → IsTimed rules configs a old Took
+    → IsTimed rules configs a (record old { queue = queue }) Took
+same_timed rules configs a old queue Took due taken until schedule heap h =
+    let left = drop old.queue.taken (filed_in old.queue.due.items) in
+    let same : drop queue.taken (filed_due queue) ≡ left =
+    ap (λ k. drop k (filed_due queue)) taken
+    ∙ ap (λ (d : Vec (Bor FileEvent) Global). drop old.queue.taken (filed_in d.items)) due in
+    let t = a.timetable in
+    record {
+      goes_by = goes_on rules old (record old { queue = queue }) h.goes_by refl refl until;
+      present = h.present;
+      told = h.told;
+      keeps = record {
+        waits = subst (λ (hs : List Scheduled). Waits (drop queue.taken (filed_due queue)) hs
+            queue.pushed queue.until t.waiting) (sym heap)
+            (waits_at left _ old.queue.own old.queue.pushed _ old.queue.until _ t.waiting same
+            schedule until h.keeps.waits);
+        draws = h.keeps.draws;
+      };
+    }
 
 -- the air of the model with its first taken
 abbrev pub without_first : AirModel → List Pending → AirModel

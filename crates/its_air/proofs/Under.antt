@@ -8,7 +8,7 @@ use denote.Ref.{Bor}
 use Rattle.its_model.specs.EverySchedule.{HoldsOfSchedules}
 use Rattle.its_model.specs.World.{Config, Event, opening}
 use Rattle.its_world.specs.declared.entry.Entry.{Entry}
-use Rattle.its_scenario.specs.declared.event.FileEvent.{FileEvent as Told}
+use Rattle.its_scenario.specs.declared.event.FileEvent.{FileEvent}
 use Rattle.its_world.specs.State.{WorldState, RepresentsWorld}
 use Rattle.its_simulation.specs.Simulated.{IsSimulated}
 use Rattle.its_air.specs.AirRun.{AreAmong, AreDue, IsAirRun, events_in}
@@ -18,16 +18,17 @@ use Rattle.its_air_model.specs.Timetable.{Filed}
 use Rattle.its_air_model.specs.Timetable.Filed.{Happens, Leaves}
 use Rattle.its_air.specs.Runs.{IsUnderWay, SaysAsBefore}
 use Rattle.its_air.specs.declared.run.Run.{Run}
+use Rattle.its_air.specs.declared.waiting.Queue.{Queue}
 use Rattle.its_air.proofs.Among.{among_both, among_longer}
 use Rattle.std.proofs.lemmas.List.{append-nil}
 
 -- one more event of the file was taken
-front_more : (due : List (Bor Told)) (n : ℕ) (e : Bor Told) → slice_get due n ≡ Some e
+front_more : (due : List (Bor FileEvent)) (n : ℕ) (e : Bor FileEvent) → slice_get due n ≡ Some e
     → take (suc n) (filed_in due) ≡ take n (filed_in due) ++ filed_of e.now ∷ []
 front_more [] n e is = cc
 front_more (x ∷ due) zero e is =
     let same : x ≡ e = cc in
-    ap (λ (y : Bor Told). filed_of y.now ∷ []) same
+    ap (λ (y : Bor FileEvent). filed_of y.now ∷ []) same
 front_more (x ∷ due) (suc n) e is =
     ap (λ (l : List Filed). filed_of x.now ∷ l) (front_more due n e is)
 
@@ -61,7 +62,7 @@ begins configs run Took stands laws took start =
 
 -- a line of the file was done
 pub under_file : (configs : List Config) (events : List Event) (run new : Run)
-    (Before After : List Event → List Entry → Type 0) (e : Bor Told)
+    (Before After : List Event → List Entry → Type 0) (e : Bor FileEvent)
     → (IsSimulated configs events run.world Before
     → IsSimulated configs (events ++ events_in (filed_of e.now ∷ [])) new.world After)
     → slice_get run.queue.due.items run.queue.taken ≡ Some e
@@ -75,7 +76,7 @@ under_file configs events run new Before After e done at due taken under =
     let more : take new.queue.taken (filed_due new.queue)
     ≡ take n (filed_in all) ++ filed_of e.now ∷ [] =
     ap (λ k. take k (filed_due new.queue)) next
-    ∙ ap (λ (d : Vec (Bor Told) Global). take (suc n) (filed_in d.items)) due
+    ∙ ap (λ (d : Vec (Bor FileEvent) Global). take (suc n) (filed_in d.items)) due
     ∙ front_more all n e at in
     record {
       told = done under.told;
@@ -95,13 +96,28 @@ under_own configs events more run new Before After done due taken under =
     let same : take new.queue.taken (filed_due new.queue)
     ≡ take run.queue.taken (filed_due run.queue) =
     ap (λ k. take k (filed_due new.queue)) taken
-    ∙ ap (λ (d : Vec (Bor Told) Global). take run.queue.taken (filed_in d.items)) due in
+    ∙ ap (λ (d : Vec (Bor FileEvent) Global). take run.queue.taken (filed_in d.items)) due in
     record {
       told = done;
       among =
           subst (λ (l : List Filed). AreAmong (events_in l) (events ++ more)) (sym same)
           (among_longer (events_in (take run.queue.taken (filed_due run.queue))) events more
           under.among);
+    }
+
+-- nothing was taken
+pub same_under : (configs : List Config) (events : List Event) (run : Run) (queue : Queue)
+    (Took : List Event → List Entry → Type 0)
+    → queue.due ≡ run.queue.due → queue.taken ≡ run.queue.taken
+    → IsUnderWay configs events run Took
+    → IsUnderWay configs events (record run { queue = queue }) Took
+same_under configs events run queue Took due taken under =
+    let same : take queue.taken (filed_due queue) ≡ take run.queue.taken (filed_due run.queue) =
+    ap (λ k. take k (filed_due queue)) taken
+    ∙ ap (λ (d : Vec (Bor FileEvent) Global). take run.queue.taken (filed_in d.items)) due in
+    record {
+      told = under.told;
+      among = subst (λ (l : List Filed). AreAmong (events_in l) events) (sym same) under.among;
     }
 
 -- all of the file was taken
@@ -121,7 +137,7 @@ ended configs file events until run Took due all under =
           subst (λ (l : List Filed). AreAmong (events_in l) events)
           (take_all run.queue.taken (filed_due run.queue)
           (subst (λ n. n ≤ run.queue.taken)
-          (sym (length-map run.queue.due.items (λ (e : Bor Told). filed_of e.now))) all))
+          (sym (length-map run.queue.due.items (λ (e : Bor FileEvent). filed_of e.now))) all))
           under.among;
     }
 

@@ -2,6 +2,11 @@
 use Rattle.std.specs.Prelude.{◌≡◌, ◌<◌, ◌+◌, ◌*◌, ◌^◌, ℕ, List, Bool, false, ◌&&◌, ◌==◌}
 use Rattle.std.specs.Prelude.{Some, None, get_or, count_by}
 use Rattle.std.specs.declared.option.Option.{Option}
+use Rattle.its_air.specs.Queues.{own_of}
+use Rattle.its_air.specs.Traffics.{traffic_in}
+use Rattle.its_air_model.specs.Timetable.{is_tick, is_numbered}
+use Rattle.its_air.specs.declared.kinds.Kind.{Kind}
+use Rattle.its_air.specs.declared.kinds.Kind.TheVariants as kinds
 use Rattle.its_air.specs.declared.waiting.AirAction.{AirAction}
 use Rattle.its_air.specs.declared.waiting.AirAction.TheVariants as owns
 use Rattle.its_air.specs.declared.waiting.Scheduled.{Scheduled}
@@ -19,6 +24,19 @@ is_kind kind (Some k) = k == kind
 
 abbrev pub is_kind_at : ℕ → ℕ → Scheduled → Bool
 is_kind_at kind station w = is_kind kind (kind_in w.own) && (w.station == station)
+
+-- the number of a kind
+abbrev pub number_of : Kind → ℕ
+number_of kinds.Tick = 0
+number_of (kinds.Send number) = number + 1
+
+-- what an air does by itself is of a kind
+abbrev pub is_of_kind : Kind → AirAction → Bool
+is_of_kind kinds.Tick own = is_tick (own_of own)
+is_of_kind (kinds.Send number) own = is_numbered number (traffic_in own)
+
+abbrev pub is_of_kind_at : Kind → ℕ → Scheduled → Bool
+is_of_kind_at kind station w = is_of_kind kind w.own && (w.station == station)
 
 -- where the count of a kind at a station stands, if it does
 abbrev pub IsPlaceOf : ℕ → ℕ → ℕ → ℕ → Type 0

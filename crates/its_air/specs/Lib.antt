@@ -1,5 +1,3 @@
-pub mod Reach
-pub mod PlaceIndexes
 pub mod AirRun
 pub mod Queues
 pub mod Runs

@@ -1,5 +1,5 @@
 -- The deliveries that wait in a line, and the other events of the air's own on a heap.
-use Rattle.std.specs.Prelude.{◌≡◌, ℕ, ◌≤◌, List, [], ◌∷◌, ◌++◌, false, ◌⊎◌}
+use Rattle.std.specs.Prelude.{◌≡◌, ℕ, ◌≤◌, List, [], ◌∷◌, false, ◌⊎◌}
 use Rattle.std.specs.BinaryHeap.{IsHeap, IsUpperBound, lt_by_cmp}
 use Rattle.std.specs.List.{AllByRecursion}
 use Rattle.its_air.specs.Counted.{AreCounted}
@@ -15,11 +15,11 @@ StandInLine (x ∷ line) = IsUpperBound waiting_cmp x line × StandInLine line
 abbrev pub IsBehind : Scheduled → List Scheduled → Type 0
 IsBehind x line = AllByRecursion (λ y. lt_by_cmp waiting_cmp y x ≡ false) line
 
--- the heap is one, the line is in its order, and all of both are counted
+-- the heap is one, the line is in its order, and all on the heap are counted
 pub record AreInOrder (heap line : List Scheduled) (kinds : ℕ) (counts : List ℕ) : Type 0 where
   pub on_heap : IsHeap waiting_cmp heap
   pub in_line : StandInLine line
-  pub counted : AreCounted kinds counts (heap ++ line)
+  pub counted : AreCounted kinds counts heap
 
 -- the first of all stands in line
 pub record IsLineFirst (heap line : List Scheduled) : Type 0 where

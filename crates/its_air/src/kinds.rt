@@ -4,11 +4,33 @@ ghost use Rattle.std.specs.Prelude.{◌≡◌, ◌≤◌, ◌<◌, ◌+◌, ◌^
 ghost use Rattle.std.specs.Prelude.{IfSome, IfNone, OnOk, OnErr};
 ghost use Rattle.std.specs.List.Sorted.{IsPermutation};
 ghost use Rattle.its_air.specs.Counted.{AreCounted, IsCountedAt, IsUncounted, IsPlaceOf};
-ghost use Rattle.its_air.specs.Counted.{HasNoPlace, is_kind_at};
+ghost use Rattle.its_air.specs.Counted.{HasNoPlace, is_kind_at, number_of};
 
 use crate::fault::AirFault;
 use crate::waiting::Scheduled;
 use std::alloc::{AllocError, Global};
+
+/// A kind of what each station does again and again.
+#[derive(Clone, Copy, Debug)]
+pub(crate) enum Kind {
+    /// A tick.
+    Tick,
+    /// A send of the traffic of this number.
+    Send(usize),
+}
+
+impl Kind {
+    /// Its number, if it has one: ticks are of the first kind, sends of the one behind the number
+    /// of their traffic.
+    pub(crate) fn number(self) -> Option<usize>
+        ensures { IfSome result (λ number. number ≡ number_of self) }
+    {
+        match self {
+            Kind::Tick => Some(0),
+            Kind::Send(number) => number.checked_add(1),
+        }
+    }
+}
 
 /// How many of the air's own events wait: of each station those of each kind, side by side. Of the
 /// first kind are the ticks, of those behind it the sends of each traffic. So none of these has to

@@ -10,8 +10,6 @@ mod kinds;
 mod moving;
 mod moving_run;
 mod own_events;
-mod place_index;
-mod reach;
 mod run;
 mod scenario;
 mod step;
@@ -20,7 +18,7 @@ mod waiting;
 
 pub use draws::Draws;
 pub use fault::AirFault;
+pub use its_places::{find_hearers, is_within};
 pub use moving::run_moves;
-pub use reach::{find_hearers, is_within};
 pub use run::run_air;
 pub use scenario::run_scenario;

@@ -22,7 +22,7 @@ ghost use Rattle.its_air.specs.FitsRun.{FitsRun};
 ghost use Rattle.its_air.specs.Keeps.{GoesBy, Keeps};
 ghost use Rattle.its_air.specs.Moving.{Awaits, IsMovedRun};
 ghost use Rattle.its_air.specs.Queues.{IsFiledInRange};
-ghost use Rattle.its_air.specs.PlaceIndexes.{AreStandingsOf};
+ghost use Rattle.its_places.specs.PlaceIndexes.{AreStandingsOf};
 ghost use Rattle.its_air.specs.Outside.{Came, IsByMoment, row_move};
 ghost use Rattle.its_air_model.specs.Timetable.{Filed, Pending, Rules, air_opening, at};
 ghost use Rattle.its_air.specs.Traffics.{all_traffic};

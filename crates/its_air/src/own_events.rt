@@ -4,13 +4,15 @@ ghost use Rattle.std.specs.Prelude.{◌≡◌, ◌≤◌, ◌<◌, ◌∷◌, []
 ghost use Rattle.std.specs.Prelude.{IfSome, IfNone, OnOk, OnErr, IsTrue, false};
 ghost use Rattle.std.specs.BinaryHeap.{IsHeap, IsUpperBound, heap_items};
 ghost use Rattle.std.specs.List.Sorted.{IsPermutation};
+ghost use Rattle.its_air.specs.Counted.{is_of_kind_at};
 ghost use Rattle.its_air.specs.Line.{StandInLine, IsBehind, IsLineFirst, IsHeapFirst, IsLate};
 ghost use Rattle.its_air.specs.Line.{IsFrontLate};
 ghost use Rattle.its_air.specs.Queues.{is_tick_at, is_send_at, waiting_cmp};
+ghost use Rattle.its_air.specs.Queues.{delivery_of, in_line};
 
 use crate::fault::AirFault;
-use crate::kinds::Counts;
-use crate::waiting::Scheduled;
+use crate::kinds::{Counts, Kind};
+use crate::waiting::{AirAction, Delivery, Scheduled};
 use std::alloc::Global;
 use std::collections::{BinaryHeap, VecDeque};
 use std::marker::Model;
@@ -23,8 +25,8 @@ pub(crate) struct OwnEvents {
     /// Ticks and sends, and a delivery that doesn't come behind all in line.
     heap: BinaryHeap<Scheduled>,
     /// Deliveries, the first in front.
-    line: VecDeque<Scheduled>,
-    /// How many wait of each kind, at each station.
+    line: VecDeque<Delivery>,
+    /// How many wait of each kind, at each station. In line is none of these.
     counts: Counts,
 }
 
@@ -32,14 +34,15 @@ impl Model for OwnEvents {
     ghost use Rattle.std.specs.Prelude.{List, ◌++◌};
     ghost use Rattle.std.specs.BinaryHeap.{heap_items};
     ghost use Rattle.its_air.specs.Line.{AreInOrder};
+    ghost use Rattle.its_air.specs.Queues.{in_line};
     ghost use Rattle.its_air.specs.declared.waiting.Scheduled.{Scheduled};
 
     ghost Value = { List Scheduled };
 
-    ghost view = { λ own. heap_items own.heap ++ own.line.items };
+    ghost view = { λ own. heap_items own.heap ++ in_line own.line.items };
 
-    ghost invariant = { λ own. AreInOrder (heap_items own.heap) own.line.items own.counts.kinds
-        own.counts.each.items };
+    ghost invariant = { λ own. AreInOrder (heap_items own.heap) (in_line own.line.items)
+        own.counts.kinds own.counts.each.items };
 }
 
 impl OwnEvents {
@@ -54,21 +57,63 @@ impl OwnEvents {
         }
     }
 
-    /// Puts one. It is counted only where there is room for it, so that each that is counted waits.
-    pub(crate) fn push(&mut self, event: Scheduled) -> Result<(), AirFault>
-        ensures put { OnOk result (IsPermutation (event ∷ self.old) self.new) }
+    /// Puts on the heap what a station does at a moment, before which so many were put. It is
+    /// counted only where there is room for it, so that each that is counted waits.
+    pub(crate) fn push(
+        &mut self,
+        moment: u64,
+        place: u64,
+        station: usize,
+        own: AirAction,
+    ) -> Result<(), AirFault>
+        ensures put { OnOk result (IsPermutation (record {
+          moment = moment;
+          place = place;
+          station = station;
+          own = own;
+        } ∷ self.old) self.new) }
         ensures unchanged { OnErr result (self.new ≡ self.old) }
     {
-        if event.own.is_delivery() && is_behind(&self.line, &event) {
-            self.line.reserve(1)?;
-            self.counts.add(&event)?;
-            self.line.push_back(event)?;
-        } else {
-            self.heap.reserve(1)?;
-            self.counts.add(&event)?;
-            self.heap.push(event)?;
-        }
+        let event = Scheduled {
+            moment,
+            place,
+            station,
+            own,
+        };
+        self.heap.reserve(1)?;
+        self.counts.add(&event)?;
+        self.heap.push(event)?;
         Ok(())
+    }
+
+    /// Puts a delivery: in line where it comes behind all that stand there, else on the heap.
+    pub(crate) fn push_delivery(&mut self, delivery: Delivery) -> Result<(), AirFault>
+        ensures put { OnOk result (IsPermutation (delivery_of delivery ∷ self.old) self.new) }
+        ensures unchanged { OnErr result (self.new ≡ self.old) }
+    {
+        if is_behind(&self.line, &delivery) {
+            self.line.push_back(delivery)?;
+            Ok(())
+        } else {
+            let own = AirAction::Deliver(delivery.frame);
+            self.push(delivery.moment, delivery.place, delivery.station, own)
+        }
+    }
+
+    /// Takes the first, if it stands in line and its moment lies before this one.
+    pub(crate) fn pop_delivery_before(&mut self, moment: u64) -> Option<Delivery>
+        ensures before { IfSome result (λ delivery. delivery.moment < moment) }
+        ensures first { IfSome result (λ delivery.
+            IsUpperBound waiting_cmp (delivery_of delivery) self.new) }
+        ensures left { IfSome result (λ delivery.
+            IsPermutation self.old (delivery_of delivery ∷ self.new)) }
+        ensures none { IfNone result (self.new ≡ self.old) }
+    {
+        if is_line_first(&self.heap, &self.line) {
+            pop_line(&mut self.line, moment)
+        } else {
+            None
+        }
     }
 
     /// Takes the first, if its moment lies before this one.
@@ -80,9 +125,8 @@ impl OwnEvents {
         ensures late { IfNone result (All (λ event. moment ≤ event.moment) self.old) }
     {
         if is_line_first(&self.heap, &self.line) {
-            let event = pop_line(&mut self.line, moment)?;
-            self.counts.remove(&event);
-            Some(event)
+            let delivery = pop_line(&mut self.line, moment)?;
+            Some(delivery.scheduled())
         } else {
             let event = pop_heap(&mut self.heap, moment)?;
             self.counts.remove(&event);
@@ -94,73 +138,69 @@ impl OwnEvents {
     pub(crate) fn has_no_tick(&self, station: usize) -> bool
         ensures { result ≡ (count_by (is_tick_at station) self.now == 0) }
     {
-        match self.counts.get(0, station) {
-            Some(count) => count == 0,
-            None => {
-                let (front, back) = self.line.as_slices();
-                count_ticks(self.heap.as_slice(), station) == 0
-                    && count_ticks(front, station) == 0
-                    && count_ticks(back, station) == 0
-            }
-        }
+        self.has_none(Kind::Tick, station)
     }
 
     /// Whether no send of the traffic of a number waits at a station.
     pub(crate) fn has_no_send(&self, number: usize, station: usize) -> bool
         ensures { result ≡ (count_by (is_send_at number station) self.now == 0) }
     {
-        match self.count_of_sends(number, station) {
+        self.has_none(Kind::Send(number), station)
+    }
+
+    /// Whether none of a kind waits at a station. Where these aren't counted, all on the heap are
+    /// looked through.
+    fn has_none(&self, kind: Kind, station: usize) -> bool
+        ensures { result ≡ (count_by (is_of_kind_at kind station) self.now == 0) }
+    {
+        match self.counted(kind, station) {
             Some(count) => count == 0,
-            None => {
-                let (front, back) = self.line.as_slices();
-                count_sends(self.heap.as_slice(), number, station) == 0
-                    && count_sends(front, number, station) == 0
-                    && count_sends(back, number, station) == 0
-            }
+            None => count_of(self.heap.as_slice(), kind, station) == 0,
         }
     }
 
-    /// How many sends of the traffic of a number wait at a station, if these are counted.
-    fn count_of_sends(&self, number: usize, station: usize) -> Option<usize>
-        ensures { IfSome result (λ count. count ≡ count_by (is_send_at number station) self.now) }
+    /// How many of a kind wait at a station, if these are counted.
+    fn counted(&self, kind: Kind, station: usize) -> Option<usize>
+        ensures { IfSome result (λ count.
+            count ≡ count_by (is_of_kind_at kind station) self.now) }
     {
-        self.counts.get(number.checked_add(1)?, station)
+        self.counts.get(kind.number()?, station)
     }
 }
 
-/// Whether an event comes behind all that stand in line.
-fn is_behind(line: &VecDeque<Scheduled>, event: &Scheduled) -> bool
-    requires { StandInLine line.now.items }
-    ensures { IsTrue result → IsBehind event.now line.now.items }
+/// Whether a delivery comes behind all that stand in line.
+fn is_behind(line: &VecDeque<Delivery>, delivery: &Delivery) -> bool
+    requires { StandInLine (in_line line.now.items) }
+    ensures { IsTrue result → IsBehind (delivery_of delivery.now) (in_line line.now.items) }
 {
     match line.back() {
-        Some(last) => !last.comes_after(event),
+        Some(last) => !delivery.is_before(last.moment, last.place),
         None => true,
     }
 }
 
 /// Whether the first of all that wait stands in line, and not on the heap.
-fn is_line_first(heap: &BinaryHeap<Scheduled>, line: &VecDeque<Scheduled>) -> bool
+fn is_line_first(heap: &BinaryHeap<Scheduled>, line: &VecDeque<Delivery>) -> bool
     requires heap { IsHeap waiting_cmp (heap_items heap.now) }
-    requires line { StandInLine line.now.items }
-    ensures line { IsTrue result → IsLineFirst (heap_items heap.now) line.now.items }
-    ensures heap { result ≡ false → IsHeapFirst (heap_items heap.now) line.now.items }
+    requires line { StandInLine (in_line line.now.items) }
+    ensures line { IsTrue result → IsLineFirst (heap_items heap.now) (in_line line.now.items) }
+    ensures heap { result ≡ false → IsHeapFirst (heap_items heap.now) (in_line line.now.items) }
 {
     let Some(in_line) = line.front() else {
         return false;
     };
     match heap.peek() {
-        Some(on_heap) => on_heap.comes_after(in_line),
+        Some(on_heap) => in_line.is_before(on_heap.moment, on_heap.place),
         None => true,
     }
 }
 
 /// Takes the first in line, if its moment lies before this one.
-fn pop_line(line: &mut VecDeque<Scheduled>, moment: u64) -> Option<Scheduled>
-    ensures taken { IfSome result (λ event. line.old.items ≡ event ∷ line.new.items) }
-    ensures before { IfSome result (λ event. event.moment < moment) }
+fn pop_line(line: &mut VecDeque<Delivery>, moment: u64) -> Option<Delivery>
+    ensures taken { IfSome result (λ first. line.old.items ≡ first ∷ line.new.items) }
+    ensures before { IfSome result (λ first. first.moment < moment) }
     ensures none { IfNone result (line.new.items ≡ line.old.items) }
-    ensures late { IfNone result (IsFrontLate moment line.old.items) }
+    ensures late { IfNone result (IsFrontLate moment (in_line line.old.items)) }
 {
     match line.front() {
         Some(first) if first.moment < moment => line.pop_front(),
@@ -190,28 +230,15 @@ fn pop_heap(heap: &mut BinaryHeap<Scheduled>, moment: u64) -> Option<Scheduled>
     }
 }
 
-/// How many of these are ticks at a station.
-fn count_ticks(own: &[Scheduled], station: usize) -> usize
-    ensures count { result ≡ count_by (is_tick_at station) own.now }
+/// How many of these are of a kind, at a station.
+fn count_of(own: &[Scheduled], kind: Kind, station: usize) -> usize
+    ensures count { result ≡ count_by (is_of_kind_at kind station) own.now }
 {
-    let mut ticks = 0;
+    let mut count = 0;
     for event in own {
-        if event.own.is_tick() && event.station == station {
-            ticks += 1;
+        if event.own.is_of(kind) && event.station == station {
+            count += 1;
         }
     }
-    ticks
-}
-
-/// How many of these are sends of the traffic of a number by a station.
-fn count_sends(own: &[Scheduled], number: usize, station: usize) -> usize
-    ensures count { result ≡ count_by (is_send_at number station) own.now }
-{
-    let mut sends = 0;
-    for event in own {
-        if event.own.is_send_of(number) && event.station == station {
-            sends += 1;
-        }
-    }
-    sends
+    count
 }

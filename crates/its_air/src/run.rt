@@ -33,17 +33,18 @@ ghost use Rattle.its_air_model.specs.Timetable.{present_after, is_passed_over};
 ghost use Rattle.its_air_model.specs.Timetable.{Rules, AirModel, spread, air_opening};
 ghost use Rattle.its_air_model.specs.Timetable.Filed.{Happens};
 ghost use Rattle.its_air.specs.Runs.{IsUnderWay, SameWorld, SaysAsBefore};
-ghost use Rattle.its_air.specs.PlaceIndexes.{AreStandingsOf};
+ghost use Rattle.its_places.specs.PlaceIndexes.{AreStandingsOf};
 ghost use Rattle.its_air.specs.Queues.{happening_of, filed_of, own_of, IsFiledInRange};
+ghost use Rattle.its_air.specs.Queues.{delivery_of};
 ghost use Rattle.its_air.specs.Traffics.{all_traffic, traffic_of};
 ghost use Rattle.its_air.specs.Waits.{pending_of, planned_of};
 
 use crate::draws::Draws;
 use crate::fault::AirFault;
-use crate::place_index::PlaceIndex;
-use crate::waiting::{AirAction, Next, Queue, Scheduled};
+use crate::waiting::{AirAction, Delivery, Next, Queue, Scheduled};
 use its_gnvalue::Place;
 use its_model::laws::every_schedule;
+use its_places::PlaceIndex;
 use its_scenario::{Air, FileEvent, Traffic};
 use its_simulation::{EventSink, Note, do_event};
 use its_world::laws::late_stations_were_there;
@@ -261,8 +262,34 @@ impl<'a> Run<'a> {
         is_present(self.present.as_slice(), station)
     }
 
-    /// Takes the first that waits, if one does.
+    /// Takes the first that waits, if one does. Most are deliveries, for which no event of any kind
+    /// is copied.
     fn go_on<S: EventSink>(&mut self, sink: &mut S) -> Result<bool, AirFault>
+        requires ranges { All (λ filed. IsFiledInRange filed.now) self.old.queue.due.items }
+        requires kept { self.old.world.released ≡ 0 }
+        requires standings { AreStandingsOf self.old.world.stations self.old.standings.order.items }
+        ensures standings { OnOk result
+            (AreStandingsOf self.new.world.stations self.new.standings.order.items) }
+        ensures due { self.new.queue.due ≡ self.old.queue.due }
+        ensures kept { self.new.world.released ≡ 0 }
+        ensures ended { IfOk result (λ more.
+            more ≡ false → length self.new.queue.due.items ≤ self.new.queue.taken) }
+        ensures run { (configs : List Beginning) (events : List Happening) →
+            IsUnderWay configs events self.old (S.Took sink.old) → OnOk result (
+            (more : List Happening) × IsUnderWay configs more self.new (S.Took sink.new)) }
+        ensures timed { (rules : Rules) (configs : List Beginning) (a : AirModel) →
+            IsTimed rules configs a self.old (S.Took sink.old) → IfOk result (λ more.
+            GoesOn more rules configs a self.new (S.Took sink.new)) }
+    {
+        let Some(delivery) = self.queue.pop_delivery() else {
+            return self.take_first(sink);
+        };
+        self.deliver(&delivery, sink)?;
+        Ok(true)
+    }
+
+    /// The same of whatever waits.
+    fn take_first<S: EventSink>(&mut self, sink: &mut S) -> Result<bool, AirFault>
         requires ranges { All (λ filed. IsFiledInRange filed.now) self.old.queue.due.items }
         requires kept { self.old.world.released ≡ 0 }
         requires standings { AreStandingsOf self.old.world.stations self.old.standings.order.items }
@@ -376,6 +403,30 @@ impl<'a> Run<'a> {
         }
         sink.note(&self.world, moment, &Note::Left { station })?;
         Ok(())
+    }
+
+    /// Does a delivery. Nothing follows it but the deliveries of the frame that it gives.
+    fn deliver<S: EventSink>(&mut self, delivery: &Delivery, sink: &mut S) -> Result<(), AirFault>
+        requires moment { delivery.now.moment ≤ 2 ^ 63 + 10000 }
+        requires kept { self.old.world.released ≤ delivery.now.frame }
+        requires standings { AreStandingsOf self.old.world.stations self.old.standings.order.items }
+        ensures file { SameFile self.old.queue self.new.queue }
+        ensures released { self.new.world.released ≡ self.old.world.released }
+        ensures standings { OnOk result
+            (AreStandingsOf self.new.world.stations self.new.standings.order.items) }
+        ensures run { (configs : List Beginning) (events : List Happening) →
+            IsSimulated configs events self.old.world (S.Took sink.old) → OnOk result (
+            (more : List Happening) × IsSimulated configs (events ++ more) self.new.world
+            (S.Took sink.new)) }
+        ensures timed { (rules : Rules) (configs : List Beginning) (a : AirModel) →
+            IsTimed rules configs a self.old (S.Took sink.old) → OnOk result
+            (IsTimed rules configs
+            (take_one rules configs a (pending_of (delivery_of delivery.now)) a.timetable) self.new
+            (S.Took sink.new)) }
+    {
+        let event = delivery.event();
+        let entry = self.do_event(&event, sink)?;
+        self.come(&event, &entry, sink)
     }
 
     /// Does one of the air's own, and puts what follows it. A tick or a send of an absent station
@@ -980,7 +1031,7 @@ fn schedule_delivery(
     if draws.is_lost(loss) {
         return Ok(Note::Lost { station, frame });
     }
-    queue.push(given.heard_at, station, AirAction::Deliver(frame))?;
+    queue.push_delivery(given.heard_at, station, frame)?;
     Ok(Note::Heard { station, frame })
 }
 

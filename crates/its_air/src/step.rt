@@ -10,7 +10,7 @@ ghost use Rattle.its_air.specs.AirRun.{events_in};
 ghost use Rattle.its_air.specs.Moving.{DoesAsked, DoesFiled, DoesTaken, DoesThere};
 ghost use Rattle.its_air.specs.Outside.{Delivers, at_station, opening_at, station_of_filed};
 ghost use Rattle.its_air.specs.Queues.{IsFiledInRange, filed_of, own_of};
-ghost use Rattle.its_air.specs.PlaceIndexes.{AreStandingsOf};
+ghost use Rattle.its_places.specs.PlaceIndexes.{AreStandingsOf};
 ghost use Rattle.its_air_model.specs.Timetable.Filed.{Happens};
 
 use crate::copying::copy_of;

@@ -10,19 +10,21 @@ ghost use Rattle.std.specs.List.Sorted.{IsPermutation};
 ghost use Rattle.std.specs.Ordering.{nat_cmp, on, flip_args, then_cmp, as_partial_cmp, eq_of_both};
 ghost use Rattle.std.proofs.Common.{rules};
 ghost use denote.Ref.{Bor};
-ghost use Rattle.its_scenario.specs.Airs.{moment_of as told_moment};
+ghost use Rattle.its_scenario.specs.Airs.{moment_of as file_moment};
 ghost use Rattle.its_scenario.specs.declared.event.FileEvent.{FileEvent};
 ghost use Rattle.its_world.specs.Events.{event_of, what_of, IsInRange};
 ghost use Rattle.its_air.specs.AirRun.{AreDue};
 ghost use Rattle.its_air.specs.Queues.{ComesFirst, IsFileFirst, IsTaken, waiting_cmp};
 ghost use Rattle.its_air.specs.Queues.{happening_of, filed_in, filed_of, moment_of, own_of};
 ghost use Rattle.its_air.specs.Queues.{is_tick_at, is_send_at, IsFiledInRange};
-ghost use Rattle.its_air_model.specs.Timetable.{is_delivery, is_tick, is_numbered};
+ghost use Rattle.its_air.specs.Queues.{delivery_of};
+ghost use Rattle.its_air_model.specs.Timetable.{is_delivery, is_numbered};
 ghost use Rattle.its_air.specs.Traffics.{traffic_in};
 ghost use Rattle.its_air.specs.Waits.{IsLeft};
-ghost use Rattle.its_air.specs.Counted.{kind_in};
+ghost use Rattle.its_air.specs.Counted.{is_of_kind, kind_in};
 
 use crate::fault::AirFault;
+use crate::kinds::Kind;
 use crate::own_events::OwnEvents;
 use its_scenario::{FileEvent, Traffic};
 use its_station::OwnedShbRequest;
@@ -49,15 +51,18 @@ impl AirAction {
         matches!(self, AirAction::Deliver(_))
     }
 
-    /// Whether it is a tick.
-    pub(crate) fn is_tick(&self) -> bool
-        ensures { result ≡ is_tick (own_of self.now) }
+    /// Whether it is of a kind.
+    pub(crate) fn is_of(&self, kind: Kind) -> bool
+        ensures { result ≡ is_of_kind kind self.now }
     {
-        matches!(self, AirAction::Tick(_))
+        match kind {
+            Kind::Tick => matches!(self, AirAction::Tick(_)),
+            Kind::Send(number) => self.is_send_of(number),
+        }
     }
 
     /// Whether it is a send of the traffic of a number.
-    pub(crate) fn is_send_of(&self, number: usize) -> bool
+    fn is_send_of(&self, number: usize) -> bool
         ensures { result ≡ is_numbered number (traffic_in self.now) }
     {
         match self {
@@ -104,7 +109,7 @@ pub(crate) struct Scheduled {
     /// The moment, in milliseconds.
     pub(crate) moment: u64,
     /// How many were put before it.
-    place: u64,
+    pub(crate) place: u64,
     /// The station.
     pub(crate) station: usize,
     /// What it does.
@@ -156,13 +161,6 @@ impl PartialOrd for Scheduled {
 }
 
 impl Scheduled {
-    /// Whether another one is taken before it.
-    pub(crate) fn comes_after(&self, other: &Scheduled) -> bool
-        ensures { result ≡ lt_by_cmp waiting_cmp self.now other.now }
-    {
-        *self < *other
-    }
-
     /// The event of the world.
     pub(crate) fn event(&self, alloc: Global) -> Result<Event, AllocError>
         ensures event { IfOk result (λ event. event_of event ≡ happening_of self.now) }
@@ -173,6 +171,58 @@ impl Scheduled {
             moment: self.moment,
             what: self.own.what(alloc)?,
         })
+    }
+}
+
+/// A delivery that stands in line.
+#[derive(Clone, Copy, Debug)]
+pub(crate) struct Delivery {
+    /// The moment, in milliseconds.
+    pub(crate) moment: u64,
+    /// How many of the air's own were put before it.
+    pub(crate) place: u64,
+    /// The station that hears the frame.
+    pub(crate) station: usize,
+    /// The number of the frame.
+    pub(crate) frame: usize,
+}
+
+impl Delivery {
+    /// Whether it is taken before one of the air's own that waits for this moment, and before which
+    /// so many were put.
+    pub(crate) fn is_before(&self, moment: u64, place: u64) -> bool
+        ensures { (w : Scheduled) → w.moment ≡ moment → w.place ≡ place →
+            result ≡ lt_by_cmp waiting_cmp w (delivery_of self.now) }
+    {
+        if self.moment == moment {
+            self.place < place
+        } else {
+            self.moment < moment
+        }
+    }
+
+    /// The same among ticks and sends.
+    pub(crate) fn scheduled(&self) -> Scheduled
+        ensures { result ≡ delivery_of self.now }
+    {
+        Scheduled {
+            moment: self.moment,
+            place: self.place,
+            station: self.station,
+            own: AirAction::Deliver(self.frame),
+        }
+    }
+
+    /// The event of the world.
+    pub(crate) fn event(&self) -> Event
+        ensures event { event_of result ≡ happening_of (delivery_of self.now) }
+        ensures range { IsInRange result.what }
+    {
+        Event {
+            station: self.station,
+            moment: self.moment,
+            what: What::Deliver(self.frame),
+        }
     }
 }
 
@@ -196,7 +246,7 @@ pub(crate) struct Queue<'a> {
     /// How many of the air's own were put.
     pushed: u64,
     until: u64,
-    ghost within: { All (λ filed. told_moment filed.now ≤ until) due.items },
+    ghost within: { All (λ filed. file_moment filed.now ≤ until) due.items },
     ghost last: { until ≤ 2 ^ 63 + 10000 },
 }
 
@@ -255,14 +305,65 @@ impl<'a> Queue<'a> {
         let Some(pushed) = self.pushed.checked_add(1) else {
             return Err(AirFault::TooManyEvents);
         };
-        self.own.push(Scheduled {
+        self.own.push(moment, self.pushed, station, own)?;
+        self.pushed = pushed;
+        Ok(())
+    }
+
+    /// Puts the delivery of a frame to a station.
+    pub(crate) fn push_delivery(
+        &mut self,
+        moment: u64,
+        station: usize,
+        frame: usize,
+    ) -> Result<(), AirFault>
+        ensures due { self.new.due ≡ self.old.due }
+        ensures taken { self.new.taken ≡ self.old.taken }
+        ensures until { self.new.until ≡ self.old.until }
+        ensures put { OnOk result (IsPermutation (delivery_of (record {
+          moment = moment;
+          place = self.old.pushed;
+          station = station;
+          frame = frame;
+        }) ∷ self.old.own) self.new.own) }
+        ensures count { OnOk result (self.new.pushed ≡ self.old.pushed + 1) }
+    {
+        let place = self.pushed;
+        let Some(pushed) = place.checked_add(1) else {
+            return Err(AirFault::TooManyEvents);
+        };
+        self.own.push_delivery(Delivery {
             moment,
-            place: self.pushed,
+            place,
             station,
-            own,
+            frame,
         })?;
         self.pushed = pushed;
         Ok(())
+    }
+
+    /// Takes the first that waits, if it is a delivery that stands in line, unless its moment is
+    /// past the last.
+    pub(crate) fn pop_delivery(&mut self) -> Option<Delivery>
+        ensures due { self.new.due ≡ self.old.due }
+        ensures taken { self.new.taken ≡ self.old.taken }
+        ensures until { self.new.until ≡ self.old.until }
+        ensures put { self.new.pushed ≡ self.old.pushed }
+        ensures moment { IfSome result (λ delivery. delivery.moment ≤ self.old.until) }
+        ensures first { IfSome result (λ delivery.
+            IsUpperBound waiting_cmp (delivery_of delivery) self.new.own) }
+        ensures left { IfSome result (λ delivery.
+            IsPermutation self.old.own (delivery_of delivery ∷ self.new.own)) }
+        ensures file_first { (e : Bor FileEvent) →
+            slice_get self.old.due.items self.old.taken ≡ Some e →
+            IfSome result (λ delivery. delivery.moment < file_moment e.now) }
+        ensures none { IfNone result (self.new.own ≡ self.old.own) }
+    {
+        let moment = match self.due.as_slice().get(self.taken) {
+            Some(filed) => filed.moment(),
+            None => self.until + 1,
+        };
+        self.own.pop_delivery_before(moment)
     }
 
     /// Takes the first that waits, unless its moment is past the last.
@@ -282,7 +383,7 @@ impl<'a> Queue<'a> {
         ensures first { IfSome result (λ next. ComesFirst next self.new.own) }
         ensures file_first { (e : Bor FileEvent) →
             slice_get self.old.due.items self.old.taken ≡ Some e →
-            IfSome result (IsFileFirst (told_moment e.now)) }
+            IfSome result (IsFileFirst (file_moment e.now)) }
     {
         match self.due.as_slice().get(self.taken) {
             Some(filed) => {

@@ -1,7 +1,7 @@
 -- What `convert` writes: headers, a record, and one more step of a file after others.
-use Rattle.std.proofs.Common.{◌≡◌, ℕ, ◌+◌, ◌≤◌, ◌<◌, List, [], ◌∷◌, ◌++◌, length, refl, sym, ap, subst, ◌∙◌}
-use Rattle.std.proofs.Common.{arith, inl, inr, length-append, true≢false, Option, None, Some, Result, Ok, Err}
-use Rattle.std.specs.Prelude.{Bool, true, false, ◌||◌, ◌⊎◌, is_ok}
+use Rattle.std.proofs.Common.{◌≡◌, ℕ, ◌+◌, ◌≤◌, List, [], ◌∷◌, ◌++◌, length, refl, sym, ap, subst, ◌∙◌}
+use Rattle.std.proofs.Common.{arith, inl, length-append, true≢false, Option, None, Some, Result, Ok, Err}
+use Rattle.std.specs.Prelude.{Bool, true, false, ◌||◌, is_ok}
 use Rattle.std.proofs.KnownBytes.{Appends-nil, Appends-trans}
 use Rattle.std.proofs.Common.{◌-◌, take, drop}
 use Rattle.std.proofs.Math.Seq.{take-length}
@@ -9,7 +9,7 @@ use Rattle.std.proofs.lemmas.List.{append_assoc, append-nil, length-drop}
 use Rattle.std.specs.Io.KnownBytes.{Appends}
 use Rattle.its_choosing.specs.declared.Choice.{Choice}
 use Rattle.its_pcap.specs.RecordFiles.{RecordFile, StartsOn, AddsInterfaceOn, PutsFrame, HasPlace}
-use Rattle.its_pcap.specs.RecordFiles.{RefusesFrame, frame_octets}
+use Rattle.its_pcap.specs.RecordFiles.{RefusesFrame}
 use Rattle.its_pcap.specs.Words.{word_of}
 use Rattle.its_pcap.specs.declared.fault.SourceFault.{SourceFault}
 use Rattle.its_pcap.specs.declared.format.Format.{Format}
@@ -23,9 +23,9 @@ use Rattle.its_pcap.specs.declared.record.Step.TheVariants as steps
 use Rattle.its_pcap.specs.declared.sink.SinkFault.{SinkFault}
 use Rattle.its_pcap.specs.declared.sink.SinkFault.TheVariants as faults
 use Rattle.its_reporting.specs.declared.status.Status.{Status}
-use Rattle.its_commands.specs.Conversions.{Target, IsAdded, IsBegun, IsFileFault, IsLeftOut, HasText}
+use Rattle.its_commands.specs.Conversions.{Target, IsFileFault, IsLeftOut, HasText}
 use Rattle.its_commands.specs.Conversions.{WritesText, PutsRecord, WritesMet, WritesSteps, Went}
-use Rattle.its_commands.specs.Conversions.{start_octets, first_interface, headers_due, header_octets}
+use Rattle.its_commands.specs.Conversions.{start_octets, first_interface, header_octets}
 use Rattle.its_commands.specs.Conversions.{any_told, any_end, chosen_in, is_told, is_end, chosen_of}
 use Rattle.its_commands.specs.Conversions.{told_status, after_met, AreAll, IsCopied, IsCopying, IsStep}
 use Rattle.its_commands.specs.declared.converting.Copied.TheVariants as copies

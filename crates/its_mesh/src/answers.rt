@@ -8,7 +8,7 @@ ghost use Rattle.its_world.specs.Entries.{was_done};
 
 use its_gnvalue::NoMemory;
 use its_loctable::SortedTable;
-use its_scenario::Verb;
+use its_scenario::verb_of_call;
 use its_station::{Call, Reply, Station};
 use its_world::Entry;
 
@@ -31,7 +31,7 @@ pub(crate) fn answer(
 
 /// The word of a call, as a scenario has it after `do`; `receive` for what comes by a socket.
 pub(crate) fn call_word(call: &Call) -> &'static str {
-    match Verb::of_call(call) {
+    match verb_of_call(call) {
         Some(verb) => verb.word(),
         None => "receive",
     }

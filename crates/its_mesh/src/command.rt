@@ -25,8 +25,8 @@ const MOST_STATIONS: usize = 64;
 /// How a mesh is run.
 #[derive(Clone, Copy, Debug, Default, PartialEq, Eq)]
 pub struct MeshOptions {
-    /// Whether a call that is refused makes the status `Refused`, where it would be `Done`. A key of
-    /// the scenario that is unknown is refused then, too.
+    /// Whether a call that is refused makes the status `Refused`, where it would be `Done`. A key
+    /// of the scenario that is unknown is refused then, too.
     pub strict: bool,
 }
 

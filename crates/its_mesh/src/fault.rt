@@ -8,7 +8,8 @@ use std::alloc::AllocError;
 use std::io::Write;
 use thiserror::Error;
 
-/// A failed call of the socket of a station, counted from 0. Its text is the line on standard error.
+/// A failed call of the socket of a station, counted from 0. Its text is the line on standard
+/// error.
 #[derive(Clone, Copy, Debug, PartialEq, Eq, Error)]
 pub(crate) enum SocketFault {
     /// The socket could not be made.

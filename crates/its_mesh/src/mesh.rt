@@ -116,9 +116,9 @@ impl<'a, 't, S: Sockets, W: Write, E: Write, F: Write + Drop> Mesh<'a, 't, S, W,
         })
     }
 
-    /// Makes a call of a station, notes whether it was refused, prints its line, and sends the frame
-    /// that it gives to each other station. An `Err` where memory ran out, and then the call was not
-    /// made, or where the line or the frame could not be written, and then it was.
+    /// Makes a call of a station, notes whether it was refused, prints its line, and sends the
+    /// frame that it gives to each other station. An `Err` where memory ran out, and then the call
+    /// was not made, or where the line or the frame could not be written, and then it was.
     pub(crate) fn call<'f>(
         &mut self,
         station: usize,

@@ -34,10 +34,10 @@ pub struct Viewing<'a> {
 /// begin with `{`, is a scenario, which is run; any other is the lines that `sim --json` printed,
 /// which are taken as they are. No more of a run is kept than a buffer of its octets.
 ///
-/// `BadArguments` where the file that would be written is the one that is read. `Refused` for a text
-/// that is no scenario, before anything is written, and where something isn't met that the scenario
-/// expects. `Failed` where a file could not be read, created or written or memory ran out, and where
-/// no page is found.
+/// `BadArguments` where the file that would be written is the one that is read. `Refused` for a
+/// text that is no scenario, before anything is written, and where something isn't met that the
+/// scenario expects. `Failed` where a file could not be read, created or written or memory ran out,
+/// and where no page is found.
 pub fn view_file<R: Files + AllocGlobal, I: Read + Drop, W: Write, E: Write>(
     rt: &R,
     viewing: &Viewing<'_>,

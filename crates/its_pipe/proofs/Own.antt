@@ -3,15 +3,15 @@ use Rattle.std.proofs.Common.{◌≡◌, ℕ, Option, Some, None, codes, refl, s
 use Rattle.std.proofs.lemmas.Option.{none-some}
 use Rattle.std.specs.Prelude.{IfErr, IfNone, IsSome, IsSomeAnd, Result, Ok, Err}
 use Rattle.serde_json.specs.Data.{Data}
+use Rattle.its_keys.specs.Faults.{IsWhatFault}
+use Rattle.its_keys.specs.declared.fault.KeyFault.TheVariants as key_faults
+use Rattle.its_keys.specs.declared.fault.KeyFault.{KeyFault}
 use Rattle.its_model.specs.Calls.{OwnCall}
 use Rattle.its_model.specs.Calls.Call.{Own}
 use Rattle.its_model.specs.World.{What}
 use Rattle.its_model.specs.World.What.{Calls, Deliver}
-use Rattle.its_scenario.specs.Faults.{IsWhatFault}
 use Rattle.its_scenario.specs.Reading.{SaysWhat}
 use Rattle.its_scenario.specs.Reading.{IsBadOf as IsBadKeyOf}
-use Rattle.its_scenario.specs.declared.fault.KeyFault.{KeyFault}
-use Rattle.its_scenario.specs.declared.fault.KeyFault.TheVariants as key_faults
 use Rattle.its_station.specs.Runs.{IsCall}
 use Rattle.its_station.specs.declared.run.Call.{Call}
 use Rattle.its_station.specs.declared.run.Call.TheVariants as calls

@@ -3,10 +3,10 @@ use Rattle.std.proofs.Common.{ℕ, Ok, Err, Option, None, refl, sym, subst}
 use Rattle.std.specs.Prelude.{Result, IfOk, IsFalse}
 use Rattle.std.specs.declared.alloc.AllocError.{AllocError}
 use Rattle.serde_json.specs.Data.{Data}
-use Rattle.its_scenario.specs.declared.fault.KeyFault.{KeyFault}
-use Rattle.its_scenario.specs.declared.fault.KeyFault.TheVariants as key_faults
-use Rattle.its_scenario.specs.declared.key.Key.{Key}
-use Rattle.its_scenario.specs.declared.key.Key.TheVariants as keys
+use Rattle.its_keys.specs.declared.fault.KeyFault.TheVariants as key_faults
+use Rattle.its_keys.specs.declared.fault.KeyFault.{KeyFault}
+use Rattle.its_keys.specs.declared.key.Key.TheVariants as keys
+use Rattle.its_keys.specs.declared.key.Key.{Key}
 use Rattle.its_pipe.specs.Requests.{Asks, AsksIn, AsksOf, IsBadCallKey, IsBadKey, IsBadOf, IsId}
 use Rattle.its_pipe.specs.Requests.{IsIdFault, IsMomentOf, IsObject, IsQueryFault}
 use Rattle.its_pipe.specs.Requests.{IsBadCallKeyOf, IsToldAs}

@@ -8,14 +8,15 @@ use Rattle.hex.specs.Hex.{decode_of}
 use Rattle.serde_json.specs.Data.{Data}
 use Rattle.serde_json.specs.Find.{get, as_bool, as_i64, as_number, as_object, as_str}
 use Rattle.serde_json.specs.Read.{read}
+use Rattle.its_keys.specs.Fields.{FieldValues}
+use Rattle.its_keys.specs.declared.fault.KeyFault.TheVariants as key_faults
+use Rattle.its_keys.specs.declared.fault.KeyFault.{KeyFault}
+use Rattle.its_keys.specs.declared.key.Key.TheVariants as keys
+use Rattle.its_keys.specs.declared.key.Key.{Key}
 use Rattle.its_model.specs.Calls.{OwnCall}
 use Rattle.its_model.specs.Calls.Call.{Own}
 use Rattle.its_model.specs.World.What.{Calls}
-use Rattle.its_scenario.specs.declared.key.Key.{Key}
-use Rattle.its_scenario.specs.declared.key.Key.TheVariants as keys
-use Rattle.its_scenario.specs.declared.fault.KeyFault.{KeyFault}
-use Rattle.its_scenario.specs.declared.fault.KeyFault.TheVariants as key_faults
-use Rattle.its_scenario.specs.Reading.{FieldValues, IsBadAt, SaysWhat}
+use Rattle.its_scenario.specs.Reading.{IsBadAt, SaysWhat}
 use Rattle.its_station.specs.Runs.{IsCall}
 use Rattle.its_station.specs.declared.run.Call.{Call}
 use Rattle.its_station.specs.declared.run.Call.TheVariants as calls

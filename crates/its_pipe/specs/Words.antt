@@ -1,8 +1,8 @@
 -- The words that a line takes under `do`.
 use Rattle.std.specs.Prelude.{ℕ, List, codes}
+use Rattle.its_keys.specs.Verbs.{verb_word}
 use Rattle.its_pipe.specs.declared.word.LineWord.{LineWord}
 use Rattle.its_pipe.specs.declared.word.LineWord.TheVariants as line_words
-use Rattle.its_scenario.specs.Verbs.{verb_word}
 
 -- the word of each
 abbrev pub line_word : LineWord → List ℕ

@@ -4,7 +4,7 @@ ghost use Rattle.std.specs.Prelude.{◌≡◌, ◌↔◌, ◌⊎◌, ℕ, List, 
 ghost use Rattle.std.specs.Prelude.{OnErr, None, Some};
 ghost use Rattle.std.specs.Prelude.{codes};
 ghost use Rattle.serde_json.specs.View.{view};
-ghost use Rattle.its_scenario.specs.Faults.{IsWhatFault};
+ghost use Rattle.its_keys.specs.Faults.{IsWhatFault};
 ghost use Rattle.its_scenario.specs.Reading.{IsBadOf as IsBadKeyOf};
 ghost use Rattle.its_station.specs.Runs.{IsInRange};
 ghost use Rattle.its_world.specs.Events.{IsOwn};

@@ -1,5 +1,5 @@
 -- One more port that is opened.
-use Rattle.std.proofs.Common.{◌≡◌, ◌≢◌, ℕ, List, [], ◌∷◌, ◌++◌, ◌+◌, ◌<◌, refl, sym, ap, subst, ◌∙◌}
+use Rattle.std.proofs.Common.{◌≡◌, ◌≢◌, ℕ, List, [], ◌∷◌, ◌++◌, ◌+◌, refl, ap, ◌∙◌}
 use Rattle.std.proofs.Common.{map, Ok, Err}
 use Rattle.std.specs.Prelude.{Result}
 use Rattle.its_model.specs.Calls.{Own, Opened}

@@ -1,7 +1,7 @@
 -- One more step of a file after others.
 use Rattle.std.proofs.Common.{◌≡◌, ℕ, ◌+◌, List, [], ◌∷◌, ◌++◌, length, refl, sym, ap, subst, ◌∙◌}
 use Rattle.std.proofs.Common.{arith, inl, length-append, ◌≤◌, false, true≢false}
-use Rattle.std.specs.Prelude.{Bool, Result, Ok, Err, IfOk, Option, None, Some, ◌⊎◌}
+use Rattle.std.specs.Prelude.{Bool, Result, Ok, Err, IfOk, Option, None, Some}
 use Rattle.std.proofs.lemmas.List.{append_assoc, append-nil}
 use Rattle.its_choosing.specs.Choosing.{is_chosen}
 use Rattle.its_choosing.specs.declared.Choice.{Choice}

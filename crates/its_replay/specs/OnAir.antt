@@ -1,5 +1,5 @@
 -- What of a record was on the air.
-use Rattle.std.specs.Prelude.{◌≡◌, ℕ, Bool, true, false, List, Option, Some, None, Vec}
+use Rattle.std.specs.Prelude.{◌≡◌, ℕ, Bool, true, false, List, Option, Some, None}
 use Rattle.its_linkframe.specs.Padding.{IsUnpadded}
 use Rattle.its_pcap.specs.LinkLayers.{IsFrameIn, IsLinkFault}
 use Rattle.its_pcap.specs.Records.{fault_of}

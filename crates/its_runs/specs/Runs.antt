@@ -1,5 +1,5 @@
 -- How a command ends that ran a scenario.
-use Rattle.std.specs.Prelude.{◌≡◌, ◌&&◌, List, [], map, Bool, true, false, not, if◌then◌else◌}
+use Rattle.std.specs.Prelude.{◌≡◌, ◌&&◌, List, [], map, Bool, not, if◌then◌else◌}
 use Rattle.std.specs.List.{list_all}
 use Rattle.its_world.specs.declared.entry.Entry.{Entry}
 use Rattle.its_world.specs.Entries.{was_done}

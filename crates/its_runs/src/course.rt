@@ -1,4 +1,4 @@
-//! What a run goes by: a scenario, how it is run and, where they are given, the moves of a file.
+//! What is run and how: a scenario, its options and, where they are given, the moves of a file.
 
 use crate::fault::{RunFault, fault_of_moves};
 use crate::options::RunOptions;
@@ -31,7 +31,7 @@ impl<'a, M: BufRead + Drop> MovesFile<'a, M> {
     }
 }
 
-/// What a run goes by.
+/// What is run and how.
 #[derive(Drop)]
 pub(crate) struct Course<'s, 'a, M: BufRead + Drop> {
     pub(crate) scenario: &'s Scenario,

@@ -3,21 +3,20 @@
 ghost use Rattle.std.specs.Prelude.{◌≡◌, ◌≤◌, IfOk, IfSome, None, vec_len};
 ghost use Rattle.its_reporting.specs.FileNames.{format_of_file};
 ghost use Rattle.its_reporting.specs.Statuses.{IsCommandStatus};
-ghost use Rattle.its_runs.specs.Results.{IsNoFile};
+ghost use Rattle.its_results.specs.Results.{IsNoFile};
 
 use crate::course::{Course, MovesFile};
 use crate::fault::RunFault;
 use crate::input::Input;
 use crate::options::RunOptions;
-use crate::results::{ResultFiles, ResultWriters, Results};
-use crate::simulating::{MOST_STATIONS, read_scenario, run_with_frames, run_without_frames};
+use crate::outputs::{Outputs, create_outputs};
+use crate::simulating::{MOST_STATIONS, read_scenario, run_into};
 use crate::target::{FrameTarget, frame_target};
-use its_reporting::{
-    Fault, FrameFile, Io, Opened, Status, Target, WriterFault, create, open, refuse_same,
-};
+use its_reporting::{Fault, Io, Opened, Status, Target, WriterFault, open, refuse_same};
+use its_results::ResultFiles;
 use its_scenario::{Reading, Scenario};
 use std::alloc::Global;
-use std::io::{BufRead, BufReader, BufWriter, Read, Write};
+use std::io::{BufRead, BufReader, Read, Write};
 use std::rt::Files;
 
 /// The files of a run.
@@ -91,14 +90,9 @@ where
     R::File: Read + Write + Drop,
     ensures { IfOk result IsCommandStatus }
 {
-    let Given { scenario, moves } = read_files(rt, files, input, options)?;
-    let results: Results<'_, Vec<u8>> = Results::none();
-    let mut course = Course {
-        scenario: &scenario,
-        options,
-        moves,
-    };
-    Ok(run_without_frames(rt.alloc(), &mut course, results, io)?)
+    let inputs = read_inputs(rt, files, input, options)?;
+    let outputs: Outputs<'_, Vec<u8>> = Outputs::none();
+    Ok(run_inputs(rt.alloc(), inputs, options, outputs, io)?)
 }
 
 /// Reads the scenario and the first line of the moves, and only then creates the files.
@@ -114,47 +108,38 @@ where
     R::File: Read + Write + Drop,
     ensures { IfOk result IsCommandStatus }
 {
-    let Given { scenario, moves } = read_files(rt, files, input, options)?;
+    let inputs = read_inputs(rt, files, input, options)?;
     keep_all_apart(rt, files)?;
-    let outputs = begin_outputs(rt, &scenario, target, files.results)?;
+    let outputs = create_outputs(rt, &inputs.scenario, target, files.results)?;
+    Ok(run_inputs(rt.alloc(), inputs, options, outputs, io)?)
+}
+
+/// What is read before a run.
+#[derive(Drop)]
+struct RunInputs<'a, M: BufRead + Drop> {
+    scenario: Scenario,
+    /// The file of moves, where there is one, with its first line read.
+    moves: Option<MovesFile<'a, M>>,
+}
+
+/// Runs the scenario that was read, with its moves, and writes these files.
+fn run_inputs<'a, M: BufRead + Drop, F: Write + Drop, W: Write, E: Write>(
+    alloc: Global,
+    inputs: RunInputs<'a, M>,
+    options: &RunOptions,
+    outputs: Outputs<'a, F>,
+    io: &mut Io<W, E>,
+) -> Result<Status, Fault<'a>>
+    requires { vec_len inputs.scenario.stations ≤ 65535 }
+    ensures { IfOk result IsCommandStatus }
+{
+    let RunInputs { scenario, moves } = inputs;
     let mut course = Course {
         scenario: &scenario,
         options,
         moves,
     };
-    Ok(run_into(rt.alloc(), &mut course, outputs, io)?)
-}
-
-/// The files that are written of a run, begun.
-#[derive(Drop)]
-struct Outputs<'a, W: Write + Drop> {
-    frames: Option<FrameFile<'a, W>>,
-    results: Results<'a, W>,
-}
-
-/// Runs a scenario, and writes these files.
-fn run_into<'a, M: BufRead + Drop, F: Write + Drop, W: Write, E: Write>(
-    alloc: Global,
-    course: &mut Course<'_, 'a, M>,
-    outputs: Outputs<'a, F>,
-    io: &mut Io<W, E>,
-) -> Result<Status, Fault<'a>>
-    requires { vec_len course.old.scenario.now.stations ≤ 65535 }
-    ensures { IfOk result IsCommandStatus }
-{
-    let Outputs { frames, results } = outputs;
-    match frames {
-        Some(file) => run_with_frames(alloc, course, file, results, io),
-        None => run_without_frames(alloc, course, results, io),
-    }
-}
-
-/// What is read before a run.
-#[derive(Drop)]
-struct Given<'a, M: BufRead + Drop> {
-    scenario: Scenario,
-    /// The file of moves, where there is one, with its first line read.
-    moves: Option<MovesFile<'a, M>>,
+    run_into(alloc, &mut course, outputs, io)
 }
 
 /// The reader of a file of a run.
@@ -162,22 +147,22 @@ type RunReader<F, I> = BufReader<Opened<F, Input<I>>>;
 
 /// Reads the scenario, and the first line of the moves, where there are any. `input` is standard
 /// input.
-fn read_files<'a, R: Files + AllocGlobal, I: Read + Drop>(
+fn read_inputs<'a, R: Files + AllocGlobal, I: Read + Drop>(
     rt: &R,
     files: &RunFiles<'a>,
     input: I,
     options: &RunOptions,
-) -> Result<Given<'a, RunReader<R::File, I>>, RunFault<'a>>
+) -> Result<RunInputs<'a, RunReader<R::File, I>>, RunFault<'a>>
 where
     R::File: Read + Drop,
-    ensures { IfOk result (λ given. vec_len given.scenario.stations ≤ 65535) }
+    ensures { IfOk result (λ inputs. vec_len inputs.scenario.stations ≤ 65535) }
 {
-    let (input, moved) = Input::parted(input, files.moves);
-    let reader = open(rt, files.scenario, input)?;
+    let (for_scenario, for_moves) = Input::split(input, files.moves);
+    let reader = open(rt, files.scenario, for_scenario)?;
     let reading = files.reading(options);
     let scenario = read_scenario(rt.alloc(), files.scenario, reader, MOST_STATIONS, &reading)?;
-    let moves = open_moves(rt, files.moves, moved, &scenario)?;
-    Ok(Given { scenario, moves })
+    let moves = open_moves(rt, files.moves, for_moves, &scenario)?;
+    Ok(RunInputs { scenario, moves })
 }
 
 /// Opens the file of moves of this name, where there is one, and reads its first line. `input` is
@@ -223,57 +208,4 @@ fn named_among<'a, R: AllocGlobal>(
         }
     }
     Ok(named)
-}
-
-/// Creates the files, and begins them.
-fn begin_outputs<'a, R: Files + AllocGlobal>(
-    rt: &R,
-    scenario: &Scenario,
-    target: Option<FrameTarget<'a>>,
-    names: ResultFiles<'a>,
-) -> Result<Outputs<'a, BufWriter<R::File>>, Fault<'a>>
-where
-    R::File: Write + Drop,
-{
-    let created = create_named(rt, target.map(|target| target.name))?;
-    let results = begin_results(rt, scenario, names)?;
-    let stations = scenario.stations.len();
-    let frames = match (target, created) {
-        (Some(FrameTarget { name, format }), Some(writer)) => {
-            Some(FrameFile::start(rt.alloc(), writer, name, format, stations)?)
-        }
-        _ => None,
-    };
-    Ok(Outputs { frames, results })
-}
-
-/// Creates the file of this name, where there is one.
-fn create_named<'a, R: Files + AllocGlobal>(
-    rt: &R,
-    name: Option<&'a str>,
-) -> Result<Option<BufWriter<R::File>>, Fault<'a>>
-where
-    R::File: Write + Drop,
-{
-    match name {
-        Some(name) => Ok(Some(create(rt, name)?)),
-        None => Ok(None),
-    }
-}
-
-/// Creates the files of numbers, and begins them.
-fn begin_results<'a, R: Files + AllocGlobal>(
-    rt: &R,
-    scenario: &Scenario,
-    names: ResultFiles<'a>,
-) -> Result<Results<'a, BufWriter<R::File>>, Fault<'a>>
-where
-    R::File: Write + Drop,
-{
-    let writers = ResultWriters {
-        sends: create_named(rt, names.sends)?,
-        stations: create_named(rt, names.stations)?,
-        load: create_named(rt, names.load)?,
-    };
-    Results::begin(rt.alloc(), scenario, names, writers)
 }

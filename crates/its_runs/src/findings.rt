@@ -3,14 +3,12 @@
 ghost use Rattle.std.specs.Prelude.{◌≡◌, IfOk};
 ghost use Rattle.its_reporting.specs.Statuses.{IsCommandStatus};
 
-use crate::audience::{Audience, Audiences};
 use crate::course::Course;
 use crate::fault::{RunFault, fault_of_air, is_cut_short};
-use crate::full_tables::FullTables;
-use crate::results::Results;
 use its_air::AirFault;
 use its_gnvalue::NoMemory;
 use its_reporting::{Fault, Io, Status};
+use its_results::{Audience, Audiences, FullTables, Results};
 use its_scenario::{Expectation, Reached, Scenario};
 use its_simulation::{EventRecord, EventSink, Note, SimulationFault};
 use its_world::World;
@@ -174,7 +172,7 @@ impl<'s, 'a, W: Write + Drop> Findings<'s, 'a, W> {
 }
 
 /// What a summary tells beside its counts.
-pub(crate) trait Found {
+pub(crate) trait SummaryDetails {
     /// The audience of a packet, by its place among those that were sent, where it is known.
     fn audience(&self, send: usize) -> Option<&Audience>;
 
@@ -182,7 +180,7 @@ pub(crate) trait Found {
     fn table_full(&self) -> Option<usize>;
 }
 
-impl<W: Write + Drop, F> Found for Finding<'_, '_, '_, W, F> {
+impl<W: Write + Drop, S> SummaryDetails for Finding<'_, '_, '_, W, S> {
     fn audience(&self, send: usize) -> Option<&Audience> {
         self.findings.audience(send)
     }
@@ -192,24 +190,24 @@ impl<W: Write + Drop, F> Found for Finding<'_, '_, '_, W, F> {
     }
 }
 
-/// Takes the events of a run to find out about it, and hands them on.
+/// Takes the events of a run for its findings, and hands each to the next sink.
 #[derive(Drop)]
-pub(crate) struct Finding<'s, 'a, 'b, W: Write + Drop, F> {
+pub(crate) struct Finding<'s, 'a, 'b, W: Write + Drop, S> {
     pub(crate) findings: &'b mut Findings<'s, 'a, W>,
-    pub(crate) sink: F,
+    pub(crate) next: S,
 }
 
-impl<W: Write + Drop, F: EventSink> EventSink for Finding<'_, '_, '_, W, F> {
+impl<W: Write + Drop, S: EventSink> EventSink for Finding<'_, '_, '_, W, S> {
     // What is found out isn't said by contracts.
     ghost Took = { λ _ _ _. Unit {0} };
 
     fn put(&mut self, world: &World, done: &EventRecord<'_>) -> Result<(), SimulationFault> {
         self.findings.take(world, done)?;
-        self.sink.put(world, done)
+        self.next.put(world, done)
     }
 
     fn note(&mut self, world: &World, moment: u64, note: &Note<'_>) -> Result<(), SimulationFault> {
         self.findings.take_note(world, moment, note)?;
-        self.sink.note(world, moment, note)
+        self.next.note(world, moment, note)
     }
 }

@@ -4,18 +4,19 @@ use its_reporting::is_standard;
 use std::io;
 use std::io::Read;
 
-/// What is at hand for a file whose name is that of standard input.
+/// What is read for a file whose name is that of standard input.
 #[derive(Drop)]
 pub(crate) enum Input<I> {
     /// Standard input.
     Standard(I),
-    /// Nothing: it is another file's.
+    /// Nothing: the other file reads standard input.
     Nothing,
 }
 
 impl<I: Drop> Input<I> {
-    /// What is at hand for the scenario, and for the moves of this name, where there are any.
-    pub(crate) fn parted(input: I, moves: Option<&str>) -> (Input<I>, Input<I>) {
+    /// What the scenario reads where its name is that of standard input, and what the moves of this
+    /// name do, where there are any.
+    pub(crate) fn split(input: I, moves: Option<&str>) -> (Input<I>, Input<I>) {
         match moves {
             Some(name) if is_standard(name) => (Input::Nothing, Input::Standard(input)),
             _ => (Input::Standard(input), Input::Nothing),

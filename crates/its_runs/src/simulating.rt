@@ -4,18 +4,19 @@ ghost use Rattle.std.specs.Prelude.{◌≡◌, ◌≤◌, IfOk, IfSome, IsSome, 
 ghost use Rattle.its_reporting.specs.Statuses.{IsCommandStatus};
 ghost use Rattle.its_runs.specs.Runs.{IsRunStatus, IsMovedStatus};
 
+use crate::both::Both;
 use crate::course::Course;
 use crate::fault::{RunFault, is_cut_short};
-use crate::findings::{Finding, Findings, Found};
-use crate::frames::{Both, Frames, NoFrames};
+use crate::findings::{Finding, Findings, SummaryDetails};
+use crate::frames::Frames;
 use crate::options::RunOptions;
+use crate::outputs::Outputs;
 use crate::progress::Progress;
-use crate::results::Results;
 use crate::summary::print_summary;
 use crate::watched::Watched;
 use its_air::{AirFault, run_moves, run_scenario};
 use its_moves::Rows;
-use its_reporting::{Fault, FrameFile, Io, OutputFormat, Status};
+use its_reporting::{Fault, Io, OutputFormat, Status};
 use its_scenario::{Air, Reading, Scenario};
 use its_simulation::{EventSink, JsonLines, SimulationFault, TextLines};
 use its_tally::Tally;
@@ -74,60 +75,37 @@ pub fn simulate_scenario<'f, W: Write, E: Write>(
     requires { vec_len scenario.now.stations ≤ 65535 }
     ensures { IfOk result IsCommandStatus }
 {
-    let results: Results<'_, Vec<u8>> = Results::none();
+    let outputs: Outputs<'_, Vec<u8>> = Outputs::none();
     let options = *options;
     let mut course: Course<'_, '_, BufReader<io::Empty>> = Course {
         scenario,
         options: &options,
         moves: None,
     };
-    run_without_frames(alloc, &mut course, results, io)
+    run_into(alloc, &mut course, outputs, io)
 }
 
-/// Runs a scenario, and writes these files of numbers.
-pub(crate) fn run_without_frames<'a, M: BufRead + Drop, F: Write + Drop, W: Write, E: Write>(
+/// Runs a scenario, and writes these files. How it ends: `Refused` where a frame was left out of
+/// its file and, with `strict`, where an event was refused.
+pub(crate) fn run_into<'a, M: BufRead + Drop, F: Write + Drop, W: Write, E: Write>(
     alloc: Global,
     course: &mut Course<'_, 'a, M>,
-    results: Results<'a, F>,
+    outputs: Outputs<'a, F>,
     io: &mut Io<W, E>,
 ) -> Result<Status, Fault<'a>>
     requires { vec_len course.old.scenario.now.stations ≤ 65535 }
     ensures { IfOk result IsCommandStatus }
 {
+    let Outputs {
+        mut frames,
+        results,
+    } = outputs;
     let mut progress = Progress::of(course);
     let mut findings = Findings::new(alloc, course, io.format.explain, results)?;
     let finding = Finding {
         findings: &mut findings,
-        sink: NoFrames {
-            progress: &mut progress,
-            err: &mut io.err,
-        },
-    };
-    let ran = run(alloc, course, finding, io.format, &mut io.out);
-    progress.end(&mut io.err);
-    findings.end(ran, course.name(), io)
-}
-
-/// Runs a scenario, and also writes each frame that a station gives to the file, and these files of
-/// numbers. How it ends: `Refused` where a frame was left out and, with `strict`, where an event
-/// was refused.
-pub(crate) fn run_with_frames<'a, M: BufRead + Drop, F: Write + Drop, W: Write, E: Write>(
-    alloc: Global,
-    course: &mut Course<'_, 'a, M>,
-    file: FrameFile<'a, F>,
-    results: Results<'a, F>,
-    io: &mut Io<W, E>,
-) -> Result<Status, Fault<'a>>
-    requires { vec_len course.old.scenario.now.stations ≤ 65535 }
-    ensures { IfOk result IsCommandStatus }
-{
-    let mut file = file;
-    let mut progress = Progress::of(course);
-    let mut findings = Findings::new(alloc, course, io.format.explain, results)?;
-    let finding = Finding {
-        findings: &mut findings,
-        sink: Frames {
-            file: &mut file,
+        next: Frames {
+            file: &mut frames,
             format: io.format,
             progress: &mut progress,
             err: &mut io.err,
@@ -135,15 +113,19 @@ pub(crate) fn run_with_frames<'a, M: BufRead + Drop, F: Write + Drop, W: Write, 
     };
     let ran = run(alloc, course, finding, io.format, &mut io.out);
     progress.end(&mut io.err);
-    file.end(findings.end(ran, course.name(), io))
+    let ended = findings.end(ran, course.name(), io);
+    match frames {
+        Some(file) => file.end(ended),
+        None => ended,
+    }
 }
 
-/// Runs a scenario and prints its lines, or what came of it, with a sink for its frames: how `sim`
-/// ends then, but for what was found out.
-fn run<M: BufRead + Drop, F: EventSink + Found + Drop, W: Write>(
+/// Runs a scenario and prints its lines, or what came of it; each event goes to the other sink too.
+/// How `sim` ends then, but for what was found out.
+fn run<M: BufRead + Drop, F: EventSink + SummaryDetails + Drop, W: Write>(
     alloc: Global,
     course: &mut Course<'_, '_, M>,
-    frames: F,
+    other: F,
     format: OutputFormat,
     out: &mut W,
 ) -> Result<Status, AirFault>
@@ -155,11 +137,11 @@ fn run<M: BufRead + Drop, F: EventSink + Found + Drop, W: Write>(
         IfOk result (IsMovedStatus course.old.options.now.strict course.old.scenario.now air)) }
 {
     if course.options.summary {
-        run_summed_up(alloc, course, frames, format, out)
+        run_summed_up(alloc, course, other, format, out)
     } else if format.json {
-        run_in_objects(alloc, course, frames, out)
+        run_in_objects(alloc, course, other, out)
     } else {
-        run_in_words(alloc, course, frames, format.explain, out)
+        run_in_words(alloc, course, other, format.explain, out)
     }
 }
 
@@ -167,7 +149,7 @@ fn run<M: BufRead + Drop, F: EventSink + Found + Drop, W: Write>(
 fn run_in_objects<M: BufRead + Drop, F: EventSink + Drop, W: Write>(
     alloc: Global,
     course: &mut Course<'_, '_, M>,
-    frames: F,
+    other: F,
     out: &mut W,
 ) -> Result<Status, AirFault>
     requires { vec_len course.old.scenario.now.stations ≤ 65535 }
@@ -180,7 +162,7 @@ fn run_in_objects<M: BufRead + Drop, F: EventSink + Drop, W: Write>(
     let (notes, strict) = (course.options.notes, course.options.strict);
     let mut lines = JsonLines::new(alloc, out)?.noting(notes);
     print_beginning(&mut lines, course)?;
-    let mut watched = Watched::new(Both { lines, frames });
+    let mut watched = Watched::new(Both { lines, other });
     run_watched(alloc, course, &mut watched, strict)
 }
 
@@ -188,7 +170,7 @@ fn run_in_objects<M: BufRead + Drop, F: EventSink + Drop, W: Write>(
 fn run_in_words<M: BufRead + Drop, F: EventSink + Drop, W: Write>(
     alloc: Global,
     course: &mut Course<'_, '_, M>,
-    frames: F,
+    other: F,
     explain: bool,
     out: &mut W,
 ) -> Result<Status, AirFault>
@@ -208,7 +190,7 @@ fn run_in_words<M: BufRead + Drop, F: EventSink + Drop, W: Write>(
         None => TextLines::new(out, explain),
     };
     let lines = words.noting(notes);
-    let mut watched = Watched::new(Both { lines, frames });
+    let mut watched = Watched::new(Both { lines, other });
     run_watched(alloc, course, &mut watched, strict)
 }
 
@@ -235,10 +217,10 @@ fn print_beginning<M: BufRead + Drop, W: Write>(
 
 /// Runs a scenario and prints what came of it: how `sim` ends then. Of a run that its file of moves
 /// cut short it is what came of it till then, without the counts.
-fn run_summed_up<M: BufRead + Drop, F: EventSink + Found + Drop, W: Write>(
+fn run_summed_up<M: BufRead + Drop, F: EventSink + SummaryDetails + Drop, W: Write>(
     alloc: Global,
     course: &mut Course<'_, '_, M>,
-    frames: F,
+    other: F,
     format: OutputFormat,
     out: &mut W,
 ) -> Result<Status, AirFault>
@@ -252,7 +234,7 @@ fn run_summed_up<M: BufRead + Drop, F: EventSink + Found + Drop, W: Write>(
     let strict = course.options.strict;
     let mut watched = Watched::new(Both {
         lines: Tally::new(alloc, course.scenario.present.as_slice())?,
-        frames,
+        other,
     });
     let ran = run_watched(alloc, course, &mut watched, strict);
     let is_whole = match &ran {
@@ -260,8 +242,8 @@ fn run_summed_up<M: BufRead + Drop, F: EventSink + Found + Drop, W: Write>(
         Err(fault) if is_cut_short(fault) => false,
         Err(_) => return ran,
     };
-    let Both { lines, frames } = &watched.sink;
-    print_summary(alloc, lines, frames, format, is_whole, out)?;
+    let Both { lines, other } = &watched.sink;
+    print_summary(alloc, lines, other, format, is_whole, out)?;
     ran
 }
 

@@ -1,6 +1,6 @@
 //! The lines of a run that is summed up.
 
-use crate::findings::Found;
+use crate::findings::SummaryDetails;
 use its_gnvalue::NoMemory;
 use its_json::JsonLine;
 use its_reporting::OutputFormat;
@@ -14,24 +14,24 @@ use std::io::Write;
 /// Prints a line for each packet for an area that was sent, in order, and one of the counts of all
 /// events, unless the run was cut short. With `explain` each of the first goes on with the stations
 /// that it didn't reach.
-pub(crate) fn print_summary<F: Found, W: Write>(
+pub(crate) fn print_summary<D: SummaryDetails, W: Write>(
     alloc: Global,
     tally: &Tally,
-    found: &F,
+    details: &D,
     lines: OutputFormat,
     is_whole: bool,
     out: &mut W,
 ) -> Result<(), SimulationFault> {
     if lines.json {
-        print_objects(alloc, tally, found, lines.explain, out)?;
+        print_objects(alloc, tally, details, lines.explain, out)?;
         return if is_whole {
-            print_total_object(alloc, tally, found, out)
+            print_total_object(alloc, tally, details, out)
         } else {
             Ok(())
         };
     }
     for (place, send) in tally.sends().iter().enumerate() {
-        let missed = missed_of(alloc, found, place, lines.explain)?;
+        let missed = missed_of(alloc, details, place, lines.explain)?;
         writeln!(out, "{send}{}", MissedText(&missed))?;
     }
     if is_whole {
@@ -41,32 +41,32 @@ pub(crate) fn print_summary<F: Found, W: Write>(
 }
 
 /// The same of the packets, as objects.
-fn print_objects<F: Found, W: Write>(
+fn print_objects<D: SummaryDetails, W: Write>(
     alloc: Global,
     tally: &Tally,
-    found: &F,
+    details: &D,
     explain: bool,
     out: &mut W,
 ) -> Result<(), SimulationFault> {
     let mut line = JsonLine::new(alloc)?;
     for (place, send) in tally.sends().iter().enumerate() {
-        let missed = missed_of(alloc, found, place, explain)?;
+        let missed = missed_of(alloc, details, place, explain)?;
         out.write_all(line.of(&SendLine { send, missed })?)?;
     }
     Ok(())
 }
 
 /// The same of the counts.
-fn print_total_object<F: Found, W: Write>(
+fn print_total_object<D: SummaryDetails, W: Write>(
     alloc: Global,
     tally: &Tally,
-    found: &F,
+    details: &D,
     out: &mut W,
 ) -> Result<(), SimulationFault> {
     let mut line = JsonLine::new(alloc)?;
     let total = CountsLine {
         counts: tally.totals(),
-        table_full: found.table_full(),
+        table_full: details.table_full(),
     };
     out.write_all(line.of(&TotalLine { total })?)?;
     Ok(())
@@ -76,13 +76,13 @@ fn print_total_object<F: Found, W: Write>(
 type Miss = (usize, &'static str);
 
 /// The stations that a packet didn't reach, where they are told.
-fn missed_of<F: Found>(
+fn missed_of<D: SummaryDetails>(
     alloc: Global,
-    found: &F,
+    details: &D,
     send: usize,
     are_told: bool,
 ) -> Result<Option<Vec<Miss>>, NoMemory> {
-    match found.audience(send) {
+    match details.audience(send) {
         Some(audience) if are_told => Ok(Some(audience.missed(alloc)?)),
         _ => Ok(None),
     }

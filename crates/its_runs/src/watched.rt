@@ -2,7 +2,7 @@
 
 ghost use Rattle.std.specs.Prelude.{◌≡◌, List, not, true};
 ghost use Rattle.std.specs.List.{list_all};
-ghost use Rattle.its_world.specs.declared.entry.Entry.{Entry as Told};
+ghost use Rattle.its_world.specs.declared.entry.Entry.{Entry as LogEntry};
 ghost use Rattle.its_world.specs.Entries.{was_done};
 ghost use Rattle.its_reporting.specs.Statuses.{IsCommandStatus};
 ghost use Rattle.its_runs.specs.Runs.{run_status};
@@ -34,7 +34,7 @@ impl<S: EventSink> Watched<S> {
     /// event was refused.
     pub(crate) fn status(&self, strict: bool) -> Status
         ensures command { IsCommandStatus result }
-        ensures run { (log : List Told) → self.now.all_done ≡ list_all was_done log
+        ensures run { (log : List LogEntry) → self.now.all_done ≡ list_all was_done log
             → result ≡ run_status strict log }
     {
         if strict && !self.all_done {

@@ -2,20 +2,21 @@
 use Rattle.std.proofs.Common.{◌≡◌, ℕ, false, List, codes, nat_eq, refl, sym, ap, subst, ◌∙◌}
 use Rattle.std.proofs.lemmas.Bool.{false≢true}
 use Rattle.std.specs.Cmp.Lexicographic.{pointwise}
+use Rattle.its_keys.specs.Faults.{IsFaultOf}
+use Rattle.its_keys.specs.Fields.{FieldValues, IsNumber, IsText, IsUntaken}
+use Rattle.its_keys.specs.Verbs.{verb_word}
+use Rattle.its_keys.specs.declared.fault.KeyFault.TheVariants as key_faults
+use Rattle.its_keys.specs.declared.fault.KeyFault.{KeyFault}
+use Rattle.its_keys.specs.declared.key.Key.TheVariants as keys
+use Rattle.its_keys.specs.declared.key.Key.{Key}
+use Rattle.its_keys.specs.declared.verb.Verb.{Verb}
 use Rattle.its_model.specs.Calls.OwnCall.{Move, Open, Close, Tick, SendShb, SendGbc, SendGac}
 use Rattle.its_model.specs.Calls.OwnCall.{Restart}
 use Rattle.its_model.specs.World.{What}
 use Rattle.its_model.specs.World.What.{Calls, Deliver}
-use Rattle.its_scenario.specs.Faults.{IsFaultOf}
-use Rattle.its_scenario.specs.Reading.{FieldValues, IsBadAt, IsBadOf}
-use Rattle.its_scenario.specs.Reading.{IsBadMeasure, IsNumber, IsText}
-use Rattle.its_scenario.specs.Reading.{IsUntaken}
-use Rattle.its_scenario.specs.Verbs.{verb_of, verb_word}
-use Rattle.its_scenario.specs.declared.fault.KeyFault.{KeyFault}
-use Rattle.its_scenario.specs.declared.fault.KeyFault.TheVariants as key_faults
-use Rattle.its_scenario.specs.declared.key.Key.{Key}
-use Rattle.its_scenario.specs.declared.key.Key.TheVariants as keys
-use Rattle.its_scenario.specs.declared.verb.Verb.{Verb}
+use Rattle.its_scenario.specs.Reading.{IsBadAt, IsBadOf}
+use Rattle.its_scenario.specs.Reading.{IsBadMeasure}
+use Rattle.its_scenario.specs.Verbs.{verb_of}
 
 -- the fault of a bad key
 pub bad_of : (values : FieldValues) (key : Key) (fault : KeyFault) → IsFaultOf key fault

@@ -3,8 +3,8 @@ use Rattle.std.proofs.Common.{◌≡◌, ℕ, ◌+◌, ◌<◌, List, [], ◌∷
 use Rattle.std.proofs.Common.{Bool, sym, ap, subst, suc, ◌∙◌, arith, drop}
 use Rattle.std.proofs.lemmas.Grind.{common_steps}
 use Rattle.std.proofs.lemmas.List.{take_more}
+use Rattle.its_keys.specs.Fields.{FieldValues}
 use Rattle.its_scenario.specs.Centres.{AllCentred}
-use Rattle.its_scenario.specs.Reading.{FieldValues}
 use Rattle.its_scenario.specs.Saying.{SaysFiled}
 use Rattle.its_scenario.specs.Items.{EachItem, SayItems, SaysItem}
 use Rattle.its_scenario.specs.Scenarios.{SayFiled, SaysFileEvent}

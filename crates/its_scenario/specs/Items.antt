@@ -1,18 +1,13 @@
 -- The items of an array of a document, and what was read of each.
 use Rattle.std.specs.Prelude.{◌≡◌, Bool, List, [], ◌∷◌, Option, Some, None, cond}
-use Rattle.its_scenario.specs.Keys.{word_of}
-use Rattle.its_scenario.specs.Reading.{FieldValues}
-use Rattle.its_scenario.specs.Tables.{table_values}
-use Rattle.its_scenario.specs.declared.key.Key.{Key}
-use Rattle.toml.specs.Data.{Data, Items, no_items, item, Members, no_members, as_array, as_table}
+use Rattle.its_keys.specs.Keys.{word_of}
+use Rattle.its_keys.specs.Fields.{FieldValues}
+use Rattle.its_keys.specs.Tables.{items_of_found, table_values}
+use Rattle.its_keys.specs.declared.key.Key.{Key}
+use Rattle.toml.specs.Data.{Data, Items, no_items, item, Members, no_members, as_table}
 use Rattle.toml.specs.Data.{get_member}
 
--- the items of what was found under a key, if it is an array; none where nothing was
-abbrev pub items_of_found : Option Data → Option Items
-items_of_found None = Some no_items
-items_of_found (Some found) = as_array found
-
--- the same of a key
+-- the items under a key, if an array stands there; none where nothing does
 abbrev pub items_under : Key → Members → Option Items
 items_under key members = items_of_found (get_member (word_of key) members)
 

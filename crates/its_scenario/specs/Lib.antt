@@ -1,7 +1,6 @@
 pub mod Events
 pub mod Documents
 pub mod Faults
-pub mod Keys
 pub mod Verbs
 pub mod Reading
 pub mod Tables
@@ -10,6 +9,4 @@ pub mod Items
 pub mod Moves
 pub mod Scenarios
 pub mod Airs
-pub mod Nearest
-pub mod Settings
 pub mod Centres

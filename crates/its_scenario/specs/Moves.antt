@@ -1,11 +1,10 @@
 -- What the table of moves says.
 use Rattle.std.specs.Prelude.{◌≡◌, ◌⊎◌, ℕ, pos, List, [], ◌∷◌, Some}
 use Rattle.std.specs.Int.{bytes_high_first}
+use Rattle.its_keys.specs.Fields.{FieldValues, AreOctets, IsMissing, IsNumberOr}
+use Rattle.its_keys.specs.Tables.{table_values}
+use Rattle.its_keys.specs.declared.key.Key.TheVariants as keys
 use Rattle.its_scenario.specs.Items.{EachItem, items_under}
-use Rattle.its_scenario.specs.Reading.{FieldValues, AreOctets}
-use Rattle.its_scenario.specs.Saying.{IsMissing, IsNumberOr}
-use Rattle.its_scenario.specs.Tables.{table_values}
-use Rattle.its_scenario.specs.declared.key.Key.TheVariants as keys
 use Rattle.its_scenario.specs.declared.moves.Moves.{Moves}
 use Rattle.toml.specs.Data.{Data, Items, Members, as_integer}
 

@@ -1,56 +1,22 @@
 -- What the keys of a table, or of an object of another notation, say.
-use Rattle.std.specs.Prelude.{◌≡◌, ℕ, ℤ, pos, Bool, List, Option, Some, Ok, codes}
-use Rattle.hex.specs.Hex.{decode_of}
+use Rattle.std.specs.Prelude.{ℕ, Bool, List, codes}
 use Rattle.its_geometry.specs.Area.{GeoArea}
 use Rattle.its_geometry.specs.declared.area.Shape.{Shape}
 use Rattle.its_geometry.specs.declared.area.Shape.TheVariants as shapes
-use Rattle.its_gnvalue.specs.Values.{Position}
+use Rattle.its_keys.specs.Fields.{AreOctets, FieldValues, IsNumber, IsPlace, IsText, IsTruth}
+use Rattle.its_keys.specs.Fields.{IsUntaken, IsWhole}
+use Rattle.its_keys.specs.Verbs.{verb_word}
+use Rattle.its_keys.specs.declared.fault.KeyFault.TheVariants as key_faults
+use Rattle.its_keys.specs.declared.fault.KeyFault.{KeyFault}
+use Rattle.its_keys.specs.declared.key.Key.TheVariants as keys
+use Rattle.its_keys.specs.declared.key.Key.{Key}
 use Rattle.its_model.specs.Calls.{OwnCall, GbcRequest, ShbRequest}
 use Rattle.its_model.specs.Calls.OwnCall.{Move, Open, Close, Tick, SendShb, SendGbc, SendGac}
 use Rattle.its_model.specs.Calls.OwnCall.{Restart}
 use Rattle.its_model.specs.Packet.{Message}
 use Rattle.its_model.specs.World.{What}
 use Rattle.its_model.specs.World.What.{Calls, Deliver}
-use Rattle.its_scenario.specs.Keys.{IsTakenBy, word_of}
-use Rattle.its_scenario.specs.Verbs.{verb_of, verb_word}
-use Rattle.its_scenario.specs.declared.fault.KeyFault.{KeyFault}
-use Rattle.its_scenario.specs.declared.fault.KeyFault.TheVariants as key_faults
-use Rattle.its_scenario.specs.declared.key.Key.{Key}
-use Rattle.its_scenario.specs.declared.key.Key.TheVariants as keys
-
--- What stands under each word: whether anything does, and the whole number, the truth and the text
--- that does, where it is one.
-pub record FieldValues : Type 0 where
-  pub has : List ℕ → Bool
-  pub integer : List ℕ → Option ℤ
-  pub truth : List ℕ → Option Bool
-  pub text : List ℕ → Option (List ℕ)
-
--- this whole number stands under the key
-abbrev pub IsWhole : FieldValues → Key → ℤ → Type 0
-IsWhole values key number = values.integer (word_of key) ≡ Some number
-
--- so does this one, which isn't below 0
-abbrev pub IsNumber : FieldValues → Key → ℕ → Type 0
-IsNumber values key number = IsWhole values key (pos number)
-
--- this truth stands under the key
-abbrev pub IsTruth : FieldValues → Key → Bool → Type 0
-IsTruth values key truth = values.truth (word_of key) ≡ Some truth
-
--- this text stands under the key
-abbrev pub IsText : FieldValues → Key → List ℕ → Type 0
-IsText values key text = values.text (word_of key) ≡ Some text
-
--- the hexadecimal digits of these octets stand under the key
-abbrev pub AreOctets : FieldValues → Key → List ℕ → Type 0
-AreOctets values key octets =
-    (digits : List ℕ) × IsText values key digits × (decode_of digits ≡ Ok octets)
-
--- the latitude and the longitude of this place stand under the keys
-abbrev pub IsPlace : FieldValues → Key → Key → Position → Type 0
-IsPlace values latitude longitude place =
-    IsWhole values latitude place.latitude × IsWhole values longitude place.longitude
+use Rattle.its_scenario.specs.Verbs.{verb_of}
 
 -- the word of a shape
 abbrev pub shape_word : Shape → List ℕ
@@ -112,10 +78,6 @@ SaysKeys values (Deliver frame) = IsNumber values keys.Frame frame
 abbrev pub SaysWhat : FieldValues → What → Type 0
 SaysWhat values what =
     IsText values keys.Do (verb_word (verb_of what)) × SaysKeys values what
-
--- no whole number that the key takes stands under it
-abbrev pub IsUntaken : FieldValues → Key → Type 0
-IsUntaken values key = (number : ℤ) → IsWhole values key number → ¬ IsTakenBy key number
 
 -- no measure of the shape that stands under `shape` stands under the key: of a circle that is 0
 abbrev pub IsBadMeasure : FieldValues → Key → Type 0

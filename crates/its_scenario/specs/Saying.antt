@@ -1,14 +1,18 @@
 -- What the tables of a scenario say: its stations, its air, its traffic and its events.
-use Rattle.std.specs.Prelude.{◌≡◌, ℕ, ℤ, pos, Bool, true, false, not, ◌&&◌, List, Option, Some}
-use Rattle.std.specs.Prelude.{None, codes, cond, length, string_bytes, String}
+use Rattle.std.specs.Prelude.{◌≡◌, ℕ, Bool, true, false, not, ◌&&◌, List, Option, Some}
+use Rattle.std.specs.Prelude.{None, codes, length, string_bytes, String}
 use Rattle.std.specs.Int.{w64, from_be_bytes}
 use Rattle.std.specs.declared.alloc.Global.{Global}
+use Rattle.its_keys.specs.Fields.{FieldValues, AreOctets, IsMissing, IsNumber, IsNumberIf}
+use Rattle.its_keys.specs.Fields.{IsNumberOr, IsPlace, IsText, IsTruthOr}
+use Rattle.its_keys.specs.Keys.{word_of}
+use Rattle.its_keys.specs.Verbs.{verb_word}
+use Rattle.its_keys.specs.declared.key.Key.TheVariants as keys
+use Rattle.its_keys.specs.declared.verb.Verb.TheVariants as verbs
 use Rattle.its_scenario.specs.Airs.{moment_of}
 use Rattle.its_scenario.specs.Events.{station_in}
-use Rattle.its_scenario.specs.Keys.{word_of}
-use Rattle.its_scenario.specs.Reading.{FieldValues, AreOctets, IsNumber, IsPlace, IsText, SaysWhat}
+use Rattle.its_scenario.specs.Reading.{SaysWhat}
 use Rattle.its_scenario.specs.Tables.{air_values}
-use Rattle.its_scenario.specs.Verbs.{verb_word}
 use Rattle.its_scenario.specs.declared.air.Air.{Air}
 use Rattle.its_scenario.specs.declared.event.AddressedEvent.{AddressedEvent}
 use Rattle.its_scenario.specs.declared.event.FileEvent.{FileEvent}
@@ -16,38 +20,12 @@ use Rattle.its_scenario.specs.declared.event.FileEvent.TheVariants as files
 use Rattle.its_scenario.specs.declared.expectation.Expectation.{Expectation}
 use Rattle.its_scenario.specs.declared.expectation.Reached.{Reached}
 use Rattle.its_scenario.specs.declared.expectation.Reached.TheVariants as reaches
-use Rattle.its_scenario.specs.declared.key.Key.{Key}
-use Rattle.its_scenario.specs.declared.key.Key.TheVariants as keys
 use Rattle.its_scenario.specs.declared.traffic.Traffic.{Traffic}
-use Rattle.its_scenario.specs.declared.verb.Verb.TheVariants as verbs
 use Rattle.its_world.specs.Events.{what_of}
 use Rattle.its_world.specs.declared.config.Config.{Config}
 use Rattle.its_world.specs.declared.event.Event.{Event}
 use Rattle.its_world.specs.declared.event.What.{What}
 use Rattle.its_world.specs.declared.event.What.TheVariants as whats
-
--- nothing stands under the key
-abbrev pub IsMissing : FieldValues → Key → Type 0
-IsMissing values key = values.has (word_of key) ≡ false
-
--- the number is the whole number under the key, or this other one where nothing stands there
-abbrev pub IsWholeOr : FieldValues → Key → ℤ → ℤ → Type 0
-IsWholeOr values key other number =
-    cond (values.has (word_of key)) (values.integer (word_of key)) (Some other) ≡ Some number
-
--- the same of numbers that aren't below 0
-abbrev pub IsNumberOr : FieldValues → Key → ℕ → ℕ → Type 0
-IsNumberOr values key other number = IsWholeOr values key (pos other) (pos number)
-
--- the same of a truth
-abbrev pub IsTruthOr : FieldValues → Key → Bool → Bool → Type 0
-IsTruthOr values key other truth =
-    cond (values.has (word_of key)) (values.truth (word_of key)) (Some other) ≡ Some truth
-
--- this number stands under the key; or nothing does, where there is none
-abbrev pub IsNumberIf : FieldValues → Key → Option ℕ → Type 0
-IsNumberIf values key (Some number) = IsNumber values key number
-IsNumberIf values key None = IsMissing values key
 
 -- the digits under `address` are those of the address' 8 octets, the highest first
 abbrev pub IsAddress : FieldValues → ℕ → Type 0

@@ -3,22 +3,23 @@ use Rattle.std.specs.Prelude.{◌≡◌, ℕ, Bool, true, false, List, [], ◌�
 use Rattle.std.specs.Prelude.{String, is_some}
 use Rattle.std.specs.Option.{option_map}
 use Rattle.std.specs.declared.alloc.Global.{Global}
+use Rattle.its_keys.specs.Fields.{FieldValues}
+use Rattle.its_keys.specs.Keys.{word_of}
+use Rattle.its_keys.specs.Settings.{set_values}
+use Rattle.its_keys.specs.Tables.{table_values}
+use Rattle.its_keys.specs.declared.key.Key.TheVariants as keys
+use Rattle.its_keys.specs.declared.settings.AirSettings.{AirSettings}
+use Rattle.its_keys.specs.declared.settings.SetAir.{SetAir}
 use Rattle.its_scenario.specs.Centres.{IsCentred}
 use Rattle.its_scenario.specs.Items.{SayItems, SaysItem, items_if, items_under, members_if}
-use Rattle.its_scenario.specs.Keys.{word_of}
 use Rattle.its_scenario.specs.Moves.{SaysMoves}
-use Rattle.its_scenario.specs.Reading.{FieldValues}
 use Rattle.its_scenario.specs.Saying.{SaysAddressed, SaysAir, SaysEvent, SaysExpectation, SaysFiled}
 use Rattle.its_scenario.specs.Saying.{SaysPresent, SaysStation, SaysTraffic}
-use Rattle.its_scenario.specs.Tables.{set_values, table_values}
 use Rattle.its_scenario.specs.declared.air.Air.{Air}
 use Rattle.its_scenario.specs.declared.document.Tables.{Tables}
 use Rattle.its_scenario.specs.declared.event.FileEvent.{FileEvent}
-use Rattle.its_scenario.specs.declared.key.Key.TheVariants as keys
 use Rattle.its_scenario.specs.declared.scenario.Reading.{Reading}
 use Rattle.its_scenario.specs.declared.scenario.Scenario.{Scenario}
-use Rattle.its_scenario.specs.declared.settings.AirSettings.{AirSettings}
-use Rattle.its_scenario.specs.declared.settings.SetAir.{SetAir}
 use Rattle.std.specs.BTreeMap.{BTreeMap}
 use Rattle.toml.specs.Data.{Data, Items, no_items, item, Members, no_members, as_table, get_member}
 use Rattle.toml.specs.Parse.{parse_document}

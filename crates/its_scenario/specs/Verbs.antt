@@ -1,27 +1,14 @@
--- The words for what a station does.
-use Rattle.std.specs.Prelude.{ℕ, List, Option, Some, None, codes}
+-- What a station does, by its word.
+use Rattle.std.specs.Prelude.{Option, Some, None}
+use Rattle.its_keys.specs.declared.verb.Verb.TheVariants as verbs
+use Rattle.its_keys.specs.declared.verb.Verb.{Verb}
 use Rattle.its_model.specs.Calls.{OwnCall}
 use Rattle.its_model.specs.Calls.OwnCall.{Move, Open, Close, Tick, SendShb, SendGbc, SendGac}
 use Rattle.its_model.specs.Calls.OwnCall.{Restart}
 use Rattle.its_model.specs.World.{What}
 use Rattle.its_model.specs.World.What.{Calls, Deliver}
-use Rattle.its_scenario.specs.declared.verb.Verb.{Verb}
-use Rattle.its_scenario.specs.declared.verb.Verb.TheVariants as verbs
 use Rattle.its_station.specs.declared.run.Call.{Call}
 use Rattle.its_station.specs.declared.run.Call.TheVariants as calls
-
--- the word of each
-abbrev pub verb_word : Verb → List ℕ
-verb_word verbs.Deliver = codes "deliver"
-verb_word verbs.Move = codes "move"
-verb_word verbs.Open = codes "open"
-verb_word verbs.Close = codes "close"
-verb_word verbs.Tick = codes "tick"
-verb_word verbs.Shb = codes "shb"
-verb_word verbs.Gbc = codes "gbc"
-verb_word verbs.Gac = codes "gac"
-verb_word verbs.Restart = codes "restart"
-verb_word verbs.Leave = codes "leave"
 
 -- that of what a station's own applications ask of it
 abbrev pub own_verb : OwnCall → Verb

@@ -1,14 +1,12 @@
 //! Reading an air.
 
 ghost use Rattle.std.specs.Prelude.{◌≤◌, ◌<◌, ◌^◌, IfOk, IfSome, false};
-ghost use Rattle.its_scenario.specs.Saying.{IsNumberIf, IsNumberOr, IsTruthOr, SaysAir};
-ghost use Rattle.its_scenario.specs.declared.key.Key.TheVariants as keys;
+ghost use Rattle.its_keys.specs.Fields.{IsNumberIf, IsNumberOr, IsTruthOr};
+ghost use Rattle.its_keys.specs.declared.key.Key.TheVariants as keys;
+ghost use Rattle.its_scenario.specs.Saying.{SaysAir};
 
 use crate::air::Air;
-use crate::fault::KeyFault;
-use crate::fields::Fields;
-use crate::key::Key;
-use crate::keys::{number, truth, whole, whole_or};
+use its_keys::{Fields, Key, KeyFault, number, truth, whole, whole_or};
 
 /// Reads an air: `range`, `delay`, `loss`, `seed`, `beacons`, `until`, checked in this order. All
 /// but `range` may be missing.

@@ -8,10 +8,9 @@ ghost use Rattle.its_scenario.specs.Events.{FitsFileEvent};
 ghost use Rattle.its_scenario.specs.Saying.{is_geocast, lacks_centre};
 
 use crate::event::FileEvent;
-use crate::fields::Fields;
-use crate::key::Key;
 use its_geometry::Area;
 use its_gnvalue::Place;
+use its_keys::{Fields, Key};
 use its_world::{Config, What};
 use std::alloc::{AllocError, Global};
 

@@ -1,9 +1,11 @@
 //! Reading a scenario from a document.
 
 ghost use Rattle.std.specs.Prelude.{◌≡◌, ◌≤◌, All, IfOk, IfErr, IfSome, length, vec_len};
+ghost use Rattle.its_keys.specs.Tables.{items_of_found, table_values};
+ghost use Rattle.its_keys.specs.declared.key.Key.TheVariants as keys;
 ghost use Rattle.its_scenario.specs.Documents.{IsToml, IsOfToml, IsPastToml};
 ghost use Rattle.its_scenario.specs.Events.{FitsEvent, FitsFileEvent};
-ghost use Rattle.its_scenario.specs.Items.{SayItems, items_if, items_of_found, members_if};
+ghost use Rattle.its_scenario.specs.Items.{SayItems, items_if, members_if};
 ghost use Rattle.its_scenario.specs.Moves.{SaysMoves};
 ghost use Rattle.its_scenario.specs.Saying.{SaysAddressed, SaysAir, SaysEvent, SaysExpectation};
 ghost use Rattle.its_scenario.specs.Saying.{SaysFiled, SaysStation};
@@ -13,8 +15,6 @@ ghost use Rattle.its_scenario.specs.Scenarios.{SaysScenario};
 ghost use Rattle.its_scenario.specs.Scenarios.{SaysWithoutAir, air_in, air_under, events_addressed};
 ghost use Rattle.its_scenario.specs.Scenarios.{events_alone, events_filed, members_in, parts_in};
 ghost use Rattle.its_scenario.specs.Scenarios.{set_air_values, usual_reading};
-ghost use Rattle.its_scenario.specs.Tables.{table_values};
-ghost use Rattle.its_scenario.specs.declared.key.Key.TheVariants as keys;
 ghost use Rattle.its_world.specs.Events.{IsConfig};
 ghost use Rattle.toml.specs.Data.{get_member};
 ghost use Rattle.toml.specs.Parse.{parse_document};
@@ -25,17 +25,16 @@ use crate::air_keys::read_air;
 use crate::centre::centre_areas;
 use crate::event::{AddressedEvent, FileEvent, Filed, read_addressed, read_event, read_file_event};
 use crate::expectation::{Expectation, read_expectation};
-use crate::fault::{ScenarioFault, Wrong};
-use crate::fields::{items_of, value_of};
-use crate::key::{AIR_KEYS, EXPECTATION_KEYS};
+use crate::fault::ScenarioFault;
 use crate::moves::Moves;
 use crate::moves_keys::read_known_moves;
 use crate::position::TomlFault;
 use crate::scenario::{Reading, Scenario};
-use crate::settings::SetAir;
 use crate::station::{read_present, read_station};
+use crate::table_keys::EXPECTATION_KEYS;
 use crate::traffic_keys::read_every;
 use crate::unknown::{Owner, refuse_all_unknown, refuse_unknown};
+use its_keys::{AIR_KEYS, SetAir, Wrong, items_of, value_of};
 use its_world::{Config, Event, refuse_shared};
 use std::alloc::Global;
 use toml::{Table, Value};
@@ -345,7 +344,7 @@ fn read_known_air(alloc: Global, fields: SetAir<'_>) -> Result<Air, ScenarioFaul
     ensures says { IfOk result (SaysAir (set_air_values fields.entry)) }
     ensures refused { IfErr result IsPastToml }
 {
-    let air = read_air(&fields).map_err(|fault| fault.of_air())?;
+    let air = read_air(&fields).map_err(ScenarioFault::of_air)?;
     refuse_unknown(alloc, fields.table, &AIR_KEYS, Owner::Air)?;
     Ok(air)
 }
@@ -401,10 +400,19 @@ fn read_stations(
         let Some(table) = item.as_table() else {
             return Err(ScenarioFault::Stations);
         };
-        stations.push(read_station(table).map_err(|fault| fault.of_station(number))?)?;
+        stations.push(read_numbered_station(table, number)?)?;
         present.push(read_presence(table, number, has_air)?)?;
     }
     Ok((stations, present))
+}
+
+/// Reads the station of this number.
+fn read_numbered_station(table: &Table, number: usize) -> Result<Config, ScenarioFault>
+    ensures says { IfOk result (SaysStation (table_values (table_view table.now))) }
+    ensures ranges { IfOk result IsConfig }
+    ensures refused { IfErr result IsPastToml }
+{
+    read_station(table).map_err(|fault| ScenarioFault::of_station(fault, number))
 }
 
 /// Whether the station of this number is present at the start.
@@ -415,7 +423,7 @@ fn read_presence(table: &Table, number: usize, has_air: bool) -> Result<bool, Sc
     if !has_air {
         return Ok(true);
     }
-    read_present(table).map_err(|fault| fault.of_station(number))
+    read_present(table).map_err(|fault| ScenarioFault::of_station(fault, number))
 }
 
 fn read_events(alloc: Global, items: &[Value]) -> Result<Vec<Event>, ScenarioFault>
@@ -431,9 +439,18 @@ fn read_events(alloc: Global, items: &[Value]) -> Result<Vec<Event>, ScenarioFau
         let Some(table) = item.as_table() else {
             return Err(ScenarioFault::Events);
         };
-        events.push(read_event(alloc, table).map_err(|fault| fault.of_event(number))?)?;
+        events.push(read_numbered_event(alloc, table, number)?)?;
     }
     Ok(events)
+}
+
+/// Reads the event of this number.
+fn read_numbered_event(alloc: Global, table: &Table, number: usize) -> Result<Event, ScenarioFault>
+    ensures says { IfOk result (SaysEvent (table_values (table_view table.now))) }
+    ensures ranges { IfOk result FitsEvent }
+    ensures refused { IfErr result IsPastToml }
+{
+    read_event(alloc, table).map_err(|fault| ScenarioFault::of_event(fault, number))
 }
 
 /// Reads what waits in an air of these stations. An area whose centre is left out lies round where
@@ -489,7 +506,7 @@ fn read_filed(alloc: Global, table: &Table, number: usize) -> Result<Filed, Scen
     ensures ranges { IfOk result (λ event. FitsFileEvent event.filed) }
     ensures refused { IfErr result IsPastToml }
 {
-    read_file_event(alloc, table).map_err(|fault| fault.of_event(number))
+    read_file_event(alloc, table).map_err(|fault| ScenarioFault::of_event(fault, number))
 }
 
 /// Reads what waits in an air with moves, of a scenario of so many stations.
@@ -510,10 +527,23 @@ fn read_all_addressed(
         let Some(table) = item.as_table() else {
             return Err(ScenarioFault::Events);
         };
-        let event = read_addressed(alloc, table, stations);
-        addressed.push(event.map_err(|fault| fault.of_event(number))?)?;
+        addressed.push(read_numbered_addressed(alloc, table, number, stations)?)?;
     }
     Ok(addressed)
+}
+
+/// Reads the line of this number of an air with moves.
+fn read_numbered_addressed(
+    alloc: Global,
+    table: &Table,
+    number: usize,
+    stations: usize,
+) -> Result<AddressedEvent, ScenarioFault>
+    ensures says { IfOk result (SaysAddressed (table_values (table_view table.now))) }
+    ensures ranges { IfOk result (λ addressed. FitsFileEvent addressed.filed) }
+    ensures refused { IfErr result IsPastToml }
+{
+    read_addressed(alloc, table, stations).map_err(|fault| ScenarioFault::of_event(fault, number))
 }
 
 fn read_expectations(alloc: Global, items: &[Value]) -> Result<Vec<Expectation>, ScenarioFault>
@@ -546,6 +576,6 @@ fn read_known_expectation(
             refuse_unknown(alloc, table, &EXPECTATION_KEYS, Owner::Expectation(number))?;
             Ok(expectation)
         }
-        Err(fault) => Err(fault.of_expectation(number)),
+        Err(fault) => Err(ScenarioFault::of_expectation(fault, number)),
     }
 }

@@ -1,28 +1,28 @@
 //! The events of a scenario.
 
 ghost use Rattle.std.specs.Prelude.{◌≡◌, ◌<◌, ◌^◌, IfOk, IfErr, IfSome, MatchOption, string_bytes};
+ghost use Rattle.its_keys.specs.Faults.{IsWhatFault};
+ghost use Rattle.its_keys.specs.Fields.{IsMissing, IsNumber, IsText};
+ghost use Rattle.its_keys.specs.Verbs.{verb_word};
+ghost use Rattle.its_keys.specs.declared.key.Key.TheVariants as keys;
+ghost use Rattle.its_keys.specs.declared.verb.Verb.TheVariants as verbs;
 ghost use Rattle.its_moves.specs.Rows.{IsId};
 ghost use Rattle.its_scenario.specs.Airs.{moment_of};
 ghost use Rattle.its_scenario.specs.Events.{FitsEvent, FitsFileEvent, FitsWhat, station_in};
-ghost use Rattle.its_scenario.specs.Faults.{IsWhatFault};
-ghost use Rattle.its_scenario.specs.Reading.{IsBadOf, IsNumber, IsText, SaysKeys, SaysShb};
-ghost use Rattle.its_scenario.specs.Reading.{SaysWhat};
+ghost use Rattle.its_scenario.specs.Reading.{IsBadOf, SaysKeys, SaysShb, SaysWhat};
 ghost use Rattle.its_scenario.specs.Saying.{IsAddressee, SaysAddressed, SaysDone, SaysEvent};
-ghost use Rattle.its_scenario.specs.Saying.{IsMissing, SaysFiled};
-ghost use Rattle.its_scenario.specs.Verbs.{verb_of, verb_word};
-ghost use Rattle.its_scenario.specs.declared.key.Key.TheVariants as keys;
-ghost use Rattle.its_scenario.specs.declared.verb.Verb.TheVariants as verbs;
+ghost use Rattle.its_scenario.specs.Saying.{SaysFiled};
+ghost use Rattle.its_scenario.specs.Verbs.{verb_of};
 ghost use Rattle.its_station.specs.Requests.{owned_shb};
 ghost use Rattle.its_world.specs.Events.{what_of};
 
 use crate::centre::InAir;
-use crate::fault::{KeyFault, Wrong};
-use crate::fields::Fields;
 use crate::geocast::read_geocast;
-use crate::key::Key;
-use crate::keys::{number, octet, octets, place, text, truth, whole};
-use crate::verb::{Verb, Verbs};
+use crate::verb::Verbs;
 use its_gnvalue::TrafficClass;
+use its_keys::{
+    Fields, Key, KeyFault, Verb, Wrong, number, octet, octets, place, text, truth, whole,
+};
 use its_moves::is_id;
 use its_station::OwnedShbRequest;
 use its_world::{Event, What};

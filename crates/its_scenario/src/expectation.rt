@@ -1,13 +1,10 @@
 //! What a scenario expects of its run.
-
 ghost use Rattle.std.specs.Prelude.{IfOk};
-ghost use Rattle.its_scenario.specs.Saying.{IsNumberIf, SaysExpectation, SaysReached};
-ghost use Rattle.its_scenario.specs.declared.key.Key.TheVariants as keys;
+ghost use Rattle.its_keys.specs.Fields.{IsNumberIf};
+ghost use Rattle.its_keys.specs.declared.key.Key.TheVariants as keys;
+ghost use Rattle.its_scenario.specs.Saying.{SaysExpectation, SaysReached};
 
-use crate::fault::KeyFault;
-use crate::fields::Fields;
-use crate::key::Key;
-use crate::keys::{number, whole};
+use its_keys::{Fields, Key, KeyFault, number, whole};
 
 /// At how many stations a packet has to be delivered.
 #[derive(Clone, Copy, Debug, PartialEq, Eq)]

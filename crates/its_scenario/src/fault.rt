@@ -5,11 +5,10 @@ ghost use Rattle.its_scenario.specs.Documents.{IsPastToml};
 ghost use Rattle.its_scenario.specs.Faults.{fault_of};
 ghost use Rattle.its_scenario.specs.declared.fault.ScenarioFault.TheVariants.{OutOfMemory};
 
-use crate::key::Key;
 use crate::position::TomlFault;
-use crate::reason::{Reason, WrongOf};
+use crate::reason::Reason;
 use crate::unknown::UnknownKey;
-use crate::verb::Verb;
+use its_keys::{Key, KeyFault, Wrong};
 use its_world::WorldFault;
 use std::alloc::{AllocError, AllocFailed};
 use thiserror::Error;
@@ -81,6 +80,66 @@ impl ScenarioFault {
             _ => Some(Reason(self)),
         }
     }
+
+    /// The fault of the scenario whose station of this number has the key.
+    pub(crate) fn of_station(fault: KeyFault, number: usize) -> ScenarioFault
+        ensures { IsPastToml result }
+    {
+        match fault {
+            KeyFault::Refused(key, wrong) => ScenarioFault::Station(number, key, wrong),
+            KeyFault::OutOfMemory => ScenarioFault::OutOfMemory,
+        }
+    }
+
+    /// The fault of the scenario whose air has the key.
+    pub(crate) fn of_air(fault: KeyFault) -> ScenarioFault
+        ensures { IsPastToml result }
+    {
+        match fault {
+            KeyFault::Refused(key, wrong) => ScenarioFault::AirKey(key, wrong),
+            KeyFault::OutOfMemory => ScenarioFault::OutOfMemory,
+        }
+    }
+
+    /// The fault of the scenario whose traffic of this number has the key.
+    pub(crate) fn of_every(fault: KeyFault, number: usize) -> ScenarioFault
+        ensures { IsPastToml result }
+    {
+        match fault {
+            KeyFault::Refused(key, wrong) => ScenarioFault::EveryKey(number, key, wrong),
+            KeyFault::OutOfMemory => ScenarioFault::OutOfMemory,
+        }
+    }
+
+    /// The fault of the scenario of whose moves the key is.
+    pub(crate) fn of_moves(fault: KeyFault) -> ScenarioFault
+        ensures { IsPastToml result }
+    {
+        match fault {
+            KeyFault::Refused(key, wrong) => ScenarioFault::MovesKey(key, wrong),
+            KeyFault::OutOfMemory => ScenarioFault::OutOfMemory,
+        }
+    }
+
+    /// The fault of the scenario whose event of this number has the key.
+    pub(crate) fn of_event(fault: KeyFault, number: usize) -> ScenarioFault
+        ensures { IsPastToml result }
+    {
+        match fault {
+            KeyFault::Refused(key, wrong) => ScenarioFault::Event(number, key, wrong),
+            KeyFault::OutOfMemory => ScenarioFault::OutOfMemory,
+        }
+    }
+
+    /// The fault of the scenario of which something is expected, of this number, that has the key.
+    pub(crate) fn of_expectation(fault: KeyFault, number: usize) -> ScenarioFault
+        ensures { IsPastToml result }
+    {
+        match fault {
+            KeyFault::Refused(key, wrong) => ScenarioFault::Expectation(number, key, wrong),
+            KeyFault::OutOfMemory => ScenarioFault::OutOfMemory,
+        }
+    }
 }
 
 impl From<AllocError> for ScenarioFault {
@@ -107,103 +166,5 @@ impl<T: Drop> From<AllocFailed<T>> for ScenarioFault {
 
     fn from(_: AllocFailed<T>) -> ScenarioFault {
         ScenarioFault::OutOfMemory
-    }
-}
-
-/// What is wrong with the value of a key.
-#[derive(Clone, Copy, Debug, PartialEq, Eq)]
-pub enum Wrong {
-    /// There is none.
-    Missing,
-    /// It is of another kind than the key takes.
-    Kind,
-    /// It is this whole number, which is out of the key's range.
-    Range(i64),
-    /// It is one of its kind that the key doesn't take.
-    Value,
-    /// It isn't 0, as it has to be of a circle.
-    OfCircle,
-    /// It is a word that the key doesn't take, at most two changes of a letter from this one.
-    Near(Verb),
-    /// It is the number of no station of the scenario's own.
-    NoStation,
-}
-
-/// Why the value of a key was not taken.
-#[derive(Clone, Copy, Debug, PartialEq, Eq)]
-pub enum KeyFault {
-    /// The key is missing, or its value is of another kind or out of range.
-    Refused(Key, Wrong),
-    /// An allocation failed.
-    OutOfMemory,
-}
-
-impl KeyFault {
-    /// The fault of the scenario whose station of this number has the key.
-    pub(crate) fn of_station(self, number: usize) -> ScenarioFault
-        ensures { IsPastToml result }
-    {
-        match self {
-            KeyFault::Refused(key, wrong) => ScenarioFault::Station(number, key, wrong),
-            KeyFault::OutOfMemory => ScenarioFault::OutOfMemory,
-        }
-    }
-
-    /// The fault of the scenario whose air has the key.
-    pub(crate) fn of_air(self) -> ScenarioFault
-        ensures { IsPastToml result }
-    {
-        match self {
-            KeyFault::Refused(key, wrong) => ScenarioFault::AirKey(key, wrong),
-            KeyFault::OutOfMemory => ScenarioFault::OutOfMemory,
-        }
-    }
-
-    /// The fault of the scenario whose traffic of this number has the key.
-    pub(crate) fn of_every(self, number: usize) -> ScenarioFault
-        ensures { IsPastToml result }
-    {
-        match self {
-            KeyFault::Refused(key, wrong) => ScenarioFault::EveryKey(number, key, wrong),
-            KeyFault::OutOfMemory => ScenarioFault::OutOfMemory,
-        }
-    }
-
-    /// The fault of the scenario of whose moves the key is.
-    pub(crate) fn of_moves(self) -> ScenarioFault
-        ensures { IsPastToml result }
-    {
-        match self {
-            KeyFault::Refused(key, wrong) => ScenarioFault::MovesKey(key, wrong),
-            KeyFault::OutOfMemory => ScenarioFault::OutOfMemory,
-        }
-    }
-
-    /// What is wrong with the value of the key.
-    pub(crate) fn wrong(self) -> Option<WrongOf> {
-        match self {
-            KeyFault::Refused(key, wrong) => Some(WrongOf(key, wrong)),
-            KeyFault::OutOfMemory => None,
-        }
-    }
-
-    /// The fault of the scenario of which something is expected, of this number, that has the key.
-    pub(crate) fn of_expectation(self, number: usize) -> ScenarioFault
-        ensures { IsPastToml result }
-    {
-        match self {
-            KeyFault::Refused(key, wrong) => ScenarioFault::Expectation(number, key, wrong),
-            KeyFault::OutOfMemory => ScenarioFault::OutOfMemory,
-        }
-    }
-
-    /// The fault of the scenario whose event of this number has the key.
-    pub(crate) fn of_event(self, number: usize) -> ScenarioFault
-        ensures { IsPastToml result }
-    {
-        match self {
-            KeyFault::Refused(key, wrong) => ScenarioFault::Event(number, key, wrong),
-            KeyFault::OutOfMemory => ScenarioFault::OutOfMemory,
-        }
     }
 }

@@ -2,18 +2,15 @@
 
 ghost use Rattle.std.specs.Prelude.{◌≡◌, ◌<◌, ◌⊎◌, ℕ, List, IfErr, IfOk, OnErr};
 ghost use Rattle.its_geometry.specs.Area.{HasMeasures};
-ghost use Rattle.its_scenario.specs.Faults.{IsFaultOf, IsWhatFault};
-ghost use Rattle.its_scenario.specs.Reading.{IsBadOf, IsNumber, IsText, SaysArea, SaysGbc};
-ghost use Rattle.its_scenario.specs.Reading.{shape_word};
-ghost use Rattle.its_scenario.specs.declared.key.Key.TheVariants as keys;
+ghost use Rattle.its_keys.specs.Faults.{IsFaultOf, IsWhatFault};
+ghost use Rattle.its_keys.specs.Fields.{IsNumber, IsText};
+ghost use Rattle.its_keys.specs.declared.key.Key.TheVariants as keys;
+ghost use Rattle.its_scenario.specs.Reading.{IsBadOf, SaysArea, SaysGbc, shape_word};
 ghost use Rattle.its_station.specs.Requests.{owned_gbc};
 
-use crate::fault::{KeyFault, Wrong};
-use crate::fields::Fields;
-use crate::key::Key;
-use crate::keys::{number, octet, octets, place, text, unlike};
 use its_geometry::{Area, Shape};
 use its_gnvalue::{Lifetime, TrafficClass};
+use its_keys::{Fields, Key, KeyFault, Wrong, number, octet, octets, place, text, unlike};
 use its_station::OwnedGbcRequest;
 use std::alloc::Global;
 

@@ -1,21 +1,20 @@
 //! Reading how the moves of a file are read.
 
 ghost use Rattle.std.specs.Prelude.{◌≤◌, ◌^◌, IfOk, IfErr};
+ghost use Rattle.its_keys.specs.Fields.{IsNumberOr};
+ghost use Rattle.its_keys.specs.declared.key.Key.TheVariants as keys;
 ghost use Rattle.its_scenario.specs.Documents.{IsPastToml};
 ghost use Rattle.its_scenario.specs.Moves.{AreMidOctets, ArePorts, IsMid, IsPort, SaysMoves};
 ghost use Rattle.its_scenario.specs.Moves.{SaysPorts};
-ghost use Rattle.its_scenario.specs.Saying.{IsNumberOr};
-ghost use Rattle.its_scenario.specs.declared.key.Key.TheVariants as keys;
 ghost use Rattle.toml.specs.Data.{no_members};
 ghost use Rattle.toml.specs.View.{items_view, table_view, view};
 
-use crate::fault::{KeyFault, ScenarioFault, Wrong};
-use crate::fields::{Fields, items_of};
-use crate::key::{Key, MOVES_KEYS};
-use crate::keys::{text, whole_or};
+use crate::fault::ScenarioFault;
 use crate::moves::Moves;
+use crate::table_keys::MOVES_KEYS;
 use crate::unknown::{Owner, refuse_unknown};
 use its_gnvalue::Mac;
+use its_keys::{Fields, Key, KeyFault, Wrong, items_of, octets_into, whole_or};
 use std::alloc::Global;
 use toml::{Table, Value};
 
@@ -55,7 +54,7 @@ pub(crate) fn read_known_moves(alloc: Global, table: &Table) -> Result<Moves, Sc
     ensures says { IfOk result (SaysMoves (table_view table.now)) }
     ensures refused { IfErr result IsPastToml }
 {
-    let moves = read_moves(alloc, table).map_err(|fault| fault.of_moves())?;
+    let moves = read_moves(alloc, table).map_err(ScenarioFault::of_moves)?;
     refuse_unknown(alloc, table, &MOVES_KEYS, Owner::Moves)?;
     Ok(moves)
 }
@@ -121,19 +120,14 @@ fn read_mid<F: Fields>(fields: &F) -> Result<Mac, KeyFault>
 }
 
 /// The octets of the first MID.
-#[tactic(auto, using(crate::proofs::Digits::octets_of))]
 fn mid_octets<F: Fields>(fields: &F) -> Result<[u8; 6], KeyFault>
     ensures { IfOk result (AreMidOctets (F.values fields.now)) }
 {
-    if !fields.has(Key::Mid.word()) {
-        return Ok(USUAL_MID);
+    let mut octets = USUAL_MID;
+    if fields.has(Key::Mid.word()) {
+        octets_into(fields, Key::Mid, &mut octets)?;
     }
-    let digits = text(fields, Key::Mid)?;
-    let mut octets = [0u8; 6];
-    match hex::decode_to_slice(digits, &mut octets) {
-        Ok(()) => Ok(octets),
-        Err(_) => Err(KeyFault::Refused(Key::Mid, Wrong::Value)),
-    }
+    Ok(octets)
 }
 
 /// The ports that are opened.

@@ -9,8 +9,8 @@ use crate::air::Air;
 use crate::event::{AddressedEvent, FileEvent};
 use crate::expectation::Expectation;
 use crate::moves::Moves;
-use crate::settings::AirSettings;
 use crate::traffic::Traffic;
+use its_keys::AirSettings;
 use its_world::{Config, Event};
 
 /// Stations, the air, events and what is expected, in the order of the document.

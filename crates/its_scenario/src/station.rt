@@ -1,16 +1,13 @@
 //! The stations of a scenario.
 
 ghost use Rattle.std.specs.Prelude.{◌≡◌, IfOk, length};
-ghost use Rattle.its_scenario.specs.Reading.{AreOctets};
+ghost use Rattle.its_keys.specs.Fields.{AreOctets};
+ghost use Rattle.its_keys.specs.declared.key.Key.TheVariants as keys;
 ghost use Rattle.its_scenario.specs.Saying.{IsAddress, SaysPresent, SaysStation};
-ghost use Rattle.its_scenario.specs.declared.key.Key.TheVariants as keys;
 ghost use Rattle.its_world.specs.Events.{IsConfig};
 
-use crate::fault::{KeyFault, Wrong};
-use crate::fields::Fields;
-use crate::key::Key;
-use crate::keys::{place, text, truth, whole_or};
 use its_gnvalue::GnAddress;
+use its_keys::{Fields, Key, KeyFault, Wrong, octets_into, place, truth, whole_or};
 use its_world::Config;
 
 /// The capacity where none is given.
@@ -58,15 +55,11 @@ fn read_address<F: Fields>(fields: &F) -> Result<GnAddress, KeyFault>
 }
 
 /// The octets of 16 hexadecimal digits.
-#[tactic(auto, using(crate::proofs::Digits::octets_of))]
 fn address_octets<F: Fields>(fields: &F) -> Result<[u8; 8], KeyFault>
     ensures stand { IfOk result (AreOctets (F.values fields.now) keys.Address) }
     ensures count { IfOk result (λ octets. length octets ≡ 8) }
 {
-    let digits = text(fields, Key::Address)?;
     let mut octets = [0u8; 8];
-    match hex::decode_to_slice(digits, &mut octets) {
-        Ok(()) => Ok(octets),
-        Err(_) => Err(KeyFault::Refused(Key::Address, Wrong::Value)),
-    }
+    octets_into(fields, Key::Address, &mut octets)?;
+    Ok(octets)
 }

@@ -1,21 +1,20 @@
 //! Reading what the stations of a scenario send by themselves.
 
 ghost use Rattle.std.specs.Prelude.{◌≤◌, IfOk, IfErr};
+ghost use Rattle.its_keys.specs.Fields.{IsNumber};
+ghost use Rattle.its_keys.specs.Tables.{table_values};
+ghost use Rattle.its_keys.specs.declared.key.Key.TheVariants as keys;
 ghost use Rattle.its_scenario.specs.Documents.{IsPastToml};
-ghost use Rattle.its_scenario.specs.Reading.{IsNumber};
 ghost use Rattle.its_scenario.specs.Items.{SayItems};
 ghost use Rattle.its_scenario.specs.Saying.{SaysTraffic};
-ghost use Rattle.its_scenario.specs.Tables.{table_values};
-ghost use Rattle.its_scenario.specs.declared.key.Key.TheVariants as keys;
 ghost use Rattle.toml.specs.View.{items_view, table_view};
 
-use crate::fault::{KeyFault, ScenarioFault};
-use crate::fields::Fields;
-use crate::key::{Key, TRAFFIC_KEYS};
-use crate::keys::{number, octet, whole};
+use crate::fault::ScenarioFault;
+use crate::table_keys::TRAFFIC_KEYS;
 use crate::traffic::Traffic;
 use crate::unknown::{Owner, refuse_unknown};
 use its_gnvalue::TrafficClass;
+use its_keys::{Fields, Key, KeyFault, number, octet, whole};
 use std::alloc::Global;
 use toml::{Table, Value};
 
@@ -41,7 +40,7 @@ fn read_known_traffic(alloc: Global, table: &Table, number: usize) -> Result<Tra
     ensures says { IfOk result (SaysTraffic (table_values (table_view table.now))) }
     ensures refused { IfErr result IsPastToml }
 {
-    let traffic = read_traffic(table).map_err(|fault| fault.of_every(number))?;
+    let traffic = read_traffic(table).map_err(|fault| ScenarioFault::of_every(fault, number))?;
     refuse_unknown(alloc, table, &TRAFFIC_KEYS, Owner::Every(number))?;
     Ok(traffic)
 }

@@ -4,8 +4,8 @@ ghost use Rattle.its_scenario.specs.Documents.{IsPastToml};
 ghost use Rattle.std.specs.Prelude.{◌≡◌, IfErr};
 
 use crate::fault::ScenarioFault;
-use crate::key::{EVENT_KEYS, Key, SCENARIO_KEYS, STATION_KEYS};
-use crate::meant::nearest;
+use crate::table_keys::{EVENT_KEYS, SCENARIO_KEYS, STATION_KEYS};
+use its_keys::{Key, nearest};
 use std::alloc::{AllocError, Global};
 use std::fmt;
 use toml::{Table, Value};

@@ -1,6 +1,6 @@
 //! What an event does, in a word.
 
-use its_scenario::Verb;
+use its_scenario::verb_of;
 use its_world::What;
 use std::fmt;
 
@@ -11,7 +11,7 @@ pub(crate) struct Action<'a>(pub(crate) &'a What);
 
 impl fmt::Display for Action<'_> {
     fn fmt<W: fmt::Write>(&self, f: &mut fmt::Formatter<W>) -> fmt::Result {
-        let verb = Verb::of(self.0);
+        let verb = verb_of(self.0);
         match self.0 {
             What::Deliver(frame) => write!(f, "{verb} {frame}"),
             _ => write!(f, "{verb}"),

@@ -6,7 +6,7 @@ ghost use Rattle.its_simulation.specs.Records.{happening_in, IsRecordOf};
 
 use crate::entry::{EntryKeys, entry_keys};
 use its_json::Octets;
-use its_scenario::Verb;
+use its_scenario::verb_of;
 use its_world::{Entry, Event, What, World};
 use serde::Serialize;
 
@@ -85,7 +85,7 @@ impl<'a> EventLine<'a> {
             event: done.number,
             moment: done.moment,
             station: done.station,
-            word: Verb::of(done.what).word(),
+            word: verb_of(done.what).word(),
             frame,
             lat,
             lon,

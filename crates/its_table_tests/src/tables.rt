@@ -41,7 +41,7 @@ fn store_of<S: LocationStore>(alloc: Global, capacity: u16, remember: u8) -> Opt
 
 /// What is looked up.
 #[derive(Clone, Copy)]
-struct Asked {
+struct Request {
     address: GnAddress,
     number: u16,
     after: Option<GnAddress>,
@@ -75,14 +75,14 @@ fn has_room<S: LocationStore>(store: &S, now: u64, address: GnAddress) -> bool
     store.has_room(now, address)
 }
 
-fn look_up_all<S: LocationStore>(store: &S, now: u64, asked: &Asked) -> LookUps
+fn look_up_all<S: LocationStore>(store: &S, now: u64, request: &Request) -> LookUps
     requires { now ≤ 2 ^ 62 }
 {
     LookUps {
-        known: lookup(store, now, asked.address),
-        is_remembered: remembers(store, now, asked.address, asked.number),
-        has_room: has_room(store, now, asked.address),
-        next: store.next_neighbour(now, asked.after),
-        by_mid: store.by_mid(now, asked.address.mid()),
+        known: lookup(store, now, request.address),
+        is_remembered: remembers(store, now, request.address, request.number),
+        has_room: has_room(store, now, request.address),
+        next: store.next_neighbour(now, request.after),
+        by_mid: store.by_mid(now, request.address.mid()),
     }
 }

@@ -4,7 +4,7 @@ ghost use Rattle.std.specs.Prelude.{◌≤◌};
 
 use super::rows::Row::{Packet, Unknown};
 use super::rows::{ACCEPTED, DUPLICATE, FULL, Row, first_other};
-use super::{Asked, FIRST, LookUps, accept, heard_at, look_up_all, store_of};
+use super::{FIRST, LookUps, Request, accept, heard_at, look_up_all, store_of};
 use its_duplicates::Recent;
 use its_gnvalue::GnAddress;
 use its_loctable::{Heard, LocationStore, OrderedTable, SortedTable, StoreRefused, Verdict};
@@ -28,8 +28,8 @@ const A_SOURCE: usize = 48 + 8 + 2 + 2;
 const AN_ALLOCATION: usize = 32;
 
 /// What is looked up of a source.
-fn asked(address: u64) -> Option<Asked> {
-    Some(Asked {
+fn request_of(address: u64) -> Option<Request> {
+    Some(Request {
         address: GnAddress::from_u64(address).ok()?,
         number: 9,
         after: None,
@@ -38,7 +38,7 @@ fn asked(address: u64) -> Option<Asked> {
 
 /// What is known at 2000 of the first source and of the other.
 fn known<S: LocationStore>(store: &S) -> Option<[LookUps; 2]> {
-    let (first, other) = (asked(FIRST)?, asked(OTHER)?);
+    let (first, other) = (request_of(FIRST)?, request_of(OTHER)?);
     Some([
         look_up_all(store, 2000, &first),
         look_up_all(store, 2000, &other),
@@ -178,10 +178,10 @@ static ANSWERS: [Row; 7] = [
 
 /// Whether two tables know the same of a source at 35000.
 fn know_the_same(one: &SortedTable, other: &OrderedTable, address: u64) -> bool {
-    let Some(asked) = asked(address) else {
+    let Some(request) = request_of(address) else {
         return false;
     };
-    look_up_all(one, 35_000, &asked) == look_up_all(other, 35_000, &asked)
+    look_up_all(one, 35_000, &request) == look_up_all(other, 35_000, &request)
 }
 
 /// With no memory left a table refreshes, refuses, sweeps and inserts as one with ample memory.

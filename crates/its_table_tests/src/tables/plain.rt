@@ -3,7 +3,7 @@
 ghost use Rattle.std.specs.Prelude.{◌^◌, ◌<◌, ◌≤◌};
 
 use super::rows::{ACCEPTED, Answer, DUPLICATE, FULL};
-use super::{Asked, LookUps, accept, heard_at, look_up_all, store_of};
+use super::{LookUps, Request, accept, heard_at, look_up_all, store_of};
 use its_gnvalue::{GnAddress, newer};
 use its_loctable::{Heard, Known, LocationStore, OrderedTable, SortedTable};
 use std::alloc::Global;
@@ -131,24 +131,24 @@ impl Plain {
         Some(ACCEPTED)
     }
 
-    fn look_up_all(&self, now: u64, asked: &Asked) -> LookUps {
-        let known = self.lookup(now, asked.address);
+    fn look_up_all(&self, now: u64, request: &Request) -> LookUps {
+        let known = self.lookup(now, request.address);
         let (mut next, mut by_mid) = (None, None);
         for station in &self.stations(now) {
             let Some(station) = station else {
                 continue;
             };
             let address = station.vector.address();
-            if next.is_none() && station.neighbour && is_above(asked.after, address) {
+            if next.is_none() && station.neighbour && is_above(request.after, address) {
                 next = Some(station.vector);
             }
-            if by_mid.is_none() && address.mid() == asked.address.mid() {
+            if by_mid.is_none() && address.mid() == request.address.mid() {
                 by_mid = Some(*station);
             }
         }
         LookUps {
             known,
-            is_remembered: self.remembers(now, asked.address, asked.number),
+            is_remembered: self.remembers(now, request.address, request.number),
             has_room: known.is_some() || !self.is_full(now),
             next,
             by_mid,
@@ -187,7 +187,7 @@ impl Draws {
 #[derive(Clone, Copy)]
 struct Drawn {
     heard: Heard,
-    asked: Asked,
+    request: Request,
 }
 
 fn draw(draws: &mut Draws) -> Option<Drawn> {
@@ -200,7 +200,7 @@ fn draw(draws: &mut Draws) -> Option<Drawn> {
         Some(number)
     };
     let heard = heard_at(source, timestamp, numbered)?;
-    let asked = Asked {
+    let request = Request {
         address: GnAddress::from_u64(SOURCES[draws.below(9) as usize]).ok()?,
         number,
         after: if draws.below(4) == 0 {
@@ -209,7 +209,7 @@ fn draw(draws: &mut Draws) -> Option<Drawn> {
             Some(heard.address())
         },
     };
-    Some(Drawn { heard, asked })
+    Some(Drawn { heard, request })
 }
 
 /// Whether a packet and then all look-ups are answered as by the plain list.
@@ -218,7 +218,7 @@ fn is_same<S: LocationStore>(store: &mut S, plain: &mut Plain, drawn: &Drawn, no
 {
     let answer = accept(store, now, &drawn.heard);
     plain.accept(now, &drawn.heard) == Some(answer)
-        && look_up_all(store, now, &drawn.asked) == plain.look_up_all(now, &drawn.asked)
+        && look_up_all(store, now, &drawn.request) == plain.look_up_all(now, &drawn.request)
 }
 
 /// A run of calls, the table being cleared now and then. The first call, from 0, that isn't

@@ -1,7 +1,7 @@
 //! Packets and look-ups of a table as rows, each with what becomes of it. A test that is such rows
 //! holds no table, so its own proof is short.
 
-use super::{Asked, FIRST, LookUps, accept, has_room, heard_at, look_up_all, lookup, remembers};
+use super::{FIRST, LookUps, Request, accept, has_room, heard_at, look_up_all, lookup, remembers};
 use crate::tables::store_of;
 use its_gnvalue::GnAddress;
 use its_loctable::{Heard, LocationStore, StoreRefused, Verdict};
@@ -153,7 +153,7 @@ fn is_nobody<S: LocationStore>(store: &S, now: u32, source: u16) -> bool {
     let Some(address) = address_of(source) else {
         return false;
     };
-    let asked = Asked {
+    let request = Request {
         address,
         number: 0,
         after: None,
@@ -165,7 +165,7 @@ fn is_nobody<S: LocationStore>(store: &S, now: u32, source: u16) -> bool {
         next: None,
         by_mid: None,
     };
-    look_up_all(store, u64::from(now), &asked) == nobody
+    look_up_all(store, u64::from(now), &request) == nobody
 }
 
 fn holds<S: LocationStore>(store: &mut S, row: Row) -> bool {

@@ -45,20 +45,20 @@ fn frames_at_the_end(alloc: Global) -> Result<Frames, Fail> {
 
 /// A world that may have stopped short of the last event, and what it told until then.
 #[derive(Drop)]
-struct Begun {
+struct PartialRun {
     world: World,
     run: Run,
 }
 
 /// A world that was made with ample memory, and run with so many octets, which are free again
 /// afterwards.
-fn begin(
+fn run_short(
     rt: &impl Abort,
     alloc: Global,
     configs: &[Config],
     events: &[Event],
     octets: usize,
-) -> Result<Begun, Fail>
+) -> Result<PartialRun, Fail>
     requires configs { All IsConfig configs.now }
     requires few { length configs.now ≤ 65535 }
     requires events { All (λ event. IsInRange event.what) events.now }
@@ -67,17 +67,17 @@ fn begin(
     let mut shortage = Shortage::new(alloc)?;
     assert!(rt; shortage.leave(octets), "{octets}");
     let run = run(&mut world, events);
-    Ok(Begun { world, run })
+    Ok(PartialRun { world, run })
 }
 
 /// A world that was made and run with so many octets, or none where they were too few to make it.
-fn make_and_begin(
+fn make_and_run_short(
     rt: &impl Abort,
     alloc: Global,
     configs: &[Config],
     events: &[Event],
     octets: usize,
-) -> Result<Option<Begun>, Fail>
+) -> Result<Option<PartialRun>, Fail>
     requires configs { All IsConfig configs.now }
     requires few { length configs.now ≤ 65535 }
     requires events { All (λ event. IsInRange event.what) events.now }
@@ -87,7 +87,7 @@ fn make_and_begin(
     match new_world(alloc, configs) {
         Ok(mut world) => {
             let run = run(&mut world, events);
-            Ok(Some(Begun { world, run }))
+            Ok(Some(PartialRun { world, run }))
         }
         Err(fault) => {
             assert_eq!(rt; fault, WorldFault::NoMemory);
@@ -122,18 +122,18 @@ fn has_frames(rt: &impl Abort, world: &World, frames: &Frames) {
 /// With ample memory a world goes on where it stopped, and its log and frames are the whole ones.
 fn goes_on(
     rt: &impl Abort,
-    begun: &mut Begun,
+    partial: &mut PartialRun,
     events: &[Event],
     frames: &Frames,
 ) -> Result<(), Fail>
     requires { All (λ event. IsInRange event.what) events.now }
 {
-    let done = begun.run.done;
-    assert_eq!(rt; begun.run.out_of_memory, done < FATES.len());
-    has_fates(rt, &begun.run, 0);
+    let done = partial.run.done;
+    assert_eq!(rt; partial.run.out_of_memory, done < FATES.len());
+    has_fates(rt, &partial.run, 0);
     let rest = events.get(done..).ok_or("too many are done")?;
-    does_the_rest(rt, &mut begun.world, rest, done);
-    has_frames(rt, &begun.world, frames);
+    does_the_rest(rt, &mut partial.world, rest, done);
+    has_frames(rt, &partial.world, frames);
     Ok(())
 }
 
@@ -148,9 +148,9 @@ fn done_with(
     requires { All (λ event. IsInRange event.what) events.now }
 {
     let configs = [config(FIRST, 0, 0)?, config(SECOND, 449, 0)?];
-    let mut begun = begin(rt, alloc, &configs, events, octets)?;
-    let done = begun.run.done;
-    goes_on(rt, &mut begun, events, frames)?;
+    let mut partial = run_short(rt, alloc, &configs, events, octets)?;
+    let done = partial.run.done;
+    goes_on(rt, &mut partial, events, frames)?;
     Ok(done)
 }
 
@@ -165,11 +165,11 @@ fn made_and_done_with(
     requires { All (λ event. IsInRange event.what) events.now }
 {
     let configs = [small(FIRST, 0)?, small(SECOND, 449)?];
-    let Some(mut begun) = make_and_begin(rt, alloc, &configs, events, octets)? else {
+    let Some(mut partial) = make_and_run_short(rt, alloc, &configs, events, octets)? else {
         return Ok(None);
     };
-    let done = begun.run.done;
-    goes_on(rt, &mut begun, events, frames)?;
+    let done = partial.run.done;
+    goes_on(rt, &mut partial, events, frames)?;
     Ok(Some(done))
 }
 

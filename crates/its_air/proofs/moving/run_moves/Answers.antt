@@ -5,7 +5,7 @@ use Rattle.its_scenario.specs.Airs.{end_of}
 use Rattle.its_world.specs.Events.{config_of}
 use Rattle.its_air.specs.AirTimed.{rules_of}
 use Rattle.its_air.specs.Moving.{IsMovedRun}
-use Rattle.its_air.specs.PlaceIndexes.{AreStandingsOf}
+use Rattle.its_places.specs.PlaceIndexes.{AreStandingsOf}
 use Rattle.its_air_model.specs.Timetable.{Rules}
 use Rattle.its_air.specs.Traffics.{all_traffic}
 use Rattle.its_air.specs.UnderRows.{IsUnderSome, end_in}

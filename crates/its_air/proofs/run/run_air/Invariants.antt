@@ -9,7 +9,7 @@ use Rattle.its_air.specs.AirTimed.{rules_of}
 use Rattle.its_air.specs.Keeps.{IsTimed}
 use Rattle.its_air.specs.Queues.{IsFiledInRange, filed_of}
 use Rattle.its_air.specs.Runs.{IsUnderWay}
-use Rattle.its_air.specs.PlaceIndexes.{AreStandingsOf}
+use Rattle.its_places.specs.PlaceIndexes.{AreStandingsOf}
 use Rattle.its_air_model.specs.Timetable.{air_opening, air_run}
 use Rattle.its_air.specs.Traffics.{all_traffic}
 use Rattle.its_air.proofs.run.run_air.Given as goal

@@ -4,12 +4,12 @@ use Rattle.its_air.proofs.run.schedule_delivery.Goals as goal
 
 pub returns-clause-sent : goal.returns-clause-sent
 returns-clause-sent c = λ t h.
-    keeps_sent c.args.queue.now c.push.new.self c.args.draws.now c.is_lost.new.self t c.args.loss
-    c.args.given.frame c.args.given.heard_at c.args.station
+    keeps_sent c.args.queue.now c.push_delivery.new.self c.args.draws.now c.is_lost.new.self t
+    c.args.loss c.args.given.frame c.args.given.heard_at c.args.station
     (record {
-      due = c.push.ensures.due;
-      taken = c.push.ensures.taken;
-      until = c.push.ensures.until;
+      due = c.push_delivery.ensures.due;
+      taken = c.push_delivery.ensures.taken;
+      until = c.push_delivery.ensures.until;
     })
-    c.in_ok-push.ensures.put c.in_ok-push.ensures.count c.is_lost.ensures.rest
+    c.in_ok-push_delivery.ensures.put c.in_ok-push_delivery.ensures.count c.is_lost.ensures.rest
     (λ lt. true≢false (sym (c.is_lost.ensures.lost.1 lt) ∙ c.if-is_lost.false)) h

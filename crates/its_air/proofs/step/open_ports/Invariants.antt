@@ -1,7 +1,7 @@
 use Rattle.std.specs.Prelude.{◌≡◌, length, map, take}
 use Rattle.its_air.specs.Moving.{DoesThere}
 use Rattle.its_air.specs.Outside.{opening_at}
-use Rattle.its_air.specs.PlaceIndexes.{AreStandingsOf}
+use Rattle.its_places.specs.PlaceIndexes.{AreStandingsOf}
 use Rattle.its_air.proofs.step.open_ports.Given as goal
 
 -- stations stand where the world has them, as many as before, and those so far were opened

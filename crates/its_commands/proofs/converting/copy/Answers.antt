@@ -1,6 +1,6 @@
 use Rattle.std.proofs.Common.{rules, ◌≡◌, ◌≤◌, ◌^◌, ◌-◌, ◌∙◌, ap, sym, subst, inl, inr, Some, arith}
 use Rattle.std.specs.Prelude.{Bool}
-use Rattle.its_pcap.specs.Sources.{Gives, format_of_source, layer_of_source}
+use Rattle.its_pcap.specs.Sources.{Gives, layer_of_source}
 use Rattle.its_commands.specs.Conversions.{IsCopied, has_links}
 use Rattle.its_commands.proofs.Copies.{copied, copied_end, copying_more, records_grow, chosen_grow}
 use Rattle.its_commands.proofs.converting.copy.Goals as goal

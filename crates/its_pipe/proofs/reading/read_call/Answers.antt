@@ -1,8 +1,8 @@
 use Rattle.std.proofs.Common.{rules, codes}
 use Rattle.serde_json.specs.View.{view}
+use Rattle.its_keys.specs.declared.verb.Verb.TheVariants as verbs
 use Rattle.its_pipe.specs.Requests.{IsWord}
 use Rattle.its_pipe.specs.declared.word.LineWord.TheVariants as line_words
-use Rattle.its_scenario.specs.declared.verb.Verb.TheVariants as verbs
 use Rattle.its_pipe.proofs.Own.{bad_own_of, not_word}
 use Rattle.its_pipe.proofs.reading.read_call.Goals as goal
 

@@ -1,10 +1,10 @@
 use Rattle.std.proofs.Common.{◌+◌, ◌<◌, ℕ, List, rules, arith, All, length, take, sym, subst}
 use Rattle.std.proofs.lemmas.List.Elements.{All-push}
+use Rattle.its_keys.specs.Tables.{table_values}
 use Rattle.its_scenario.proofs.Said.{say_more}
 use Rattle.its_scenario.specs.Events.{FitsFileEvent}
 use Rattle.its_scenario.specs.Saying.{SaysAddressed}
 use Rattle.its_scenario.specs.Items.{SayItems}
-use Rattle.its_scenario.specs.Tables.{table_values}
 use Rattle.its_scenario.specs.declared.event.AddressedEvent.{AddressedEvent}
 use Rattle.its_scenario.proofs.document.read_all_addressed.Goals as goal
 use Rattle.toml.specs.Data.{Members}
@@ -18,12 +18,13 @@ Fits a = FitsFileEvent a.filed
 pub loop-number-preserved : goal.loop-number-preserved
 loop-number-preserved c =
     let items : List Value = c.args.items.now in
-    let i : ℕ = c.loop-number.number-counter in
+    let i : ℕ = c.loop-number.number in
     let members : Members = table_view c.in-Some.table.now in
     let lt : i < length items = omega arith in
-    let event : AddressedEvent = c.in_ok-map_err.field-0 in
-    let says : SaysAddressed (table_values members) event = search rules in
-    let fits : FitsFileEvent event.filed = search rules in
+    let event : AddressedEvent = c.in_ok-read_numbered_addressed.field-0 in
+    let says : SaysAddressed (table_values members) event =
+    c.in_ok-read_numbered_addressed.ensures.says in
+    let fits : FitsFileEvent event.filed = c.in_ok-read_numbered_addressed.ensures.ranges in
     record {
       count = search rules;
       says =

@@ -10,8 +10,8 @@ use Rattle.toml.specs.View.{items_view}
 abbrev pub invariant-loop-number : goal.invariant-loop-number
 invariant-loop-number l =
     record {
-      count : vec_len l.addressed ≡ l.number-counter;
+      count : vec_len l.addressed ≡ l.number;
       says :
-          SayItems SaysAddressed (items_view (take l.number-counter l.items)) l.addressed.items;
+          SayItems SaysAddressed (items_view (take l.number l.items)) l.addressed.items;
       ranges : All (λ (a : AddressedEvent). FitsFileEvent a.filed) l.addressed.items;
     }

@@ -1,10 +1,10 @@
 use Rattle.std.proofs.Common.{◌+◌, ◌<◌, ℕ, List, rules, arith, All, length, take, sym, subst}
 use Rattle.std.proofs.lemmas.List.Elements.{All-push}
+use Rattle.its_keys.specs.Tables.{table_values}
 use Rattle.its_scenario.proofs.Said.{say_more}
 use Rattle.its_scenario.specs.Events.{FitsEvent}
 use Rattle.its_scenario.specs.Saying.{SaysEvent}
 use Rattle.its_scenario.specs.Items.{SayItems}
-use Rattle.its_scenario.specs.Tables.{table_values}
 use Rattle.its_scenario.proofs.document.read_events.Goals as goal
 use Rattle.its_world.specs.declared.event.Event.{Event}
 use Rattle.toml.specs.Data.{Members}
@@ -14,12 +14,12 @@ use Rattle.toml.specs.declared.value.Value.{Value}
 pub loop-number-preserved : goal.loop-number-preserved
 loop-number-preserved c =
     let items : List Value = c.args.items.now in
-    let i : ℕ = c.loop-number.number-counter in
+    let i : ℕ = c.loop-number.number in
     let members : Members = table_view c.in-Some.table.now in
     let lt : i < length items = omega arith in
-    let event : Event = c.in_ok-map_err.field-0 in
-    let says : SaysEvent (table_values members) event = search rules in
-    let fits : FitsEvent event = search rules in
+    let event : Event = c.in_ok-read_numbered_event.field-0 in
+    let says : SaysEvent (table_values members) event = c.in_ok-read_numbered_event.ensures.says in
+    let fits : FitsEvent event = c.in_ok-read_numbered_event.ensures.ranges in
     record {
       count = search rules;
       says =

@@ -9,7 +9,7 @@ use Rattle.toml.specs.View.{items_view}
 abbrev pub invariant-loop-number : goal.invariant-loop-number
 invariant-loop-number l =
     record {
-      count : vec_len l.events ≡ l.number-counter;
-      says : SayItems SaysEvent (items_view (take l.number-counter l.items)) l.events.items;
+      count : vec_len l.events ≡ l.number;
+      says : SayItems SaysEvent (items_view (take l.number l.items)) l.events.items;
       ranges : All FitsEvent l.events.items;
     }

@@ -1,11 +1,11 @@
 use Rattle.std.proofs.Common.{◌+◌, ◌<◌, ℕ, List, rules, arith, All, length, take, sym, subst}
 use Rattle.std.proofs.lemmas.List.Elements.{All-push}
+use Rattle.its_keys.specs.Fields.{FieldValues}
+use Rattle.its_keys.specs.Tables.{table_values}
 use Rattle.its_scenario.proofs.Said.{say_more}
-use Rattle.its_scenario.specs.Reading.{FieldValues}
 use Rattle.its_scenario.specs.Saying.{SaysStation}
 use Rattle.its_scenario.specs.Items.{SayItems}
 use Rattle.its_scenario.specs.Scenarios.{SaysPresence}
-use Rattle.its_scenario.specs.Tables.{table_values}
 use Rattle.its_scenario.proofs.document.read_stations.Goals as goal
 use Rattle.its_world.specs.Events.{IsConfig}
 use Rattle.its_world.specs.declared.config.Config.{Config}
@@ -16,14 +16,14 @@ use Rattle.toml.specs.declared.value.Value.{Value}
 pub loop-number-preserved : goal.loop-number-preserved
 loop-number-preserved c =
     let items : List Value = c.args.items.now in
-    let i : ℕ = c.loop-number.number-counter in
+    let i : ℕ = c.loop-number.number in
     let item : Value = c.index-items-number.result in
     let members : Members = table_view c.in-Some.table.now in
     let values : FieldValues = table_values members in
     let lt : i < length items = omega arith in
-    let station : Config = c.in_ok-map_err.field-0 in
-    let says : SaysStation values station = search rules in
-    let ranges : IsConfig station = search rules in
+    let station : Config = c.in_ok-read_numbered_station.field-0 in
+    let says : SaysStation values station = c.in_ok-read_numbered_station.ensures.says in
+    let ranges : IsConfig station = c.in_ok-read_numbered_station.ensures.ranges in
     let more = take (i + 1) items in
     record {
       count = search rules;

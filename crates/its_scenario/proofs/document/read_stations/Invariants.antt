@@ -11,11 +11,11 @@ use Rattle.toml.specs.View.{items_view}
 abbrev pub invariant-loop-number : goal.invariant-loop-number
 invariant-loop-number l =
     record {
-      count : vec_len l.stations ≡ l.number-counter;
-      present : vec_len l.present ≡ l.number-counter;
-      says : SayItems SaysStation (items_view (take l.number-counter l.items)) l.stations.items;
+      count : vec_len l.stations ≡ l.number;
+      present : vec_len l.present ≡ l.number;
+      says : SayItems SaysStation (items_view (take l.number l.items)) l.stations.items;
       presence :
-          SayItems (SaysPresence l.has_air) (items_view (take l.number-counter l.items))
+          SayItems (SaysPresence l.has_air) (items_view (take l.number l.items))
           l.present.items;
       ranges : All IsConfig l.stations.items;
     }

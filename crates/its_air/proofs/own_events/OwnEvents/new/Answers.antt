@@ -1,7 +1,7 @@
-use Rattle.std.proofs.Common.{List, ◌++◌, sym, subst}
+use Rattle.std.proofs.Common.{ap, sym, subst}
 use Rattle.its_air.specs.Counted.{AreCounted}
 use Rattle.its_air.specs.Line.{StandInLine}
-use Rattle.its_air.specs.declared.waiting.Scheduled.{Scheduled}
+use Rattle.its_air.specs.Queues.{in_line}
 use Rattle.its_air.proofs.own_events.OwnEvents.new.Goals as goal
 
 pub invariant_of-result : goal.invariant_of-result
@@ -10,8 +10,6 @@ invariant_of-result c =
     let counts = c.new-3.result.each.items in
     record {
       on_heap = c.new.ensures.heap_order;
-      in_line = subst StandInLine (sym c.new-2.ensures.items) tt;
-      counted = subst (λ (h : List Scheduled). AreCounted kinds counts (h ++ c.new-2.result.items))
-          (sym c.new.ensures.items)
-          (subst (AreCounted kinds counts) (sym c.new-2.ensures.items) c.new-3.ensures);
+      in_line = subst StandInLine (sym (ap in_line c.new-2.ensures.items)) tt;
+      counted = subst (AreCounted kinds counts) (sym c.new.ensures.items) c.new-3.ensures;
     }

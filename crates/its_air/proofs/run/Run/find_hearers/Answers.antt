@@ -4,7 +4,7 @@ use Rattle.std.specs.Prelude.{slice_get}
 use Rattle.std.specs.List.{filter}
 use Rattle.its_gnvalue.specs.Values.{PositionVector}
 use Rattle.its_station.specs.State.{StationState}
-use Rattle.its_air.specs.Reach.{hearers}
+use Rattle.its_places.specs.Reach.{hearers}
 use Rattle.its_air_model.specs.Timetable.{hear_it, in_reach_of, is_present}
 use Rattle.its_air.proofs.Keeping.{hear_same, no_model, found_some, found_none}
 use Rattle.its_air.proofs.run.Run.find_hearers.Goals as goal

@@ -1,5 +1,5 @@
 use Rattle.std.proofs.Common.{◌≡◌, ◌∙◌, Some, sym, rules}
-use Rattle.its_air.proofs.Counts.{stand_still}
+use Rattle.its_places.proofs.Counts.{stand_still}
 use Rattle.its_air.proofs.run.Run.update_place.Goals as goal
 
 pub returns-else-not-stood_at-clause-standings : goal.returns-else-not-stood_at-clause-standings

@@ -1,0 +1,61 @@
+//! An argument that can't be taken, and the word that may have been meant.
+
+use its_commands::Field;
+use its_headers::{KINDS, Kind};
+use its_keys::nearest;
+use std::alloc::{AllocError, Global};
+use std::fmt;
+
+/// The keys of a record, of which `Field` knows which they are.
+const FIELDS: &[&str] = &[
+    "moment", "from", "to", "kind", "address", "tst", "lat", "lon", "pai", "speed", "heading",
+    "lt", "tc", "mobile", "hops", "max_hops", "number", "shape", "alat", "alon", "a", "b", "angle",
+    "port", "info", "payload", "refused",
+];
+
+/// An argument that can't be taken.
+#[derive(Clone, Copy, Debug, PartialEq, Eq)]
+pub enum BadArgument<'a> {
+    /// An option, its value, and what that has to be and isn't.
+    Value(&'a str, &'a str, &'a str),
+    /// Two options can't be given together.
+    Together(&'a str, &'a str),
+}
+
+impl BadArgument<'_> {
+    /// The word that may be meant by the first of a list that is none: the first of those that are
+    /// the fewest changes of a letter away, at most two.
+    pub fn tip(&self, alloc: Global) -> Result<Option<&'static str>, AllocError> {
+        match self {
+            BadArgument::Value("kind", list, _) => {
+                match list.split(',').find(|word| Kind::named(word).is_none()) {
+                    Some(word) => nearest(alloc, word, &KINDS.map(Kind::word)),
+                    None => Ok(None),
+                }
+            }
+            BadArgument::Value("fields", list, _) => {
+                match list.split(',').find(|word| Field::named(word).is_none()) {
+                    Some(word) => nearest(alloc, word, FIELDS),
+                    None => Ok(None),
+                }
+            }
+            _ => Ok(None),
+        }
+    }
+}
+
+impl fmt::Display for BadArgument<'_> {
+    fn fmt<W: fmt::Write>(&self, f: &mut fmt::Formatter<W>) -> fmt::Result {
+        match self {
+            BadArgument::Value(option, value, wanted) => {
+                write!(f, "invalid value '{value}' for '--{option}': not {wanted}")
+            }
+            BadArgument::Together(option, other) => {
+                write!(
+                    f,
+                    "the argument '--{option}' cannot be used with '--{other}'"
+                )
+            }
+        }
+    }
+}

@@ -1,0 +1,2 @@
+pub mod FullTables
+pub mod Results

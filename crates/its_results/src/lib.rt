@@ -1,0 +1,20 @@
+//! What is found out of a run beside its lines: how far each packet for an area came at the
+//! stations that it is for, receptions that met a full location table, and the files of numbers,
+//! with a row for each packet for an area, each station or each second.
+#![tactic(auto)]
+
+mod audience;
+mod busy;
+mod full_tables;
+mod load_rows;
+mod open_send;
+mod quantile;
+mod results;
+mod rows;
+mod send_rows;
+mod station_rows;
+mod waiting_frames;
+
+pub use audience::{Audience, Audiences};
+pub use full_tables::FullTables;
+pub use results::{ResultFiles, ResultWriters, Results};

@@ -1,0 +1,252 @@
+//! The files of numbers of a run: its sends, its stations, its load.
+
+ghost use Rattle.std.specs.Prelude.{◌≡◌, ◌↔◌, None, IfOk, IsOk, IsTrue};
+ghost use Rattle.its_reporting.specs.Statuses.{IsCommandStatus};
+ghost use Rattle.its_results.specs.Results.{IsNoFile};
+
+use crate::load_rows::LoadRows;
+use crate::rows::Rows;
+use crate::send_rows::SendRows;
+use crate::station_rows::StationRows;
+use its_reporting::{Fault, Status};
+use its_scenario::Scenario;
+use its_simulation::{EventRecord, Note, SimulationFault};
+use its_world::World;
+use std::alloc::Global;
+use std::io::Write;
+
+/// The names of the files of numbers that a run is to write, where it is.
+#[derive(Clone, Copy, Debug, Default, PartialEq, Eq)]
+pub struct ResultFiles<'a> {
+    /// Of the packets for an area, a row each.
+    pub sends: Option<&'a str>,
+    /// Of the stations, a row each.
+    pub stations: Option<&'a str>,
+    /// Of the seconds in which a frame was given, a row each.
+    pub load: Option<&'a str>,
+}
+
+impl ResultFiles<'_> {
+    /// Whether no file is to be written.
+    pub fn is_empty(&self) -> bool
+        ensures { IsTrue result ↔ IsNoFile self.now }
+    {
+        self.sends.is_none() && self.stations.is_none() && self.load.is_none()
+    }
+}
+
+/// A file of numbers that is being written.
+#[derive(Drop)]
+struct ResultFile<'a, R: Drop, W: Write + Drop> {
+    name: &'a str,
+    rows: R,
+    writer: W,
+    /// Whether the file could not be written.
+    failed: bool,
+}
+
+impl<'a, R: Rows + Drop, W: Write + Drop> ResultFile<'a, R, W> {
+    /// Begins the file of this name with the names of its columns.
+    fn begin(name: &'a str, rows: R, writer: W) -> Result<ResultFile<'a, R, W>, Fault<'a>> {
+        let mut writer = writer;
+        match rows.begin(&mut writer) {
+            Ok(()) => Ok(ResultFile {
+                name,
+                rows,
+                writer,
+                failed: false,
+            }),
+            Err(_) => Err(Fault::CannotWrite(name)),
+        }
+    }
+
+    /// Takes an event that was done.
+    fn take(&mut self, world: &World, done: &EventRecord<'_>) -> Result<(), SimulationFault> {
+        let taken = self.rows.take(world, done, &mut self.writer);
+        self.failed |= is_failure(&taken);
+        taken
+    }
+
+    /// Takes a note of the run.
+    fn take_note(
+        &mut self,
+        world: &World,
+        moment: u64,
+        note: &Note<'_>,
+    ) -> Result<(), SimulationFault> {
+        let taken = self.rows.take_note(world, moment, note, &mut self.writer);
+        self.failed |= is_failure(&taken);
+        taken
+    }
+
+    /// Ends the file after a run that ended so. `CannotWrite` where it failed.
+    fn end(self, ran: Result<Status, Fault<'a>>) -> Result<Status, Fault<'a>>
+        requires { IfOk ran IsCommandStatus }
+        ensures { IfOk result IsCommandStatus }
+    {
+        let ResultFile {
+            name,
+            mut rows,
+            mut writer,
+            failed,
+        } = self;
+        let ended = rows.end(&mut writer);
+        let flushed = writer.flush();
+        if failed {
+            return Err(Fault::CannotWrite(name));
+        }
+        let status = ran?;
+        match (ended, flushed) {
+            (Ok(()), Ok(())) => Ok(status),
+            (Err(SimulationFault::OutOfMemory(error)), _) => Err(Fault::OutOfMemory(error)),
+            _ => Err(Fault::CannotWrite(name)),
+        }
+    }
+}
+
+/// Begins the file of this name, where there is one.
+fn begin_file<'a, R: Rows + Drop, W: Write + Drop>(
+    name: Option<&'a str>,
+    rows: R,
+    writer: Option<W>,
+) -> Result<Option<ResultFile<'a, R, W>>, Fault<'a>> {
+    match (name, writer) {
+        (Some(name), Some(writer)) => Ok(Some(ResultFile::begin(name, rows, writer)?)),
+        _ => Ok(None),
+    }
+}
+
+/// Whether a write failed.
+fn is_failure(taken: &Result<(), SimulationFault>) -> bool {
+    matches!(taken, Err(SimulationFault::Output(_)))
+}
+
+/// What the files of numbers are written to, where they are. A file is written that has both a name
+/// and a writer.
+#[derive(Drop)]
+pub struct ResultWriters<W: Drop> {
+    /// The file of the packets for an area.
+    pub sends: Option<W>,
+    /// The file of the stations.
+    pub stations: Option<W>,
+    /// The file of the load.
+    pub load: Option<W>,
+}
+
+/// The files of numbers of a run that are being written.
+#[derive(Drop)]
+pub struct Results<'a, W: Write + Drop> {
+    sends: Option<ResultFile<'a, SendRows, W>>,
+    stations: Option<ResultFile<'a, StationRows, W>>,
+    load: Option<ResultFile<'a, LoadRows, W>>,
+}
+
+impl<'a, W: Write + Drop> Results<'a, W> {
+    /// No file is written.
+    pub fn none() -> Results<'a, W>
+        ensures sends { result.sends ≡ None }
+        ensures stations { result.stations ≡ None }
+        ensures load { result.load ≡ None }
+    {
+        Results {
+            sends: None,
+            stations: None,
+            load: None,
+        }
+    }
+
+    /// Begins the files of these names, of a run of the scenario that has not begun, each with the
+    /// names of its columns. `CannotWrite`, with its name, where one could not be written;
+    /// `OutOfMemory` where an allocation failed.
+    pub fn begin(
+        alloc: Global,
+        scenario: &Scenario,
+        names: ResultFiles<'a>,
+        writers: ResultWriters<W>,
+    ) -> Result<Results<'a, W>, Fault<'a>> {
+        let configs = scenario.stations.as_slice();
+        let present = scenario.present.as_slice();
+        let ResultWriters {
+            sends,
+            stations,
+            load,
+        } = writers;
+        Ok(Results {
+            sends: begin_file(names.sends, SendRows::new(alloc, scenario)?, sends)?,
+            stations: begin_file(
+                names.stations,
+                StationRows::new(alloc, configs, present)?,
+                stations,
+            )?,
+            load: begin_file(names.load, LoadRows::new(alloc, present)?, load)?,
+        })
+    }
+
+    /// Takes an event that was done, with the world as it stands after it, and writes the rows that
+    /// are complete then. `Output` where a file could not be written, which `end` tells then;
+    /// `OutOfMemory` where an allocation failed.
+    pub fn take(&mut self, world: &World, done: &EventRecord<'_>) -> Result<(), SimulationFault>
+        ensures none { self.old.sends ≡ None → self.old.stations ≡ None → self.old.load ≡ None →
+            IsOk result }
+    {
+        if let Some(file) = &mut self.sends {
+            file.take(world, done)?;
+        }
+        if let Some(file) = &mut self.stations {
+            file.take(world, done)?;
+        }
+        if let Some(file) = &mut self.load {
+            file.take(world, done)?;
+        }
+        Ok(())
+    }
+
+    /// Takes a note of the run, of this moment in milliseconds, with the world as it stands then.
+    /// Fails as `take` does.
+    pub fn take_note(
+        &mut self,
+        world: &World,
+        moment: u64,
+        note: &Note<'_>,
+    ) -> Result<(), SimulationFault>
+        ensures none { self.old.sends ≡ None → self.old.stations ≡ None → self.old.load ≡ None →
+            IsOk result }
+    {
+        if let Some(file) = &mut self.sends {
+            file.take_note(world, moment, note)?;
+        }
+        if let Some(file) = &mut self.stations {
+            file.take_note(world, moment, note)?;
+        }
+        if let Some(file) = &mut self.load {
+            file.take_note(world, moment, note)?;
+        }
+        Ok(())
+    }
+
+    /// Writes the rows that are left and ends the files, after a run that ended as `ran` says,
+    /// which is no status of refused arguments. The result is `ran`, but `CannotWrite`, with its
+    /// name, where a file could not be written, and `OutOfMemory` where an allocation failed.
+    pub fn end(self, ran: Result<Status, Fault<'a>>) -> Result<Status, Fault<'a>>
+        requires { IfOk ran IsCommandStatus }
+        ensures { IfOk result IsCommandStatus }
+    {
+        let Results {
+            sends,
+            stations,
+            load,
+        } = self;
+        let ran = match sends {
+            Some(file) => file.end(ran),
+            None => ran,
+        };
+        let ran = match stations {
+            Some(file) => file.end(ran),
+            None => ran,
+        };
+        match load {
+            Some(file) => file.end(ran),
+            None => ran,
+        }
+    }
+}

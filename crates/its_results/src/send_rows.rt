@@ -1,0 +1,195 @@
+//! The file of the packets for an area of a run: a row each, which is written once no delivery of
+//! its frames is still to come.
+
+use crate::open_send::OpenSend;
+use crate::rows::Rows;
+use crate::waiting_frames::WaitingFrames;
+use its_gnvalue::NoMemory;
+use its_headers::Kind;
+use its_scenario::Scenario;
+use its_simulation::{EventRecord, Note, SimulationFault};
+use its_station::OwnedGbcRequest;
+use its_tally::{CarriedPacket, Presence};
+use its_world::{What, World};
+use std::alloc::Global;
+use std::collections::VecDeque;
+use std::io;
+use std::io::Write;
+
+/// The names of the columns.
+const HEAD: &str = "send,moment,station,kind,port,inside,reached,delivered,frames,heard,lost,\
+    duplicates,full,hops,first,p50,p95,last";
+
+/// The packets for an area whose rows aren't written yet, in the order in which they were sent.
+#[derive(Drop)]
+pub(crate) struct SendRows {
+    alloc: Global,
+    presence: Presence,
+    frames: WaitingFrames,
+    /// How many rows were written.
+    written: usize,
+    open: VecDeque<OpenSend>,
+}
+
+impl SendRows {
+    /// Those of a run of a scenario that has not begun.
+    pub(crate) fn new(alloc: Global, scenario: &Scenario) -> Result<SendRows, NoMemory> {
+        Ok(SendRows {
+            alloc,
+            presence: Presence::at_start(alloc, scenario.present.as_slice())?,
+            frames: WaitingFrames::new(alloc, scenario)?,
+            written: 0,
+            open: VecDeque::new(alloc),
+        })
+    }
+
+    /// The packet at a place among all that were sent, if its row isn't written yet.
+    fn packet(&mut self, send: usize) -> Option<&mut OpenSend> {
+        self.open.get_mut(send.checked_sub(self.written)?)
+    }
+
+    /// Writes the rows of the first packets, up to one that still has deliveries to come.
+    fn write_finished<W: Write>(&mut self, out: &mut W) -> Result<(), SimulationFault> {
+        self.frames.forget_finished();
+        for _ in 0..self.open.len() {
+            match self.open.front() {
+                Some(first) if !first.is_open() => self.write_first(out)?,
+                _ => break,
+            }
+        }
+        Ok(())
+    }
+
+    /// Writes the row of the first packet.
+    fn write_first<W: Write>(&mut self, out: &mut W) -> Result<(), SimulationFault> {
+        let Some(first) = self.open.pop_front() else {
+            return Ok(());
+        };
+        self.written = self.written.saturating_add(1);
+        first.write(out)
+    }
+
+    /// Takes the event. Returns what the frame that it gave carries, if it gave one that carries a
+    /// packet for an area.
+    fn count(
+        &mut self,
+        world: &World,
+        done: &EventRecord<'_>,
+    ) -> Result<Option<CarriedPacket>, NoMemory> {
+        match done.what {
+            What::SendGeobroadcast(request) => { self.count_send(world, done, Kind::Gbc, request) }
+            What::SendGeoanycast(request) => self.count_send(world, done, Kind::Gac, request),
+            What::Deliver(frame) => self.count_delivery(world, done, *frame),
+            _ => Ok(None),
+        }
+    }
+
+    /// Takes the send of a packet for an area, where it was sent.
+    fn count_send(
+        &mut self,
+        world: &World,
+        done: &EventRecord<'_>,
+        kind: Kind,
+        request: &OwnedGbcRequest,
+    ) -> Result<Option<CarriedPacket>, NoMemory> {
+        if done.entry.frame().is_none() {
+            return Ok(None);
+        }
+        let send = self.written.saturating_add(self.open.len());
+        self.open.push_back(OpenSend::new(
+            self.alloc,
+            world,
+            &self.presence,
+            done,
+            kind,
+            request,
+        )?)?;
+        Ok(Some(CarriedPacket { send, depth: 0 }))
+    }
+
+    /// Takes the delivery of a frame.
+    fn count_delivery(
+        &mut self,
+        world: &World,
+        done: &EventRecord<'_>,
+        frame: usize,
+    ) -> Result<Option<CarriedPacket>, NoMemory> {
+        let Some(carried) = self.frames.deliver(frame) else {
+            return Ok(None);
+        };
+        let is_relayed = done.entry.frame().is_some();
+        let Some(packet) = self.packet(carried.send) else {
+            return Ok(None);
+        };
+        packet.wait_no_more();
+        packet.take(world, done, carried.depth)?;
+        if !is_relayed {
+            return Ok(None);
+        }
+        packet.relay();
+        Ok(Some(carried.relayed()))
+    }
+
+    /// Takes a frame that was given, with what it carries.
+    fn note_given(&mut self, frame: usize, carried: CarriedPacket) -> Result<(), NoMemory> {
+        let waiting = self.frames.note_given(frame, carried)?;
+        if let Some(packet) = self.packet(carried.send) {
+            packet.wait(waiting);
+        }
+        Ok(())
+    }
+}
+
+impl Rows for SendRows {
+    fn begin<W: Write>(&self, out: &mut W) -> io::Result<()> {
+        writeln!(out, "{HEAD}")
+    }
+
+    fn take<W: Write>(
+        &mut self,
+        world: &World,
+        done: &EventRecord<'_>,
+        out: &mut W,
+    ) -> Result<(), SimulationFault> {
+        self.write_finished(out)?;
+        let carried = self.count(world, done)?;
+        if let (Some(frame), Some(carried)) = (done.entry.frame(), carried) {
+            self.note_given(frame, carried)?;
+        }
+        Ok(())
+    }
+
+    fn take_note<W: Write>(
+        &mut self,
+        _world: &World,
+        _moment: u64,
+        note: &Note<'_>,
+        _out: &mut W,
+    ) -> Result<(), SimulationFault> {
+        self.presence.take(note)?;
+        let (frame, is_heard) = match *note {
+            Note::Heard { frame, .. } => (frame, true),
+            Note::Lost { frame, .. } => (frame, false),
+            _ => return Ok(()),
+        };
+        let Some(CarriedPacket { send, .. }) = self.frames.get(frame) else {
+            return Ok(());
+        };
+        if is_heard {
+            self.frames.wait(frame);
+        }
+        match self.packet(send) {
+            Some(packet) if is_heard => packet.wait(1),
+            Some(packet) => packet.lose(),
+            None => {}
+        }
+        Ok(())
+    }
+
+    fn end<W: Write>(&mut self, out: &mut W) -> Result<(), SimulationFault> {
+        for _ in 0..self.open.len() {
+            self.write_first(out)?;
+        }
+        Ok(())
+    }
+}
