@@ -1,8 +1,8 @@
 //! Arguments that are refused once they are read.
 
 use its_frame_text::Explanation;
+use its_keys::{Key, SettingFault, SettingReason, WrongOf};
 use its_reporting::{CommandFault, Fault, OutputFormat, Status};
-use its_scenario::{Key, SettingFault, SettingReason, WrongOf};
 use std::io::Write;
 use thiserror::Error;
 

@@ -6,13 +6,13 @@ use its_arguments::{
     selection_to_any_port, time_of,
 };
 use its_commands::{Conversion, Selection, Showing};
+use its_keys::{AirSettings, SettingFault};
 use its_mesh::MeshOptions;
 use its_page::Viewing;
 use its_pcap::Format;
 use its_replay::PortList;
 use its_reporting::{OutputFormat, Target, is_standard};
 use its_runs::{ResultFiles, RunFiles, RunOptions};
-use its_scenario::{AirSettings, SettingFault};
 use its_terminal::{Coloring, Console, Painter};
 
 /// What the program is to do.

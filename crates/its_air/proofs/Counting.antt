@@ -4,14 +4,14 @@ use Rattle.std.proofs.Common.{Bool, true, false, cond}
 use Rattle.std.specs.Prelude.{count_by, nat_le, ◌==◌}
 use Rattle.std.proofs.lemmas.List.Sums.{sum_by-cons, sum_by_push}
 use Rattle.its_air.specs.declared.waiting.Queue.{Queue}
-use Rattle.its_air.specs.declared.waiting.Scheduled.{Scheduled}
+use Rattle.its_queue.specs.declared.scheduled.Scheduled.{Scheduled}
 use Rattle.its_air.specs.Keeps.{Keeps}
-use Rattle.its_air.specs.Queues.{is_tick_at, is_send_at}
+use Rattle.its_queue.specs.Waiting.{is_tick_at, is_send_at}
 use Rattle.its_air_model.specs.Timetable.{Pending, Filed, Timetable, at, of_file, schedule}
 use Rattle.its_air_model.specs.Timetable.{schedule_all}
 use Rattle.its_air_model.specs.Timetable.{is_tick_of, is_send_of, none_waits}
 use Rattle.its_air_model.specs.Timetable.Filed.{Happens, Leaves}
-use Rattle.its_air.specs.Waits.{Waits, pending_of}
+use Rattle.its_queue.specs.Waits.{Waits, pending_of}
 
 abbrev bit : Bool → ℕ
 bit b = cond b 1 0

@@ -10,9 +10,9 @@ use Rattle.std.proofs.lemmas.List.Sorted.{All-permutation}
 use Rattle.std.specs.List.{filter}
 use Rattle.std.specs.List.Sorted.{ties, IsNonDecreasingBy, IsPermutation, IsStableByKey}
 use Rattle.std.specs.Ordering.{nat_cmp, is_lt}
-use Rattle.its_scenario.specs.Airs.{moment_of as file_moment}
-use Rattle.its_scenario.specs.declared.event.FileEvent.{FileEvent}
-use Rattle.its_scenario.specs.declared.event.FileEvent.TheVariants as files
+use Rattle.its_events.specs.Airs.{moment_of as file_moment}
+use Rattle.its_events.specs.declared.event.FileEvent.{FileEvent}
+use Rattle.its_events.specs.declared.event.FileEvent.TheVariants as files
 use Rattle.its_air.specs.AirRun.{of_moment, AreDue}
 use Rattle.its_air_model.specs.Timetable.{moment_in}
 use Rattle.its_air.specs.Queues.{filed_in, filed_of, IsFiledInRange}

@@ -2,15 +2,15 @@
 use Rattle.std.proofs.Common.{◌≡◌, ◌∙◌, ℕ, ◌+◌, Bool, true, false, Option, cond, not, ◌&&◌}
 use Rattle.std.proofs.Common.{refl, sym, ap}
 use Rattle.its_model.specs.Station.{StationModel}
-use Rattle.its_scenario.specs.declared.traffic.Traffic.{Traffic as Flow}
-use Rattle.its_air.specs.declared.waiting.AirAction.{AirAction}
-use Rattle.its_air.specs.declared.waiting.AirAction.TheVariants as owns
-use Rattle.its_air.specs.declared.waiting.Scheduled.{Scheduled}
+use Rattle.its_settings.specs.declared.traffic.Traffic.{Traffic as Flow}
+use Rattle.its_queue.specs.declared.scheduled.AirAction.{AirAction}
+use Rattle.its_queue.specs.declared.scheduled.AirAction.TheVariants as owns
+use Rattle.its_queue.specs.declared.scheduled.Scheduled.{Scheduled}
 use Rattle.its_air.specs.Keeps.{follow_own}
-use Rattle.its_air.specs.Queues.{happening_of, own_of}
+use Rattle.its_queue.specs.Waiting.{happening_of, own_of}
 use Rattle.its_air_model.specs.Timetable.{Timetable, is_tick, tick_again, send_again, sending}
 use Rattle.its_air_model.specs.Timetable.{schedule_alone}
-use Rattle.its_air.specs.Traffics.{traffic_in, traffic_of}
+use Rattle.its_queue.specs.Traffics.{traffic_in, traffic_of}
 
 -- what follows, were it this
 abbrev follow_as : AirAction → Scheduled → Bool → Option StationModel → Timetable → Timetable

@@ -28,13 +28,13 @@ use Rattle.std.specs.Prelude.{IsSomeAnd, reverse, map}
 use Rattle.its_station.specs.State.{StationState, RepresentsStation}
 use Rattle.its_world.specs.State.{RepresentStations}
 use Rattle.its_world.proofs.Worlds.{get_station}
-use Rattle.its_scenario.specs.declared.event.FileEvent.{FileEvent}
-use Rattle.its_air.specs.declared.waiting.AirAction.TheVariants as owns
-use Rattle.its_air.specs.declared.waiting.Scheduled.{Scheduled}
+use Rattle.its_events.specs.declared.event.FileEvent.{FileEvent}
+use Rattle.its_queue.specs.declared.scheduled.AirAction.TheVariants as owns
+use Rattle.its_queue.specs.declared.scheduled.Scheduled.{Scheduled}
 use Rattle.its_air.specs.declared.waiting.Queue.{Queue}
 use Rattle.its_air_model.specs.Draws.{draws_at}
 use Rattle.its_air.specs.Files.{SameFile, filed_due}
-use Rattle.its_scenario.specs.declared.air.Air.{Air}
+use Rattle.its_settings.specs.declared.air.Air.{Air}
 use Rattle.its_air.specs.AirTimed.{rules_of}
 use Rattle.its_air.specs.Keeps.{Keeps, GoesBy}
 use Rattle.its_air_model.specs.Timetable.{Rules}
@@ -50,10 +50,10 @@ use Rattle.its_air_model.specs.Timetable.{schedule_alone, schedule_traffic, sche
 use Rattle.its_air_model.specs.Timetable.{Pending}
 use Rattle.its_air_model.specs.Timetable.{Filed}
 use Rattle.its_air_model.specs.Timetable.{Traffic, come_sending, come_sending_all, was_moved}
-use Rattle.its_scenario.specs.declared.traffic.Traffic.{Traffic as Flow}
-use Rattle.its_air.specs.Traffics.{all_traffic, traffic_of, traffic_from}
-use Rattle.its_air.specs.Waits.{Waits, planned_of}
-use Rattle.its_air.proofs.Waits.{waits_put}
+use Rattle.its_settings.specs.declared.traffic.Traffic.{Traffic as Flow}
+use Rattle.its_queue.specs.Traffics.{all_traffic, traffic_of, traffic_from}
+use Rattle.its_queue.specs.Waits.{Waits, planned_of}
+use Rattle.its_queue.proofs.Waits.{waits_put}
 
 -- the same, told otherwise
 pub waits_at : (due due' : List Filed) (heap : List Scheduled) (n n' until until' : ℕ)

@@ -9,15 +9,12 @@ pub mod BesideSteps
 pub mod BesideOpening
 pub mod BesideReached
 pub mod BesideFrames
-pub mod Waits
 pub mod Opening
 pub mod Keeping
 pub mod Stepping
 pub mod Counting
 pub mod Following
 pub mod Ranges
-pub mod Counted
 pub mod Moved
 pub mod UnderRows
 pub mod Outside
-pub mod Lines

@@ -27,11 +27,12 @@ use Rattle.its_air.specs.Keeps.{GoesBy, IsTimed, Keeps}
 use Rattle.its_air.specs.Moving.{Awaits, AwaitsFrame, IsMoving, IsMovedRun, IsTaken, DoesAt}
 use Rattle.its_air.specs.Moving.{DoesTaken, without_first}
 use Rattle.its_air.specs.Outside.{IsOutside, station_of_filed}
-use Rattle.its_air.specs.Queues.{filed_in, filed_of, own_of, waiting_cmp}
-use Rattle.its_scenario.specs.Events.{station_in}
-use Rattle.its_scenario.specs.declared.event.AddressedEvent.{AddressedEvent}
-use Rattle.its_scenario.specs.declared.moves.Moves.{Moves}
-use Rattle.its_scenario.specs.declared.event.FileEvent.TheVariants as files
+use Rattle.its_air.specs.Queues.{filed_in, filed_of}
+use Rattle.its_queue.specs.Waiting.{own_of, waiting_cmp}
+use Rattle.its_events.specs.Events.{station_in}
+use Rattle.its_events.specs.declared.event.AddressedEvent.{AddressedEvent}
+use Rattle.its_settings.specs.declared.moves.Moves.{Moves}
+use Rattle.its_events.specs.declared.event.FileEvent.TheVariants as files
 use Rattle.its_air.specs.Runs.{SaysAsBefore}
 use Rattle.its_air_model.specs.Timetable.{AirModel, Filed, Pending, Planned, Rules, Timetable}
 use Rattle.its_air_model.specs.Timetable.{Traffic}
@@ -45,10 +46,10 @@ use Rattle.its_air_model.specs.Timetable.{schedule_send, schedule_tick}
 use Rattle.its_air_model.specs.Timetable.{schedule_traffic, with_file, with_ticks, is_present}
 use Rattle.its_air_model.specs.Timetable.Filed.{Happens, Leaves}
 use Rattle.its_air_model.specs.Timetable.Pending.{Does, Departs}
-use Rattle.its_air.specs.Waits.{Waits, pending_of, planned_of}
+use Rattle.its_queue.specs.Waits.{Waits, pending_of, planned_of}
 use Rattle.its_air.specs.declared.run.Run.{Run}
 use Rattle.its_air.specs.declared.waiting.Queue.{Queue}
-use Rattle.its_air.specs.declared.waiting.Scheduled.{Scheduled}
+use Rattle.its_queue.specs.declared.scheduled.Scheduled.{Scheduled}
 use Rattle.its_air.proofs.BesideFrames.{frame_is_new, next_frame}
 use Rattle.its_air.proofs.BesideOpening.{reached_opening}
 use Rattle.its_air.proofs.BesideOrder.{all_by, all_put}
@@ -58,13 +59,13 @@ use Rattle.its_air.proofs.BesideTaken.{taken_all}
 use Rattle.its_air.proofs.Keeping.{waits_at, goes_on}
 use Rattle.its_air.proofs.BesideMade.{stations_of_run}
 use Rattle.its_air.proofs.Under.{told_on}
-use Rattle.its_air.proofs.Waits.{waits_none, waits_own}
+use Rattle.its_queue.proofs.Waits.{waits_none, waits_own}
 use Rattle.std.proofs.Common.{◌⊎◌, inl, inr}
 use Rattle.std.proofs.Math.Nat.{le-max_left, max-le, min-le_left}
 use Rattle.std.proofs.lemmas.Bool.{cases_lt}
 use Rattle.std.proofs.lemmas.List.{length-append}
 use denote.Ref.{Bor}
-use Rattle.its_scenario.specs.declared.event.FileEvent.{FileEvent}
+use Rattle.its_events.specs.declared.event.FileEvent.{FileEvent}
 
 -- there are as many stations as configs
 as_many : (configs : List Config) (events : List Event) (world : WorldState)

@@ -11,7 +11,7 @@ use Rattle.std.proofs.lemmas.List.Elements.{recursion_from_All}
 use Rattle.its_air.specs.AirRun.{of_moment, AreDue}
 use Rattle.its_air_model.specs.Timetable.{moment_in}
 use Rattle.its_air_model.specs.Timetable.{Pending, Filed, of_file, schedule, schedule_all}
-use Rattle.its_air.specs.Waits.{Waits}
+use Rattle.its_queue.specs.Waits.{Waits}
 
 -- each is no later than those behind it
 abbrev Rises : List Filed → Type 0

@@ -16,19 +16,19 @@ use Rattle.std.proofs.lemmas.Option.{slice_get-get_or}
 use denote.Ref.{Bor}
 use Rattle.its_model.specs.World.{Config, Event}
 use Rattle.its_moves.specs.declared.row.Row.{Row}
-use Rattle.its_scenario.specs.Airs.{moment_of}
-use Rattle.its_scenario.specs.declared.event.AddressedEvent.{AddressedEvent}
-use Rattle.its_scenario.specs.declared.event.FileEvent.TheVariants as files
-use Rattle.its_scenario.specs.declared.moves.Moves.{Moves}
+use Rattle.its_events.specs.Airs.{moment_of}
+use Rattle.its_events.specs.declared.event.AddressedEvent.{AddressedEvent}
+use Rattle.its_events.specs.declared.event.FileEvent.TheVariants as files
+use Rattle.its_settings.specs.declared.moves.Moves.{Moves}
 use Rattle.its_world.specs.declared.entry.Entry.{Entry}
 use Rattle.its_air.specs.Outside.{Came, IsBrought, IsByMoment, IsOutside, Brings, asked_at}
 use Rattle.its_air.specs.Outside.{asked_of, ids_of, turn_of, MayAsk, MayCome, row_move, opening_at}
 use Rattle.its_air.specs.Outside.{IsOfStation}
 use Rattle.its_air.specs.Queues.{filed_of}
 use Rattle.its_gnvalue.specs.Values.{Position}
-use Rattle.its_scenario.specs.Centres.{centred}
-use Rattle.its_scenario.specs.Events.{station_in}
-use Rattle.its_scenario.specs.declared.event.FileEvent.{FileEvent}
+use Rattle.its_events.specs.Centres.{centred}
+use Rattle.its_events.specs.Events.{station_in}
+use Rattle.its_events.specs.declared.event.FileEvent.{FileEvent}
 use Rattle.std.specs.Prelude.{String}
 use Rattle.its_air.specs.Outside.Came.{Makes, Moved, Left, Asked}
 use Rattle.its_air_model.specs.Timetable.{Filed, Rules}

@@ -5,10 +5,10 @@ use Rattle.its_gnvalue.specs.Values.{IsSpeed}
 use Rattle.its_world.specs.declared.event.What.{What}
 use Rattle.its_world.specs.declared.event.What.TheVariants as whats
 use Rattle.its_world.specs.Events.{IsInRange}
-use Rattle.its_scenario.specs.Airs.{moment_of}
-use Rattle.its_scenario.specs.Events.{FitsFileEvent, speed_of}
-use Rattle.its_scenario.specs.declared.event.FileEvent.{FileEvent}
-use Rattle.its_scenario.specs.declared.event.FileEvent.TheVariants as files
+use Rattle.its_events.specs.Airs.{moment_of}
+use Rattle.its_events.specs.Events.{FitsFileEvent, speed_of}
+use Rattle.its_events.specs.declared.event.FileEvent.{FileEvent}
+use Rattle.its_events.specs.declared.event.FileEvent.TheVariants as files
 use Rattle.its_air.specs.Queues.{IsFiledInRange}
 
 what_in_range : (what : What) → IsSpeed (speed_of what) → IsInRange what

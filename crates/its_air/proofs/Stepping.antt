@@ -10,17 +10,18 @@ use denote.Ref.{Bor}
 use Rattle.std.proofs.lemmas.Bool.{le-leb}
 use Rattle.its_model.specs.World.{Config, Event, WorldModel, opening, world_run}
 use Rattle.its_world.specs.declared.entry.Entry.{Entry}
-use Rattle.its_scenario.specs.Airs.{moment_of as file_moment}
-use Rattle.its_scenario.specs.declared.event.FileEvent.{FileEvent}
+use Rattle.its_events.specs.Airs.{moment_of as file_moment}
+use Rattle.its_events.specs.declared.event.FileEvent.{FileEvent}
 use Rattle.its_simulation.specs.Simulated.{IsSimulated}
-use Rattle.its_air.specs.declared.waiting.Scheduled.{Scheduled}
+use Rattle.its_queue.specs.declared.scheduled.Scheduled.{Scheduled}
 use Rattle.its_air.specs.declared.waiting.Queue.{Queue}
 use Rattle.its_air.specs.declared.run.Run.{Run}
 use Rattle.its_air.specs.AirRun.{AreDue}
 use Rattle.its_air_model.specs.Draws.{draws_at, draws_of}
 use Rattle.its_air.specs.Files.{filed_due}
 use Rattle.its_air.specs.Keeps.{Keeps, IsTimed, GoesBy, follow_own}
-use Rattle.its_air.specs.Queues.{filed_in, filed_of, waiting_cmp, happening_of}
+use Rattle.its_air.specs.Queues.{filed_in, filed_of}
+use Rattle.its_queue.specs.Waiting.{waiting_cmp, happening_of}
 use Rattle.its_air_model.specs.Timetable.{Rules, Timetable, AirModel, NoneWaits, of_file}
 use Rattle.its_air_model.specs.Timetable.{schedule_all}
 use Rattle.its_air_model.specs.Timetable.{air_step, do_first, do_one, take_one, follow_tick}
@@ -29,13 +30,13 @@ use Rattle.its_air_model.specs.Timetable.{send_again, was_refused, by_file, pres
 use Rattle.its_air_model.specs.Timetable.{is_passed_over}
 use Rattle.its_air_model.specs.Timetable.Filed.{Happens}
 use Rattle.its_air_model.specs.Timetable.Pending.{Does, Departs}
-use Rattle.its_air.specs.Traffics.{traffic_in}
-use Rattle.its_air.specs.Waits.{Waits, planned_of, pending_of}
+use Rattle.its_queue.specs.Traffics.{traffic_in}
+use Rattle.its_queue.specs.Waits.{Waits, planned_of, pending_of}
 use Rattle.its_air.proofs.Files.{same_moment}
 use Rattle.its_air.proofs.Keeping.{goes_on, waits_at}
 use Rattle.its_air.proofs.Opening.{waits_opening}
 use Rattle.its_air_model.specs.Timetable.{at, Pending, Filed}
-use Rattle.its_air.proofs.Waits.{waits_file, waits_own, waits_none, FileIsLater}
+use Rattle.its_queue.proofs.Waits.{waits_file, waits_own, waits_none, FileIsLater}
 
 -- the next event of the file
 drop_next : (due : List (Bor FileEvent)) (n : ℕ) (e : Bor FileEvent) → slice_get due n ≡ Some e

@@ -8,7 +8,7 @@ use denote.Ref.{Bor}
 use Rattle.its_model.specs.EverySchedule.{HoldsOfSchedules}
 use Rattle.its_model.specs.World.{Config, Event, opening}
 use Rattle.its_world.specs.declared.entry.Entry.{Entry}
-use Rattle.its_scenario.specs.declared.event.FileEvent.{FileEvent}
+use Rattle.its_events.specs.declared.event.FileEvent.{FileEvent}
 use Rattle.its_world.specs.State.{WorldState, RepresentsWorld}
 use Rattle.its_simulation.specs.Simulated.{IsSimulated}
 use Rattle.its_air.specs.AirRun.{AreAmong, AreDue, IsAirRun, events_in}

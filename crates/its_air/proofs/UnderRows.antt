@@ -14,8 +14,8 @@ use denote.Ref.{Bor}
 use Rattle.its_model.specs.World.{Config, Event}
 use Rattle.its_moves.specs.Rows.{IsRowBetween}
 use Rattle.its_moves.specs.declared.row.Row.{Row}
-use Rattle.its_scenario.specs.Airs.{moment_of}
-use Rattle.its_scenario.specs.declared.event.AddressedEvent.{AddressedEvent}
+use Rattle.its_events.specs.Airs.{moment_of}
+use Rattle.its_events.specs.declared.event.AddressedEvent.{AddressedEvent}
 use Rattle.its_world.specs.declared.entry.Entry.{Entry}
 use Rattle.its_air.specs.Moving.{DoesAt, IsMoving}
 use Rattle.its_air_model.specs.Timetable.{Rules}

@@ -3,7 +3,7 @@ use Rattle.std.specs.Prelude.{ℕ, List, Bool}
 use Rattle.its_model.specs.World.{Config, Event}
 use Rattle.its_world.specs.declared.entry.Entry.{Entry}
 use Rattle.its_world.specs.State.{WorldState}
-use Rattle.its_scenario.specs.declared.air.Air.{Air}
+use Rattle.its_settings.specs.declared.air.Air.{Air}
 use Rattle.its_simulation.specs.Simulated.{IsSimulated}
 use Rattle.its_air_model.specs.Timetable.{Rules, Traffic, Filed, air_opening, air_run, IsOver}
 

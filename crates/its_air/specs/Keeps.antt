@@ -11,14 +11,14 @@ use Rattle.its_air_model.specs.Draws.{draws_at}
 use Rattle.its_air.specs.Files.{filed_due}
 use Rattle.its_model.specs.Reach.{is_moved}
 use Rattle.its_air_model.specs.Timetable.{Rules, Timetable, AirModel, air_step, IsOver, was_moved}
-use Rattle.its_air.specs.Queues.{happening_of, own_of}
+use Rattle.its_queue.specs.Waiting.{happening_of, own_of}
 use Rattle.its_air_model.specs.Timetable.{given, was_refused, is_refusal, is_tick, tick_again}
 use Rattle.its_air_model.specs.Timetable.{send_again}
-use Rattle.its_air.specs.Traffics.{all_traffic, traffic_in}
-use Rattle.its_air.specs.Waits.{Waits}
+use Rattle.its_queue.specs.Traffics.{all_traffic, traffic_in}
+use Rattle.its_queue.specs.Waits.{Waits}
 use Rattle.its_air.specs.declared.run.Run.{Run}
 use Rattle.its_air.specs.declared.waiting.Queue.{Queue}
-use Rattle.its_air.specs.declared.waiting.Scheduled.{Scheduled}
+use Rattle.its_queue.specs.declared.scheduled.Scheduled.{Scheduled}
 
 -- what waits in the queue, and what a generator with these words will draw, are the timetable's
 pub record Keeps (queue : Queue) (words : List ℕ) (t : Timetable) : Type 0 where

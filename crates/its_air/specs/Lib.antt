@@ -4,13 +4,9 @@ pub mod Runs
 pub mod Files
 pub mod Scenarios
 pub mod AirTimed
-pub mod Traffics
-pub mod Waits
 pub mod Keeps
 pub mod FitsRun
 pub mod Outside
 pub mod Moving
 pub mod UnderRows
 pub mod Beside
-pub mod Counted
-pub mod Line

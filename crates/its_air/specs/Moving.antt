@@ -5,9 +5,9 @@ use Rattle.std.specs.Prelude.{Option, IfSome}
 use Rattle.std.specs.List.{AllByRecursion}
 use Rattle.its_model.specs.World.{Config, Event, What, opening, world_run}
 use Rattle.its_model.specs.World.What.{Calls, Deliver}
-use Rattle.its_scenario.specs.Airs.{moment_of}
-use Rattle.its_scenario.specs.declared.event.AddressedEvent.{AddressedEvent}
-use Rattle.its_scenario.specs.declared.moves.Moves.{Moves}
+use Rattle.its_events.specs.Airs.{moment_of}
+use Rattle.its_events.specs.declared.event.AddressedEvent.{AddressedEvent}
+use Rattle.its_settings.specs.declared.moves.Moves.{Moves}
 use Rattle.its_world.specs.declared.entry.Entry.{Entry}
 use Rattle.its_world.specs.State.{WorldState}
 use Rattle.its_air.specs.AirTimed.{IsTimedRun}
@@ -16,9 +16,9 @@ use Rattle.its_air.specs.Keeps.{IsTimed}
 use Rattle.its_air.specs.Outside.{IsOfStation, IsOutside, MayCome}
 use Rattle.its_air_model.specs.Timetable.{AirModel, Filed, Pending, Rules, at}
 use Rattle.its_air_model.specs.Timetable.Pending.{Does, Departs}
-use Rattle.its_air.specs.Waits.{pending_of}
+use Rattle.its_queue.specs.Waits.{pending_of}
 use Rattle.its_air.specs.declared.run.Run.{Run}
-use Rattle.its_air.specs.declared.waiting.Scheduled.{Scheduled}
+use Rattle.its_queue.specs.declared.scheduled.Scheduled.{Scheduled}
 
 -- Stations were made beside these, which were absent at the start. Of all of them it is the run of
 -- an air by these rules, up to a last moment, which is the given one, if one is given. Its file is

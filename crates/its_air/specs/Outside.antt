@@ -12,12 +12,12 @@ use Rattle.its_model.specs.Calls.OwnCall.{Move, Open}
 use Rattle.its_model.specs.World.{Event, What}
 use Rattle.its_model.specs.World.What.{Calls, Deliver}
 use Rattle.its_moves.specs.declared.row.Row.{Row}
-use Rattle.its_scenario.specs.Airs.{moment_of}
-use Rattle.its_scenario.specs.Centres.{centred}
-use Rattle.its_scenario.specs.Events.{station_in}
-use Rattle.its_scenario.specs.declared.event.AddressedEvent.{AddressedEvent}
-use Rattle.its_scenario.specs.declared.event.FileEvent.{FileEvent}
-use Rattle.its_scenario.specs.declared.moves.Moves.{Moves}
+use Rattle.its_events.specs.Airs.{moment_of}
+use Rattle.its_events.specs.Centres.{centred}
+use Rattle.its_events.specs.Events.{station_in}
+use Rattle.its_events.specs.declared.event.AddressedEvent.{AddressedEvent}
+use Rattle.its_events.specs.declared.event.FileEvent.{FileEvent}
+use Rattle.its_settings.specs.declared.moves.Moves.{Moves}
 use Rattle.its_air.specs.Queues.{filed_of}
 use Rattle.its_air_model.specs.Timetable.{Filed}
 use Rattle.its_air_model.specs.Timetable.Filed.{Happens, Leaves}

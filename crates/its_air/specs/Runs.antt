@@ -5,6 +5,7 @@ use Rattle.its_world.specs.declared.entry.Entry.{Entry}
 use Rattle.its_simulation.specs.Simulated.{IsSimulated}
 use Rattle.its_air.specs.AirRun.{AreAmong, events_in}
 use Rattle.its_air.specs.Files.{filed_due}
+use Rattle.its_places.specs.PlaceIndexes.{AreStandingsOf}
 use Rattle.its_air.specs.declared.run.Run.{Run}
 
 -- these events were done so far, and those of the file that were taken are among them
@@ -12,6 +13,10 @@ pub record IsUnderWay (configs : List Config) (events : List Event) (run : Run)
     (Took : List Event → List Entry → Type 0) : Type 0 where
   pub told : IsSimulated configs events run.world Took
   pub among : AreAmong (events_in (take run.queue.taken (filed_due run.queue))) events
+
+-- each station stands in the index once, at its place in the world, and no other does
+abbrev pub AreIndexed : Run → Type 0
+AreIndexed run = AreStandingsOf run.world.stations run.standings.order.items
 
 -- its rules, its world, and where the stations stand are as before
 pub record SameWorld (old new : Run) : Type 0 where

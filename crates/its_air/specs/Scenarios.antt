@@ -4,13 +4,13 @@ use Rattle.its_model.specs.World.{Event}
 use Rattle.its_world.specs.declared.entry.Entry.{Entry}
 use Rattle.its_world.specs.State.{WorldState}
 use Rattle.its_world.specs.Events.{config_of, event_of}
-use Rattle.its_scenario.specs.declared.air.Air.{Air}
+use Rattle.its_settings.specs.declared.air.Air.{Air}
 use Rattle.its_scenario.specs.declared.scenario.Scenario.{Scenario}
-use Rattle.its_scenario.specs.Airs.{end_of}
+use Rattle.its_events.specs.Airs.{end_of}
 use Rattle.its_simulation.specs.Simulated.{IsSimulated}
 use Rattle.its_air.specs.AirTimed.{IsTimedRun, rules_of}
 use Rattle.its_air.specs.Queues.{filed_of}
-use Rattle.its_air.specs.Traffics.{all_traffic}
+use Rattle.its_queue.specs.Traffics.{all_traffic}
 
 -- in no air, just the scenario's events were done; in an air, just those that the timetable of its
 -- file gives

@@ -4,6 +4,7 @@ ghost use Rattle.std.specs.Prelude.{◌≡◌};
 
 use its_gnvalue::NoMemory;
 use its_moves::MovesFault;
+use its_queue::QueueFault;
 use its_simulation::SimulationFault;
 use std::alloc::{AllocError, AllocFailed};
 use std::io;
@@ -38,6 +39,15 @@ impl From<MovesFault> for AirFault {
 impl From<NoMemory> for AirFault {
     fn from(_: NoMemory) -> AirFault {
         AirFault::OutOfMemory(AllocError)
+    }
+}
+
+impl From<QueueFault> for AirFault {
+    fn from(fault: QueueFault) -> AirFault {
+        match fault {
+            QueueFault::OutOfMemory(error) => AirFault::OutOfMemory(error),
+            QueueFault::TooManyEvents => AirFault::TooManyEvents,
+        }
     }
 }
 

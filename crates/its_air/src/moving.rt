@@ -9,9 +9,9 @@ ghost use Rattle.std.specs.List.{AllByRecursion};
 ghost use Rattle.std.specs.List.Sorted.{IsNonDecreasingBy};
 ghost use Rattle.std.specs.Option.{ForSome};
 ghost use denote.Ref.{Bor};
-ghost use Rattle.its_scenario.specs.Airs.{end_of, moment_of};
-ghost use Rattle.its_scenario.specs.Events.{FitsFileEvent};
-ghost use Rattle.its_scenario.specs.declared.event.AddressedEvent.{AddressedEvent as Addressed};
+ghost use Rattle.its_events.specs.Airs.{end_of, moment_of};
+ghost use Rattle.its_events.specs.Events.{FitsFileEvent};
+ghost use Rattle.its_events.specs.declared.event.AddressedEvent.{AddressedEvent as Addressed};
 ghost use Rattle.its_model.specs.World.{Config as Beginning, WorldModel, opening};
 ghost use Rattle.its_moves.specs.Rows.{IsRowBetween};
 ghost use Rattle.its_world.specs.Events.{IsConfig, IsInRange, config_of, event_of, what_of};
@@ -22,10 +22,10 @@ ghost use Rattle.its_air.specs.FitsRun.{FitsRun};
 ghost use Rattle.its_air.specs.Keeps.{GoesBy, Keeps};
 ghost use Rattle.its_air.specs.Moving.{Awaits, IsMovedRun};
 ghost use Rattle.its_air.specs.Queues.{IsFiledInRange};
-ghost use Rattle.its_places.specs.PlaceIndexes.{AreStandingsOf};
 ghost use Rattle.its_air.specs.Outside.{Came, IsByMoment, row_move};
+ghost use Rattle.its_air.specs.Runs.{AreIndexed};
 ghost use Rattle.its_air_model.specs.Timetable.{Filed, Pending, Rules, air_opening, at};
-ghost use Rattle.its_air.specs.Traffics.{all_traffic};
+ghost use Rattle.its_queue.specs.Traffics.{all_traffic};
 ghost use Rattle.its_air.specs.UnderRows.{CameUnder, ComesFrom, DoesEvent, DoesLeave, DoesRow};
 ghost use Rattle.its_air.specs.UnderRows.{IsComing, IsNext, IsUnder, IsUnderSome, MakesUnder};
 ghost use Rattle.its_air.specs.UnderRows.{StaysUnder, asked_in, class_in, end_in, stations_in};
@@ -37,10 +37,12 @@ use crate::moving_run::{Coming, MovingRun, Outside};
 use crate::run::Run;
 use crate::step::{do_at, do_filed, do_own, move_in};
 use crate::vehicles::Vehicles;
+use its_events::{AddressedEvent, FileEvent};
 use its_gnvalue::Place;
 use its_model::laws::every_schedule;
 use its_moves::{MovesFault, Row, Rows, Word};
-use its_scenario::{AddressedEvent, Air, FileEvent, Moves, Scenario};
+use its_scenario::Scenario;
+use its_settings::{Air, Moves};
 use its_simulation::{EventSink, Note};
 use its_world::{Config, Event, What, World};
 use std::alloc::{AllocError, Global};
@@ -118,8 +120,7 @@ impl<'a> MovingRun<'a> {
         requires { vec_len scenario.now.stations ≤ 65535 }
         ensures world { IfOk result (λ moving. RepresentsWorld moving.run.world
             (opening (map config_of scenario.now.stations.items))) }
-        ensures standings { IfOk result (λ moving. AreStandingsOf moving.run.world.stations
-            moving.run.standings.order.items) }
+        ensures standings { IfOk result (λ moving. AreIndexed moving.run) }
         ensures rules { IfOk result (λ moving. GoesBy (rules_of air.now
             (all_traffic scenario.now.every.items) (end_of air.now.until [])
             scenario.now.present.items) moving.run) }
@@ -212,10 +213,8 @@ impl<'a> MovingRun<'a> {
         rows: &mut Rows<R>,
         sink: &mut S,
     ) -> Result<bool, AirFault>
-        requires standings { AreStandingsOf self.old.run.world.stations
-            self.old.run.standings.order.items }
-        ensures standings { OnOk result (AreStandingsOf self.new.run.world.stations
-            self.new.run.standings.order.items) }
+        requires standings { AreIndexed self.old.run }
+        ensures standings { OnOk result (AreIndexed self.new.run) }
         ensures until { self.new.until ≡ self.old.until }
         ensures moves { self.new.moves ≡ self.old.moves }
         ensures asked { self.new.events ≡ self.old.events }
@@ -371,10 +370,8 @@ impl<'a> MovingRun<'a> {
         requires next { IsNext self.old coming }
         requires until { coming.moment ≤ end_in self.old }
         requires bound { coming.moment ≤ 2 ^ 63 + 10000 }
-        requires standings { AreStandingsOf self.old.run.world.stations
-            self.old.run.standings.order.items }
-        ensures standings { OnOk result (AreStandingsOf self.new.run.world.stations
-            self.new.run.standings.order.items) }
+        requires standings { AreIndexed self.old.run }
+        ensures standings { OnOk result (AreIndexed self.new.run) }
         ensures until { self.new.until ≡ self.old.until }
         ensures moves { self.new.moves ≡ self.old.moves }
         ensures asked { self.new.events ≡ self.old.events }
@@ -398,10 +395,8 @@ impl<'a> MovingRun<'a> {
         rows: &mut Rows<R>,
         sink: &mut S,
     ) -> Result<(), AirFault>
-        requires standings { AreStandingsOf self.old.run.world.stations
-            self.old.run.standings.order.items }
-        ensures standings { OnOk result (AreStandingsOf self.new.run.world.stations
-            self.new.run.standings.order.items) }
+        requires standings { AreIndexed self.old.run }
+        ensures standings { OnOk result (AreIndexed self.new.run) }
         ensures until { self.new.until ≡ self.old.until }
         ensures moves { self.new.moves ≡ self.old.moves }
         ensures asked { self.new.events ≡ self.old.events }
@@ -428,10 +423,8 @@ impl<'a> MovingRun<'a> {
         sink: &mut S,
     ) -> Result<(), AirFault>
         requires moment { moment ≤ 2 ^ 63 + 10000 }
-        requires standings { AreStandingsOf self.old.run.world.stations
-            self.old.run.standings.order.items }
-        ensures standings { OnOk result (AreStandingsOf self.new.run.world.stations
-            self.new.run.standings.order.items) }
+        requires standings { AreIndexed self.old.run }
+        ensures standings { OnOk result (AreIndexed self.new.run) }
         ensures until { self.new.until ≡ self.old.until }
         ensures moves { self.new.moves ≡ self.old.moves }
         ensures row { self.new.row ≡ self.old.row }
@@ -451,10 +444,8 @@ impl<'a> MovingRun<'a> {
     /// that was absent comes.
     fn do_row<S: EventSink>(&mut self, row: &Row, line: u64, sink: &mut S) -> Result<(), AirFault>
         requires row { FitsRun row.now }
-        requires standings { AreStandingsOf self.old.run.world.stations
-            self.old.run.standings.order.items }
-        ensures standings { OnOk result (AreStandingsOf self.new.run.world.stations
-            self.new.run.standings.order.items) }
+        requires standings { AreIndexed self.old.run }
+        ensures standings { OnOk result (AreIndexed self.new.run) }
         ensures until { self.new.until ≡ self.old.until }
         ensures end { self.new.greatest ≡ self.old.greatest }
         ensures moves { self.new.moves ≡ self.old.moves }
@@ -475,10 +466,8 @@ impl<'a> MovingRun<'a> {
         line: u64,
         sink: &mut S,
     ) -> Result<RowStation<'a>, AirFault>
-        requires standings { AreStandingsOf self.old.run.world.stations
-            self.old.run.standings.order.items }
-        ensures standings { OnOk result (AreStandingsOf self.new.run.world.stations
-            self.new.run.standings.order.items) }
+        requires standings { AreIndexed self.old.run }
+        ensures standings { OnOk result (AreIndexed self.new.run) }
         ensures until { self.new.until ≡ self.old.until }
         ensures end { self.new.greatest ≡ self.old.greatest }
         ensures moves { self.new.moves ≡ self.old.moves }
@@ -536,10 +525,8 @@ impl<'a> MovingRun<'a> {
         line: u64,
         sink: &mut S,
     ) -> Result<usize, AirFault>
-        requires standings { AreStandingsOf self.old.run.world.stations
-            self.old.run.standings.order.items }
-        ensures standings { OnOk result (AreStandingsOf self.new.run.world.stations
-            self.new.run.standings.order.items) }
+        requires standings { AreIndexed self.old.run }
+        ensures standings { OnOk result (AreIndexed self.new.run) }
         ensures until { self.new.until ≡ self.old.until }
         ensures end { self.new.greatest ≡ self.old.greatest }
         ensures moves { self.new.moves ≡ self.old.moves }
@@ -567,10 +554,8 @@ impl<'a> MovingRun<'a> {
     /// Does the next event or leave of the scenario. One for an id of which no station is present
     /// isn't run, and noted.
     fn do_next_event<S: EventSink>(&mut self, sink: &mut S) -> Result<(), AirFault>
-        requires standings { AreStandingsOf self.old.run.world.stations
-            self.old.run.standings.order.items }
-        ensures standings { OnOk result (AreStandingsOf self.new.run.world.stations
-            self.new.run.standings.order.items) }
+        requires standings { AreIndexed self.old.run }
+        ensures standings { OnOk result (AreIndexed self.new.run) }
         ensures until { self.new.until ≡ self.old.until }
         ensures moving { (e : Bor Addressed) →
             slice_get self.old.events.items self.old.taken ≡ Some e → OnOk result

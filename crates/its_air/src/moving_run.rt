@@ -4,15 +4,16 @@ ghost use Rattle.std.specs.Prelude.{◌≤◌, ◌<◌, ◌^◌, All, IfSome};
 ghost use Rattle.std.specs.List.Sorted.{IsNonDecreasingBy};
 ghost use Rattle.std.specs.Option.{ForSome};
 ghost use Rattle.std.proofs.Props.{props};
-ghost use Rattle.its_scenario.specs.Airs.{moment_of};
-ghost use Rattle.its_scenario.specs.Events.{FitsFileEvent};
+ghost use Rattle.its_events.specs.Airs.{moment_of};
+ghost use Rattle.its_events.specs.Events.{FitsFileEvent};
 ghost use Rattle.its_air.specs.FitsRun.{FitsRun};
 
 use crate::departures::Departures;
 use crate::run::Run;
 use crate::vehicles::Vehicles;
+use its_events::AddressedEvent;
 use its_moves::Row;
-use its_scenario::{AddressedEvent, Moves};
+use its_settings::Moves;
 use std::alloc::Global;
 
 /// What comes to an air from outside.

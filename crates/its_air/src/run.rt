@@ -15,7 +15,7 @@ ghost use Rattle.its_world.specs.Entries.{TellsEntry};
 ghost use Rattle.its_world.specs.Steps.{AreSameBut, IsKept};
 ghost use Rattle.its_world.specs.Events.{IsConfig, IsInRange, config_of, event_of, what_of};
 ghost use Rattle.its_world.specs.Mids.{AreApart};
-ghost use Rattle.its_scenario.specs.Airs.{end_of, moment_of};
+ghost use Rattle.its_events.specs.Airs.{end_of, moment_of};
 ghost use Rattle.its_simulation.specs.Simulated.{IsSimulated, IsSimulation};
 ghost use Rattle.its_air.specs.AirRun.{AreDue, IsAirRun, events_in};
 ghost use Rattle.its_air.specs.AirTimed.{IsTimedRun, rules_of};
@@ -32,20 +32,23 @@ ghost use Rattle.its_air_model.specs.Timetable.{come_sending, come_sending_all, 
 ghost use Rattle.its_air_model.specs.Timetable.{present_after, is_passed_over};
 ghost use Rattle.its_air_model.specs.Timetable.{Rules, AirModel, spread, air_opening};
 ghost use Rattle.its_air_model.specs.Timetable.Filed.{Happens};
-ghost use Rattle.its_air.specs.Runs.{IsUnderWay, SameWorld, SaysAsBefore};
+ghost use Rattle.its_air.specs.Runs.{AreIndexed, IsUnderWay, SameWorld, SaysAsBefore};
 ghost use Rattle.its_places.specs.PlaceIndexes.{AreStandingsOf};
-ghost use Rattle.its_air.specs.Queues.{happening_of, filed_of, own_of, IsFiledInRange};
-ghost use Rattle.its_air.specs.Queues.{delivery_of};
-ghost use Rattle.its_air.specs.Traffics.{all_traffic, traffic_of};
-ghost use Rattle.its_air.specs.Waits.{pending_of, planned_of};
+ghost use Rattle.its_air.specs.Queues.{filed_of, IsFiledInRange};
+ghost use Rattle.its_queue.specs.Waiting.{happening_of, own_of};
+ghost use Rattle.its_queue.specs.Waiting.{delivery_of};
+ghost use Rattle.its_queue.specs.Traffics.{all_traffic, traffic_of};
+ghost use Rattle.its_queue.specs.Waits.{pending_of, planned_of};
 
 use crate::draws::Draws;
 use crate::fault::AirFault;
-use crate::waiting::{AirAction, Delivery, Next, Queue, Scheduled};
+use crate::waiting::{Next, Queue};
+use its_events::{FileEvent, end_of};
 use its_gnvalue::Place;
 use its_model::laws::every_schedule;
 use its_places::PlaceIndex;
-use its_scenario::{Air, FileEvent, Traffic};
+use its_queue::{AirAction, Delivery, Scheduled};
+use its_settings::{Air, Traffic};
 use its_simulation::{EventSink, Note, do_event};
 use its_world::laws::late_stations_were_there;
 use its_world::{Config, Entry, Event, What, World};
@@ -160,13 +163,12 @@ impl<'a> Run<'a> {
         ensures timed { IfOk result (λ run. Keeps run.queue run.draws (air_opening
             (rules_of air.now (all_traffic every.now) (end_of air.now.until file.now) present.now)
             (map config_of configs.now) (map filed_of file.now)).timetable) }
-        ensures standings { IfOk result (λ run.
-            AreStandingsOf run.world.stations run.standings.order.items) }
+        ensures standings { IfOk result AreIndexed }
         ensures ranges { IfOk result (λ run.
             All (λ filed. IsFiledInRange filed.now) run.queue.due.items) }
     {
         let mut draws = Draws::of_seed(air.seed);
-        let mut queue = Queue::of_file(alloc, file, air.end(file), every.len())?;
+        let mut queue = Queue::of_file(alloc, file, end_of(air, file), every.len())?;
         let ticking = if air.beacons { configs.len() } else { 0 };
         schedule_first_ticks(&mut queue, &mut draws, present, ticking)?;
         schedule_traffic(&mut queue, &mut draws, present, every, configs.len())?;
@@ -189,9 +191,8 @@ impl<'a> Run<'a> {
     /// Adds a station of this config, numbered behind all others, that is absent.
     pub(crate) fn add_station(&mut self, config: &Config) -> Result<(), AirFault>
         requires config { IsConfig config.now }
-        requires standings { AreStandingsOf self.old.world.stations self.old.standings.order.items }
-        ensures standings { OnOk result
-            (AreStandingsOf self.new.world.stations self.new.standings.order.items) }
+        requires standings { AreIndexed self.old }
+        ensures standings { OnOk result (AreIndexed self.new) }
         ensures count { OnOk result
             (length self.new.world.stations ≡ length self.old.world.stations + 1) }
         ensures air { self.new.air ≡ self.old.air }
@@ -267,9 +268,8 @@ impl<'a> Run<'a> {
     fn go_on<S: EventSink>(&mut self, sink: &mut S) -> Result<bool, AirFault>
         requires ranges { All (λ filed. IsFiledInRange filed.now) self.old.queue.due.items }
         requires kept { self.old.world.released ≡ 0 }
-        requires standings { AreStandingsOf self.old.world.stations self.old.standings.order.items }
-        ensures standings { OnOk result
-            (AreStandingsOf self.new.world.stations self.new.standings.order.items) }
+        requires standings { AreIndexed self.old }
+        ensures standings { OnOk result (AreIndexed self.new) }
         ensures due { self.new.queue.due ≡ self.old.queue.due }
         ensures kept { self.new.world.released ≡ 0 }
         ensures ended { IfOk result (λ more.
@@ -292,9 +292,8 @@ impl<'a> Run<'a> {
     fn take_first<S: EventSink>(&mut self, sink: &mut S) -> Result<bool, AirFault>
         requires ranges { All (λ filed. IsFiledInRange filed.now) self.old.queue.due.items }
         requires kept { self.old.world.released ≡ 0 }
-        requires standings { AreStandingsOf self.old.world.stations self.old.standings.order.items }
-        ensures standings { OnOk result
-            (AreStandingsOf self.new.world.stations self.new.standings.order.items) }
+        requires standings { AreIndexed self.old }
+        ensures standings { OnOk result (AreIndexed self.new) }
         ensures due { self.new.queue.due ≡ self.old.queue.due }
         ensures kept { self.new.world.released ≡ 0 }
         ensures ended { IfOk result (λ more.
@@ -329,11 +328,10 @@ impl<'a> Run<'a> {
         requires moment { moment_of filed.now ≤ 2 ^ 63 + 10000 }
         requires kept { All (λ event. IsKept self.old.world.released event.what)
             (events_in (filed_of filed.now ∷ [])) }
-        requires standings { AreStandingsOf self.old.world.stations self.old.standings.order.items }
+        requires standings { AreIndexed self.old }
         ensures file { SameFile self.old.queue self.new.queue }
         ensures released { self.new.world.released ≡ self.old.world.released }
-        ensures standings { OnOk result
-            (AreStandingsOf self.new.world.stations self.new.standings.order.items) }
+        ensures standings { OnOk result (AreIndexed self.new) }
         ensures run { (configs : List Beginning) (events : List Happening) →
             IsSimulated configs events self.old.world (S.Took sink.old) → OnOk result (
             IsSimulated configs (events ++ events_in (filed_of filed.now ∷ [])) self.new.world
@@ -364,12 +362,11 @@ impl<'a> Run<'a> {
         requires range { IsInRange event.now.what }
         requires moment { event.now.moment ≤ 2 ^ 63 + 10000 }
         requires kept { IsKept self.old.world.released (what_of event.now.what) }
-        requires standings { AreStandingsOf self.old.world.stations self.old.standings.order.items }
+        requires standings { AreIndexed self.old }
         ensures file { SameFile self.old.queue self.new.queue }
         ensures released { self.new.world.released ≡ self.old.world.released }
         ensures count { length self.new.world.stations ≡ length self.old.world.stations }
-        ensures standings { OnOk result
-            (AreStandingsOf self.new.world.stations self.new.standings.order.items) }
+        ensures standings { OnOk result (AreIndexed self.new) }
         ensures run { (configs : List Beginning) (events : List Happening) →
             IsSimulated configs events self.old.world (S.Took sink.old) → OnOk result (
             IsSimulated configs (events ++ event_of event.now ∷ []) self.new.world
@@ -409,11 +406,10 @@ impl<'a> Run<'a> {
     fn deliver<S: EventSink>(&mut self, delivery: &Delivery, sink: &mut S) -> Result<(), AirFault>
         requires moment { delivery.now.moment ≤ 2 ^ 63 + 10000 }
         requires kept { self.old.world.released ≤ delivery.now.frame }
-        requires standings { AreStandingsOf self.old.world.stations self.old.standings.order.items }
+        requires standings { AreIndexed self.old }
         ensures file { SameFile self.old.queue self.new.queue }
         ensures released { self.new.world.released ≡ self.old.world.released }
-        ensures standings { OnOk result
-            (AreStandingsOf self.new.world.stations self.new.standings.order.items) }
+        ensures standings { OnOk result (AreIndexed self.new) }
         ensures run { (configs : List Beginning) (events : List Happening) →
             IsSimulated configs events self.old.world (S.Took sink.old) → OnOk result (
             (more : List Happening) × IsSimulated configs (events ++ more) self.new.world
@@ -438,11 +434,10 @@ impl<'a> Run<'a> {
     ) -> Result<(), AirFault>
         requires moment { waiting.now.moment ≤ 2 ^ 63 + 10000 }
         requires kept { IsKept self.old.world.released (own_of waiting.now.own) }
-        requires standings { AreStandingsOf self.old.world.stations self.old.standings.order.items }
+        requires standings { AreIndexed self.old }
         ensures file { SameFile self.old.queue self.new.queue }
         ensures released { self.new.world.released ≡ self.old.world.released }
-        ensures standings { OnOk result
-            (AreStandingsOf self.new.world.stations self.new.standings.order.items) }
+        ensures standings { OnOk result (AreIndexed self.new) }
         ensures run { (configs : List Beginning) (events : List Happening) →
             IsSimulated configs events self.old.world (S.Took sink.old) → OnOk result (
             (more : List Happening) × IsSimulated configs (events ++ more) self.new.world
@@ -482,12 +477,11 @@ impl<'a> Run<'a> {
         requires range { IsInRange event.now.what }
         requires moment { event.now.moment ≤ 2 ^ 63 + 10000 }
         requires kept { IsKept self.old.world.released (what_of event.now.what) }
-        requires standings { AreStandingsOf self.old.world.stations self.old.standings.order.items }
+        requires standings { AreIndexed self.old }
         ensures file { SameFile self.old.queue self.new.queue }
         ensures released { self.new.world.released ≡ self.old.world.released }
         ensures count { length self.new.world.stations ≡ length self.old.world.stations }
-        ensures standings { OnOk result
-            (AreStandingsOf self.new.world.stations self.new.standings.order.items) }
+        ensures standings { OnOk result (AreIndexed self.new) }
         ensures run { (configs : List Beginning) (events : List Happening) →
             IsSimulated configs events self.old.world (S.Took sink.old) → OnOk result (
             IsSimulated configs (events ++ event_of event.now ∷ []) self.new.world
@@ -532,7 +526,7 @@ impl<'a> Run<'a> {
             AreStandingsOf before self.old.standings.order.items →
             AreSameBut number before self.old.world.stations →
             stood ≡ option_map (λ st. st.vector.place) (slice_get before number) →
-            AreStandingsOf self.new.world.stations self.new.standings.order.items }
+            AreIndexed self.new }
     {
         let Some(place) = place_of(&self.world, number) else {
             return;
@@ -551,7 +545,7 @@ impl<'a> Run<'a> {
         sink: &mut S,
     ) -> Result<(), AirFault>
         requires moment { event.now.moment ≤ 2 ^ 63 + 10000 }
-        requires standings { AreStandingsOf self.old.world.stations self.old.standings.order.items }
+        requires standings { AreIndexed self.old }
         ensures world { SameWorld self.old self.new }
         ensures present { self.new.present ≡ self.old.present }
         ensures file { SameFile self.old.queue self.new.queue }
@@ -582,7 +576,7 @@ impl<'a> Run<'a> {
 
     /// Finds who hears what a station gives: none where it is absent.
     fn find_hearers(&mut self, giver: usize) -> Result<(), AirFault>
-        requires standings { AreStandingsOf self.old.world.stations self.old.standings.order.items }
+        requires standings { AreIndexed self.old }
         ensures world { SameWorld self.old self.new }
         ensures present { self.new.present ≡ self.old.present }
         ensures queue { self.new.queue ≡ self.old.queue }

@@ -2,22 +2,23 @@
 
 ghost use Rattle.std.specs.Prelude.{[], ℕ, IsTrue, ◌≡◌, ◌≤◌, ◌<◌, ◌+◌, ◌^◌, ◌∷◌, All, length};
 ghost use Rattle.std.specs.Prelude.{IfOk, OnOk, ◌⊎◌, false, map};
-ghost use Rattle.its_scenario.specs.Airs.{moment_of};
-ghost use Rattle.its_scenario.specs.Events.{FitsFileEvent, station_in};
+ghost use Rattle.its_events.specs.Airs.{moment_of};
+ghost use Rattle.its_events.specs.Events.{FitsFileEvent, station_in};
 ghost use Rattle.its_world.specs.Events.{IsInRange, event_of, what_of};
 ghost use Rattle.its_world.specs.Steps.{IsKept};
 ghost use Rattle.its_air.specs.AirRun.{events_in};
 ghost use Rattle.its_air.specs.Moving.{DoesAsked, DoesFiled, DoesTaken, DoesThere};
 ghost use Rattle.its_air.specs.Outside.{Delivers, at_station, opening_at, station_of_filed};
-ghost use Rattle.its_air.specs.Queues.{IsFiledInRange, filed_of, own_of};
-ghost use Rattle.its_places.specs.PlaceIndexes.{AreStandingsOf};
+ghost use Rattle.its_air.specs.Queues.{IsFiledInRange, filed_of};
+ghost use Rattle.its_air.specs.Runs.{AreIndexed};
+ghost use Rattle.its_queue.specs.Waiting.{own_of};
 ghost use Rattle.its_air_model.specs.Timetable.Filed.{Happens};
 
 use crate::copying::copy_of;
 use crate::fault::AirFault;
 use crate::run::{Run, place_of};
-use crate::waiting::Scheduled;
-use its_scenario::{AddressedEvent, FileEvent};
+use its_events::{AddressedEvent, FileEvent};
+use its_queue::Scheduled;
 use its_simulation::EventSink;
 use its_world::{Event, What};
 use std::alloc::{AllocError, Global};
@@ -32,9 +33,8 @@ pub(crate) fn do_at<S: EventSink>(
     sink: &mut S,
 ) -> Result<(), AirFault>
     requires fits { FitsFileEvent event.now.filed }
-    requires standings { AreStandingsOf run.old.world.stations run.old.standings.order.items }
-    ensures standings { OnOk result
-        (AreStandingsOf run.new.world.stations run.new.standings.order.items) }
+    requires standings { AreIndexed run.old }
+    ensures standings { OnOk result (AreIndexed run.new) }
     ensures moving { OnOk result (DoesAsked event.now station run.old (S.Took sink.old) run.new
         (S.Took sink.new)) }
 {
@@ -75,9 +75,8 @@ pub(crate) fn do_filed<S: EventSink>(
 ) -> Result<(), AirFault>
     requires range { IsFiledInRange filed.now }
     requires moment { moment_of filed.now ≤ 2 ^ 63 + 10000 }
-    requires standings { AreStandingsOf run.old.world.stations run.old.standings.order.items }
-    ensures standings { OnOk result
-        (AreStandingsOf run.new.world.stations run.new.standings.order.items) }
+    requires standings { AreIndexed run.old }
+    ensures standings { OnOk result (AreIndexed run.new) }
     ensures moving { OnOk result (DoesFiled (moment_of filed.now) (filed_of filed.now) run.old
         (S.Took sink.old) run.new (S.Took sink.new)) }
 {
@@ -112,9 +111,8 @@ pub(crate) fn do_own<S: EventSink>(
     sink: &mut S,
 ) -> Result<(), AirFault>
     requires moment { waiting.now.moment ≤ 2 ^ 63 + 10000 }
-    requires standings { AreStandingsOf run.old.world.stations run.old.standings.order.items }
-    ensures standings { OnOk result
-        (AreStandingsOf run.new.world.stations run.new.standings.order.items) }
+    requires standings { AreIndexed run.old }
+    ensures standings { OnOk result (AreIndexed run.new) }
     ensures moving { OnOk result (DoesTaken waiting.now run.old (S.Took sink.old) run.new
         (S.Took sink.new)) }
 {
@@ -146,9 +144,8 @@ pub(crate) fn move_in<S: EventSink>(
     requires range { IsInRange event.now.what }
     requires moment { event.now.moment ≤ 2 ^ 63 + 10000 }
     requires kept { (released : ℕ) → IsKept released (what_of event.now.what) }
-    requires standings { AreStandingsOf run.old.world.stations run.old.standings.order.items }
-    ensures standings { OnOk result
-        (AreStandingsOf run.new.world.stations run.new.standings.order.items) }
+    requires standings { AreIndexed run.old }
+    ensures standings { OnOk result (AreIndexed run.new) }
     ensures moving { OnOk result (DoesThere event.now.station event.now.moment
         (Happens (event_of event.now)
         ∷ map (opening_at event.now.station event.now.moment) ports.now) run.old
@@ -170,9 +167,8 @@ fn open_ports<S: EventSink>(
     sink: &mut S,
 ) -> Result<(), AirFault>
     requires moment { event.now.moment ≤ 2 ^ 63 + 10000 }
-    requires standings { AreStandingsOf run.old.world.stations run.old.standings.order.items }
-    ensures standings { OnOk result
-        (AreStandingsOf run.new.world.stations run.new.standings.order.items) }
+    requires standings { AreIndexed run.old }
+    ensures standings { OnOk result (AreIndexed run.new) }
     ensures moving { OnOk result (DoesThere event.now.station event.now.moment
         (map (opening_at event.now.station event.now.moment) ports.now) run.old
         (S.Took sink.old) run.new (S.Took sink.new)) }

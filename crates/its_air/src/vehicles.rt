@@ -4,7 +4,7 @@ ghost use Rattle.std.specs.Prelude.{IfSome};
 ghost use Rattle.its_world.specs.Events.{IsConfig};
 
 use its_gnvalue::{GnAddress, Mac, Place};
-use its_scenario::Moves;
+use its_settings::Moves;
 use its_world::Config;
 use std::alloc::{AllocError, Global};
 use std::collections::HashMap;

@@ -6,9 +6,9 @@ ghost use Rattle.its_station.specs.Runs.{IsInRange, IsIsolatedRunOf};
 ghost use Rattle.its_station.specs.State.{RepresentsStation};
 ghost use Rattle.its_world.specs.Entries.{was_done};
 
+use its_events::verb_of_call;
 use its_gnvalue::NoMemory;
 use its_loctable::SortedTable;
-use its_scenario::verb_of_call;
 use its_station::{Call, Reply, Station};
 use its_world::Entry;
 

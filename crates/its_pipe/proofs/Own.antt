@@ -10,8 +10,8 @@ use Rattle.its_model.specs.Calls.{OwnCall}
 use Rattle.its_model.specs.Calls.Call.{Own}
 use Rattle.its_model.specs.World.{What}
 use Rattle.its_model.specs.World.What.{Calls, Deliver}
-use Rattle.its_scenario.specs.Reading.{SaysWhat}
-use Rattle.its_scenario.specs.Reading.{IsBadOf as IsBadKeyOf}
+use Rattle.its_events.specs.Reading.{SaysWhat}
+use Rattle.its_events.specs.Reading.{IsBadOf as IsBadKeyOf}
 use Rattle.its_station.specs.Runs.{IsCall}
 use Rattle.its_station.specs.declared.run.Call.{Call}
 use Rattle.its_station.specs.declared.run.Call.TheVariants as calls

@@ -16,7 +16,7 @@ use Rattle.its_keys.specs.declared.key.Key.{Key}
 use Rattle.its_model.specs.Calls.{OwnCall}
 use Rattle.its_model.specs.Calls.Call.{Own}
 use Rattle.its_model.specs.World.What.{Calls}
-use Rattle.its_scenario.specs.Reading.{IsBadAt, SaysWhat}
+use Rattle.its_events.specs.Reading.{IsBadAt, SaysWhat}
 use Rattle.its_station.specs.Runs.{IsCall}
 use Rattle.its_station.specs.declared.run.Call.{Call}
 use Rattle.its_station.specs.declared.run.Call.TheVariants as calls

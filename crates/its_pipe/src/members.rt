@@ -5,7 +5,7 @@ ghost use Rattle.std.specs.Option.{option_map, option_and_then};
 ghost use Rattle.serde_json.specs.Find.{get, as_bool, as_i64, as_number, as_str};
 ghost use Rattle.serde_json.specs.View.{view};
 
-use its_scenario::Fields;
+use its_keys::Fields;
 use serde_json::Value;
 
 /// The members of a JSON object. Of a key that is given twice the last counts. A whole number has

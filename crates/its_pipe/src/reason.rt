@@ -1,7 +1,7 @@
 //! Why a line can't be read, as a sentence for a person.
 
 use crate::request::{LineFault, QueryKey};
-use its_scenario::{Key, Wrong, WrongOf};
+use its_keys::{Key, Wrong, WrongOf};
 use std::fmt;
 
 /// The sentence of a line that can't be read. Places are told with their unit.

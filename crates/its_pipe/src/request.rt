@@ -2,7 +2,7 @@
 
 use crate::word::LineWord;
 use its_gnvalue::GnAddress;
-use its_scenario::{Key, Wrong};
+use its_keys::{Key, Wrong};
 use its_station::Call;
 use std::fmt;
 

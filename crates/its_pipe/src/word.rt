@@ -3,7 +3,7 @@
 ghost use Rattle.std.specs.Prelude.{◌≡◌, IfNone, IfSome};
 ghost use Rattle.its_pipe.specs.Words.{line_word};
 
-use its_scenario::{Spelled, Verb, nearest};
+use its_keys::{Spelled, Verb, nearest};
 use std::alloc::{AllocError, Global};
 use std::fmt;
 

@@ -116,6 +116,20 @@ fn begin_file<'a, R: Rows + Drop, W: Write + Drop>(
     }
 }
 
+/// Ends the file, where there is one, after a run that ended so.
+fn end_file<'a, R: Rows + Drop, W: Write + Drop>(
+    file: Option<ResultFile<'a, R, W>>,
+    ran: Result<Status, Fault<'a>>,
+) -> Result<Status, Fault<'a>>
+    requires { IfOk ran IsCommandStatus }
+    ensures { IfOk result IsCommandStatus }
+{
+    match file {
+        Some(file) => file.end(ran),
+        None => ran,
+    }
+}
+
 /// Whether a write failed.
 fn is_failure(taken: &Result<(), SimulationFault>) -> bool {
     matches!(taken, Err(SimulationFault::Output(_)))
@@ -236,17 +250,6 @@ impl<'a, W: Write + Drop> Results<'a, W> {
             stations,
             load,
         } = self;
-        let ran = match sends {
-            Some(file) => file.end(ran),
-            None => ran,
-        };
-        let ran = match stations {
-            Some(file) => file.end(ran),
-            None => ran,
-        };
-        match load {
-            Some(file) => file.end(ran),
-            None => ran,
-        }
+        end_file(load, end_file(stations, end_file(sends, ran)))
     }
 }

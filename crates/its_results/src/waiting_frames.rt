@@ -1,7 +1,8 @@
 //! The frames of packets for an area that still have deliveries to come.
 
+use its_events::FileEvent;
 use its_gnvalue::NoMemory;
-use its_scenario::{FileEvent, Scenario};
+use its_scenario::Scenario;
 use its_tally::CarriedPacket;
 use its_world::{Event, What};
 use std::alloc::Global;

@@ -4,9 +4,9 @@ use Rattle.std.specs.Prelude.{Option, Some, None}
 use Rattle.its_model.specs.World.{Config, Event}
 use Rattle.its_world.specs.declared.entry.Entry.{Entry}
 use Rattle.its_world.specs.State.{WorldState}
-use Rattle.its_scenario.specs.declared.air.Air.{Air}
-use Rattle.its_scenario.specs.declared.event.AddressedEvent.{AddressedEvent}
-use Rattle.its_scenario.specs.declared.moves.Moves.{Moves}
+use Rattle.its_settings.specs.declared.air.Air.{Air}
+use Rattle.its_events.specs.declared.event.AddressedEvent.{AddressedEvent}
+use Rattle.its_settings.specs.declared.moves.Moves.{Moves}
 use Rattle.its_scenario.specs.declared.scenario.Scenario.{Scenario}
 use Rattle.its_air.specs.AirTimed.{IsTimedRun}
 use Rattle.its_air.specs.Moving.{IsMovedRun}

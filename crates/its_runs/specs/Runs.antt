@@ -1,17 +1,20 @@
 -- How a command ends that ran a scenario.
-use Rattle.std.specs.Prelude.{◌≡◌, ◌&&◌, List, [], map, Bool, not, if◌then◌else◌}
+use Rattle.std.specs.Prelude.{◌≡◌, ◌&&◌, List, [], map, Bool, true, false, not, if◌then◌else◌}
+use Rattle.std.specs.Prelude.{IfOk, IfSome, Result}
 use Rattle.std.specs.List.{list_all}
 use Rattle.its_world.specs.declared.entry.Entry.{Entry}
 use Rattle.its_world.specs.Entries.{was_done}
 use Rattle.its_world.specs.State.{WorldState}
 use Rattle.its_world.specs.Events.{config_of}
-use Rattle.its_scenario.specs.declared.air.Air.{Air}
+use Rattle.its_settings.specs.declared.air.Air.{Air}
 use Rattle.its_scenario.specs.declared.scenario.Scenario.{Scenario}
-use Rattle.its_scenario.specs.Airs.{end_of}
+use Rattle.its_events.specs.Airs.{end_of}
+use Rattle.its_air.specs.declared.fault.AirFault.{AirFault}
 use Rattle.its_air.specs.AirTimed.{rules_of}
 use Rattle.its_air.specs.Moving.{IsMovedRun}
 use Rattle.its_air.specs.Scenarios.{IsRunOf}
-use Rattle.its_air.specs.Traffics.{all_traffic}
+use Rattle.its_queue.specs.Traffics.{all_traffic}
+use Rattle.its_reporting.specs.Statuses.{IsCommandStatus}
 use Rattle.its_reporting.specs.declared.status.Status.{Status}
 use Rattle.its_reporting.specs.declared.status.Status.TheVariants.{Done, Refused, Failed}
 use Rattle.its_runs.specs.declared.fault.RunFault.{RunFault}
@@ -34,6 +37,15 @@ IsMovedStatus strict s air status =
     × IsMovedRun (rules_of air (all_traffic s.every.items) (end_of air.until []) s.present.items)
     (map config_of s.stations.items) s.moves s.addressed.items air.until world
     (λ events log. status ≡ run_status strict log)
+
+-- How a scenario is run, with the rows of a file where it has moves, and how the run ends: as a
+-- command does, and strict as its own entries say.
+abbrev pub EndsRun : Bool → Scenario → Bool → Result Status AirFault → Type 0
+EndsRun strict scenario has_moves ended =
+    IfOk ended IsCommandStatus
+    × (has_moves ≡ false → IfOk ended (IsRunStatus strict scenario))
+    × (has_moves ≡ true →
+    IfSome scenario.air (λ air. IfOk ended (IsMovedStatus strict scenario air)))
 
 -- the status of what kept a scenario from being run: a bad scenario is refused, and a bad line of
 -- moves, all else failed

@@ -2,6 +2,7 @@
 
 use crate::fault::{RunFault, fault_of_moves};
 use crate::options::RunOptions;
+use its_events::end_of;
 use its_moves::Rows;
 use its_scenario::Scenario;
 use its_world::Event;
@@ -64,7 +65,7 @@ impl<'s, 'a, M: BufRead + Drop> Course<'s, 'a, M> {
         if self.has_moves() {
             return air.until;
         }
-        Some(air.end(self.scenario.file.as_slice()))
+        Some(end_of(air, self.scenario.file.as_slice()))
     }
 }
 

@@ -1,6 +1,7 @@
 //! What the arguments choose beside the scenario.
 
-use its_scenario::{AirSettings, Reading};
+use its_keys::AirSettings;
+use its_scenario::Reading;
 
 /// How a scenario is run.
 #[derive(Clone, Copy, Debug, Default, PartialEq, Eq)]

@@ -1,8 +1,8 @@
 //! The command `sim`.
 
-ghost use Rattle.std.specs.Prelude.{◌≡◌, ◌≤◌, IfOk, IfSome, IsSome, None, true, vec_len};
+ghost use Rattle.std.specs.Prelude.{◌≡◌, ◌≤◌, IfOk, None, is_some, true, vec_len};
 ghost use Rattle.its_reporting.specs.Statuses.{IsCommandStatus};
-ghost use Rattle.its_runs.specs.Runs.{IsRunStatus, IsMovedStatus};
+ghost use Rattle.its_runs.specs.Runs.{EndsRun, IsMovedStatus, IsRunStatus};
 
 use crate::both::Both;
 use crate::course::Course;
@@ -17,7 +17,8 @@ use crate::watched::Watched;
 use its_air::{AirFault, run_moves, run_scenario};
 use its_moves::Rows;
 use its_reporting::{Fault, Io, OutputFormat, Status};
-use its_scenario::{Air, Reading, Scenario};
+use its_scenario::{Reading, Scenario};
+use its_settings::Air;
 use its_simulation::{EventSink, JsonLines, SimulationFault, TextLines};
 use its_tally::Tally;
 use std::alloc::Global;
@@ -130,11 +131,8 @@ fn run<M: BufRead + Drop, F: EventSink + SummaryDetails + Drop, W: Write>(
     out: &mut W,
 ) -> Result<Status, AirFault>
     requires { vec_len course.old.scenario.now.stations ≤ 65535 }
-    ensures command { IfOk result IsCommandStatus }
-    ensures run { course.old.moves ≡ None →
-        IfOk result (IsRunStatus course.old.options.now.strict course.old.scenario.now) }
-    ensures moved { IsSome course.old.moves → IfSome course.old.scenario.now.air (λ air.
-        IfOk result (IsMovedStatus course.old.options.now.strict course.old.scenario.now air)) }
+    ensures ends { EndsRun course.old.options.now.strict course.old.scenario.now
+        (is_some course.old.moves) result }
 {
     if course.options.summary {
         run_summed_up(alloc, course, other, format, out)
@@ -153,11 +151,8 @@ fn run_in_objects<M: BufRead + Drop, F: EventSink + Drop, W: Write>(
     out: &mut W,
 ) -> Result<Status, AirFault>
     requires { vec_len course.old.scenario.now.stations ≤ 65535 }
-    ensures command { IfOk result IsCommandStatus }
-    ensures run { course.old.moves ≡ None →
-        IfOk result (IsRunStatus course.old.options.now.strict course.old.scenario.now) }
-    ensures moved { IsSome course.old.moves → IfSome course.old.scenario.now.air (λ air.
-        IfOk result (IsMovedStatus course.old.options.now.strict course.old.scenario.now air)) }
+    ensures ends { EndsRun course.old.options.now.strict course.old.scenario.now
+        (is_some course.old.moves) result }
 {
     let (notes, strict) = (course.options.notes, course.options.strict);
     let mut lines = JsonLines::new(alloc, out)?.noting(notes);
@@ -175,11 +170,8 @@ fn run_in_words<M: BufRead + Drop, F: EventSink + Drop, W: Write>(
     out: &mut W,
 ) -> Result<Status, AirFault>
     requires { vec_len course.old.scenario.now.stations ≤ 65535 }
-    ensures command { IfOk result IsCommandStatus }
-    ensures run { course.old.moves ≡ None →
-        IfOk result (IsRunStatus course.old.options.now.strict course.old.scenario.now) }
-    ensures moved { IsSome course.old.moves → IfSome course.old.scenario.now.air (λ air.
-        IfOk result (IsMovedStatus course.old.options.now.strict course.old.scenario.now air)) }
+    ensures ends { EndsRun course.old.options.now.strict course.old.scenario.now
+        (is_some course.old.moves) result }
 {
     let (notes, strict) = (course.options.notes, course.options.strict);
     if course.options.heads {
@@ -225,11 +217,8 @@ fn run_summed_up<M: BufRead + Drop, F: EventSink + SummaryDetails + Drop, W: Wri
     out: &mut W,
 ) -> Result<Status, AirFault>
     requires { vec_len course.old.scenario.now.stations ≤ 65535 }
-    ensures command { IfOk result IsCommandStatus }
-    ensures run { course.old.moves ≡ None →
-        IfOk result (IsRunStatus course.old.options.now.strict course.old.scenario.now) }
-    ensures moved { IsSome course.old.moves → IfSome course.old.scenario.now.air (λ air.
-        IfOk result (IsMovedStatus course.old.options.now.strict course.old.scenario.now air)) }
+    ensures ends { EndsRun course.old.options.now.strict course.old.scenario.now
+        (is_some course.old.moves) result }
 {
     let strict = course.options.strict;
     let mut watched = Watched::new(Both {
@@ -256,11 +245,7 @@ fn run_watched<M: BufRead + Drop, S: EventSink>(
 ) -> Result<Status, AirFault>
     requires stations { vec_len course.old.scenario.now.stations ≤ 65535 }
     requires fresh { watched.old.all_done ≡ true }
-    ensures command { IfOk result IsCommandStatus }
-    ensures run { course.old.moves ≡ None →
-        IfOk result (IsRunStatus strict course.old.scenario.now) }
-    ensures moved { IsSome course.old.moves → IfSome course.old.scenario.now.air (λ air.
-        IfOk result (IsMovedStatus strict course.old.scenario.now air)) }
+    ensures ends { EndsRun strict course.old.scenario.now (is_some course.old.moves) result }
 {
     let scenario = course.scenario;
     let Some(air) = &scenario.air else {

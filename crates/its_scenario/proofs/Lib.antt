@@ -1,3 +1,2 @@
-pub mod Bad
 pub mod Said
 pub mod Round

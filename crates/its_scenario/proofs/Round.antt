@@ -4,9 +4,9 @@ use Rattle.std.proofs.Common.{refl, sym, ap, subst, ◌∙◌, inl, inr, arith}
 use Rattle.std.proofs.lemmas.Bool.{cases_eq}
 use Rattle.std.proofs.lemmas.List.{get_or_default, get_or-set_other, get_or-set_same}
 use Rattle.its_gnvalue.specs.Values.{Position}
-use Rattle.its_scenario.specs.Centres.{AllCentred, IsCentred, centred, centred_what}
-use Rattle.its_scenario.specs.declared.event.FileEvent.{FileEvent}
-use Rattle.its_scenario.specs.declared.event.FileEvent.TheVariants as files
+use Rattle.its_events.specs.Centres.{AllCentred, IsCentred, centred, centred_what}
+use Rattle.its_events.specs.declared.event.FileEvent.{FileEvent}
+use Rattle.its_events.specs.declared.event.FileEvent.TheVariants as files
 use Rattle.its_world.specs.declared.event.What.{What}
 use Rattle.its_world.specs.declared.event.What.TheVariants as whats
 

@@ -1,12 +1,3 @@
-pub mod Events
 pub mod Documents
 pub mod Faults
-pub mod Verbs
-pub mod Reading
-pub mod Tables
-pub mod Saying
-pub mod Items
-pub mod Moves
 pub mod Scenarios
-pub mod Airs
-pub mod Centres

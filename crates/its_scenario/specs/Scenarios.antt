@@ -10,14 +10,14 @@ use Rattle.its_keys.specs.Tables.{table_values}
 use Rattle.its_keys.specs.declared.key.Key.TheVariants as keys
 use Rattle.its_keys.specs.declared.settings.AirSettings.{AirSettings}
 use Rattle.its_keys.specs.declared.settings.SetAir.{SetAir}
-use Rattle.its_scenario.specs.Centres.{IsCentred}
-use Rattle.its_scenario.specs.Items.{SayItems, SaysItem, items_if, items_under, members_if}
-use Rattle.its_scenario.specs.Moves.{SaysMoves}
-use Rattle.its_scenario.specs.Saying.{SaysAddressed, SaysAir, SaysEvent, SaysExpectation, SaysFiled}
-use Rattle.its_scenario.specs.Saying.{SaysPresent, SaysStation, SaysTraffic}
-use Rattle.its_scenario.specs.declared.air.Air.{Air}
-use Rattle.its_scenario.specs.declared.document.Tables.{Tables}
-use Rattle.its_scenario.specs.declared.event.FileEvent.{FileEvent}
+use Rattle.its_events.specs.Centres.{IsCentred}
+use Rattle.its_settings.specs.Items.{SayItems, SaysItem, items_if, items_under, members_if}
+use Rattle.its_settings.specs.Moves.{SaysMoves}
+use Rattle.its_events.specs.Saying.{SaysAddressed, SaysEvent, SaysFiled, SaysPresent, SaysStation}
+use Rattle.its_settings.specs.Saying.{SaysAir, SaysExpectation, SaysTraffic}
+use Rattle.its_settings.specs.declared.air.Air.{Air}
+use Rattle.its_scenario.specs.declared.tables.Tables.{Tables}
+use Rattle.its_events.specs.declared.event.FileEvent.{FileEvent}
 use Rattle.its_scenario.specs.declared.scenario.Reading.{Reading}
 use Rattle.its_scenario.specs.declared.scenario.Scenario.{Scenario}
 use Rattle.std.specs.BTreeMap.{BTreeMap}

@@ -5,6 +5,7 @@ ghost use Rattle.its_scenario.specs.Documents.{IsPastToml};
 ghost use Rattle.its_scenario.specs.Faults.{fault_of};
 ghost use Rattle.its_scenario.specs.declared.fault.ScenarioFault.TheVariants.{OutOfMemory};
 
+use crate::part::Part;
 use crate::position::TomlFault;
 use crate::reason::Reason;
 use crate::unknown::UnknownKey;
@@ -41,24 +42,9 @@ pub enum ScenarioFault {
     /// There are more stations than are taken.
     #[error("scenario: too many stations")]
     TooManyStations,
-    /// A key of a station, counted from 0, is missing, of another kind or out of range.
-    #[error("scenario: station {0}: {1}")]
-    Station(usize, Key, Wrong),
-    /// A key of the air is missing, of another kind or out of range.
-    #[error("scenario: air: {0}")]
-    AirKey(Key, Wrong),
-    /// A key of a traffic, counted from 0, is missing, of another kind or out of range.
-    #[error("scenario: every {0}: {1}")]
-    EveryKey(usize, Key, Wrong),
-    /// A key of how moves are read is of another kind or out of range.
-    #[error("scenario: moves: {0}")]
-    MovesKey(Key, Wrong),
-    /// A key of an event, counted from 0, is missing, of another kind or out of range.
-    #[error("scenario: event {0}: {1}")]
-    Event(usize, Key, Wrong),
-    /// A key of what is expected, counted from 0, is missing, of another kind or out of range.
-    #[error("scenario: expect {0}: {1}")]
-    Expectation(usize, Key, Wrong),
+    /// A key of a table is missing, of another kind or out of range.
+    #[error("scenario: {0}: {1}")]
+    Key(Part, Key, Wrong),
     /// A key is none of the words of its table.
     #[error("scenario: {0}")]
     Unknown(UnknownKey),
@@ -81,62 +67,12 @@ impl ScenarioFault {
         }
     }
 
-    /// The fault of the scenario whose station of this number has the key.
-    pub(crate) fn of_station(fault: KeyFault, number: usize) -> ScenarioFault
+    /// The fault of the scenario of which this part has the key.
+    pub(crate) fn of_key(fault: KeyFault, part: Part) -> ScenarioFault
         ensures { IsPastToml result }
     {
         match fault {
-            KeyFault::Refused(key, wrong) => ScenarioFault::Station(number, key, wrong),
-            KeyFault::OutOfMemory => ScenarioFault::OutOfMemory,
-        }
-    }
-
-    /// The fault of the scenario whose air has the key.
-    pub(crate) fn of_air(fault: KeyFault) -> ScenarioFault
-        ensures { IsPastToml result }
-    {
-        match fault {
-            KeyFault::Refused(key, wrong) => ScenarioFault::AirKey(key, wrong),
-            KeyFault::OutOfMemory => ScenarioFault::OutOfMemory,
-        }
-    }
-
-    /// The fault of the scenario whose traffic of this number has the key.
-    pub(crate) fn of_every(fault: KeyFault, number: usize) -> ScenarioFault
-        ensures { IsPastToml result }
-    {
-        match fault {
-            KeyFault::Refused(key, wrong) => ScenarioFault::EveryKey(number, key, wrong),
-            KeyFault::OutOfMemory => ScenarioFault::OutOfMemory,
-        }
-    }
-
-    /// The fault of the scenario of whose moves the key is.
-    pub(crate) fn of_moves(fault: KeyFault) -> ScenarioFault
-        ensures { IsPastToml result }
-    {
-        match fault {
-            KeyFault::Refused(key, wrong) => ScenarioFault::MovesKey(key, wrong),
-            KeyFault::OutOfMemory => ScenarioFault::OutOfMemory,
-        }
-    }
-
-    /// The fault of the scenario whose event of this number has the key.
-    pub(crate) fn of_event(fault: KeyFault, number: usize) -> ScenarioFault
-        ensures { IsPastToml result }
-    {
-        match fault {
-            KeyFault::Refused(key, wrong) => ScenarioFault::Event(number, key, wrong),
-            KeyFault::OutOfMemory => ScenarioFault::OutOfMemory,
-        }
-    }
-
-    /// The fault of the scenario of which something is expected, of this number, that has the key.
-    pub(crate) fn of_expectation(fault: KeyFault, number: usize) -> ScenarioFault
-        ensures { IsPastToml result }
-    {
-        match fault {
-            KeyFault::Refused(key, wrong) => ScenarioFault::Expectation(number, key, wrong),
+            KeyFault::Refused(key, wrong) => ScenarioFault::Key(part, key, wrong),
             KeyFault::OutOfMemory => ScenarioFault::OutOfMemory,
         }
     }

@@ -20,12 +20,7 @@ impl fmt::Display for Reason<'_> {
             ScenarioFault::Air(wrong) => WrongOf(Key::Air, *wrong).fmt(f),
             ScenarioFault::Moves => WrongOf(Key::Moves, Wrong::Kind).fmt(f),
             ScenarioFault::TooManyStations => f.write_str("more than the command takes"),
-            ScenarioFault::Station(_, key, wrong)
-            | ScenarioFault::AirKey(key, wrong)
-            | ScenarioFault::EveryKey(_, key, wrong)
-            | ScenarioFault::MovesKey(key, wrong)
-            | ScenarioFault::Expectation(_, key, wrong)
-            | ScenarioFault::Event(_, key, wrong) => WrongOf(*key, *wrong).fmt(f),
+            ScenarioFault::Key(_, key, wrong) => WrongOf(*key, *wrong).fmt(f),
             ScenarioFault::Unknown(key) => match key.nearest() {
                 Some(word) => write!(f, "did you mean '{word}'?"),
                 None => f.write_str("not a key of its table"),

@@ -1,16 +1,13 @@
 //! Scenarios, and how they are read.
 
 ghost use Rattle.std.specs.Prelude.{◌≡◌, All, vec_len};
-ghost use Rattle.its_scenario.specs.Events.{FitsEvent, FitsFileEvent};
+ghost use Rattle.its_events.specs.Events.{FitsEvent, FitsFileEvent};
 ghost use Rattle.its_world.specs.Events.{IsConfig};
 ghost use Rattle.its_world.specs.Mids.{AreApart};
 
-use crate::air::Air;
-use crate::event::{AddressedEvent, FileEvent};
-use crate::expectation::Expectation;
-use crate::moves::Moves;
-use crate::traffic::Traffic;
+use its_events::{AddressedEvent, FileEvent};
 use its_keys::AirSettings;
+use its_settings::{Air, Expectation, Moves, Traffic};
 use its_world::{Config, Event};
 
 /// Stations, the air, events and what is expected, in the order of the document.

@@ -4,36 +4,19 @@ ghost use Rattle.its_scenario.specs.Documents.{IsPastToml};
 ghost use Rattle.std.specs.Prelude.{◌≡◌, IfErr};
 
 use crate::fault::ScenarioFault;
+use crate::part::Part;
 use crate::table_keys::{EVENT_KEYS, SCENARIO_KEYS, STATION_KEYS};
 use its_keys::{Key, nearest};
 use std::alloc::{AllocError, Global};
 use std::fmt;
 use toml::{Table, Value};
 
-/// The table that a key stands in: the scenario's own, or one of those in it, counted from 0.
-#[derive(Clone, Copy, Debug, PartialEq, Eq)]
-pub enum Owner {
-    /// The scenario.
-    Scenario,
-    /// A station.
-    Station(usize),
-    /// An event.
-    Event(usize),
-    /// The air.
-    Air,
-    /// Traffic of the air.
-    Every(usize),
-    /// How moves are read.
-    Moves,
-    /// Something that is expected.
-    Expectation(usize),
-}
-
 /// A key that is none of the words of its table. It prints as its place in the scenario: `air: hop`,
 /// `expect 0: sent`, or `unknown: station 3: lattitude` where only a strict reading refuses it.
 #[derive(Debug, Drop, PartialEq, Eq)]
 pub struct UnknownKey {
-    owner: Owner,
+    /// The part of the scenario that has it. `None` for the scenario itself.
+    part: Option<Part>,
     name: String,
     nearest: Option<Key>,
 }
@@ -42,12 +25,12 @@ impl UnknownKey {
     /// The key of this name, of a table of these words.
     fn of(
         alloc: Global,
-        owner: Owner,
+        part: Option<Part>,
         name: &str,
         known: &[Key],
     ) -> Result<UnknownKey, AllocError> {
         Ok(UnknownKey {
-            owner,
+            part,
             name: String::from_str(alloc, name)?,
             nearest: nearest(alloc, name, known)?,
         })
@@ -65,16 +48,17 @@ impl UnknownKey {
 impl fmt::Display for UnknownKey {
     fn fmt<W: fmt::Write>(&self, f: &mut fmt::Formatter<W>) -> fmt::Result {
         let name = self.name.as_str();
-        match self.owner {
-            Owner::Scenario => write!(f, "unknown: {name}"),
-            Owner::Station(number) => write!(f, "unknown: station {number}: {name}"),
-            Owner::Event(number) => write!(f, "unknown: event {number}: {name}"),
-            Owner::Air => write!(f, "air: {name}"),
-            Owner::Every(number) => write!(f, "every {number}: {name}"),
-            Owner::Moves => write!(f, "moves: {name}"),
-            Owner::Expectation(number) => write!(f, "expect {number}: {name}"),
+        match self.part {
+            None => write!(f, "unknown: {name}"),
+            Some(part) if is_strict_alone(part) => write!(f, "unknown: {part}: {name}"),
+            Some(part) => write!(f, "{part}: {name}"),
         }
     }
+}
+
+/// Whether an unknown key of a part is refused by a strict reading alone.
+fn is_strict_alone(part: Part) -> bool {
+    matches!(part, Part::Station(_) | Part::Event(_))
 }
 
 /// Whether a name is one of these words.
@@ -92,17 +76,30 @@ fn first_unknown<'a>(table: &'a Table, known: &[Key]) -> Option<&'a str> {
     None
 }
 
-/// Refuses a table that has a key that is none of these words: the first, by its octets, is told.
+/// Refuses a part of the scenario that has a key that is none of these words: the first, by its
+/// octets, is told.
 pub(crate) fn refuse_unknown(
     alloc: Global,
     table: &Table,
     known: &[Key],
-    owner: Owner,
+    part: Part,
+) -> Result<(), ScenarioFault>
+    ensures { IfErr result IsPastToml }
+{
+    refuse_unknown_of(alloc, table, known, Some(part))
+}
+
+/// The same of a part or of the scenario itself.
+fn refuse_unknown_of(
+    alloc: Global,
+    table: &Table,
+    known: &[Key],
+    part: Option<Part>,
 ) -> Result<(), ScenarioFault>
     ensures { IfErr result IsPastToml }
 {
     match first_unknown(table, known) {
-        Some(name) => Err(ScenarioFault::Unknown(UnknownKey::of(alloc, owner, name, known)?)),
+        Some(name) => Err(ScenarioFault::Unknown(UnknownKey::of(alloc, part, name, known)?)),
         None => Ok(()),
     }
 }
@@ -117,9 +114,9 @@ pub(crate) fn refuse_all_unknown(
 ) -> Result<(), ScenarioFault>
     ensures { IfErr result IsPastToml }
 {
-    refuse_unknown(alloc, document, &SCENARIO_KEYS, Owner::Scenario)?;
+    refuse_unknown_of(alloc, document, &SCENARIO_KEYS, None)?;
     for (number, station) in stations.iter().enumerate() {
-        refuse_unknown_in(alloc, station, &STATION_KEYS, Owner::Station(number))?;
+        refuse_unknown_in(alloc, station, &STATION_KEYS, Part::Station(number))?;
     }
     refuse_unknown_events(alloc, events)
 }
@@ -129,7 +126,7 @@ fn refuse_unknown_events(alloc: Global, events: &[Value]) -> Result<(), Scenario
     ensures { IfErr result IsPastToml }
 {
     for (number, event) in events.iter().enumerate() {
-        refuse_unknown_in(alloc, event, &EVENT_KEYS, Owner::Event(number))?;
+        refuse_unknown_in(alloc, event, &EVENT_KEYS, Part::Event(number))?;
     }
     Ok(())
 }
@@ -139,12 +136,12 @@ fn refuse_unknown_in(
     alloc: Global,
     item: &Value,
     known: &[Key],
-    owner: Owner,
+    part: Part,
 ) -> Result<(), ScenarioFault>
     ensures { IfErr result IsPastToml }
 {
     match item {
-        Value::Table(table) => refuse_unknown(alloc, table, known, owner),
+        Value::Table(table) => refuse_unknown(alloc, table, known, part),
         _ => Ok(()),
     }
 }

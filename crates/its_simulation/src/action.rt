@@ -1,6 +1,6 @@
 //! What an event does, in a word.
 
-use its_scenario::verb_of;
+use its_events::verb_of;
 use its_world::What;
 use std::fmt;
 

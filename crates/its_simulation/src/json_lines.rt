@@ -7,7 +7,7 @@ use crate::record::{EventLine, EventRecord};
 use crate::sink::EventSink;
 use its_gnvalue::{GnAddress, Place};
 use its_json::{Digits, JsonLine};
-use its_scenario::Air;
+use its_settings::Air;
 use its_world::{Config, Entry, World};
 use serde::{Described, Serialize, Serializer};
 use std::alloc::{AllocError, Global};

@@ -5,8 +5,8 @@ ghost use Rattle.its_world.specs.Events.{event_of};
 ghost use Rattle.its_simulation.specs.Records.{happening_in, IsRecordOf};
 
 use crate::entry::{EntryKeys, entry_keys};
+use its_events::verb_of;
 use its_json::Octets;
-use its_scenario::verb_of;
 use its_world::{Entry, Event, What, World};
 use serde::Serialize;
 

@@ -2,9 +2,9 @@ use Rattle.std.proofs.Common.{rules, ◌∙◌, take_all}
 use denote.Ref.{Bor}
 use Rattle.std.proofs.lemmas.Fn.{always_returns_same}
 use Rattle.std.proofs.lemmas.List.Sorted.{All-permutation, IsNonDecreasingBy-from_sort_by_key}
-use Rattle.its_scenario.specs.Airs.{moment_of}
-use Rattle.its_scenario.specs.Events.{FitsFileEvent}
-use Rattle.its_scenario.specs.declared.event.AddressedEvent.{AddressedEvent}
+use Rattle.its_events.specs.Airs.{moment_of}
+use Rattle.its_events.specs.Events.{FitsFileEvent}
+use Rattle.its_events.specs.declared.event.AddressedEvent.{AddressedEvent}
 use Rattle.its_air.proofs.Outside.{by_moment}
 use Rattle.its_air.proofs.moving.in_order.Goals as goal
 

@@ -1,7 +1,7 @@
 use Rattle.std.specs.Prelude.{◌≡◌, All, map, take}
 use denote.Ref.{Bor}
-use Rattle.its_scenario.specs.Events.{FitsFileEvent}
-use Rattle.its_scenario.specs.declared.event.AddressedEvent.{AddressedEvent}
+use Rattle.its_events.specs.Events.{FitsFileEvent}
+use Rattle.its_events.specs.declared.event.AddressedEvent.{AddressedEvent}
 use Rattle.its_air.proofs.moving.in_order.Given as goal
 
 -- those so far, with their numbers in their ranges

@@ -1,18 +1,18 @@
 use Rattle.std.proofs.Common.{◌≡◌, ◌∙◌, ℕ, [], List, map, length, sym, subst, ap, arith, Option}
 use Rattle.std.proofs.lemmas.List.{length-map}
 use Rattle.its_model.specs.World.{Config}
-use Rattle.its_scenario.specs.Airs.{end_of}
+use Rattle.its_events.specs.Airs.{end_of}
 use Rattle.its_world.specs.Events.{config_of}
 use Rattle.its_air.specs.AirTimed.{rules_of}
 use Rattle.its_air.specs.Moving.{IsMovedRun}
 use Rattle.its_places.specs.PlaceIndexes.{AreStandingsOf}
 use Rattle.its_air_model.specs.Timetable.{Rules}
-use Rattle.its_air.specs.Traffics.{all_traffic}
+use Rattle.its_queue.specs.Traffics.{all_traffic}
 use Rattle.its_air.specs.UnderRows.{IsUnderSome, end_in}
 use Rattle.its_air.specs.declared.run.Run.{Run}
 use Rattle.its_air.specs.Outside.{IsByMoment}
-use Rattle.its_scenario.specs.declared.event.AddressedEvent.{AddressedEvent}
-use Rattle.its_scenario.specs.declared.moves.Moves.{Moves}
+use Rattle.its_events.specs.declared.event.AddressedEvent.{AddressedEvent}
+use Rattle.its_settings.specs.declared.moves.Moves.{Moves}
 use Rattle.std.specs.Prelude.{Vec}
 use Rattle.std.specs.declared.alloc.Global.{Global}
 use denote.Ref.{Bor}

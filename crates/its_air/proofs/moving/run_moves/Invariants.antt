@@ -1,9 +1,9 @@
 use Rattle.std.specs.Prelude.{◌≡◌, [], map}
-use Rattle.its_scenario.specs.Airs.{end_of}
+use Rattle.its_events.specs.Airs.{end_of}
 use Rattle.its_world.specs.Events.{config_of}
 use Rattle.its_air.specs.AirTimed.{rules_of}
 use Rattle.its_places.specs.PlaceIndexes.{AreStandingsOf}
-use Rattle.its_air.specs.Traffics.{all_traffic}
+use Rattle.its_queue.specs.Traffics.{all_traffic}
 use Rattle.its_air.specs.Outside.{IsByMoment}
 use Rattle.its_air.specs.UnderRows.{IsUnderSome, asked_in}
 use Rattle.its_air.proofs.moving.run_moves.Given as goal

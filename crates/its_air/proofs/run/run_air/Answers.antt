@@ -2,9 +2,9 @@ use Rattle.std.proofs.Common.{◌≤◌, [], map, length, sym, subst}
 use Rattle.std.specs.Prelude.{Vec, All}
 use Rattle.std.specs.declared.alloc.Global.{Global}
 use denote.Ref.{Bor}
-use Rattle.its_scenario.specs.declared.event.FileEvent.{FileEvent}
+use Rattle.its_events.specs.declared.event.FileEvent.{FileEvent}
 use Rattle.its_world.specs.Events.{config_of}
-use Rattle.its_scenario.specs.Airs.{end_of}
+use Rattle.its_events.specs.Airs.{end_of}
 use Rattle.its_air.specs.AirRun.{AreDue}
 use Rattle.its_air.specs.Queues.{filed_in, filed_of, IsFiledInRange}
 use Rattle.its_air.proofs.Under.{begins, ended}
@@ -12,7 +12,7 @@ use Rattle.std.proofs.Common.{Bool, false, suc}
 use Rattle.its_air.specs.AirTimed.{rules_of}
 use Rattle.its_air.specs.Keeps.{GoesOn}
 use Rattle.its_air_model.specs.Timetable.{air_opening, air_run}
-use Rattle.its_air.specs.Traffics.{all_traffic}
+use Rattle.its_queue.specs.Traffics.{all_traffic}
 use Rattle.its_air.proofs.run.run_air.Goals as goal
 
 pub loop-init : goal.loop-init

@@ -2,7 +2,7 @@ use Rattle.std.proofs.Common.{◌≡◌, ℕ, List, [], map}
 use Rattle.std.specs.Prelude.{All}
 use Rattle.its_model.specs.World.{Event}
 use Rattle.its_world.specs.Events.{config_of}
-use Rattle.its_scenario.specs.Airs.{end_of}
+use Rattle.its_events.specs.Airs.{end_of}
 use Rattle.its_air.specs.AirRun.{AreDue}
 use Rattle.its_air.specs.Files.{filed_due}
 use Rattle.its_air.specs.AirTimed.{rules_of}
@@ -11,7 +11,7 @@ use Rattle.its_air.specs.Queues.{IsFiledInRange, filed_of}
 use Rattle.its_air.specs.Runs.{IsUnderWay}
 use Rattle.its_places.specs.PlaceIndexes.{AreStandingsOf}
 use Rattle.its_air_model.specs.Timetable.{air_opening, air_run}
-use Rattle.its_air.specs.Traffics.{all_traffic}
+use Rattle.its_queue.specs.Traffics.{all_traffic}
 use Rattle.its_air.proofs.run.run_air.Given as goal
 
 -- the run is under way, and the events and leaves of the file are those that wait

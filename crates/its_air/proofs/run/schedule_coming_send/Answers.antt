@@ -2,7 +2,7 @@ use Rattle.std.proofs.Common.{◌≡◌, ◌∙◌, sym, subst, Bool, cond, true
 use Rattle.std.specs.Prelude.{OnOk}
 use Rattle.its_air.specs.Keeps.{Keeps}
 use Rattle.its_air_model.specs.Timetable.{schedule_send, none_waits, is_send_of}
-use Rattle.its_air.specs.Traffics.{traffic_of}
+use Rattle.its_queue.specs.Traffics.{traffic_of}
 use Rattle.its_air.proofs.Counting.{no_send_waits}
 use Rattle.its_air.proofs.run.schedule_coming_send.Goals as goal
 

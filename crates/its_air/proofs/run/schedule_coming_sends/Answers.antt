@@ -1,10 +1,10 @@
 use Rattle.std.proofs.Common.{◌≡◌, ◌+◌, ◌∷◌, ◌++◌, ◌∙◌, [], List, rules, arith, ap, sym, subst}
 use Rattle.std.proofs.Common.{take, take_all}
 use Rattle.std.proofs.lemmas.List.{take_more, length-take-le}
-use Rattle.its_scenario.specs.declared.traffic.Traffic.{Traffic as Flow}
+use Rattle.its_settings.specs.declared.traffic.Traffic.{Traffic as Flow}
 use Rattle.its_air.specs.Keeps.{Keeps}
 use Rattle.its_air_model.specs.Timetable.{Timetable, Traffic, come_sending_all, come_sending}
-use Rattle.its_air.specs.Traffics.{all_traffic, traffic_of}
+use Rattle.its_queue.specs.Traffics.{all_traffic, traffic_of}
 use Rattle.its_air.proofs.Keeping.{traffic_more, coming_more}
 use Rattle.its_air.proofs.run.schedule_coming_sends.Goals as goal
 

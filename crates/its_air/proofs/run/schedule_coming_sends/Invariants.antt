@@ -2,7 +2,7 @@ use Rattle.std.proofs.Common.{take}
 use Rattle.its_air.specs.Files.{SameFile}
 use Rattle.its_air.specs.Keeps.{Keeps}
 use Rattle.its_air_model.specs.Timetable.{Timetable, come_sending_all}
-use Rattle.its_air.specs.Traffics.{all_traffic}
+use Rattle.its_queue.specs.Traffics.{all_traffic}
 use Rattle.its_air.proofs.run.schedule_coming_sends.Given as goal
 
 -- the file waits as before, and the sends of each traffic so far

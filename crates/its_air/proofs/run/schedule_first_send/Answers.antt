@@ -2,7 +2,7 @@ use Rattle.std.proofs.Common.{◌≡◌, sym, subst, rules, Bool, cond, true, fa
 use Rattle.std.specs.Prelude.{OnOk}
 use Rattle.its_air.specs.Keeps.{Keeps}
 use Rattle.its_air_model.specs.Timetable.{is_present, schedule_send}
-use Rattle.its_air.specs.Traffics.{traffic_of}
+use Rattle.its_queue.specs.Traffics.{traffic_of}
 use Rattle.its_air.proofs.run.schedule_first_send.Goals as goal
 
 pub returns-then-is_present-clause-send : goal.returns-then-is_present-clause-send

@@ -1,7 +1,7 @@
 use Rattle.its_air.specs.Files.{SameFile}
 use Rattle.its_air.specs.Keeps.{Keeps}
 use Rattle.its_air_model.specs.Timetable.{Timetable, schedule_first_sends}
-use Rattle.its_air.specs.Traffics.{traffic_of}
+use Rattle.its_queue.specs.Traffics.{traffic_of}
 use Rattle.its_air.proofs.run.schedule_first_sends.Given as goal
 
 -- the file waits as before, and the sends of the stations so far

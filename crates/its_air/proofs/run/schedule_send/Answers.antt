@@ -1,8 +1,8 @@
 use Rattle.std.proofs.Common.{◌≡◌, ◌+◌, ◌%◌, ◌∙◌, refl, ap, sym, ◌∷◌, IsPermutation}
-use Rattle.its_air.specs.declared.waiting.Scheduled.{Scheduled}
-use Rattle.its_air.specs.declared.waiting.AirAction.TheVariants as owns
+use Rattle.its_queue.specs.declared.scheduled.Scheduled.{Scheduled}
+use Rattle.its_queue.specs.declared.scheduled.AirAction.TheVariants as owns
 use Rattle.its_air_model.specs.Timetable.{schedule_send, sending, draw}
-use Rattle.its_air.specs.Traffics.{traffic_of}
+use Rattle.its_queue.specs.Traffics.{traffic_of}
 use Rattle.its_air.specs.Keeps.{Keeps}
 use Rattle.its_air.proofs.Keeping.{keeps_put, drawn_is, on_ok_both}
 use Rattle.its_air.proofs.run.schedule_send.Goals as goal

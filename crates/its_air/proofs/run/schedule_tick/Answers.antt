@@ -1,7 +1,7 @@
 use Rattle.std.proofs.Common.{◌≡◌, ◌+◌, ◌%◌, ◌∙◌, max, refl, arith, ap, sym}
 use Rattle.std.proofs.Common.{◌∷◌, IsPermutation}
-use Rattle.its_air.specs.declared.waiting.Scheduled.{Scheduled}
-use Rattle.its_air.specs.declared.waiting.AirAction.TheVariants as owns
+use Rattle.its_queue.specs.declared.scheduled.Scheduled.{Scheduled}
+use Rattle.its_queue.specs.declared.scheduled.AirAction.TheVariants as owns
 use Rattle.its_air_model.specs.Timetable.{schedule_tick, tick, draw}
 use Rattle.its_air.specs.Keeps.{Keeps}
 use Rattle.its_air.proofs.Keeping.{keeps_put, tick_is, drawn_is, on_ok_both}

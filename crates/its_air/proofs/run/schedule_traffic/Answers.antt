@@ -1,11 +1,11 @@
 use Rattle.std.proofs.Common.{◌≡◌, ◌+◌, ◌∷◌, ◌++◌, ◌∙◌, [], List, rules, arith, ap, sym, subst}
 use Rattle.std.proofs.Common.{take, take_all}
 use Rattle.std.proofs.lemmas.List.{take_more, length-take-le}
-use Rattle.its_scenario.specs.declared.traffic.Traffic.{Traffic as Flow}
+use Rattle.its_settings.specs.declared.traffic.Traffic.{Traffic as Flow}
 use Rattle.its_air.specs.Keeps.{Keeps}
 use Rattle.its_air_model.specs.Timetable.{Timetable, Traffic, schedule_traffic}
 use Rattle.its_air_model.specs.Timetable.{schedule_first_sends}
-use Rattle.its_air.specs.Traffics.{all_traffic, traffic_of}
+use Rattle.its_queue.specs.Traffics.{all_traffic, traffic_of}
 use Rattle.its_air.proofs.Keeping.{traffic_more, first_sends_more}
 use Rattle.its_air.proofs.run.schedule_traffic.Goals as goal
 

@@ -2,7 +2,7 @@ use Rattle.std.proofs.Common.{take}
 use Rattle.its_air.specs.Files.{SameFile}
 use Rattle.its_air.specs.Keeps.{Keeps}
 use Rattle.its_air_model.specs.Timetable.{Timetable, schedule_traffic}
-use Rattle.its_air.specs.Traffics.{all_traffic}
+use Rattle.its_queue.specs.Traffics.{all_traffic}
 use Rattle.its_air.proofs.run.schedule_traffic.Given as goal
 
 -- the file waits as before, and the sends of each traffic so far

@@ -1,7 +1,7 @@
 use Rattle.std.proofs.Common.{◌≡◌, ◌∙◌, ◌⊎◌, ℕ, true, subst, inl, inr, length}
 use Rattle.its_gnvalue.specs.Values.{Position}
-use Rattle.its_scenario.specs.Airs.{moment_of}
-use Rattle.its_scenario.specs.Centres.{centred}
+use Rattle.its_events.specs.Airs.{moment_of}
+use Rattle.its_events.specs.Centres.{centred}
 use Rattle.its_air.specs.Moving.{DoesAt}
 use Rattle.its_air.proofs.Keeping.{on_ok}
 use Rattle.its_air.proofs.Outside.{comes_of}

@@ -1,9 +1,9 @@
 use Rattle.std.proofs.Common.{◌≡◌, ℕ, List, Bool, rules, All, get_or, length, subst}
 use Rattle.std.proofs.lemmas.List.Elements.{All-set}
 use Rattle.its_scenario.proofs.Round.{centred_at}
-use Rattle.its_scenario.specs.Centres.{IsCentred}
-use Rattle.its_scenario.specs.Events.{FitsFileEvent}
-use Rattle.its_scenario.specs.declared.event.FileEvent.{FileEvent}
+use Rattle.its_events.specs.Centres.{IsCentred}
+use Rattle.its_events.specs.Events.{FitsFileEvent}
+use Rattle.its_events.specs.declared.event.FileEvent.{FileEvent}
 use Rattle.its_scenario.proofs.centre.centre_areas.Goals as goal
 
 pub loop-line-preserved-then-line-file : goal.loop-line-preserved-then-line-file

@@ -1,6 +1,6 @@
 use Rattle.std.proofs.Common.{All}
-use Rattle.its_scenario.specs.Centres.{AllCentred}
-use Rattle.its_scenario.specs.Events.{FitsFileEvent}
+use Rattle.its_events.specs.Centres.{AllCentred}
+use Rattle.its_events.specs.Events.{FitsFileEvent}
 use Rattle.its_scenario.proofs.centre.centre_areas.Given as goal
 
 -- each line is as it was or has a centre, and the numbers are in their ranges, if they were

@@ -2,7 +2,7 @@ use Rattle.std.proofs.Common.{◌≡◌, ◌≤◌, ◌+◌, ◌∙◌, ℕ, ref
 use Rattle.its_air.specs.Moving.{IsMoving, IsTaken}
 use Rattle.its_air.specs.UnderRows.{ComesFrom, end_in, turn_in}
 use Rattle.its_air.specs.declared.run.Run.{Run}
-use Rattle.its_air.specs.declared.waiting.Scheduled.{Scheduled}
+use Rattle.its_queue.specs.declared.scheduled.Scheduled.{Scheduled}
 use Rattle.its_air.proofs.Moved.{ended, is_next, is_taken, still_taken}
 use Rattle.its_air.proofs.UnderRows.{comes_later, end_given, from_coming, is_last_of, is_next_of}
 use Rattle.its_air.proofs.UnderRows.{limits, none_until, own_under, same_end}

@@ -6,7 +6,7 @@ use Rattle.its_air_model.specs.Draws.{draws_of}
 use Rattle.its_air.specs.Keeps.{Keeps}
 use Rattle.its_air_model.specs.Timetable.{Timetable, of_file, schedule_all, schedule_first_ticks}
 use Rattle.its_air_model.specs.Timetable.{schedule_traffic}
-use Rattle.its_air.specs.Traffics.{all_traffic}
+use Rattle.its_queue.specs.Traffics.{all_traffic}
 use Rattle.its_air.proofs.Stepping.{keeps_opening}
 use Rattle.its_air.proofs.run.Run.begin.Goals.{then-air, else-air}
 use Rattle.its_air.proofs.run.Run.begin.Goals as goal
@@ -23,7 +23,7 @@ returns-clause-timed c =
           air.seed;
     } in
     let kept : Keeps c.in_ok-queue.queue c.of_seed-draws.result t =
-    keeps_opening c.in_ok-queue.queue c.of_seed-draws.result file c.end.result air.seed
+    keeps_opening c.in_ok-queue.queue c.of_seed-draws.result file c.end_of.result air.seed
     c.in_ok-queue.ensures.due c.in_ok-queue.ensures.start empty.0 empty.1 empty.2
     c.of_seed-draws.ensures in
     let many : length configs ≡ length (map config_of configs) = sym (length-map configs config_of)

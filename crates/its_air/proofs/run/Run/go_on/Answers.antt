@@ -1,7 +1,7 @@
 use Rattle.std.proofs.Common.{◌≡◌, ◌≤◌, ◌∙◌, ◌++◌, ap, subst, refl}
 use Rattle.its_air_model.specs.Timetable.{Rules}
-use Rattle.its_air.specs.Queues.{delivery_of}
-use Rattle.its_air.specs.Waits.{pending_of}
+use Rattle.its_queue.specs.Waiting.{delivery_of}
+use Rattle.its_queue.specs.Waits.{pending_of}
 use Rattle.its_air.proofs.Keeping.{goes_on}
 use Rattle.its_air.proofs.Stepping.{same_timed, takes_own, timed_one, without_first}
 use Rattle.its_air.proofs.Under.{same_under, under_own}

@@ -1,6 +1,6 @@
 use Rattle.std.proofs.Common.{◌≡◌, ◌+◌, ◌∙◌, sym, subst, List, ℕ, Some}
 use Rattle.std.specs.Prelude.{OnOk}
-use Rattle.its_scenario.specs.declared.air.Air.{Air}
+use Rattle.its_settings.specs.declared.air.Air.{Air}
 use Rattle.its_world.specs.Events.{event_of}
 use Rattle.its_air.specs.Files.{SameFile}
 use Rattle.its_air.specs.Keeps.{Keeps}

@@ -1,10 +1,10 @@
 use Rattle.std.proofs.Common.{◌≡◌, ◌+◌, ◌∷◌, refl, ap, subst, rules, IsPermutation}
 use Rattle.std.specs.Prelude.{slice_get, OnOk}
-use Rattle.its_air.specs.declared.waiting.Scheduled.{Scheduled}
-use Rattle.its_air.specs.declared.waiting.AirAction.TheVariants as owns
+use Rattle.its_queue.specs.declared.scheduled.Scheduled.{Scheduled}
+use Rattle.its_queue.specs.declared.scheduled.AirAction.TheVariants as owns
 use Rattle.its_air.specs.Keeps.{Keeps, follow_own}
 use Rattle.its_air_model.specs.Timetable.{Timetable, is_refusal, sending}
-use Rattle.its_air.specs.Traffics.{traffic_of}
+use Rattle.its_queue.specs.Traffics.{traffic_of}
 use Rattle.its_air.proofs.Following.{follows_tick, follows_delivery, follows_send}
 use Rattle.its_air.proofs.Keeping.{keeps_put_alone, on_ok_both}
 use Rattle.its_air.proofs.run.Run.schedule_next.Goals as goal

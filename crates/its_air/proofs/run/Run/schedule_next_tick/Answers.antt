@@ -3,7 +3,7 @@ use Rattle.std.proofs.Common.{true≢false}
 use Rattle.std.specs.Prelude.{slice_get, OnOk}
 use Rattle.its_model.specs.Station.{StationModel}
 use Rattle.its_world.proofs.Worlds.{get_station}
-use Rattle.its_air.specs.Queues.{happening_of}
+use Rattle.its_queue.specs.Waiting.{happening_of}
 use Rattle.its_air.specs.Keeps.{Keeps}
 use Rattle.its_air_model.specs.Timetable.{Timetable, is_refusal, tick_again, schedule_tick}
 use Rattle.its_air.proofs.Keeping.{beacon_same, no_model, either, found_some, found_none}

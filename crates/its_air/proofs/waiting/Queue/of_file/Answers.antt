@@ -2,8 +2,8 @@ use Rattle.std.proofs.Common.{rules, refl, sym, ◌+◌, List, ◌≤◌, ◌<�
 use denote.Ref.{Bor}
 use Rattle.std.proofs.lemmas.List.Sorted.{All-permutation, IsNonDecreasingBy-from_sort_by_key}
 use Rattle.std.proofs.lemmas.Fn.{always_returns_same}
-use Rattle.its_scenario.specs.Airs.{moment_of}
-use Rattle.its_scenario.specs.declared.event.FileEvent.{FileEvent}
+use Rattle.its_events.specs.Airs.{moment_of}
+use Rattle.its_events.specs.declared.event.FileEvent.{FileEvent}
 use Rattle.its_air.specs.Queues.{IsFiledInRange}
 use Rattle.its_air.proofs.Files.{Kept, kept_push, kept_skip, due_in_order}
 use Rattle.its_air.proofs.waiting.Queue.of_file.Goals.{then-moment-until+in_ok-push}

@@ -1,0 +1,5 @@
+pub mod Traffics
+pub mod Waiting
+pub mod Counted
+pub mod Line
+pub mod Waits
