@@ -4,6 +4,7 @@ mod air;
 mod events;
 mod stations;
 
+use its_events::end_of;
 use its_scenario::{Scenario, ScenarioFault};
 use std::alloc::Global;
 use std::process::Abort;
@@ -49,7 +50,9 @@ fn told(alloc: Global, text: &str, part: Part) -> Result<String, Fail> {
         }
         Part::Air => format!(in alloc; "{:?}", scenario.air)?,
         Part::End => {
-            let end = scenario.air.map(|air| air.end(scenario.file.as_slice()));
+            let end = scenario
+                .air
+                .map(|air| end_of(&air, scenario.file.as_slice()));
             format!(in alloc; "{end:?}")?
         }
     })
