@@ -2,7 +2,7 @@
 //! the air's own.
 
 ghost use Rattle.std.specs.Prelude.{◌≡◌, ◌≤◌, ◌<◌, ◌+◌, ◌^◌, ◌∷◌, [], All, map, length, slice_get};
-ghost use Rattle.std.specs.Prelude.{Some, IfOk, IfSome, IfNone, OnOk};
+ghost use Rattle.std.specs.Prelude.{Some, IfOk, IfSome, IfNone, OnOk, ◌==◌, count_by};
 ghost use Rattle.std.specs.BinaryHeap.{IsUpperBound};
 ghost use Rattle.std.specs.List.Sorted.{IsPermutation};
 ghost use denote.Ref.{Bor};
