@@ -14,7 +14,7 @@ use Rattle.its_pcap.specs.Words.{word_of}
 use Rattle.its_pcap.specs.declared.fault.SourceFault.{SourceFault}
 use Rattle.its_pcap.specs.declared.format.Format.{Format}
 use Rattle.its_pcap.specs.declared.format.Format.TheVariants as formats
-use Rattle.its_pcap.specs.declared.link.LinkLayer.{LinkLayer}
+use Rattle.its_linklayers.specs.declared.link.LinkLayer.{LinkLayer}
 use Rattle.its_pcap.specs.declared.put_fault.PutFault.{PutFault}
 use Rattle.its_pcap.specs.declared.put_fault.PutFault.TheVariants as puts
 use Rattle.its_pcap.specs.declared.record.RecordHeader.{RecordHeader}

@@ -4,7 +4,7 @@ use Rattle.std.specs.Prelude.{if◌then◌else◌, List, [], ◌∷◌, ◌++◌
 use Rattle.std.specs.Prelude.{Option, Some, None, Result, Ok, Err}
 use Rattle.std.specs.Io.KnownBytes.{Appends}
 use Rattle.its_choosing.specs.declared.Choice.{Choice}
-use Rattle.its_pcap.specs.LinkLayers.{IsFrameIn, IsLinkFault}
+use Rattle.its_linklayers.specs.LinkLayers.{IsFrameIn, IsLinkFault}
 use Rattle.its_pcap.specs.PcapWritten.{file_header}
 use Rattle.its_pcap.specs.PcapngWritten.{section_octets, interface_octets}
 use Rattle.its_pcap.specs.Places.{IsLayerFor, refusal_of}
@@ -12,8 +12,8 @@ use Rattle.its_pcap.specs.RecordFiles.{RecordFile, HasPlace, RefusesFrame, frame
 use Rattle.its_pcap.specs.declared.fault.SourceFault.{SourceFault}
 use Rattle.its_pcap.specs.declared.format.Format.{Format}
 use Rattle.its_pcap.specs.declared.format.Format.TheVariants as formats
-use Rattle.its_pcap.specs.declared.link.LinkLayer.{LinkLayer}
-use Rattle.its_pcap.specs.declared.link.LinkLayer.TheVariants as layers
+use Rattle.its_linklayers.specs.declared.link.LinkLayer.{LinkLayer}
+use Rattle.its_linklayers.specs.declared.link.LinkLayer.TheVariants as layers
 use Rattle.its_pcap.specs.declared.put_fault.PutFault.{PutFault}
 use Rattle.its_pcap.specs.declared.put_fault.PutFault.TheVariants as puts
 use Rattle.its_pcap.specs.declared.record.RecordHeader.{RecordHeader}

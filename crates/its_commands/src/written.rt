@@ -1,7 +1,7 @@
 //! The file that `convert` writes.
 
 ghost use Rattle.std.specs.Prelude.{◌≡◌, ◌≤◌, OnOk, IfOk, IfErr, true, drop, length};
-ghost use Rattle.its_pcap.specs.LinkLayers.{IsLinkFault};
+ghost use Rattle.its_linklayers.specs.LinkLayers.{IsLinkFault};
 ghost use Rattle.its_commands.specs.Conversions.{IsBegun, IsFileFault, PutsRecord, WritesText};
 ghost use Rattle.its_commands.specs.Conversions.{IsFrameText, expecting};
 

@@ -9,7 +9,7 @@ use Rattle.its_pcap.specs.declared.options.OptionKind.TheVariants as kinds
 use Rattle.its_pcap.specs.declared.options.OptionStep.{OptionStep}
 use Rattle.its_pcap.specs.Layouts.{Layout, Joined, behind, field, gives, gives_that, number}
 use Rattle.its_pcap.specs.Layouts.{number_that, octets}
-use Rattle.its_pcap.specs.LinkLayers.{layer_of}
+use Rattle.its_linklayers.specs.LinkLayers.{layer_of}
 use Rattle.its_pcap.specs.Moments.{IsTooFine, ticks_of, added_of, taken_of}
 use Rattle.its_pcap.specs.Octets.{number_in}
 

@@ -10,7 +10,7 @@ use Rattle.its_linkframe.specs.declared.record.CaptureFault.TheVariants as captu
 use Rattle.its_linkframe.specs.Devices.{ConsumesPrefix}
 use Rattle.its_pcap.specs.declared.fault.SourceFault.{SourceFault}
 use Rattle.its_pcap.specs.declared.fault.SourceFault.TheVariants as faults
-use Rattle.its_pcap.specs.declared.link.LinkLayer.{LinkLayer}
+use Rattle.its_linklayers.specs.declared.link.LinkLayer.{LinkLayer}
 use Rattle.its_pcap.specs.declared.octets.Endianness.{Endianness}
 use Rattle.its_pcap.specs.declared.octets.Endianness.TheVariants as orders
 use Rattle.its_pcap.specs.declared.pcap.FileHeader.{FileHeader}
@@ -23,7 +23,7 @@ use Rattle.its_pcap.specs.declared.pcap.TheConstants.{LONGEST_CAPTURED}
 use Rattle.its_pcap.specs.declared.record.RecordHeader.{RecordHeader}
 use Rattle.its_pcap.specs.declared.record.Step.{Step}
 use Rattle.its_pcap.specs.declared.record.Step.TheVariants as steps
-use Rattle.its_pcap.specs.LinkLayers.{layer_of}
+use Rattle.its_linklayers.specs.LinkLayers.{layer_of}
 use Rattle.its_pcap.specs.Octets.{number_in}
 use Rattle.its_pcap.specs.Reading.{Passes, MeetsEnd, EndsWhere}
 

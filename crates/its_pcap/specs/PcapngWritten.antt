@@ -4,8 +4,8 @@ use Rattle.std.specs.Prelude.{◌≡◌, ℕ, ◌+◌, ◌-◌, ◌/◌, ◌%◌
 use Rattle.std.specs.Prelude.{List, [], ◌∷◌, ◌++◌, length, take, Option}
 use Rattle.byteorder.specs.Endian.{little_bytes}
 use Rattle.its_linkframe.specs.Devices.{AppendsPrefix}
-use Rattle.its_pcap.specs.LinkLayers.{layer_number}
-use Rattle.its_pcap.specs.declared.link.LinkLayer.{LinkLayer}
+use Rattle.its_linklayers.specs.LinkLayers.{layer_number}
+use Rattle.its_linklayers.specs.declared.link.LinkLayer.{LinkLayer}
 use Rattle.its_pcap.specs.declared.pcap.TheConstants.{LONGEST_CAPTURED}
 use Rattle.its_pcap.specs.declared.put_fault.PutFault.{PutFault}
 use Rattle.its_pcap.specs.declared.put_fault.PutFault.TheVariants as faults

@@ -1,8 +1,8 @@
 -- Whether a record has a place in a file that is written.
 use Rattle.std.specs.Prelude.{◌≡◌, Bool, true, Option, None, Some, if◌then◌else◌, ◌==◌}
-use Rattle.its_pcap.specs.LinkLayers.{layer_number}
+use Rattle.its_linklayers.specs.LinkLayers.{layer_number}
 use Rattle.its_pcap.specs.Records.{fault_on}
-use Rattle.its_pcap.specs.declared.link.LinkLayer.{LinkLayer}
+use Rattle.its_linklayers.specs.declared.link.LinkLayer.{LinkLayer}
 use Rattle.its_pcap.specs.declared.record.RecordHeader.{RecordHeader}
 use Rattle.its_pcap.specs.declared.record.RecordFault.{RecordFault}
 use Rattle.its_pcap.specs.declared.record.RecordFault.TheVariants as faults

@@ -11,8 +11,8 @@ use Rattle.its_pcap.specs.PcapngWritten as sections
 use Rattle.its_pcap.specs.Writing as outputs
 use Rattle.its_pcap.specs.declared.format.Format.{Format}
 use Rattle.its_pcap.specs.declared.format.Format.TheVariants as formats
-use Rattle.its_pcap.specs.declared.link.LinkLayer.{LinkLayer}
-use Rattle.its_pcap.specs.declared.link.LinkLayer.TheVariants as layers
+use Rattle.its_linklayers.specs.declared.link.LinkLayer.{LinkLayer}
+use Rattle.its_linklayers.specs.declared.link.LinkLayer.TheVariants as layers
 use Rattle.its_pcap.specs.declared.pcap.TheConstants.{LONGEST_CAPTURED}
 use Rattle.its_pcap.specs.declared.put_fault.PutFault.{PutFault}
 use Rattle.its_pcap.specs.declared.put_fault.PutFault.TheVariants as faults

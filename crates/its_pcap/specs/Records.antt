@@ -1,6 +1,6 @@
 -- What is told of a record.
 use Rattle.std.specs.Prelude.{ℕ, nat_lt, List, [], ◌∷◌, Option, Some, None, if◌then◌else◌}
-use Rattle.its_pcap.specs.declared.link.LinkLayer.{LinkLayer}
+use Rattle.its_linklayers.specs.declared.link.LinkLayer.{LinkLayer}
 use Rattle.its_pcap.specs.declared.record.RecordHeader.{RecordHeader}
 use Rattle.its_pcap.specs.declared.record.RecordFault.{RecordFault}
 use Rattle.its_pcap.specs.declared.record.RecordFault.TheVariants as faults

@@ -17,8 +17,8 @@ use Rattle.its_pcap.specs.declared.fault.SourceFault.{SourceFault}
 use Rattle.its_pcap.specs.declared.fault.SourceFault.TheVariants as faults
 use Rattle.its_pcap.specs.declared.format.Format.{Format}
 use Rattle.its_pcap.specs.declared.format.Format.TheVariants as formats
-use Rattle.its_pcap.specs.declared.link.LinkLayer.{LinkLayer}
-use Rattle.its_pcap.specs.declared.link.LinkLayer.TheVariants as layers
+use Rattle.its_linklayers.specs.declared.link.LinkLayer.{LinkLayer}
+use Rattle.its_linklayers.specs.declared.link.LinkLayer.TheVariants as layers
 use Rattle.its_pcap.specs.declared.pcap.Stage.TheVariants as classic_stages
 use Rattle.its_pcap.specs.declared.pcapng.Stage.TheVariants as block_stages
 use Rattle.its_pcap.specs.declared.record.Step.{Step}

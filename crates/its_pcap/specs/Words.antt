@@ -1,6 +1,6 @@
 -- The words for what keeps a record out of a file, as ASCII text.
 use Rattle.std.specs.Prelude.{ℕ, List, Option, Some, None, codes}
-use Rattle.its_pcap.specs.declared.link.LinkFault.TheVariants as links
+use Rattle.its_linklayers.specs.declared.link.LinkFault.TheVariants as links
 use Rattle.its_pcap.specs.declared.put_fault.PutFault.TheVariants as puts
 use Rattle.its_pcap.specs.declared.record.RecordFault.TheVariants as records
 use Rattle.its_pcap.specs.declared.sink.SinkFault.{SinkFault}

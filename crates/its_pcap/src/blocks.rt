@@ -15,7 +15,6 @@ ghost use Rattle.its_linkframe.specs.declared.record.CaptureFault.TheVariants as
 use crate::fault::SourceFault;
 use crate::field::{block_length, end_block, is_block_length, read_u16, read_u32};
 use crate::interface::{Interface, MICROS, moment_of};
-use crate::link::link_layer;
 use crate::octets::{Endianness, u16_at, u32_at};
 use crate::options::read_options;
 use crate::pcap::LONGEST_CAPTURED;
@@ -23,6 +22,7 @@ use crate::record::RecordHeader;
 use crate::transfer::{read_exact, read_record_octets};
 use byteorder::{BigEndian, ByteOrder};
 use its_linkframe::Source;
+use its_linklayers::link_layer;
 
 /// The type of a section header, the same in either order of octets.
 pub(crate) const SECTION: u32 = 0x0a0d_0d0a;

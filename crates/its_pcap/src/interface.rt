@@ -4,7 +4,7 @@ ghost use Rattle.std.specs.Prelude.{◌≡◌, ◌^◌, ◌<◌, ◌≤◌, Matc
 ghost use Rattle.its_pcap.specs.Moments.{ticks_of, IsTooFine, IsMoment, IsNoMoment, added_of};
 ghost use Rattle.its_pcap.specs.Moments.{taken_of};
 
-use crate::link::LinkLayer;
+use its_linklayers::LinkLayer;
 
 /// What is known of an interface that packets were taken from.
 #[derive(Clone, Copy)]

@@ -2,13 +2,10 @@
 #![tactic(auto)]
 
 mod blocks;
-mod ethernet;
 mod fault;
 mod field;
 mod format;
-mod ieee80211;
 mod interface;
-mod link;
 mod octets;
 mod options;
 mod output;
@@ -19,7 +16,6 @@ mod pcapng_writer;
 mod peeked;
 mod place;
 mod put_fault;
-mod radiotap;
 mod record;
 mod sink;
 mod source;
@@ -28,7 +24,7 @@ mod transfer;
 pub use fault::SourceFault;
 pub use format::{Format, format_of};
 pub use its_linkframe::without_padding;
-pub use link::{LONGEST_RECORD, LinkFault, LinkLayer, frame_start, link_layer};
+pub use its_linklayers::{LONGEST_RECORD, LinkFault, LinkLayer, frame_start, link_layer};
 pub use octets::Endianness;
 pub use pcap::{FileHeader, LONGEST_CAPTURED, Magic, PcapReader, Unit};
 pub use pcap_writer::PcapWriter;

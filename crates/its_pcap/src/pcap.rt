@@ -10,12 +10,12 @@ ghost use Rattle.its_pcap.specs.declared.fault.SourceFault.TheVariants as faults
 ghost use Rattle.its_pcap.specs.declared.pcap.Stage.TheVariants as stages;
 
 use crate::fault::SourceFault;
-use crate::link::{LinkLayer, link_layer};
 use crate::octets::{Endianness, u16_at, u32_at};
 use crate::record::{RecordHeader, Step};
 use crate::transfer::{read_exact, read_record_octets};
 use byteorder::{BigEndian, ByteOrder};
 use its_linkframe::{CaptureFault, Source, fill};
+use its_linklayers::{LinkLayer, link_layer};
 use std::marker::Model;
 
 /// The octets of a file's magic.

@@ -7,12 +7,12 @@ ghost use Rattle.its_pcap.specs.PcapWritten.{file_header, record_head, record_of
 ghost use Rattle.its_pcap.specs.Writing.{is_io_failure, IsStartFault};
 ghost use Rattle.its_pcap.specs.declared.put_fault.PutFault.TheVariants as put_faults;
 
-use crate::link::LinkLayer;
 use crate::output::Output;
 use crate::pcap::LONGEST_CAPTURED;
 use crate::put_fault::PutFault;
 use byteorder::{ByteOrder, LittleEndian};
 use its_linkframe::Sink;
+use its_linklayers::LinkLayer;
 use std::marker::Model;
 
 /// The magic d4c3b2a1, version 2.4, zone 0, accuracy 0, snap length 262144. The number of the link

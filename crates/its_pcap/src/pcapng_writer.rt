@@ -11,12 +11,12 @@ ghost use Rattle.its_pcap.specs.PcapngWritten.{IsSectionFault, IsInterfaceFault,
 ghost use Rattle.its_pcap.specs.Writing.{is_io_failure, IsStartFault};
 ghost use Rattle.its_pcap.specs.declared.put_fault.PutFault.TheVariants as put_faults;
 
-use crate::link::LinkLayer;
 use crate::output::Output;
 use crate::pcap::LONGEST_CAPTURED;
 use crate::put_fault::PutFault;
 use byteorder::{ByteOrder, LittleEndian};
 use its_linkframe::Sink;
+use its_linklayers::LinkLayer;
 use std::marker::Model;
 
 /// A section header: version 1.0, section length -1, no options.

@@ -7,11 +7,11 @@ ghost use Rattle.its_pcap.specs.Places.{IsLayerFor, refusal_of, allows_layer};
 ghost use Rattle.its_pcap.specs.RecordFiles.{HasPlace, RefusesFrame};
 
 use crate::format::Format;
-use crate::link::LinkLayer;
 use crate::pcap::LONGEST_CAPTURED;
 use crate::put_fault::PutFault;
 use crate::record::{RecordFault, RecordHeader};
 use its_linkframe::LONGEST_FRAME;
+use its_linklayers::LinkLayer;
 
 /// The link layer of a record that is written to a file of this one, or of any where none is given.
 ///

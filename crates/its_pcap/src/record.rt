@@ -3,7 +3,7 @@
 ghost use Rattle.std.specs.Prelude.{◌≡◌};
 ghost use Rattle.its_pcap.specs.Records.{fault_of, record_code_of};
 
-use crate::link::LinkLayer;
+use its_linklayers::LinkLayer;
 use std::error::Error;
 use std::fmt;
 

@@ -9,12 +9,12 @@ ghost use Rattle.its_pcap.specs.Sinks.{file_of_sink};
 ghost use Rattle.its_pcap.specs.declared.sink.SinkFault.TheVariants as sink_faults;
 
 use crate::format::Format;
-use crate::link::{LinkFault, LinkLayer};
 use crate::pcap_writer::PcapWriter;
 use crate::pcapng_writer::PcapngWriter;
 use crate::put_fault::PutFault;
 use crate::record::RecordFault;
 use its_linkframe::{CaptureFault, CaptureWriter, Sink};
+use its_linklayers::{LinkFault, LinkLayer};
 use std::error::Error;
 use std::fmt;
 

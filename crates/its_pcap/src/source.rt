@@ -11,12 +11,12 @@ ghost use Rattle.its_pcap.specs.declared.fault.SourceFault.TheVariants as faults
 
 use crate::fault::SourceFault;
 use crate::format::{Format, format_of};
-use crate::link::LinkLayer;
 use crate::pcap::PcapReader;
 use crate::pcapng::PcapngReader;
 use crate::peeked::Peeked;
 use crate::record::{RecordHeader, Step};
 use its_linkframe::{CaptureFault, CaptureReader, Source};
+use its_linklayers::LinkLayer;
 use std::alloc::Global;
 use std::marker::Model;
 

@@ -1,10 +1,10 @@
 -- What of a record was on the air.
 use Rattle.std.specs.Prelude.{◌≡◌, ℕ, Bool, true, false, List, Option, Some, None}
 use Rattle.its_linkframe.specs.Padding.{IsUnpadded}
-use Rattle.its_pcap.specs.LinkLayers.{IsFrameIn, IsLinkFault}
+use Rattle.its_linklayers.specs.LinkLayers.{IsFrameIn, IsLinkFault}
 use Rattle.its_pcap.specs.Records.{fault_of}
-use Rattle.its_pcap.specs.declared.link.LinkLayer.{LinkLayer}
-use Rattle.its_pcap.specs.declared.link.LinkLayer.TheVariants as layers
+use Rattle.its_linklayers.specs.declared.link.LinkLayer.{LinkLayer}
+use Rattle.its_linklayers.specs.declared.link.LinkLayer.TheVariants as layers
 use Rattle.its_pcap.specs.declared.record.RecordHeader.{RecordHeader}
 use Rattle.its_records.specs.declared.refusal.RecordFault.{RecordFault}
 use Rattle.its_records.specs.declared.refusal.RecordFault.TheVariants as faults

@@ -2,7 +2,7 @@ use Rattle.std.proofs.Common.{◌≡◌, ℕ, ◌%◌, ◌++◌, ◌∙◌, inl,
 use Rattle.std.proofs.Common.{length, length-append}
 use Rattle.std.proofs.KnownBytes.{Consumes-trans}
 use Rattle.std.proofs.lemmas.Result.{err_from_is_err_and}
-use Rattle.its_pcap.specs.LinkLayers.{layer_of}
+use Rattle.its_linklayers.specs.LinkLayers.{layer_of}
 use Rattle.its_pcap.specs.Pcap.{HasWrongHeader, HasOtherLink, HasHeader}
 use Rattle.its_pcap.proofs.Parts.{IfSome-of}
 use Rattle.its_pcap.proofs.PcapHeaders.{HasMagic-more, HasVersion-parts, version-behind}

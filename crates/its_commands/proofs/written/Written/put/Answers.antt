@@ -1,5 +1,5 @@
 use Rattle.std.proofs.Common.{rules, ◌≡◌, ◌-◌, ℕ, List, Bool, true, sym, ap, ◌∙◌, subst, refl, drop, take, length}
-use Rattle.its_pcap.specs.declared.link.LinkLayer.TheVariants as layers
+use Rattle.its_linklayers.specs.declared.link.LinkLayer.TheVariants as layers
 use Rattle.its_commands.specs.Conversions.{HasText, IsFrameText}
 use Rattle.its_commands.proofs.Copies.{puts_text, take_rest}
 use Rattle.its_commands.proofs.written.Written.put.Goals as goal

@@ -1,6 +1,6 @@
 use Rattle.std.proofs.Common.{◌≡◌, ◌<◌, ◌≤◌, ◌-◌, ℕ, true}
-use Rattle.its_pcap.specs.Radiotap.{has_next}
-use Rattle.its_pcap.proofs.radiotap.last_word.Given as goal
+use Rattle.its_linklayers.specs.Radiotap.{has_next}
+use Rattle.its_linklayers.proofs.radiotap.last_word.Given as goal
 
 -- each word before this one says that another follows
 abbrev pub invariant-loop-word : goal.invariant-loop-word

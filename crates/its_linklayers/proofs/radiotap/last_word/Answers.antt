@@ -1,5 +1,5 @@
 use Rattle.std.proofs.Common.{true≢false, sym, ◌∙◌, arith}
-use Rattle.its_pcap.proofs.radiotap.last_word.Goals as goal
+use Rattle.its_linklayers.proofs.radiotap.last_word.Goals as goal
 
 pub returns-clause-none : goal.returns-clause-none
 returns-clause-none c = λ n low is.

@@ -3,15 +3,15 @@ use Rattle.std.specs.Prelude.{◌≡◌, ℕ, ◌+◌, ◌-◌, ◌<◌, ◌≤�
 use Rattle.std.specs.Prelude.{List, [], ◌∷◌, ◌++◌, length, take, drop}
 use Rattle.std.specs.Prelude.{Option, None, Some, ◌==◌, if◌then◌else◌}
 use Rattle.its_linkframe.specs.Frames.{IsFrame}
-use Rattle.its_pcap.specs.Ethernet.{IsTypeAt, EndsInTag}
-use Rattle.its_pcap.specs.Ieee80211.{IsHeader, IsHeaderFault, has_bit}
-use Rattle.its_pcap.specs.Radiotap.{IsRadiotap, IsRadiotapFault}
-use Rattle.its_pcap.specs.declared.ieee80211.DataHeader.{DataHeader}
-use Rattle.its_pcap.specs.declared.link.LinkFault.{LinkFault}
-use Rattle.its_pcap.specs.declared.link.LinkFault.TheVariants as faults
-use Rattle.its_pcap.specs.declared.link.LinkLayer.{LinkLayer}
-use Rattle.its_pcap.specs.declared.link.LinkLayer.TheVariants as layers
-use Rattle.its_pcap.specs.declared.radiotap.RadiotapHeader.{RadiotapHeader}
+use Rattle.its_linklayers.specs.Ethernet.{IsTypeAt, EndsInTag}
+use Rattle.its_linklayers.specs.Ieee80211.{IsHeader, IsHeaderFault, has_bit}
+use Rattle.its_linklayers.specs.Radiotap.{IsRadiotap, IsRadiotapFault}
+use Rattle.its_linklayers.specs.declared.ieee80211.DataHeader.{DataHeader}
+use Rattle.its_linklayers.specs.declared.link.LinkFault.{LinkFault}
+use Rattle.its_linklayers.specs.declared.link.LinkFault.TheVariants as faults
+use Rattle.its_linklayers.specs.declared.link.LinkLayer.{LinkLayer}
+use Rattle.its_linklayers.specs.declared.link.LinkLayer.TheVariants as layers
+use Rattle.its_linklayers.specs.declared.radiotap.RadiotapHeader.{RadiotapHeader}
 
 -- the number of a link layer in pcap and pcapng
 abbrev pub layer_number : LinkLayer → ℕ

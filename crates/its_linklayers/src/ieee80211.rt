@@ -1,9 +1,9 @@
 //! Data frames of IEEE 802.11, whose type stands behind LLC and SNAP.
 
 ghost use Rattle.std.specs.Prelude.{◌≡◌, ◌↔◌, ◌+◌, ◌<◌, ◌≤◌, ◌^◌, IfOk, IfErr, IsTrue, length};
-ghost use Rattle.its_pcap.specs.Ieee80211.{IsData, IsHeader, IsHeaderFault, has_bit};
-ghost use Rattle.its_pcap.specs.Ieee80211.{address_octets, control_octets, llc_at, IsGathered};
-ghost use Rattle.its_pcap.specs.Ieee80211.{target_octet, source_octet};
+ghost use Rattle.its_linklayers.specs.Ieee80211.{IsData, IsHeader, IsHeaderFault, has_bit};
+ghost use Rattle.its_linklayers.specs.Ieee80211.{address_octets, control_octets, llc_at, IsGathered};
+ghost use Rattle.its_linklayers.specs.Ieee80211.{target_octet, source_octet};
 
 use crate::link::LinkFault;
 use byteorder::{BigEndian, ByteOrder};

@@ -1,8 +1,8 @@
 use Rattle.std.proofs.Common.{◌≡◌, ◌-◌, List, ℕ, length, drop, take, sym, subst, ap, ◌∙◌, arith}
 use Rattle.std.proofs.lemmas.List.{drop-take}
 use Rattle.std.proofs.lemmas.Slice.{between_to_end}
-use Rattle.its_pcap.specs.LinkLayers.{IsUnchecked, joined}
-use Rattle.its_pcap.proofs.link.join_unchecked.Goals as goal
+use Rattle.its_linklayers.specs.LinkLayers.{IsUnchecked, joined}
+use Rattle.its_linklayers.proofs.link.join_unchecked.Goals as goal
 
 pub returns-clause-frame : goal.returns-clause-frame
 returns-clause-frame c =

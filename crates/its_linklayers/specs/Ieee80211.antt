@@ -3,9 +3,9 @@
 use Rattle.std.specs.Prelude.{◌≡◌, ◌≢◌, ℕ, ◌+◌, ◌*◌, ◌/◌, ◌%◌, ◌<◌, ◌≤◌, ◌⊎◌, Bool, true, false}
 use Rattle.std.specs.Prelude.{◌&&◌, ◌==◌, if◌then◌else◌, List, length, drop, slice_index}
 use Rattle.byteorder.specs.Endian.{big_number}
-use Rattle.its_pcap.specs.declared.ieee80211.DataHeader.{DataHeader}
-use Rattle.its_pcap.specs.declared.link.LinkFault.{LinkFault}
-use Rattle.its_pcap.specs.declared.link.LinkFault.TheVariants as faults
+use Rattle.its_linklayers.specs.declared.ieee80211.DataHeader.{DataHeader}
+use Rattle.its_linklayers.specs.declared.link.LinkFault.{LinkFault}
+use Rattle.its_linklayers.specs.declared.link.LinkFault.TheVariants as faults
 
 -- the bit of this value is set in an octet
 abbrev pub has_bit : ℕ → ℕ → Bool

@@ -1,9 +1,9 @@
 //! Radiotap headers, which captures of IEEE 802.11 have before each frame.
 
 ghost use Rattle.std.specs.Prelude.{◌≡◌, ◌<◌, ◌≤◌, ◌+◌, ◌*◌, ℕ, IfOk, IfErr, IfSome, IfNone, length};
-ghost use Rattle.its_pcap.specs.Radiotap.{IsRadiotap, IsRadiotapFault, IsLastWord, HasFlagsAt};
-ghost use Rattle.its_pcap.specs.Radiotap.{IsThere, length_of};
-ghost use Rattle.its_pcap.specs.declared.link.LinkFault.TheVariants as faults;
+ghost use Rattle.its_linklayers.specs.Radiotap.{IsRadiotap, IsRadiotapFault, IsLastWord, HasFlagsAt};
+ghost use Rattle.its_linklayers.specs.Radiotap.{IsThere, length_of};
+ghost use Rattle.its_linklayers.specs.declared.link.LinkFault.TheVariants as faults;
 
 use crate::ieee80211::has;
 use crate::link::LinkFault;

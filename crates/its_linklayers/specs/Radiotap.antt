@@ -2,10 +2,10 @@
 use Rattle.std.specs.Prelude.{◌≡◌, ◌≢◌, ℕ, ◌+◌, ◌*◌, ◌/◌, ◌<◌, ◌≤◌, ◌⊎◌, Bool, true, false}
 use Rattle.std.specs.Prelude.{if◌then◌else◌, List, length, drop, slice_index}
 use Rattle.byteorder.specs.Endian.{little_number}
-use Rattle.its_pcap.specs.Ieee80211.{has_bit}
-use Rattle.its_pcap.specs.declared.radiotap.RadiotapHeader.{RadiotapHeader}
-use Rattle.its_pcap.specs.declared.link.LinkFault.{LinkFault}
-use Rattle.its_pcap.specs.declared.link.LinkFault.TheVariants as faults
+use Rattle.its_linklayers.specs.Ieee80211.{has_bit}
+use Rattle.its_linklayers.specs.declared.radiotap.RadiotapHeader.{RadiotapHeader}
+use Rattle.its_linklayers.specs.declared.link.LinkFault.{LinkFault}
+use Rattle.its_linklayers.specs.declared.link.LinkFault.TheVariants as faults
 
 abbrev pub length_of : List ℕ → ℕ
 length_of w = little_number 2 (drop 2 w)

@@ -1,8 +1,8 @@
 //! Ethernet (IEEE 802.3), with the tags that IEEE 802.1Q puts before the type.
 
 ghost use Rattle.std.specs.Prelude.{◌≡◌, ◌↔◌, ◌≤◌, IfOk, IfErr, IsTrue};
-ghost use Rattle.its_pcap.specs.Ethernet.{IsTag, IsTypeAt, EndsInTag};
-ghost use Rattle.its_pcap.specs.declared.link.LinkFault.TheVariants as faults;
+ghost use Rattle.its_linklayers.specs.Ethernet.{IsTag, IsTypeAt, EndsInTag};
+ghost use Rattle.its_linklayers.specs.declared.link.LinkFault.TheVariants as faults;
 
 use crate::link::LinkFault;
 use byteorder::{BigEndian, ByteOrder};

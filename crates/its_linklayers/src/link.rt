@@ -2,10 +2,10 @@
 
 ghost use Rattle.std.specs.Prelude.{◌≡◌, ◌+◌, ◌-◌, ◌≤◌, ◌++◌, IfOk, IfErr};
 ghost use Rattle.std.specs.Prelude.{length, take, drop};
-ghost use Rattle.its_pcap.specs.LinkLayers.{IsFrameIn, IsLinkFault, layer_number, layer_of, joined};
-ghost use Rattle.its_pcap.specs.LinkLayers.{IsUnchecked, IsFrameBehind, IsFaultBehind};
-ghost use Rattle.its_pcap.specs.LinkLayers.{IsData, IsUncheckedData, link_code_of};
-ghost use Rattle.its_pcap.specs.Ieee80211.{IsHeaderFault};
+ghost use Rattle.its_linklayers.specs.LinkLayers.{IsFrameIn, IsLinkFault, layer_number, layer_of, joined};
+ghost use Rattle.its_linklayers.specs.LinkLayers.{IsUnchecked, IsFrameBehind, IsFaultBehind};
+ghost use Rattle.its_linklayers.specs.LinkLayers.{IsData, IsUncheckedData, link_code_of};
+ghost use Rattle.its_linklayers.specs.Ieee80211.{IsHeaderFault};
 
 use crate::ethernet::type_at;
 use crate::ieee80211::{DataHeader, has, read_header};

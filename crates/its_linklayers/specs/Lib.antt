@@ -1,0 +1,4 @@
+pub mod Ethernet
+pub mod Ieee80211
+pub mod LinkLayers
+pub mod Radiotap
