@@ -22,7 +22,7 @@ use Rattle.its_air_model.specs.Timetable.{come_ticking, come_sending, come_sendi
 use Rattle.its_air_model.specs.Timetable.{follow_all, after_one, is_present}
 use Rattle.its_air_model.specs.Timetable.Pending.{Does}
 use Rattle.its_air.proofs.BesideOrder.{schedule_in_order, schedule_later}
-use Rattle.its_air.proofs.Counting.{count_put_all, count_file, no_tick, no_send}
+use Rattle.its_queue.proofs.Counting.{count_put_all, count_file, no_tick, no_send}
 
 -- a timetable, and what a file has comes later
 abbrev pub later : List Filed → Timetable → Timetable

@@ -1,4 +1,3 @@
-pub mod Files
 pub mod Among
 pub mod Under
 pub mod BesideOrder
@@ -12,7 +11,6 @@ pub mod BesideFrames
 pub mod Opening
 pub mod Keeping
 pub mod Stepping
-pub mod Counting
 pub mod Following
 pub mod Ranges
 pub mod Moved

@@ -22,12 +22,13 @@ use Rattle.its_air_model.specs.Timetable.{moment_in}
 use Rattle.its_air.specs.AirTimed.{IsTimedRun}
 use Rattle.its_air.specs.Beside.{IsOwnOf, InOrder, rules_beside, absent}
 use Rattle.its_air.specs.Beside.{station_of_pending}
-use Rattle.its_air.specs.Files.{filed_due}
-use Rattle.its_air.specs.Keeps.{GoesBy, IsTimed, Keeps}
+use Rattle.its_queue.specs.Files.{filed_due}
+use Rattle.its_air.specs.Keeps.{GoesBy, IsTimed}
+use Rattle.its_queue.specs.Keeps.{Keeps}
 use Rattle.its_air.specs.Moving.{Awaits, AwaitsFrame, IsMoving, IsMovedRun, IsTaken, DoesAt}
 use Rattle.its_air.specs.Moving.{DoesTaken, without_first}
 use Rattle.its_air.specs.Outside.{IsOutside, station_of_filed}
-use Rattle.its_air.specs.Queues.{filed_in, filed_of}
+use Rattle.its_queue.specs.Queues.{filed_in, filed_of}
 use Rattle.its_queue.specs.Waiting.{own_of, waiting_cmp}
 use Rattle.its_events.specs.Events.{station_in}
 use Rattle.its_events.specs.declared.event.AddressedEvent.{AddressedEvent}
@@ -48,7 +49,7 @@ use Rattle.its_air_model.specs.Timetable.Filed.{Happens, Leaves}
 use Rattle.its_air_model.specs.Timetable.Pending.{Does, Departs}
 use Rattle.its_queue.specs.Waits.{Waits, pending_of, planned_of}
 use Rattle.its_air.specs.declared.run.Run.{Run}
-use Rattle.its_air.specs.declared.waiting.Queue.{Queue}
+use Rattle.its_queue.specs.declared.queue.Queue.{Queue}
 use Rattle.its_queue.specs.declared.scheduled.Scheduled.{Scheduled}
 use Rattle.its_air.proofs.BesideFrames.{frame_is_new, next_frame}
 use Rattle.its_air.proofs.BesideOpening.{reached_opening}
@@ -56,7 +57,8 @@ use Rattle.its_air.proofs.BesideOrder.{all_by, all_put}
 use Rattle.its_air.proofs.BesideReached.{reached_later, reached_made, reached_over}
 use Rattle.its_air.proofs.BesideSteps.{reached_coming, reached_own}
 use Rattle.its_air.proofs.BesideTaken.{taken_all}
-use Rattle.its_air.proofs.Keeping.{waits_at, goes_on}
+use Rattle.its_queue.proofs.Keeping.{waits_at}
+use Rattle.its_air.proofs.Keeping.{goes_on}
 use Rattle.its_air.proofs.BesideMade.{stations_of_run}
 use Rattle.its_air.proofs.Under.{told_on}
 use Rattle.its_queue.proofs.Waits.{waits_none, waits_own}

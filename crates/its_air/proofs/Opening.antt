@@ -8,7 +8,7 @@ use Rattle.std.specs.List.Sorted.{IsNonDecreasingBy}
 use Rattle.std.proofs.lemmas.Bool.{eqb-true, eq-eqb, ne_eqb, le-leb, lt-leb, cases_order, cases_lt}
 use Rattle.std.proofs.lemmas.List.{append-nil}
 use Rattle.std.proofs.lemmas.List.Elements.{recursion_from_All}
-use Rattle.its_air.specs.AirRun.{of_moment, AreDue}
+use Rattle.its_queue.specs.Due.{of_moment, AreDue}
 use Rattle.its_air_model.specs.Timetable.{moment_in}
 use Rattle.its_air_model.specs.Timetable.{Pending, Filed, of_file, schedule, schedule_all}
 use Rattle.its_queue.specs.Waits.{Waits}

@@ -24,7 +24,7 @@ use Rattle.its_world.specs.declared.entry.Entry.{Entry}
 use Rattle.its_air.specs.Outside.{Came, IsBrought, IsByMoment, IsOutside, Brings, asked_at}
 use Rattle.its_air.specs.Outside.{asked_of, ids_of, turn_of, MayAsk, MayCome, row_move, opening_at}
 use Rattle.its_air.specs.Outside.{IsOfStation}
-use Rattle.its_air.specs.Queues.{filed_of}
+use Rattle.its_queue.specs.Queues.{filed_of}
 use Rattle.its_gnvalue.specs.Values.{Position}
 use Rattle.its_events.specs.Centres.{centred}
 use Rattle.its_events.specs.Events.{station_in}
@@ -44,7 +44,7 @@ use Rattle.its_air.specs.declared.moving_run.MovingRun.{MovingRun}
 use Rattle.its_air.specs.declared.moving_run.Outside.{Outside}
 use Rattle.its_air.specs.declared.moving_run.Outside.TheVariants as outsides
 use Rattle.its_air.proofs.BesideOrder.{all_by}
-use Rattle.its_air.proofs.Files.{ties_at}
+use Rattle.its_queue.proofs.Files.{ties_at}
 use Rattle.its_air.proofs.UnderRows.{same_event, some_is}
 
 -- ---- whose turn it is

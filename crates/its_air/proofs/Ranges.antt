@@ -9,7 +9,7 @@ use Rattle.its_events.specs.Airs.{moment_of}
 use Rattle.its_events.specs.Events.{FitsFileEvent, speed_of}
 use Rattle.its_events.specs.declared.event.FileEvent.{FileEvent}
 use Rattle.its_events.specs.declared.event.FileEvent.TheVariants as files
-use Rattle.its_air.specs.Queues.{IsFiledInRange}
+use Rattle.its_queue.specs.Queues.{IsFiledInRange}
 
 what_in_range : (what : What) → IsSpeed (speed_of what) → IsInRange what
 what_in_range (whats.MoveTo place pai speed heading) h = h

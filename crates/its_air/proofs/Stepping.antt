@@ -14,13 +14,14 @@ use Rattle.its_events.specs.Airs.{moment_of as file_moment}
 use Rattle.its_events.specs.declared.event.FileEvent.{FileEvent}
 use Rattle.its_simulation.specs.Simulated.{IsSimulated}
 use Rattle.its_queue.specs.declared.scheduled.Scheduled.{Scheduled}
-use Rattle.its_air.specs.declared.waiting.Queue.{Queue}
+use Rattle.its_queue.specs.declared.queue.Queue.{Queue}
 use Rattle.its_air.specs.declared.run.Run.{Run}
-use Rattle.its_air.specs.AirRun.{AreDue}
+use Rattle.its_queue.specs.Due.{AreDue}
 use Rattle.its_air_model.specs.Draws.{draws_at, draws_of}
-use Rattle.its_air.specs.Files.{filed_due}
-use Rattle.its_air.specs.Keeps.{Keeps, IsTimed, GoesBy, follow_own}
-use Rattle.its_air.specs.Queues.{filed_in, filed_of}
+use Rattle.its_queue.specs.Files.{filed_due}
+use Rattle.its_queue.specs.Keeps.{Keeps}
+use Rattle.its_air.specs.Keeps.{IsTimed, GoesBy, follow_own}
+use Rattle.its_queue.specs.Queues.{filed_in, filed_of}
 use Rattle.its_queue.specs.Waiting.{waiting_cmp, happening_of}
 use Rattle.its_air_model.specs.Timetable.{Rules, Timetable, AirModel, NoneWaits, of_file}
 use Rattle.its_air_model.specs.Timetable.{schedule_all}
@@ -32,8 +33,9 @@ use Rattle.its_air_model.specs.Timetable.Filed.{Happens}
 use Rattle.its_air_model.specs.Timetable.Pending.{Does, Departs}
 use Rattle.its_queue.specs.Traffics.{traffic_in}
 use Rattle.its_queue.specs.Waits.{Waits, planned_of, pending_of}
-use Rattle.its_air.proofs.Files.{same_moment}
-use Rattle.its_air.proofs.Keeping.{goes_on, waits_at}
+use Rattle.its_queue.proofs.Files.{same_moment}
+use Rattle.its_air.proofs.Keeping.{goes_on}
+use Rattle.its_queue.proofs.Keeping.{waits_at}
 use Rattle.its_air.proofs.Opening.{waits_opening}
 use Rattle.its_air_model.specs.Timetable.{at, Pending, Filed}
 use Rattle.its_queue.proofs.Waits.{waits_file, waits_own, waits_none, FileIsLater}

@@ -11,14 +11,15 @@ use Rattle.its_world.specs.declared.entry.Entry.{Entry}
 use Rattle.its_events.specs.declared.event.FileEvent.{FileEvent}
 use Rattle.its_world.specs.State.{WorldState, RepresentsWorld}
 use Rattle.its_simulation.specs.Simulated.{IsSimulated}
-use Rattle.its_air.specs.AirRun.{AreAmong, AreDue, IsAirRun, events_in}
-use Rattle.its_air.specs.Files.{filed_due}
-use Rattle.its_air.specs.Queues.{filed_in, filed_of}
+use Rattle.its_air.specs.AirRun.{AreAmong, IsAirRun, events_in}
+use Rattle.its_queue.specs.Due.{AreDue}
+use Rattle.its_queue.specs.Files.{filed_due}
+use Rattle.its_queue.specs.Queues.{filed_in, filed_of}
 use Rattle.its_air_model.specs.Timetable.{Filed}
 use Rattle.its_air_model.specs.Timetable.Filed.{Happens, Leaves}
 use Rattle.its_air.specs.Runs.{IsUnderWay, SaysAsBefore}
 use Rattle.its_air.specs.declared.run.Run.{Run}
-use Rattle.its_air.specs.declared.waiting.Queue.{Queue}
+use Rattle.its_queue.specs.declared.queue.Queue.{Queue}
 use Rattle.its_air.proofs.Among.{among_both, among_longer}
 use Rattle.std.proofs.lemmas.List.{append-nil}
 

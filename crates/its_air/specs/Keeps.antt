@@ -1,5 +1,5 @@
--- A queue and a generator keep a timetable.
-use Rattle.std.specs.Prelude.{◌≡◌, ℕ, List, Bool, true, false, drop, Option, cond, not, ◌&&◌}
+-- A run keeps the timetable of the model's air.
+use Rattle.std.specs.Prelude.{◌≡◌, ℕ, List, Bool, true, false, Option, cond, not, ◌&&◌}
 use Rattle.its_model.specs.Calls.{Answer}
 use Rattle.its_model.specs.Station.{StationModel}
 use Rattle.its_model.specs.World.{Config, Event, WorldModel, frame_of}
@@ -7,24 +7,15 @@ use Rattle.its_world.specs.Entries.{TellsEntry}
 use Rattle.its_world.specs.declared.entry.Entry.{Entry}
 use Rattle.its_simulation.specs.Simulated.{IsSimulated}
 use Rattle.its_air.specs.AirTimed.{rules_of}
-use Rattle.its_air_model.specs.Draws.{draws_at}
-use Rattle.its_air.specs.Files.{filed_due}
+use Rattle.its_queue.specs.Keeps.{Keeps}
 use Rattle.its_model.specs.Reach.{is_moved}
 use Rattle.its_air_model.specs.Timetable.{Rules, Timetable, AirModel, air_step, IsOver, was_moved}
 use Rattle.its_queue.specs.Waiting.{happening_of, own_of}
 use Rattle.its_air_model.specs.Timetable.{given, was_refused, is_refusal, is_tick, tick_again}
 use Rattle.its_air_model.specs.Timetable.{send_again}
 use Rattle.its_queue.specs.Traffics.{all_traffic, traffic_in}
-use Rattle.its_queue.specs.Waits.{Waits}
 use Rattle.its_air.specs.declared.run.Run.{Run}
-use Rattle.its_air.specs.declared.waiting.Queue.{Queue}
 use Rattle.its_queue.specs.declared.scheduled.Scheduled.{Scheduled}
-
--- what waits in the queue, and what a generator with these words will draw, are the timetable's
-pub record Keeps (queue : Queue) (words : List ℕ) (t : Timetable) : Type 0 where
-  pub waits : Waits (drop queue.taken (filed_due queue)) queue.own queue.pushed
-      queue.until t.waiting
-  pub draws : t.draws ≡ draws_at words
 
 -- what follows an event of the air's own, which was refused or not
 abbrev pub follow_own : Scheduled → Bool → Option StationModel → Timetable → Timetable

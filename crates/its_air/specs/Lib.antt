@@ -1,7 +1,5 @@
 pub mod AirRun
-pub mod Queues
 pub mod Runs
-pub mod Files
 pub mod Scenarios
 pub mod AirTimed
 pub mod Keeps

@@ -18,7 +18,7 @@ use Rattle.its_events.specs.Events.{station_in}
 use Rattle.its_events.specs.declared.event.AddressedEvent.{AddressedEvent}
 use Rattle.its_events.specs.declared.event.FileEvent.{FileEvent}
 use Rattle.its_settings.specs.declared.moves.Moves.{Moves}
-use Rattle.its_air.specs.Queues.{filed_of}
+use Rattle.its_queue.specs.Queues.{filed_of}
 use Rattle.its_air_model.specs.Timetable.{Filed}
 use Rattle.its_air_model.specs.Timetable.Filed.{Happens, Leaves}
 

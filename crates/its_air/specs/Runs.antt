@@ -4,7 +4,7 @@ use Rattle.its_model.specs.World.{Config, Event}
 use Rattle.its_world.specs.declared.entry.Entry.{Entry}
 use Rattle.its_simulation.specs.Simulated.{IsSimulated}
 use Rattle.its_air.specs.AirRun.{AreAmong, events_in}
-use Rattle.its_air.specs.Files.{filed_due}
+use Rattle.its_queue.specs.Files.{filed_due}
 use Rattle.its_places.specs.PlaceIndexes.{AreStandingsOf}
 use Rattle.its_air.specs.declared.run.Run.{Run}
 

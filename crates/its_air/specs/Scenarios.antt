@@ -9,7 +9,7 @@ use Rattle.its_scenario.specs.declared.scenario.Scenario.{Scenario}
 use Rattle.its_events.specs.Airs.{end_of}
 use Rattle.its_simulation.specs.Simulated.{IsSimulated}
 use Rattle.its_air.specs.AirTimed.{IsTimedRun, rules_of}
-use Rattle.its_air.specs.Queues.{filed_of}
+use Rattle.its_queue.specs.Queues.{filed_of}
 use Rattle.its_queue.specs.Traffics.{all_traffic}
 
 -- in no air, just the scenario's events were done; in an air, just those that the timetable of its

@@ -1,7 +1,5 @@
 //! What ends the run of an air before its last event.
 
-ghost use Rattle.std.specs.Prelude.{◌≡◌};
-
 use its_gnvalue::NoMemory;
 use its_moves::MovesFault;
 use its_queue::QueueFault;

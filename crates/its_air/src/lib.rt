@@ -4,7 +4,6 @@
 
 mod copying;
 mod departures;
-mod draws;
 mod fault;
 mod moving;
 mod moving_run;
@@ -12,9 +11,7 @@ mod run;
 mod scenario;
 mod step;
 mod vehicles;
-mod waiting;
 
-pub use draws::Draws;
 pub use fault::AirFault;
 pub use its_places::{find_hearers, is_within};
 pub use moving::run_moves;

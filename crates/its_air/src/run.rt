@@ -17,37 +17,39 @@ ghost use Rattle.its_world.specs.Events.{IsConfig, IsInRange, config_of, event_o
 ghost use Rattle.its_world.specs.Mids.{AreApart};
 ghost use Rattle.its_events.specs.Airs.{end_of, moment_of};
 ghost use Rattle.its_simulation.specs.Simulated.{IsSimulated, IsSimulation};
-ghost use Rattle.its_air.specs.AirRun.{AreDue, IsAirRun, events_in};
+ghost use Rattle.its_queue.specs.Due.{AreDue};
+ghost use Rattle.its_air.specs.AirRun.{IsAirRun, events_in};
 ghost use Rattle.its_air.specs.AirTimed.{IsTimedRun, rules_of};
-ghost use Rattle.its_air.specs.Files.{SameFile, filed_due};
-ghost use Rattle.its_air.specs.Keeps.{Keeps, IsAnswered, IsTimed, GoesBy, GoesOn, follow_own};
+ghost use Rattle.its_queue.specs.Files.{SameFile, filed_due};
+ghost use Rattle.its_queue.specs.Keeps.{Keeps};
+ghost use Rattle.its_air.specs.Keeps.{IsAnswered, IsTimed, GoesBy, GoesOn, follow_own};
 ghost use Rattle.its_air.specs.Outside.{IsDelivery};
 ghost use Rattle.its_air_model.specs.Timetable.{Timetable, send, send_all, is_refusal, is_present};
 ghost use Rattle.its_air_model.specs.Timetable.{schedule_first_ticks};
-ghost use Rattle.its_air_model.specs.Timetable.{schedule_first_sends, schedule_send};
 ghost use Rattle.its_air_model.specs.Timetable.{schedule_traffic, schedule_tick, heard_by};
 ghost use Rattle.its_air_model.specs.Timetable.{spread_frame, tick_again, take_one, of_file};
-ghost use Rattle.its_air_model.specs.Timetable.{come, come_ticking};
-ghost use Rattle.its_air_model.specs.Timetable.{come_sending, come_sending_all, comes};
+ghost use Rattle.its_air_model.specs.Timetable.{come};
+ghost use Rattle.its_air_model.specs.Timetable.{comes};
 ghost use Rattle.its_air_model.specs.Timetable.{present_after, is_passed_over};
 ghost use Rattle.its_air_model.specs.Timetable.{Rules, AirModel, spread, air_opening};
 ghost use Rattle.its_air_model.specs.Timetable.Filed.{Happens};
 ghost use Rattle.its_air.specs.Runs.{AreIndexed, IsUnderWay, SameWorld, SaysAsBefore};
 ghost use Rattle.its_places.specs.PlaceIndexes.{AreStandingsOf};
-ghost use Rattle.its_air.specs.Queues.{filed_of, IsFiledInRange};
+ghost use Rattle.its_queue.specs.Queues.{filed_of, IsFiledInRange};
 ghost use Rattle.its_queue.specs.Waiting.{happening_of, own_of};
 ghost use Rattle.its_queue.specs.Waiting.{delivery_of};
-ghost use Rattle.its_queue.specs.Traffics.{all_traffic, traffic_of};
+ghost use Rattle.its_queue.specs.Traffics.{all_traffic};
 ghost use Rattle.its_queue.specs.Waits.{pending_of, planned_of};
 
-use crate::draws::Draws;
 use crate::fault::AirFault;
-use crate::waiting::{Next, Queue};
 use its_events::{FileEvent, end_of};
 use its_gnvalue::Place;
 use its_model::laws::every_schedule;
 use its_places::PlaceIndex;
-use its_queue::{AirAction, Delivery, Scheduled};
+use its_queue::{
+    AirAction, Delivery, Draws, Next, Queue, Scheduled, is_present, schedule_coming_sends,
+    schedule_coming_tick, schedule_first_ticks, schedule_tick, schedule_traffic,
+};
 use its_settings::{Air, Traffic};
 use its_simulation::{EventSink, Note, do_event};
 use its_world::laws::late_stations_were_there;
@@ -688,7 +690,8 @@ impl<'a> Run<'a> {
     {
         let (queue, draws) = (&mut self.queue, &mut self.draws);
         schedule_coming_tick(queue, draws, self.air.beacons, station, moment)?;
-        schedule_coming_sends(queue, draws, self.every, station, moment)
+        schedule_coming_sends(queue, draws, self.every, station, moment)?;
+        Ok(())
     }
 
     /// Puts what follows an event of the air's own: the next tick of a station after one that
@@ -709,8 +712,9 @@ impl<'a> Run<'a> {
             AirAction::Deliver(_) => Ok(()),
             AirAction::Send(number, traffic) => {
                 let moment = done.moment + u64::from(traffic.period);
-                self.queue
-                    .push(moment, done.station, AirAction::Send(*number, *traffic))
+                let send = AirAction::Send(*number, *traffic);
+                self.queue.push(moment, done.station, send)?;
+                Ok(())
             }
         }
     }
@@ -732,13 +736,15 @@ impl<'a> Run<'a> {
         let Some(station) = self.world.station(tick.station) else {
             return Ok(());
         };
+        let (queue, draws) = (&mut self.queue, &mut self.draws);
         schedule_tick(
-            &mut self.queue,
-            &mut self.draws,
+            queue,
+            draws,
             tick.station,
             tick.moment,
             station.beacon_from(),
-        )
+        )?;
+        Ok(())
     }
 }
 
@@ -758,16 +764,6 @@ fn stood_at(stood: &Option<Place>, place: Place) -> bool
 {
     match stood {
         Some(stood) => *stood == place,
-        None => false,
-    }
-}
-
-/// Whether the station of this number is present.
-fn is_present(present: &[bool], station: usize) -> bool
-    ensures { result ≡ is_present present.now station }
-{
-    match present.get(station) {
-        Some(is_present) => *is_present,
         None => false,
     }
 }
@@ -793,186 +789,6 @@ fn is_move(entry: &Entry) -> bool
     ensures { (answer : Answer ℕ) → TellsEntry entry.now answer → result ≡ is_moved answer }
 {
     matches!(entry, Entry::Moved)
-}
-
-/// Puts the first tick of each of so many stations that is present: at its jitter.
-fn schedule_first_ticks(
-    queue: &mut Queue<'_>,
-    draws: &mut Draws,
-    present: &[bool],
-    count: usize,
-) -> Result<(), AirFault>
-    ensures file { SameFile queue.old queue.new }
-    ensures ticks { (t : Timetable) → Keeps queue.old draws.old t → OnOk result
-        (Keeps queue.new draws.new (schedule_first_ticks present.now count t)) }
-{
-    for station in 0..count {
-        schedule_first_tick(queue, draws, present, station)?;
-    }
-    Ok(())
-}
-
-/// Puts the first tick of a station, if it is present.
-fn schedule_first_tick(
-    queue: &mut Queue<'_>,
-    draws: &mut Draws,
-    present: &[bool],
-    station: usize,
-) -> Result<(), AirFault>
-    ensures file { SameFile queue.old queue.new }
-    ensures tick { (t : Timetable) → Keeps queue.old draws.old t → OnOk result
-        (Keeps queue.new draws.new (cond (is_present present.now station)
-        (schedule_tick station 0 0 t) t)) }
-{
-    if is_present(present, station) {
-        schedule_tick(queue, draws, station, 0, 0)
-    } else {
-        Ok(())
-    }
-}
-
-/// Puts the first sends of each traffic, in order: of each of so many stations that is present.
-fn schedule_traffic(
-    queue: &mut Queue<'_>,
-    draws: &mut Draws,
-    present: &[bool],
-    every: &[Traffic],
-    count: usize,
-) -> Result<(), AirFault>
-    ensures file { SameFile queue.old queue.new }
-    ensures sends { (t : Timetable) → Keeps queue.old draws.old t → OnOk result
-        (Keeps queue.new draws.new (schedule_traffic present.now (all_traffic every.now) count t)) }
-{
-    for (number, traffic) in every.iter().enumerate() {
-        schedule_first_sends(queue, draws, present, number, traffic, count)?;
-    }
-    Ok(())
-}
-
-/// Puts the first send of the traffic of a number of each of so many stations that is present, in
-/// order.
-fn schedule_first_sends(
-    queue: &mut Queue<'_>,
-    draws: &mut Draws,
-    present: &[bool],
-    number: usize,
-    traffic: &Traffic,
-    count: usize,
-) -> Result<(), AirFault>
-    ensures file { SameFile queue.old queue.new }
-    ensures sends { (t : Timetable) → Keeps queue.old draws.old t → OnOk result
-        (Keeps queue.new draws.new (schedule_first_sends present.now (traffic_of number traffic.now)
-        count t)) }
-{
-    for station in 0..count {
-        schedule_first_send(queue, draws, present, number, traffic, station)?;
-    }
-    Ok(())
-}
-
-/// Puts the first send of the traffic of a number by a station, if it is present.
-fn schedule_first_send(
-    queue: &mut Queue<'_>,
-    draws: &mut Draws,
-    present: &[bool],
-    number: usize,
-    traffic: &Traffic,
-    station: usize,
-) -> Result<(), AirFault>
-    ensures file { SameFile queue.old queue.new }
-    ensures send { (t : Timetable) → Keeps queue.old draws.old t → OnOk result
-        (Keeps queue.new draws.new (cond (is_present present.now station)
-        (schedule_send (traffic_of number traffic.now) station 0 t) t)) }
-{
-    if is_present(present, station) {
-        schedule_send(queue, draws, number, traffic, station, 0)
-    } else {
-        Ok(())
-    }
-}
-
-/// Puts a send of the traffic of a number by a station: at a draw below its period after a moment.
-fn schedule_send(
-    queue: &mut Queue<'_>,
-    draws: &mut Draws,
-    number: usize,
-    traffic: &Traffic,
-    station: usize,
-    moment: u64,
-) -> Result<(), AirFault>
-    requires moment { moment ≤ 2 ^ 63 + 10000 }
-    ensures file { SameFile queue.old queue.new }
-    ensures send { (t : Timetable) → Keeps queue.old draws.old t → OnOk result
-        (Keeps queue.new draws.new
-        (schedule_send (traffic_of number traffic.now) station moment t)) }
-{
-    let moment = moment + draws.within(traffic.period);
-    queue.push(moment, station, AirAction::Send(number, *traffic))
-}
-
-/// Puts the first tick of a station that comes, where there are beacons and none waits: later by
-/// its jitter.
-fn schedule_coming_tick(
-    queue: &mut Queue<'_>,
-    draws: &mut Draws,
-    beacons: bool,
-    station: usize,
-    moment: u64,
-) -> Result<(), AirFault>
-    requires moment { moment ≤ 2 ^ 63 + 10000 }
-    ensures file { SameFile queue.old queue.new }
-    ensures tick { (t : Timetable) → Keeps queue.old draws.old t → OnOk result
-        (Keeps queue.new draws.new (come_ticking beacons station moment t)) }
-{
-    if !beacons {
-        return Ok(());
-    }
-    if queue.has_no_tick(station) {
-        schedule_tick(queue, draws, station, moment, moment)
-    } else {
-        Ok(())
-    }
-}
-
-/// Puts the first sends of a station that comes: of each traffic, in order, where none waits.
-fn schedule_coming_sends(
-    queue: &mut Queue<'_>,
-    draws: &mut Draws,
-    every: &[Traffic],
-    station: usize,
-    moment: u64,
-) -> Result<(), AirFault>
-    requires moment { moment ≤ 2 ^ 63 + 10000 }
-    ensures file { SameFile queue.old queue.new }
-    ensures sends { (t : Timetable) → Keeps queue.old draws.old t → OnOk result
-        (Keeps queue.new draws.new (come_sending_all (all_traffic every.now) station moment t)) }
-{
-    for (number, traffic) in every.iter().enumerate() {
-        schedule_coming_send(queue, draws, number, traffic, station, moment)?;
-    }
-    Ok(())
-}
-
-/// Puts the first send of one traffic, where none waits: later by a draw below the period.
-fn schedule_coming_send(
-    queue: &mut Queue<'_>,
-    draws: &mut Draws,
-    number: usize,
-    traffic: &Traffic,
-    station: usize,
-    moment: u64,
-) -> Result<(), AirFault>
-    requires moment { moment ≤ 2 ^ 63 + 10000 }
-    ensures file { SameFile queue.old queue.new }
-    ensures send { (t : Timetable) → Keeps queue.old draws.old t → OnOk result
-        (Keeps queue.new draws.new
-        (come_sending (traffic_of number traffic.now) station moment t)) }
-{
-    if queue.has_no_send(number, station) {
-        schedule_send(queue, draws, number, traffic, station, moment)
-    } else {
-        Ok(())
-    }
 }
 
 /// A frame that was just given.
@@ -1027,23 +843,4 @@ fn schedule_delivery(
     }
     queue.push_delivery(given.heard_at, station, frame)?;
     Ok(Note::Heard { station, frame })
-}
-
-/// Puts a tick of a station with the next jitter: at this moment, or, where that is later, when its
-/// beacon is due by that jitter.
-fn schedule_tick(
-    queue: &mut Queue<'_>,
-    draws: &mut Draws,
-    station: usize,
-    moment: u64,
-    beacon_from: u64,
-) -> Result<(), AirFault>
-    requires { beacon_from ≤ 2 ^ 63 + 10000 }
-    ensures file { SameFile queue.old queue.new }
-    ensures tick { (t : Timetable) → Keeps queue.old draws.old t → OnOk result
-        (Keeps queue.new draws.new (schedule_tick station moment beacon_from t)) }
-{
-    let jitter = draws.jitter();
-    let due = beacon_from.saturating_add(u64::from(jitter));
-    queue.push(moment.max(due), station, AirAction::Tick(jitter))
 }

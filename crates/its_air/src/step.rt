@@ -9,7 +9,7 @@ ghost use Rattle.its_world.specs.Steps.{IsKept};
 ghost use Rattle.its_air.specs.AirRun.{events_in};
 ghost use Rattle.its_air.specs.Moving.{DoesAsked, DoesFiled, DoesTaken, DoesThere};
 ghost use Rattle.its_air.specs.Outside.{Delivers, at_station, opening_at, station_of_filed};
-ghost use Rattle.its_air.specs.Queues.{IsFiledInRange, filed_of};
+ghost use Rattle.its_queue.specs.Queues.{IsFiledInRange, filed_of};
 ghost use Rattle.its_air.specs.Runs.{AreIndexed};
 ghost use Rattle.its_queue.specs.Waiting.{own_of};
 ghost use Rattle.its_air_model.specs.Timetable.Filed.{Happens};

@@ -3,3 +3,7 @@ pub mod Waiting
 pub mod Counted
 pub mod Line
 pub mod Waits
+pub mod Queues
+pub mod Files
+pub mod Due
+pub mod Keeps

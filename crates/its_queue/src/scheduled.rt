@@ -1,6 +1,6 @@
 //! What an air does by itself, and when.
 
-ghost use Rattle.std.specs.Prelude.{◌≡◌, ◌≤◌, ◌+◌, ◌^◌, ℕ, Some, IfOk, IfSome, IfNone};
+ghost use Rattle.std.specs.Prelude.{◌≡◌, ◌≤◌, ◌^◌, ℕ, Some, IfOk, IfSome, IfNone};
 ghost use Rattle.std.specs.BinaryHeap.{lt_by_cmp};
 ghost use Rattle.std.specs.Prelude.{nat_eq};
 ghost use Rattle.std.specs.Cmp.{partial_order_from_own_ties};

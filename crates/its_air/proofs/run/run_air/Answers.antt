@@ -5,8 +5,8 @@ use denote.Ref.{Bor}
 use Rattle.its_events.specs.declared.event.FileEvent.{FileEvent}
 use Rattle.its_world.specs.Events.{config_of}
 use Rattle.its_events.specs.Airs.{end_of}
-use Rattle.its_air.specs.AirRun.{AreDue}
-use Rattle.its_air.specs.Queues.{filed_in, filed_of, IsFiledInRange}
+use Rattle.its_queue.specs.Due.{AreDue}
+use Rattle.its_queue.specs.Queues.{filed_in, filed_of, IsFiledInRange}
 use Rattle.its_air.proofs.Under.{begins, ended}
 use Rattle.std.proofs.Common.{Bool, false, suc}
 use Rattle.its_air.specs.AirTimed.{rules_of}

@@ -3,11 +3,11 @@ use Rattle.std.specs.Prelude.{All}
 use Rattle.its_model.specs.World.{Event}
 use Rattle.its_world.specs.Events.{config_of}
 use Rattle.its_events.specs.Airs.{end_of}
-use Rattle.its_air.specs.AirRun.{AreDue}
-use Rattle.its_air.specs.Files.{filed_due}
+use Rattle.its_queue.specs.Due.{AreDue}
+use Rattle.its_queue.specs.Files.{filed_due}
 use Rattle.its_air.specs.AirTimed.{rules_of}
 use Rattle.its_air.specs.Keeps.{IsTimed}
-use Rattle.its_air.specs.Queues.{IsFiledInRange, filed_of}
+use Rattle.its_queue.specs.Queues.{IsFiledInRange, filed_of}
 use Rattle.its_air.specs.Runs.{IsUnderWay}
 use Rattle.its_places.specs.PlaceIndexes.{AreStandingsOf}
 use Rattle.its_air_model.specs.Timetable.{air_opening, air_run}

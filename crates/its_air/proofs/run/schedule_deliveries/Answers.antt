@@ -1,8 +1,8 @@
 use Rattle.std.proofs.Common.{◌≡◌, ◌+◌, ◌∙◌, List, ℕ, rules, ap, sym, subst, take, take_all, get_or}
 use Rattle.std.proofs.lemmas.List.{take_more}
-use Rattle.its_air.specs.Keeps.{Keeps}
+use Rattle.its_queue.specs.Keeps.{Keeps}
 use Rattle.its_air_model.specs.Timetable.{Timetable, send, send_all}
-use Rattle.its_air.proofs.Keeping.{send_all_more}
+use Rattle.its_queue.proofs.Keeping.{send_all_more}
 use Rattle.its_air.proofs.run.schedule_deliveries.Goals as goal
 
 pub loop-station-preserved : goal.loop-station-preserved

@@ -1,6 +1,6 @@
 use Rattle.std.proofs.Common.{take}
-use Rattle.its_air.specs.Files.{SameFile}
-use Rattle.its_air.specs.Keeps.{Keeps}
+use Rattle.its_queue.specs.Files.{SameFile}
+use Rattle.its_queue.specs.Keeps.{Keeps}
 use Rattle.its_air.specs.Runs.{SaysAsBefore}
 use Rattle.its_air_model.specs.Timetable.{Timetable, send_all}
 use Rattle.its_air.proofs.run.schedule_deliveries.Given as goal

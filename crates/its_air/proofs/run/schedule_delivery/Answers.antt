@@ -1,5 +1,5 @@
 use Rattle.std.proofs.Common.{◌∙◌, sym, true≢false}
-use Rattle.its_air.proofs.Keeping.{keeps_sent}
+use Rattle.its_queue.proofs.Keeping.{keeps_sent}
 use Rattle.its_air.proofs.run.schedule_delivery.Goals as goal
 
 pub returns-clause-sent : goal.returns-clause-sent

@@ -2,7 +2,7 @@ use Rattle.std.proofs.Common.{sym, subst, ◌<◌, ◌^◌}
 use Rattle.std.specs.Prelude.{All}
 use Rattle.its_events.specs.Airs.{moment_of}
 use Rattle.its_events.specs.declared.event.FileEvent.{FileEvent}
-use Rattle.its_air.specs.Queues.{IsFiledInRange}
+use Rattle.its_queue.specs.Queues.{IsFiledInRange}
 use Rattle.its_air.proofs.Ranges.{all_in_range, all_moments}
 use Rattle.its_air.proofs.scenario.run_scenario.Goals as goal
 

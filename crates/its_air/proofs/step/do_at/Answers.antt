@@ -3,7 +3,7 @@ use Rattle.its_gnvalue.specs.Values.{Position}
 use Rattle.its_events.specs.Airs.{moment_of}
 use Rattle.its_events.specs.Centres.{centred}
 use Rattle.its_air.specs.Moving.{DoesAt}
-use Rattle.its_air.proofs.Keeping.{on_ok}
+use Rattle.its_queue.proofs.Keeping.{on_ok}
 use Rattle.its_air.proofs.Outside.{comes_of}
 use Rattle.its_air.proofs.step.do_at.Goals.{then-event+in-Some, then-event+in_default, else-event}
 use Rattle.its_air.proofs.step.do_at.Goals as goal

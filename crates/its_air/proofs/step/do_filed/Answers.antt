@@ -1,9 +1,9 @@
 use Rattle.std.proofs.Common.{◌<◌, ◌∷◌, [], ℕ, length, refl, sym, subst, inl, inr}
 use Rattle.std.specs.Prelude.{OnOk}
 use Rattle.its_air.specs.Moving.{DoesAt}
-use Rattle.its_air.specs.Queues.{filed_of}
-use Rattle.its_air.proofs.Files.{same_moment}
-use Rattle.its_air.proofs.Keeping.{on_ok}
+use Rattle.its_queue.specs.Queues.{filed_of}
+use Rattle.its_queue.proofs.Files.{same_moment}
+use Rattle.its_queue.proofs.Keeping.{on_ok}
 use Rattle.its_air.proofs.Moved.{comes_well, none_at, same_station, station_filed}
 use Rattle.its_air.proofs.step.do_filed.Goals as goal
 

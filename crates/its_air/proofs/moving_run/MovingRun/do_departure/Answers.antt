@@ -1,5 +1,5 @@
 use Rattle.std.proofs.Common.{refl, inr}
-use Rattle.its_air.proofs.Keeping.{on_ok}
+use Rattle.its_queue.proofs.Keeping.{on_ok}
 use Rattle.its_air.proofs.UnderRows.{under_leaves}
 use Rattle.its_air.proofs.moving_run.MovingRun.do_departure.Goals as goal
 

@@ -2,7 +2,7 @@ use Rattle.std.proofs.Common.{◌≡◌, ◌∙◌, ℕ, refl, sym, subst, Some}
 use Rattle.std.specs.Prelude.{slice_get}
 use Rattle.its_air.specs.Outside.{IsOfStation}
 use Rattle.its_air.specs.UnderRows.{stations_in}
-use Rattle.its_air.proofs.Keeping.{on_ok}
+use Rattle.its_queue.proofs.Keeping.{on_ok}
 use Rattle.its_air.proofs.Outside.{may_centred, may_id, may_not, may_own}
 use Rattle.its_air.proofs.UnderRows.{event_at, event_does, event_passed}
 use Rattle.its_air.proofs.moving_run.MovingRun.do_next_event.Goals as goal

@@ -5,7 +5,7 @@ use Rattle.its_air.specs.Moving.{DoesAt}
 use Rattle.its_air.specs.Outside.{opening_at, row_move}
 use Rattle.its_air_model.specs.Timetable.{Filed}
 use Rattle.its_air_model.specs.Timetable.Filed.{Happens}
-use Rattle.its_air.proofs.Keeping.{on_ok}
+use Rattle.its_queue.proofs.Keeping.{on_ok}
 use Rattle.its_air.proofs.UnderRows.{row_does, same_end}
 use Rattle.its_air.proofs.moving_run.MovingRun.do_row.Goals as goal
 

@@ -1,7 +1,7 @@
 use Rattle.std.proofs.Common.{◌∙◌, ◌+◌, ◌*◌, subst, sym, ap, ℕ, length, ◌≤◌, add-zero}
 use Rattle.its_air.specs.UnderRows.{CameUnder, IsComing, IsUnder, class_in, end_in}
 use Rattle.its_air.specs.declared.moving_run.Outside.{Outside}
-use Rattle.its_air.proofs.Keeping.{on_ok}
+use Rattle.its_queue.proofs.Keeping.{on_ok}
 use Rattle.its_air.proofs.Moved.{stations_made}
 use Rattle.its_air.proofs.Outside.{event_done_under, leave_done}
 use Rattle.its_air.proofs.moving_run.MovingRun.take_in.Goals as goal

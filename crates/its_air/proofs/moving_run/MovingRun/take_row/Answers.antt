@@ -1,7 +1,7 @@
 use Rattle.std.proofs.Common.{◌≡◌, ◌≤◌, ◌∙◌, ℕ, refl, sym, subst, ap, Some, arith, length, ◌*◌}
 use Rattle.its_moves.specs.declared.row.Row.{Row}
 use Rattle.its_air.specs.UnderRows.{CameUnder, IsUnder, IsUnderSome, end_in}
-use Rattle.its_air.proofs.Keeping.{on_ok}
+use Rattle.its_queue.proofs.Keeping.{on_ok}
 use Rattle.its_air.proofs.Moved.{stations_made}
 use Rattle.its_air.proofs.Outside.{row_done, same_came, turn_of_row}
 use Rattle.its_air.proofs.UnderRows.{row_read, row_taken}

@@ -1,9 +1,9 @@
 use Rattle.std.proofs.Common.{◌≡◌, ◌∙◌, [], map, length, cond, ap, sym, subst, Bool}
 use Rattle.std.proofs.lemmas.List.{length-map}
 use Rattle.its_world.specs.Events.{config_of}
-use Rattle.its_air.specs.Queues.{filed_of}
+use Rattle.its_queue.specs.Queues.{filed_of}
 use Rattle.its_air_model.specs.Draws.{draws_of}
-use Rattle.its_air.specs.Keeps.{Keeps}
+use Rattle.its_queue.specs.Keeps.{Keeps}
 use Rattle.its_air_model.specs.Timetable.{Timetable, of_file, schedule_all, schedule_first_ticks}
 use Rattle.its_air_model.specs.Timetable.{schedule_traffic}
 use Rattle.its_queue.specs.Traffics.{all_traffic}

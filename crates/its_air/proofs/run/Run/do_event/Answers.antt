@@ -10,9 +10,9 @@ use Rattle.std.specs.Prelude.{Vec}
 use Rattle.std.specs.declared.alloc.Global.{Global}
 use Rattle.its_model.specs.World.{opening, world_run, entries}
 use Rattle.its_world.specs.State.{RepresentsWorld}
-use Rattle.its_air.specs.Keeps.{Keeps}
+use Rattle.its_queue.specs.Keeps.{Keeps}
 use Rattle.its_air_model.specs.Timetable.{given, spread_frame}
-use Rattle.its_air.specs.declared.waiting.Queue.{Queue}
+use Rattle.its_queue.specs.declared.queue.Queue.{Queue}
 use Rattle.its_air.proofs.Keeping.{answered_last, goes_on}
 use Rattle.its_air.proofs.Under.{told_on}
 

@@ -6,12 +6,14 @@ use Rattle.its_simulation.specs.Simulated.{IsSimulated}
 use Rattle.its_world.specs.Events.{event_of}
 use Rattle.its_world.specs.State.{WorldState}
 use Rattle.its_air.specs.AirRun.{events_in}
-use Rattle.its_air.specs.Keeps.{Keeps, IsTimed}
-use Rattle.its_air.specs.Queues.{filed_of}
+use Rattle.its_queue.specs.Keeps.{Keeps}
+use Rattle.its_air.specs.Keeps.{IsTimed}
+use Rattle.its_queue.specs.Queues.{filed_of}
 use Rattle.its_air_model.specs.Timetable.{of_file, take_one}
 use Rattle.std.proofs.lemmas.List.{append-nil}
-use Rattle.its_air.specs.declared.waiting.Queue.{Queue}
-use Rattle.its_air.proofs.Keeping.{on_ok, goes_on}
+use Rattle.its_queue.specs.declared.queue.Queue.{Queue}
+use Rattle.its_queue.proofs.Keeping.{on_ok}
+use Rattle.its_air.proofs.Keeping.{goes_on}
 use Rattle.its_air.proofs.Under.{told_on}
 use Rattle.std.proofs.Common.{All, arith}
 use Rattle.its_world.specs.Steps.{IsKept}

@@ -5,9 +5,11 @@ use Rattle.its_model.specs.World.{opening, world_run}
 use Rattle.its_simulation.specs.Simulated.{IsSimulated}
 use Rattle.its_world.specs.Events.{event_of}
 use Rattle.its_world.specs.State.{WorldState}
-use Rattle.its_air.specs.Keeps.{Keeps, IsAnswered}
+use Rattle.its_queue.specs.Keeps.{Keeps}
+use Rattle.its_air.specs.Keeps.{IsAnswered}
 use Rattle.its_air_model.specs.Timetable.{come, comes, present_after, spread}
-use Rattle.its_air.proofs.Keeping.{on_ok_both, goes_on}
+use Rattle.its_queue.proofs.Keeping.{on_ok_both}
+use Rattle.its_air.proofs.Keeping.{goes_on}
 use Rattle.its_air.proofs.Stepping.{filed_event}
 use Rattle.its_air.proofs.run.Run.do_outer.Goals as goal
 

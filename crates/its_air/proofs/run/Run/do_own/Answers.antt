@@ -8,14 +8,16 @@ use Rattle.its_model.specs.World.{Event, opening, world_run}
 use Rattle.its_simulation.specs.Simulated.{IsSimulated}
 use Rattle.its_world.specs.Events.{event_of}
 use Rattle.its_world.specs.State.{WorldState}
-use Rattle.its_air.specs.Keeps.{Keeps, IsAnswered}
+use Rattle.its_queue.specs.Keeps.{Keeps}
+use Rattle.its_air.specs.Keeps.{IsAnswered}
 use Rattle.its_queue.specs.Waiting.{happening_of}
 use Rattle.its_air.specs.Runs.{SaysAsBefore}
 use Rattle.its_air_model.specs.Timetable.{Timetable, come, comes, follow_all, is_passed_over}
 use Rattle.its_air_model.specs.Timetable.{is_refusal}
 use Rattle.its_air_model.specs.Timetable.{present_after, spread}
 use Rattle.its_queue.specs.Waits.{planned_of}
-use Rattle.its_air.proofs.Keeping.{on_ok, on_ok_both, goes_on, same_file}
+use Rattle.its_queue.proofs.Keeping.{on_ok, on_ok_both}
+use Rattle.its_air.proofs.Keeping.{goes_on, same_file}
 use Rattle.its_air.proofs.Stepping.{follows, own_done, own_passed_over}
 use Rattle.its_air.proofs.Under.{told_on}
 use Rattle.its_air.proofs.run.Run.do_own.Goals as goal

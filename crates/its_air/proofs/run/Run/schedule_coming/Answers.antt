@@ -1,6 +1,5 @@
 use Rattle.std.proofs.Common.{subst}
-use Rattle.std.specs.Prelude.{OnOk}
-use Rattle.its_air.specs.Keeps.{Keeps}
+use Rattle.its_queue.specs.Keeps.{Keeps}
 use Rattle.its_air_model.specs.Timetable.{Rules, come, come_ticking}
 use Rattle.its_air.proofs.run.Run.schedule_coming.Goals as goal
 
@@ -10,7 +9,6 @@ returns-clause-come c = λ rules t goes_by h.
     let n = c.args.station in
     let m = c.args.moment in
     let ticked = c.in_ok-schedule_coming_tick.ensures.tick t h in
-    subst (λ (r : Rules). OnOk c.schedule_coming_sends.result
-    (Keeps c.schedule_coming_sends.new.queue c.schedule_coming_sends.new.draws
-    (come r n m t))) goes_by
-    (c.schedule_coming_sends.ensures.sends (come_ticking run.air.beacons n m t) ticked)
+    subst (λ (r : Rules). Keeps c.schedule_coming_sends.new.queue c.schedule_coming_sends.new.draws
+    (come r n m t)) goes_by
+    (c.in_ok-schedule_coming_sends.ensures.sends (come_ticking run.air.beacons n m t) ticked)

@@ -2,10 +2,10 @@ use Rattle.std.proofs.Common.{◌≡◌, ◌+◌, ◌∙◌, sym, subst, List, �
 use Rattle.std.specs.Prelude.{OnOk}
 use Rattle.its_settings.specs.declared.air.Air.{Air}
 use Rattle.its_world.specs.Events.{event_of}
-use Rattle.its_air.specs.Files.{SameFile}
-use Rattle.its_air.specs.Keeps.{Keeps}
+use Rattle.its_queue.specs.Files.{SameFile}
+use Rattle.its_queue.specs.Keeps.{Keeps}
 use Rattle.its_air_model.specs.Timetable.{Rules, send_all, spread_frame, heard_by}
-use Rattle.its_air.specs.declared.waiting.Queue.{Queue}
+use Rattle.its_queue.specs.declared.queue.Queue.{Queue}
 use Rattle.its_air.proofs.run.Run.schedule_frame.Goals as goal
 
 pub returns-clause-spread : goal.returns-clause-spread

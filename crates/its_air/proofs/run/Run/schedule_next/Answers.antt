@@ -1,12 +1,12 @@
-use Rattle.std.proofs.Common.{◌≡◌, ◌+◌, ◌∷◌, refl, ap, subst, rules, IsPermutation}
+use Rattle.std.proofs.Common.{◌≡◌, ◌+◌, refl, ap, subst, rules}
 use Rattle.std.specs.Prelude.{slice_get, OnOk}
 use Rattle.its_queue.specs.declared.scheduled.Scheduled.{Scheduled}
 use Rattle.its_queue.specs.declared.scheduled.AirAction.TheVariants as owns
-use Rattle.its_air.specs.Keeps.{Keeps, follow_own}
+use Rattle.its_queue.specs.Keeps.{Keeps}
 use Rattle.its_air_model.specs.Timetable.{Timetable, is_refusal, sending}
 use Rattle.its_queue.specs.Traffics.{traffic_of}
 use Rattle.its_air.proofs.Following.{follows_tick, follows_delivery, follows_send}
-use Rattle.its_air.proofs.Keeping.{keeps_put_alone, on_ok_both}
+use Rattle.its_queue.proofs.Keeping.{keeps_put_alone}
 use Rattle.its_air.proofs.run.Run.schedule_next.Goals as goal
 
 pub returns-in-Tick-clause-next : goal.returns-in-Tick-clause-next
@@ -25,8 +25,8 @@ returns-in-Deliver-clause-next c = λ w t answer stands tells h.
     (follows_delivery done c.in-Deliver.field-0 (is_refusal answer)
     (slice_get w.stations done.station) t c.in-Deliver.is) h
 
-pub returns-in-Send-clause-next : goal.returns-in-Send-clause-next
-returns-in-Send-clause-next c = λ w t answer stands tells h.
+pub returns-in_ok-push-in-Send-clause-next : goal.returns-in_ok-push-in-Send-clause-next
+returns-in_ok-push-in-Send-clause-next c = λ w t answer stands tells h.
     let done = c.args.done.now in
     let queue = c.args.self.now.queue in
     let words = c.args.self.now.draws in
@@ -40,11 +40,6 @@ returns-in-Send-clause-next c = λ w t answer stands tells h.
       station = done.station;
       own = owns.Send n x;
     } in
-    on_ok_both c.push.result (IsPermutation (schedule ∷ queue.own) c.push.new.self.own)
-    (c.push.new.self.pushed ≡ queue.pushed + 1)
-    (Keeps c.push.new.self words (follow_own done (is_refusal answer)
-    (slice_get w.stations done.station) t))
-    (λ moves count.
     subst (λ (u : Timetable). Keeps c.push.new.self words u)
     (follows_send done n x (is_refusal answer) (slice_get w.stations done.station) t c.in-Send.is)
     (keeps_put_alone queue c.push.new.self words t schedule
@@ -54,5 +49,5 @@ returns-in-Send-clause-next c = λ w t answer stands tells h.
       taken = c.push.ensures.taken;
       until = c.push.ensures.until;
     })
-    moves count refl (ap (sending (traffic_of n x) done.station) later) h))
-    c.push.ensures.put c.push.ensures.count
+    c.in_ok-push-in-Send.ensures.put c.in_ok-push-in-Send.ensures.count refl
+    (ap (sending (traffic_of n x) done.station) later) h)

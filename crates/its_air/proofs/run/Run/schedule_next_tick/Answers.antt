@@ -1,10 +1,10 @@
 use Rattle.std.proofs.Common.{◌≡◌, ◌∙◌, ap, sym, subst, Some, None, Option, cond, false, Bool}
 use Rattle.std.proofs.Common.{true≢false}
-use Rattle.std.specs.Prelude.{slice_get, OnOk}
+use Rattle.std.specs.Prelude.{slice_get}
 use Rattle.its_model.specs.Station.{StationModel}
 use Rattle.its_world.proofs.Worlds.{get_station}
 use Rattle.its_queue.specs.Waiting.{happening_of}
-use Rattle.its_air.specs.Keeps.{Keeps}
+use Rattle.its_queue.specs.Keeps.{Keeps}
 use Rattle.its_air_model.specs.Timetable.{Timetable, is_refusal, tick_again, schedule_tick}
 use Rattle.its_air.proofs.Keeping.{beacon_same, no_model, either, found_some, found_none}
 use Rattle.its_air.proofs.Keeping.{tells_refusal, not_refused_is}
@@ -47,5 +47,5 @@ returns-clause-tick c = λ w t answer stands tells h.
     ∙ ap (λ (b : Bool). cond b t (tick_again (happening_of c.args.tick.now) (slice_get w.stations n)
     t))
     (sym not_refused) in
-    subst (λ (v : Timetable). OnOk c.schedule_tick.result (Keeps c.schedule_tick.new.queue
-    c.schedule_tick.new.draws v)) same (c.schedule_tick.ensures.tick t h)
+    subst (λ (v : Timetable). Keeps c.schedule_tick.new.queue c.schedule_tick.new.draws v) same
+    (c.in_ok-schedule_tick.ensures.tick t h)

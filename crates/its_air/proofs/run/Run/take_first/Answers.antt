@@ -1,10 +1,10 @@
 use Rattle.std.proofs.Common.{◌≡◌, ◌≤◌, ◌∙◌, [], ◌∷◌, ◌++◌, ap, sym, subst}
 use Rattle.its_events.specs.Airs.{moment_of as file_moment}
 use Rattle.its_air.specs.AirRun.{events_in}
-use Rattle.its_air.specs.Queues.{filed_of}
+use Rattle.its_queue.specs.Queues.{filed_of}
 use Rattle.its_air_model.specs.Timetable.{Rules, NoneWaits, of_file}
 use Rattle.its_queue.specs.Waits.{pending_of}
-use Rattle.its_air.proofs.Files.{same_moment}
+use Rattle.its_queue.proofs.Files.{same_moment}
 use Rattle.its_air.proofs.Keeping.{goes_on}
 use Rattle.its_air.proofs.Stepping.{takes_file, takes_own, takes_none, timed_one, without_first}
 use Rattle.its_air.proofs.Under.{under_file, under_own}
