@@ -1,2 +1,3 @@
+pub mod Audiences
 pub mod FullTables
 pub mod Results

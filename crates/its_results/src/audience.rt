@@ -1,85 +1,19 @@
 //! The stations that packets for an area are for, and how far these came there.
 
-ghost use Rattle.std.specs.Prelude.{◌≡◌, ◌≤◌, ◌<◌, ◌↔◌, IfOk, IsSome, false, vec_len};
+ghost use Rattle.std.specs.Prelude.{◌≡◌, ◌+◌, ◌<◌, ◌↔◌, IfOk, OnOk, IsSome, true, false};
+ghost use Rattle.std.specs.Prelude.{count_by, vec_len};
+ghost use Rattle.its_results.specs.Audiences.{is_for_area, is_sent, missed_of, was_reached};
 
+use crate::reach::Reach;
 use crate::waiting_frames::WaitingFrames;
 use its_geometry::{Area, contains};
 use its_gnvalue::NoMemory;
 use its_scenario::Scenario;
 use its_simulation::{EventRecord, Note};
-use its_station::{OwnedGbcRequest, Refused};
+use its_station::OwnedGbcRequest;
 use its_tally::{CarriedPacket, Presence};
-use its_world::{Entry, EntryFault, What, World};
+use its_world::{Entry, What, World};
 use std::alloc::Global;
-
-/// How far a packet came at a station, from nowhere to its port.
-#[derive(Clone, Copy, Debug, PartialEq, Eq)]
-pub(crate) enum Reach {
-    /// No frame of it came into its hearing.
-    Unheard,
-    /// Each frame that it would have heard was lost.
-    Lost,
-    /// A frame of it came and was ignored.
-    Ignored,
-    /// A frame of it came and was refused.
-    Refused,
-    /// A frame of it came, and the location table had no room for its source.
-    Full,
-    /// It was accepted by the station, which stood outside the area.
-    Outside,
-    /// It was accepted inside the area, and its port was not open.
-    Closed,
-    /// It was delivered to its port.
-    Delivered,
-}
-
-impl Reach {
-    /// Whether this is told of a frame that was delivered to its port.
-    pub(crate) fn is_delivery(entry: &Entry) -> bool {
-        matches!(
-            entry,
-            Entry::Accepted {
-                handed: Some(_),
-                ..
-            }
-        )
-    }
-
-    /// How far it came, by what is told of a frame of it.
-    fn of(entry: &Entry, is_inside: bool) -> Reach {
-        match entry {
-            Entry::Accepted {
-                handed: Some(_),
-                ..
-            } => Reach::Delivered,
-            Entry::Accepted { .. } if is_inside => Reach::Closed,
-            Entry::Accepted { .. } => Reach::Outside,
-            Entry::Refused(EntryFault::Station(Refused::TableFull)) => Reach::Full,
-            Entry::Refused(_) => Reach::Refused,
-            Entry::Ignored(_) => Reach::Ignored,
-            _ => Reach::Unheard,
-        }
-    }
-
-    /// The word for it.
-    pub(crate) fn word(self) -> &'static str {
-        match self {
-            Reach::Unheard => "unheard",
-            Reach::Lost => "lost",
-            Reach::Ignored => "ignored",
-            Reach::Refused => "refused",
-            Reach::Full => "full",
-            Reach::Outside => "outside",
-            Reach::Closed => "closed",
-            Reach::Delivered => "delivered",
-        }
-    }
-
-    /// Its place among these, the furthest last.
-    fn rank(self) -> u8 {
-        self as u8
-    }
-}
 
 /// A station that a packet is for.
 #[derive(Clone, Copy, Debug)]
@@ -88,6 +22,19 @@ struct Target {
     reach: Reach,
     /// The milliseconds from the send to the first delivery, where there was one.
     after: u64,
+}
+
+impl Target {
+    /// Whether the packet was delivered to its port: where a limit is given, at most so many
+    /// milliseconds after it was sent.
+    fn was_reached(&self, limit: Option<u64>) -> bool
+        ensures { result ≡ was_reached limit self.now }
+    {
+        match limit {
+            Some(limit) => self.reach.is_delivered() && self.after <= limit,
+            None => self.reach.is_delivered(),
+        }
+    }
 }
 
 /// The stations that a packet for an area is for, and how far it came at each: those that stand in
@@ -131,25 +78,24 @@ impl Audience {
     /// At how many of them the packet was delivered to its port: where `within` is given, at most
     /// so many milliseconds after it was sent.
     pub fn reached(&self, within: Option<u64>) -> usize
-        ensures { result ≤ vec_len self.now.targets }
+        ensures { result ≡ count_by (was_reached within) self.now.targets.items }
     {
-        let within = within.unwrap_or(u64::MAX);
         let targets = self.targets.iter();
-        targets
-            .filter(|target| target.reach == Reach::Delivered && target.after <= within)
-            .count()
+        targets.filter(|target| target.was_reached(within)).count()
     }
 
-    /// The numbers of the stations to which the packet wasn't delivered, in order, each with a word
-    /// for how far it came there, as `lost`. `NoMemory` where an allocation failed.
-    pub fn missed(&self, alloc: Global) -> Result<Vec<(usize, &'static str)>, NoMemory> {
-        let mut missed = Vec::new(alloc);
-        for target in &self.targets {
-            if target.reach != Reach::Delivered {
-                missed.push((target.station, target.reach.word()))?;
-            }
-        }
-        Ok(missed)
+    /// The numbers of the stations to which the packet wasn't delivered, in order, each with how
+    /// far it came there. `NoMemory` where an allocation failed.
+    pub fn missed(&self, alloc: Global) -> Result<Vec<(usize, Reach)>, NoMemory>
+        ensures { IfOk result (λ missed. missed.items ≡ missed_of self.now.targets.items) }
+    {
+        let targets = self.targets.iter();
+        let missed = targets.filter(|target| !target.was_reached(None));
+        Ok(
+            missed
+                .map(|target| (target.station, target.reach))
+                .collect(alloc)?,
+        )
     }
 
     /// The station of this number, where the packet is for it.
@@ -216,7 +162,13 @@ impl Audiences {
     /// Takes an event that was done, with the world as it stands after it. `NoMemory` where an
     /// allocation failed.
     pub fn take(&mut self, world: &World, done: &EventRecord<'_>) -> Result<(), NoMemory>
-        ensures { self.old.are_wanted ≡ false → self.new ≡ self.old }
+        ensures unwanted { self.old.are_wanted ≡ false → self.new ≡ self.old }
+        ensures wanted { self.new.are_wanted ≡ self.old.are_wanted }
+        ensures sent { self.old.are_wanted ≡ true →
+            is_for_area done.now.what.now done.now.entry.now ≡ true →
+            OnOk result (vec_len self.new.sends ≡ vec_len self.old.sends + 1) }
+        ensures other { is_for_area done.now.what.now done.now.entry.now ≡ false →
+            vec_len self.new.sends ≡ vec_len self.old.sends }
     {
         if !self.are_wanted {
             return Ok(());
@@ -237,14 +189,13 @@ impl Audiences {
 
     /// Takes a note of the run, of this moment in milliseconds: who comes and leaves, and whether a
     /// frame is heard by a station or lost on the way to it. `NoMemory` where an allocation failed.
-    pub fn take_note(&mut self, moment: u64, note: &Note<'_>) -> Result<(), NoMemory> {
+    pub fn take_note(&mut self, moment: u64, note: &Note<'_>) -> Result<(), NoMemory>
+        ensures wanted { self.new.are_wanted ≡ self.old.are_wanted }
+        ensures sends { vec_len self.new.sends ≡ vec_len self.old.sends }
+    {
         match *note {
             Note::Heard { frame, .. } => self.frames.wait(frame),
-            Note::Lost { station, frame } => {
-                if let Some(audience) = self.audience_of(frame) {
-                    audience.note(station, moment, Reach::Lost);
-                }
-            }
+            Note::Lost { station, frame } => self.note_lost(station, moment, frame),
             _ => {}
         }
         self.presence.take(note)
@@ -256,7 +207,13 @@ impl Audiences {
         world: &World,
         done: &EventRecord<'_>,
         request: &OwnedGbcRequest,
-    ) -> Result<Option<CarriedPacket>, NoMemory> {
+    ) -> Result<Option<CarriedPacket>, NoMemory>
+        ensures wanted { self.new.are_wanted ≡ self.old.are_wanted }
+        ensures sent { is_sent done.now.entry.now ≡ true →
+            OnOk result (vec_len self.new.sends ≡ vec_len self.old.sends + 1) }
+        ensures other { is_sent done.now.entry.now ≡ false →
+            vec_len self.new.sends ≡ vec_len self.old.sends }
+    {
         if !matches!(done.entry, Entry::Sent(_)) {
             return Ok(None);
         }
@@ -271,7 +228,10 @@ impl Audiences {
         world: &World,
         done: &EventRecord<'_>,
         frame: usize,
-    ) -> Option<CarriedPacket> {
+    ) -> Option<CarriedPacket>
+        ensures wanted { self.new.are_wanted ≡ self.old.are_wanted }
+        ensures sends { vec_len self.new.sends ≡ vec_len self.old.sends }
+    {
         let carried = self.frames.deliver(frame)?;
         if let Some(audience) = self.sends.as_mut_slice().get_mut(carried.send) {
             audience.take(world, done);
@@ -279,10 +239,17 @@ impl Audiences {
         Some(carried.relayed())
     }
 
-    /// The audience of the packet of a frame that still has deliveries to come or was just given.
-    fn audience_of(&mut self, frame: usize) -> Option<&mut Audience> {
-        let carried = self.frames.get(frame)?;
-        self.sends.as_mut_slice().get_mut(carried.send)
+    /// Notes that a draw lost the delivery of a frame that was just given to a station.
+    fn note_lost(&mut self, station: usize, moment: u64, frame: usize)
+        ensures wanted { self.new.are_wanted ≡ self.old.are_wanted }
+        ensures sends { vec_len self.new.sends ≡ vec_len self.old.sends }
+    {
+        let Some(carried) = self.frames.get(frame) else {
+            return;
+        };
+        if let Some(audience) = self.sends.as_mut_slice().get_mut(carried.send) {
+            audience.note(station, moment, Reach::Lost);
+        }
     }
 }
 

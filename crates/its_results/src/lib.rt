@@ -9,6 +9,7 @@ mod full_tables;
 mod load_rows;
 mod open_send;
 mod quantile;
+mod reach;
 mod results;
 mod rows;
 mod send_rows;
@@ -17,4 +18,5 @@ mod waiting_frames;
 
 pub use audience::{Audience, Audiences};
 pub use full_tables::FullTables;
+pub use reach::Reach;
 pub use results::{ResultFiles, ResultWriters, Results};

@@ -1,7 +1,8 @@
 //! A packet for an area of a run, whose row isn't written yet.
 
-use crate::audience::{Audience, Reach};
+use crate::audience::Audience;
 use crate::quantile::Quantiles;
+use crate::reach::Reach;
 use its_gnvalue::NoMemory;
 use its_headers::Kind;
 use its_simulation::{EventRecord, SimulationFault};

@@ -109,10 +109,41 @@ fn begin_file<'a, R: Rows + Drop, W: Write + Drop>(
     name: Option<&'a str>,
     rows: R,
     writer: Option<W>,
-) -> Result<Option<ResultFile<'a, R, W>>, Fault<'a>> {
+) -> Result<Option<ResultFile<'a, R, W>>, Fault<'a>>
+    ensures { name.entry ≡ None → IfOk result (λ file. file ≡ None) }
+{
     match (name, writer) {
         (Some(name), Some(writer)) => Ok(Some(ResultFile::begin(name, rows, writer)?)),
         _ => Ok(None),
+    }
+}
+
+/// The file, where there is one, takes an event that was done.
+fn take_in<'a, R: Rows + Drop, W: Write + Drop>(
+    file: &mut Option<ResultFile<'a, R, W>>,
+    world: &World,
+    done: &EventRecord<'_>,
+) -> Result<(), SimulationFault>
+    ensures { file.old ≡ None → IsOk result }
+{
+    match file {
+        Some(file) => file.take(world, done),
+        None => Ok(()),
+    }
+}
+
+/// The same of a note of the run.
+fn take_note_in<'a, R: Rows + Drop, W: Write + Drop>(
+    file: &mut Option<ResultFile<'a, R, W>>,
+    world: &World,
+    moment: u64,
+    note: &Note<'_>,
+) -> Result<(), SimulationFault>
+    ensures { file.old ≡ None → IsOk result }
+{
+    match file {
+        Some(file) => file.take_note(world, moment, note),
+        None => Ok(()),
     }
 }
 
@@ -122,7 +153,8 @@ fn end_file<'a, R: Rows + Drop, W: Write + Drop>(
     ran: Result<Status, Fault<'a>>,
 ) -> Result<Status, Fault<'a>>
     requires { IfOk ran IsCommandStatus }
-    ensures { IfOk result IsCommandStatus }
+    ensures status { IfOk result IsCommandStatus }
+    ensures none { file.entry ≡ None → result ≡ ran.entry }
 {
     match file {
         Some(file) => file.end(ran),
@@ -177,7 +209,12 @@ impl<'a, W: Write + Drop> Results<'a, W> {
         scenario: &Scenario,
         names: ResultFiles<'a>,
         writers: ResultWriters<W>,
-    ) -> Result<Results<'a, W>, Fault<'a>> {
+    ) -> Result<Results<'a, W>, Fault<'a>>
+        ensures sends { names.entry.sends ≡ None → IfOk result (λ results. results.sends ≡ None) }
+        ensures stations { names.entry.stations ≡ None →
+            IfOk result (λ results. results.stations ≡ None) }
+        ensures load { names.entry.load ≡ None → IfOk result (λ results. results.load ≡ None) }
+    {
         let configs = scenario.stations.as_slice();
         let present = scenario.present.as_slice();
         let ResultWriters {
@@ -203,16 +240,9 @@ impl<'a, W: Write + Drop> Results<'a, W> {
         ensures none { self.old.sends ≡ None → self.old.stations ≡ None → self.old.load ≡ None →
             IsOk result }
     {
-        if let Some(file) = &mut self.sends {
-            file.take(world, done)?;
-        }
-        if let Some(file) = &mut self.stations {
-            file.take(world, done)?;
-        }
-        if let Some(file) = &mut self.load {
-            file.take(world, done)?;
-        }
-        Ok(())
+        take_in(&mut self.sends, world, done)?;
+        take_in(&mut self.stations, world, done)?;
+        take_in(&mut self.load, world, done)
     }
 
     /// Takes a note of the run, of this moment in milliseconds, with the world as it stands then.
@@ -226,16 +256,9 @@ impl<'a, W: Write + Drop> Results<'a, W> {
         ensures none { self.old.sends ≡ None → self.old.stations ≡ None → self.old.load ≡ None →
             IsOk result }
     {
-        if let Some(file) = &mut self.sends {
-            file.take_note(world, moment, note)?;
-        }
-        if let Some(file) = &mut self.stations {
-            file.take_note(world, moment, note)?;
-        }
-        if let Some(file) = &mut self.load {
-            file.take_note(world, moment, note)?;
-        }
-        Ok(())
+        take_note_in(&mut self.sends, world, moment, note)?;
+        take_note_in(&mut self.stations, world, moment, note)?;
+        take_note_in(&mut self.load, world, moment, note)
     }
 
     /// Writes the rows that are left and ends the files, after a run that ended as `ran` says,
@@ -243,7 +266,9 @@ impl<'a, W: Write + Drop> Results<'a, W> {
     /// name, where a file could not be written, and `OutOfMemory` where an allocation failed.
     pub fn end(self, ran: Result<Status, Fault<'a>>) -> Result<Status, Fault<'a>>
         requires { IfOk ran IsCommandStatus }
-        ensures { IfOk result IsCommandStatus }
+        ensures status { IfOk result IsCommandStatus }
+        ensures none { self.entry.sends ≡ None → self.entry.stations ≡ None →
+            self.entry.load ≡ None → result ≡ ran.entry }
     {
         let Results {
             sends,

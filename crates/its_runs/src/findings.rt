@@ -1,6 +1,6 @@
 //! What is found out about a run beside its lines.
 
-ghost use Rattle.std.specs.Prelude.{◌≡◌, IfOk};
+ghost use Rattle.std.specs.Prelude.{IfOk};
 ghost use Rattle.its_reporting.specs.Statuses.{IsCommandStatus};
 
 use crate::course::Course;

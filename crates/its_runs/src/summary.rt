@@ -4,6 +4,7 @@ use crate::findings::SummaryDetails;
 use its_gnvalue::NoMemory;
 use its_json::JsonLine;
 use its_reporting::OutputFormat;
+use its_results::Reach;
 use its_simulation::SimulationFault;
 use its_tally::{SendSummary, Tally, Totals};
 use serde::Serialize;
@@ -73,7 +74,7 @@ fn print_total_object<D: SummaryDetails, W: Write>(
 }
 
 /// A station that a packet didn't reach, and how far it came there.
-type Miss = (usize, &'static str);
+type Miss = (usize, Reach);
 
 /// The stations that a packet didn't reach, where they are told.
 fn missed_of<D: SummaryDetails>(
@@ -97,9 +98,9 @@ impl fmt::Display for MissedText<'_> {
         let Some(missed) = self.0 else {
             return Ok(());
         };
-        for (place, (station, word)) in missed.iter().enumerate() {
+        for (place, (station, reach)) in missed.iter().enumerate() {
             let before = if place == 0 { " (missed:" } else { "," };
-            write!(f, "{before} {station} {word}")?;
+            write!(f, "{before} {station} {reach}")?;
         }
         if missed.is_empty() {
             Ok(())
