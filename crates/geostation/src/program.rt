@@ -6,7 +6,7 @@ ghost use Rattle.its_world.specs.Events.{IsConfig};
 
 use crate::arguments;
 use crate::fault::ArgumentFault;
-use crate::subcommand::{Convert, Import, Mesh, Records, Replay, Show, Sim, Subcommand};
+use crate::subcommand::{Convert, Import, Replay, Show, Subcommand};
 use its_arguments::StationArguments;
 use its_commands::{check_file, convert_file, import_file, show_file};
 use its_events::read_station;
@@ -148,63 +148,48 @@ fn run_subcommand<
 where
     R::File: Read + Write + Drop,
 {
+    let mut io = Io { out, err, format };
     match subcommand {
-        Subcommand::Show(show) => show_records(rt, show, format, input, out, err),
-        Subcommand::Check(records) => check_records(rt, records, format, input, out, err),
+        Subcommand::Show(show) => show_records(rt, show, input, &mut io),
+        Subcommand::Check(records) => {
+            check_file(rt, records.file, input, &records.selection, &mut io)
+        }
         Subcommand::Stats(records, top) => {
-            let mut io = Io { out, err, format };
             stats_file(rt, records.file, input, &records.selection, *top, &mut io)
         }
-        Subcommand::Convert(convert) => convert_records(rt, convert, format, input, out, err),
-        Subcommand::Import(import) => import_lines(rt, import, format, input, out, err),
-        Subcommand::Sim(sim) => simulate(rt, sim, format, input, out, err),
-        Subcommand::View(viewing) => view(rt, viewing, format, input, out, err),
-        Subcommand::Mesh(mesh) => run_mesh(rt, mesh, format, input, out, err),
-        Subcommand::Replay(replay) => replay_records(rt, replay, format, input, out, err),
-        Subcommand::Station(station) => serve(rt.alloc(), station, input, out, err),
+        Subcommand::Convert(convert) => convert_records(rt, convert, input, &mut io),
+        Subcommand::Import(import) => import_lines(rt, import, input, &mut io),
+        Subcommand::Sim(sim) => simulate_file(rt, &sim.files, input, &sim.options, &mut io),
+        Subcommand::View(viewing) => view_file(rt, viewing, input, &mut io),
+        Subcommand::Mesh(mesh) => {
+            mesh_file(rt, mesh.file, input, mesh.frames, mesh.options, &mut io)
+        }
+        Subcommand::Replay(replay) => replay_records(rt, replay, input, &mut io),
+        Subcommand::Station(station) => serve(rt.alloc(), station, input, &mut io),
         Subcommand::BadSetting(fault) => {
-            refuse(setting_fault(rt.alloc(), *fault, format.explain), err)
+            refuse(setting_fault(rt.alloc(), *fault, format.explain), io.err)
         }
     }
-}
-
-/// `check`.
-fn check_records<R: Files + AllocGlobal, I: Read + Drop, W: Write, E: Write>(
-    rt: &R,
-    records: &Records<'_>,
-    format: OutputFormat,
-    input: I,
-    out: &mut W,
-    err: &mut E,
-) -> Status
-where
-    R::File: Read + Drop,
-{
-    let mut io = Io { out, err, format };
-    check_file(rt, records.file, input, &records.selection, &mut io)
 }
 
 /// `show`.
 fn show_records<R: Files + AllocGlobal, I: Read + Drop, W: Write, E: Write>(
     rt: &R,
     show: &Show<'_>,
-    format: OutputFormat,
     input: I,
-    out: &mut W,
-    err: &mut E,
+    io: &mut Io<W, E>,
 ) -> Status
 where
     R::File: Read + Drop,
 {
     let records = &show.records;
-    let mut io = Io { out, err, format };
     show_file(
         rt,
         records.file,
         input,
         &records.selection,
         show.showing,
-        &mut io,
+        io,
     )
 }
 
@@ -212,98 +197,36 @@ where
 fn convert_records<R: Files + Clock + Eprint + AllocGlobal, I: Read + Drop, W: Write, E: Write>(
     rt: &R,
     convert: &Convert<'_>,
-    format: OutputFormat,
     input: I,
-    out: &mut W,
-    err: &mut E,
+    io: &mut Io<W, E>,
 ) -> Status
 where
     R::File: Read + Write + Drop,
 {
     let reading = Reading::of(rt, convert.conversion.file, convert.progress);
-    let mut io = Io { out, err, format };
-    convert_file(
-        &reading,
-        convert.conversion,
-        &convert.selection,
-        input,
-        &mut io,
-    )
+    convert_file(&reading, convert.conversion, &convert.selection, input, io)
 }
 
 /// `import`, which tells how far it is.
 fn import_lines<R: Files + Clock + Eprint + AllocGlobal, I: Read + Drop, W: Write, E: Write>(
     rt: &R,
     import: &Import<'_>,
-    format: OutputFormat,
     input: I,
-    out: &mut W,
-    err: &mut E,
+    io: &mut Io<W, E>,
 ) -> Status
 where
     R::File: Read + Write + Drop,
 {
     let reading = Reading::of(rt, import.file, import.progress);
-    let mut io = Io { out, err, format };
-    import_file(&reading, import.file, input, import.target, &mut io)
-}
-
-/// `sim`.
-fn simulate<R: Files + AllocGlobal, I: Read + Drop, W: Write, E: Write>(
-    rt: &R,
-    sim: &Sim<'_>,
-    format: OutputFormat,
-    input: I,
-    out: &mut W,
-    err: &mut E,
-) -> Status
-where
-    R::File: Read + Write + Drop,
-{
-    let mut io = Io { out, err, format };
-    simulate_file(rt, &sim.files, input, &sim.options, &mut io)
-}
-
-/// `view`.
-fn view<R: Files + AllocGlobal, I: Read + Drop, W: Write, E: Write>(
-    rt: &R,
-    viewing: &Viewing<'_>,
-    format: OutputFormat,
-    input: I,
-    out: &mut W,
-    err: &mut E,
-) -> Status
-where
-    R::File: Read + Write + Drop,
-{
-    let mut io = Io { out, err, format };
-    view_file(rt, viewing, input, &mut io)
-}
-
-/// `mesh`.
-fn run_mesh<R: Files + Net + AllocGlobal, I: Read + Drop, W: Write, E: Write>(
-    rt: &R,
-    mesh: &Mesh<'_>,
-    format: OutputFormat,
-    input: I,
-    out: &mut W,
-    err: &mut E,
-) -> Status
-where
-    R::File: Read + Write + Drop,
-{
-    let mut io = Io { out, err, format };
-    mesh_file(rt, mesh.file, input, mesh.frames, mesh.options, &mut io)
+    import_file(&reading, import.file, input, import.target, io)
 }
 
 /// `replay`.
 fn replay_records<R: Files + AllocGlobal, I: Read + Drop, W: Write, E: Write>(
     rt: &R,
     replay: &Replay<'_>,
-    format: OutputFormat,
     input: I,
-    out: &mut W,
-    err: &mut E,
+    io: &mut Io<W, &mut E>,
 ) -> Status
 where
     R::File: Read + Write + Drop,
@@ -315,10 +238,9 @@ where
                 selection: replay.records.selection,
                 unit,
             };
-            let mut io = Io { out, err, format };
-            replay_file(rt, &options, input, replay.frames, &mut io)
+            replay_file(rt, &options, input, replay.frames, io)
         }
-        Err(fault) => refuse(fault, err),
+        Err(fault) => refuse(fault, io.err),
     }
 }
 
@@ -327,16 +249,15 @@ fn serve<I: Read + Drop, W: Write, E: Write>(
     alloc: Global,
     station: &StationArguments<'_>,
     input: I,
-    out: &mut W,
-    err: &mut E,
+    io: &mut Io<&mut W, &mut E>,
 ) -> Status {
     match config_of(station) {
-        Ok(config) => match run_station(alloc, &config, input, out, err) {
+        Ok(config) => match run_station(alloc, &config, input, io.out, io.err) {
             Ended::Done => Status::Done,
             Ended::Refused => Status::Refused,
             Ended::Failed => Status::Failed,
         },
-        Err(fault) => refuse(fault, err),
+        Err(fault) => refuse(fault, io.err),
     }
 }
 
