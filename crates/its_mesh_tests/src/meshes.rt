@@ -33,11 +33,11 @@ static SEND: &str = "station = 0, at = 1000, do = \"gbc\", port = 2002, info = 0
 static DELIVER: &str = "station = 1, at = 1010, do = \"deliver\", frame = 0";
 
 /// The lines of these three events.
-static LINES: &str = "0 1 opened\n1000 0 sent 0\n\
+const LINES: &str = "0 1 opened\n1000 0 sent 0\n\
     1000 1 accepted port 2002 info 0 6869 sent 1\n1000 0 ignored own-source\n";
 
 /// The lines before the first datagram comes to station 1, and those after it.
-static BEFORE: &str = "0 1 opened\n1000 0 sent 0\n";
+const BEFORE: &str = "0 1 opened\n1000 0 sent 0\n";
 
 static AFTER: &str = "1000 1 accepted port 2002 info 0 6869 sent 1\n1000 0 ignored own-source\n";
 

@@ -3,15 +3,18 @@
 use super::{AFTER, BEFORE, DELIVER, FRAME, SEND, STATIONS, left_of, left_with, scenario};
 use crate::scripted::Scripted;
 use its_reporting::Status;
-use std::alloc::Global;
+use std::alloc::{AllocError, Global};
 use std::test::Fail;
+
+/// The octets that these digits spell.
+fn octets_of(alloc: Global, digits: &str) -> Result<Vec<u8>, Fail> {
+    Ok(hex::decode(alloc, digits)?)
+}
 
 /// So many octets, of which the first are these and the others 0.
 fn padded(alloc: Global, digits: &str, length: usize) -> Result<Vec<u8>, Fail> {
-    let mut datagram = hex::decode(alloc, digits)?;
-    for _ in datagram.len()..length {
-        datagram.push(0)?;
-    }
+    let mut datagram = octets_of(alloc, digits)?;
+    datagram.resize(length, 0)?;
     Ok(datagram)
 }
 
@@ -49,16 +52,22 @@ fn datagrams_of_each_length(rt: HostRuntime) -> Result<(), Fail> {
     Ok(())
 }
 
+/// The same octets, with one bit turned, which is counted from the first octet's lowest.
+fn turned(alloc: Global, octets: &[u8], bit: usize) -> Result<Vec<u8>, AllocError> {
+    let mut damaged = Vec::from_slice(alloc, octets)?;
+    if let Some(octet) = damaged.get_mut(bit / 8) {
+        *octet ^= 1 << (bit % 8);
+    }
+    Ok(damaged)
+}
+
 /// What is printed of frame 0 with one bit turned, and then of frame 0, for each bit.
 fn turned_bits(alloc: Global) -> Result<Vec<Vec<u8>>, Fail> {
+    let frame = octets_of(alloc, FRAME)?;
     let mut outputs = Vec::new(alloc);
-    for octet in 0..76 {
-        for bit in 0..8u32 {
-            let mut planted = [hex::decode(alloc, FRAME)?];
-            let [damaged] = &mut planted;
-            *damaged.get_mut(octet).ok_or("short")? ^= 1 << bit;
-            outputs.push(left_with(alloc, &planted)?.out)?;
-        }
+    for bit in 0..8 * 76 {
+        let left = left_with(alloc, &[turned(alloc, &frame, bit)?])?;
+        outputs.push(left.out)?;
     }
     Ok(outputs)
 }
@@ -138,7 +147,7 @@ fn beacon(alloc: Global, source: u16) -> Result<Vec<u8>, Fail> {
         "ffffffffffff02100000{source:04x}894711001a01001000800000010014000210000\
         0{source:04x}00000000000000000000000000000000"
     )?;
-    Ok(hex::decode(alloc, digits.as_str())?)
+    octets_of(alloc, digits.as_str())
 }
 
 /// How many lines an output has that begin so.

@@ -5,67 +5,98 @@ use crate::scripted::{Scripted, Trouble};
 use its_mesh::{MeshOptions, Received, Sent, Sockets};
 use its_reporting::Status;
 use its_test_support::{MOST, STEP, Shortage, written};
+use std::alloc::{AllocError, Global};
 use std::io;
 use std::test::Fail;
 
-/// Each call of a socket fails in turn: two are made, each is asked four times after the first
-/// event, frame 0 is sent, and so on.
+/// Frame 0 came to station 1, and its relay wasn't sent.
+const NOT_RELAYED: &str =
+    "0 1 opened\n1000 0 sent 0\n1000 1 accepted port 2002 info 0 6869 sent 1\n";
+
+/// Calls of sockets, from one up to another, what is told where one of them fails, and the lines
+/// that are printed: two sockets are made, each is asked four times after the first event, frame 0
+/// is sent, and so on.
+static FAILED_CALLS: [(u32, u32, &str, &str); 11] = [
+    (0, 1, "station 0: no socket", ""),
+    (1, 2, "station 1: no socket", ""),
+    (2, 10, "station N: receive failed", LINES),
+    (10, 11, "station 0: send failed", BEFORE),
+    (11, 12, "station 0: receive failed", LINES),
+    (12, 13, "station 1: receive failed", LINES),
+    (13, 14, "station 1: send failed", NOT_RELAYED),
+    (14, 15, "station 1: receive failed", LINES),
+    (15, 17, "station 0: receive failed", LINES),
+    (17, 18, "station 1: receive failed", LINES),
+    (18, 26, "station N: receive failed", LINES),
+];
+
+/// What is told of a fault: that of a station N is of the one that the call asks.
+fn told(alloc: Global, fault: &str, call: u32) -> Result<String, AllocError> {
+    let asked = format!(in alloc; "station {}", call % 2)?;
+    let fault = fault.replace(alloc, "station N", asked.as_str())?;
+    format!(in alloc; "geostation: {fault}\n")
+}
+
+/// Whether the mesh of a scenario, of which a call meets trouble, tells this, prints these lines,
+/// and fails where it tells something.
+fn ends_so(alloc: Global, text: &str, trouble: (u32, Trouble), said: &str, lines: &str) -> bool {
+    let mut sockets = Scripted::new(alloc, &[], Some(trouble));
+    let left = left_of(alloc, text.as_bytes(), &mut sockets);
+    let has_failed = left.status == Status::Failed;
+    left.err.as_slice() == said.as_bytes()
+        && left.out.as_slice() == lines.as_bytes()
+        && has_failed != said.is_empty()
+}
+
+/// Whether it does where a call fails with this fault.
+fn fails_so(
+    alloc: Global,
+    text: &str,
+    call: u32,
+    fault: &str,
+    lines: &str,
+) -> Result<bool, AllocError> {
+    let said = told(alloc, fault, call)?;
+    Ok(ends_so(alloc, text, (call, Trouble::Failed), said.as_str(), lines))
+}
+
 #[test]
 fn each_call_fails_in_turn(rt: HostRuntime) -> Result<(), Fail> {
-    let alloc = rt.alloc();
-    let relayed = "0 1 opened\n1000 0 sent 0\n1000 1 accepted port 2002 info 0 6869 sent 1\n";
-    let cases = [
-        (0..1u32, "station 0: no socket", ""),
-        (1..2, "station 1: no socket", ""),
-        (2..10, "station N: receive failed", LINES),
-        (10..11, "station 0: send failed", BEFORE),
-        (11..12, "station 0: receive failed", LINES),
-        (12..13, "station 1: receive failed", LINES),
-        (13..14, "station 1: send failed", relayed),
-        (14..15, "station 1: receive failed", LINES),
-        (15..17, "station 0: receive failed", LINES),
-        (17..18, "station 1: receive failed", LINES),
-        (18..26, "station N: receive failed", LINES),
-    ];
-    let text = scenario(alloc, STATIONS, &[OPEN, SEND, DELIVER])?;
-    for (calls, fault, want) in cases {
-        for call in calls {
-            let asked = format!(in alloc; "station {}", call % 2)?;
-            let fault = fault.replace(alloc, "station N", asked.as_str())?;
-            let said = format!(in alloc; "geostation: {fault}\n")?;
-            let mut sockets = Scripted::new(alloc, &[], Some((call, Trouble::Failed)));
-            let left = left_of(alloc, text.as_bytes(), &mut sockets);
-            assert_eq!(rt; left.out.as_slice(), want.as_bytes(), "{call}");
-            assert_eq!(rt; left.err.as_slice(), said.as_bytes(), "{call}");
-            assert_eq!(rt; left.status, Status::Failed, "{call}");
+    let text = scenario(rt.alloc(), STATIONS, &[OPEN, SEND, DELIVER])?;
+    for &(from, to, fault, lines) in &FAILED_CALLS {
+        for call in from..to {
+            assert!(rt;
+                fails_so(rt.alloc(), text.as_str(), call, fault, lines)?,
+                "{call}"
+            );
         }
     }
     Ok(())
 }
 
-/// A send that would block is a failed one; a receive that would block is none. No memory for a
-/// socket is told apart. The call after the last is never made.
+/// A call that meets trouble, what is told then, and the lines that are printed. A send that would
+/// block is a failed one; a receive that would block is none. No memory for a socket is told apart.
+/// The call after the last is never made.
+static TROUBLES: [(u32, Trouble, &str, &str); 4] = [
+    (
+        10,
+        Trouble::WouldBlock,
+        "geostation: station 0: send failed\n",
+        BEFORE,
+    ),
+    (12, Trouble::WouldBlock, "", LINES),
+    (1, Trouble::OutOfMemory, "geostation: out of memory\n", ""),
+    (26, Trouble::Failed, "", LINES),
+];
+
 #[test]
 fn calls_that_would_block(rt: HostRuntime) -> Result<(), Fail> {
-    let alloc = rt.alloc();
-    let text = scenario(alloc, STATIONS, &[OPEN, SEND, DELIVER])?;
-    let cases = [
-        (
-            10,
-            Trouble::WouldBlock,
-            "geostation: station 0: send failed\n",
-            BEFORE,
-        ),
-        (12, Trouble::WouldBlock, "", LINES),
-        (1, Trouble::OutOfMemory, "geostation: out of memory\n", ""),
-        (26, Trouble::Failed, "", LINES),
-    ];
-    for (call, trouble, said, want) in cases {
-        let mut sockets = Scripted::new(alloc, &[], Some((call, trouble)));
-        let left = left_of(alloc, text.as_bytes(), &mut sockets);
-        assert_eq!(rt; left.out.as_slice(), want.as_bytes(), "{call}");
-        assert_eq!(rt; left.err.as_slice(), said.as_bytes(), "{call}");
-        assert_eq!(rt; left.status == Status::Failed, !said.is_empty(), "{call}");
+    let text = scenario(rt.alloc(), STATIONS, &[OPEN, SEND, DELIVER])?;
+    for &(call, trouble, said, lines) in &TROUBLES {
+        assert!(rt;
+            ends_so(rt.alloc(), text.as_str(), (call, trouble), said, lines),
+            "{call}"
+        );
     }
     Ok(())
 }
