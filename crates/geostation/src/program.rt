@@ -148,26 +148,39 @@ fn run_subcommand<
 where
     R::File: Read + Write + Drop,
 {
-    let mut io = Io { out, err, format };
     match subcommand {
-        Subcommand::Show(show) => show_records(rt, show, input, &mut io),
+        Subcommand::Show(show) => show_records(rt, show, input, &mut Io { out, err, format }),
         Subcommand::Check(records) => {
+            let mut io = Io { out, err, format };
             check_file(rt, records.file, input, &records.selection, &mut io)
         }
         Subcommand::Stats(records, top) => {
+            let mut io = Io { out, err, format };
             stats_file(rt, records.file, input, &records.selection, *top, &mut io)
         }
-        Subcommand::Convert(convert) => convert_records(rt, convert, input, &mut io),
-        Subcommand::Import(import) => import_lines(rt, import, input, &mut io),
-        Subcommand::Sim(sim) => simulate_file(rt, &sim.files, input, &sim.options, &mut io),
-        Subcommand::View(viewing) => view_file(rt, viewing, input, &mut io),
+        Subcommand::Convert(convert) => {
+            convert_records(rt, convert, input, &mut Io { out, err, format })
+        }
+        Subcommand::Import(import) => {
+            import_lines(rt, import, input, &mut Io { out, err, format })
+        }
+        Subcommand::Sim(sim) => {
+            let mut io = Io { out, err, format };
+            simulate_file(rt, &sim.files, input, &sim.options, &mut io)
+        }
+        Subcommand::View(viewing) => { view_file(rt, viewing, input, &mut Io { out, err, format }) }
         Subcommand::Mesh(mesh) => {
+            let mut io = Io { out, err, format };
             mesh_file(rt, mesh.file, input, mesh.frames, mesh.options, &mut io)
         }
-        Subcommand::Replay(replay) => replay_records(rt, replay, input, &mut io),
-        Subcommand::Station(station) => serve(rt.alloc(), station, input, &mut io),
+        Subcommand::Replay(replay) => {
+            replay_records(rt, replay, input, &mut Io { out, err, format })
+        }
+        Subcommand::Station(station) => {
+            serve(rt.alloc(), station, input, &mut Io { out, err, format })
+        }
         Subcommand::BadSetting(fault) => {
-            refuse(setting_fault(rt.alloc(), *fault, format.explain), io.err)
+            refuse(setting_fault(rt.alloc(), *fault, format.explain), err)
         }
     }
 }
