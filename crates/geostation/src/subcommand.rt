@@ -1,5 +1,8 @@
 //! What the arguments ask for.
 
+ghost use Rattle.std.specs.Prelude.{◌≡◌, is_some};
+ghost use Rattle.geostation.specs.Subcommands.{is_headed, is_told_on, painter_of as painter_in};
+
 use clap::ArgMatches;
 use its_arguments::{
     BadArgument, StationArguments, count_of, fields_of, ports_of, selection_of,
@@ -115,7 +118,9 @@ pub struct Replay<'a> {
 
 impl Subcommand<'_> {
     /// The column heads before its lines, where there are any that it doesn't print by itself.
-    pub fn heads(&self) -> Option<&'static str> {
+    pub fn heads(&self) -> Option<&'static str>
+        ensures { is_some result ≡ is_headed self.now }
+    {
         match self {
             Subcommand::Mesh(mesh) if mesh.heads => Some("time station result"),
             _ => None,
@@ -123,7 +128,9 @@ impl Subcommand<'_> {
     }
 
     /// How its lines in words are coloured, where they are.
-    pub fn painter(&self) -> Option<Painter> {
+    pub fn painter(&self) -> Option<Painter>
+        ensures { result ≡ painter_in self.now }
+    {
         match self {
             Subcommand::Show(show) => show.painter,
             Subcommand::Sim(sim) => sim.painter,
@@ -132,7 +139,9 @@ impl Subcommand<'_> {
     }
 
     /// Whether it is told on standard error how far it is.
-    pub fn shows_progress(&self) -> bool {
+    pub fn shows_progress(&self) -> bool
+        ensures { result ≡ is_told_on self.now }
+    {
         match self {
             Subcommand::Convert(convert) => convert.progress,
             Subcommand::Import(import) => import.progress,

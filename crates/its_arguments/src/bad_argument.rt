@@ -1,17 +1,10 @@
 //! An argument that can't be taken, and the word that may have been meant.
 
-use its_commands::Field;
+use its_commands::{FIELDS, Field};
 use its_headers::{KINDS, Kind};
 use its_keys::nearest;
 use std::alloc::{AllocError, Global};
 use std::fmt;
-
-/// The keys of a record, of which `Field` knows which they are.
-const FIELDS: &[&str] = &[
-    "moment", "from", "to", "kind", "address", "tst", "lat", "lon", "pai", "speed", "heading",
-    "lt", "tc", "mobile", "hops", "max_hops", "number", "shape", "alat", "alon", "a", "b", "angle",
-    "port", "info", "payload", "refused",
-];
 
 /// An argument that can't be taken.
 #[derive(Clone, Copy, Debug, PartialEq, Eq)]
@@ -35,7 +28,7 @@ impl BadArgument<'_> {
             }
             BadArgument::Value("fields", list, _) => {
                 match list.split(',').find(|word| Field::named(word).is_none()) {
-                    Some(word) => nearest(alloc, word, FIELDS),
+                    Some(word) => nearest(alloc, word, &FIELDS.map(Field::word)),
                     None => Ok(None),
                 }
             }

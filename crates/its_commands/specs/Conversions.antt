@@ -1,10 +1,11 @@
 -- What `convert` writes of the records of a file.
 use Rattle.std.specs.Prelude.{◌≡◌, ◌⊎◌, ℕ, ◌+◌, ◌-◌, ◌^◌, ◌≤◌, Bool, true, false, ◌||◌}
-use Rattle.std.specs.Prelude.{if◌then◌else◌, List, [], ◌∷◌, ◌++◌, length}
+use Rattle.std.specs.Prelude.{if◌then◌else◌, List, [], ◌∷◌, ◌++◌, length, take}
 use Rattle.std.specs.Prelude.{Option, Some, None, Result, Ok, Err}
 use Rattle.std.specs.Io.KnownBytes.{Appends}
 use Rattle.its_choosing.specs.declared.Choice.{Choice}
 use Rattle.its_linklayers.specs.LinkLayers.{IsFrameIn, IsLinkFault}
+use Rattle.its_linklayers.specs.declared.link.TheConstants.{LONGEST_RECORD}
 use Rattle.its_pcap.specs.PcapWritten.{file_header}
 use Rattle.its_pcap.specs.PcapngWritten.{section_octets, interface_octets}
 use Rattle.its_pcap.specs.Places.{IsLayerFor, refusal_of}
@@ -119,15 +120,19 @@ pub record IsAdded (l : LinkLayer) (moment : ℕ) (text added : List ℕ) (t nex
   pub layer : next.layer ≡ Some l
   pub begun : next.begun ≡ true
 
+-- the octets of a record that its frame is looked for in
+abbrev pub kept : List ℕ → List ℕ
+kept w = take LONGEST_RECORD w
+
 -- what became of a record, what was written of it, and the file afterwards
 abbrev pub Copies : Choice → Bool → RecordHeader → List ℕ → Target → List ℕ → Target → Copied → Type 0
 Copies choice linked h w t added next copies.Passed =
-    Chooses choice h.moment false × (added ≡ []) × (next ≡ t)
+    Chooses choice linked h (kept w) false × (added ≡ []) × (next ≡ t)
 Copies choice linked h w t added next copies.Written =
-    Chooses choice h.moment true × (l : LinkLayer) × (text : List ℕ)
+    Chooses choice linked h (kept w) true × (l : LinkLayer) × (text : List ℕ)
     × HasText t.frames_only t.layer linked h w l text × IsAdded l h.moment text added t next
 Copies choice linked h w t added next (copies.LeftOut fault) =
-    Chooses choice h.moment true × IsLeftOut t linked h w fault × (added ≡ []) × (next ≡ t)
+    Chooses choice linked h (kept w) true × IsLeftOut t linked h w fault × (added ≡ []) × (next ≡ t)
 
 -- ---- all records of a file
 

@@ -1,3 +1,4 @@
 pub mod Lines
 pub mod Conversions
 pub mod Faults
+pub mod Fields

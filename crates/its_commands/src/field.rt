@@ -1,5 +1,8 @@
 //! Keys of what `show` tells of a record, as columns.
 
+ghost use Rattle.std.specs.Prelude.{◌≡◌, IfSome};
+ghost use Rattle.its_commands.specs.Fields.{field_word};
+
 /// A key of the object of a record.
 #[derive(Clone, Copy, Debug, PartialEq, Eq)]
 pub enum Field {
@@ -59,39 +62,82 @@ pub enum Field {
     Refused,
 }
 
+/// All keys, in the order in which the object of a record has them; behind them that of a refusal.
+pub const FIELDS: [Field; 27] = [
+    Field::Moment,
+    Field::From,
+    Field::To,
+    Field::Kind,
+    Field::Address,
+    Field::Tst,
+    Field::Lat,
+    Field::Lon,
+    Field::Pai,
+    Field::Speed,
+    Field::Heading,
+    Field::Lt,
+    Field::Tc,
+    Field::Mobile,
+    Field::Hops,
+    Field::MaxHops,
+    Field::Number,
+    Field::Shape,
+    Field::Alat,
+    Field::Alon,
+    Field::A,
+    Field::B,
+    Field::Angle,
+    Field::Port,
+    Field::Info,
+    Field::Payload,
+    Field::Refused,
+];
+
 impl Field {
-    /// The key of this name, if it is one.
-    pub fn named(name: &str) -> Option<Field> {
-        let field = match name {
-            "moment" => Field::Moment,
-            "from" => Field::From,
-            "to" => Field::To,
-            "kind" => Field::Kind,
-            "address" => Field::Address,
-            "tst" => Field::Tst,
-            "lat" => Field::Lat,
-            "lon" => Field::Lon,
-            "pai" => Field::Pai,
-            "speed" => Field::Speed,
-            "heading" => Field::Heading,
-            "lt" => Field::Lt,
-            "tc" => Field::Tc,
-            "mobile" => Field::Mobile,
-            "hops" => Field::Hops,
-            "max_hops" => Field::MaxHops,
-            "number" => Field::Number,
-            "shape" => Field::Shape,
-            "alat" => Field::Alat,
-            "alon" => Field::Alon,
-            "a" => Field::A,
-            "b" => Field::B,
-            "angle" => Field::Angle,
-            "port" => Field::Port,
-            "info" => Field::Info,
-            "payload" => Field::Payload,
-            "refused" => Field::Refused,
-            _ => return None,
-        };
-        Some(field)
+    /// Its name.
+    pub fn word(self) -> &'static str
+        ensures { result.now ≡ field_word self }
+    {
+        match self {
+            Field::Moment => "moment",
+            Field::From => "from",
+            Field::To => "to",
+            Field::Kind => "kind",
+            Field::Address => "address",
+            Field::Tst => "tst",
+            Field::Lat => "lat",
+            Field::Lon => "lon",
+            Field::Pai => "pai",
+            Field::Speed => "speed",
+            Field::Heading => "heading",
+            Field::Lt => "lt",
+            Field::Tc => "tc",
+            Field::Mobile => "mobile",
+            Field::Hops => "hops",
+            Field::MaxHops => "max_hops",
+            Field::Number => "number",
+            Field::Shape => "shape",
+            Field::Alat => "alat",
+            Field::Alon => "alon",
+            Field::A => "a",
+            Field::B => "b",
+            Field::Angle => "angle",
+            Field::Port => "port",
+            Field::Info => "info",
+            Field::Payload => "payload",
+            Field::Refused => "refused",
+        }
+    }
+
+    /// The key of this name; `None` where none has it.
+    pub fn named(name: &str) -> Option<Field>
+        ensures { IfSome result (λ field. name.now ≡ field_word field) }
+    {
+        for field in FIELDS {
+            if field.word() == name {
+                return Some(field);
+            }
+        }
+        None
     }
 }

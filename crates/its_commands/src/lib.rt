@@ -19,7 +19,7 @@ mod written;
 
 pub use checking::check;
 pub use converting::{Conversion, convert};
-pub use field::Field;
+pub use field::{FIELDS, Field};
 pub use files::{check_file, convert_file, import_file, show_file};
 pub use importing::{LineFault, LinesFault, read_lines, write_records};
 pub use its_records::{Choice, Kinds, Selection};

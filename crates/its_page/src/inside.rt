@@ -1,6 +1,6 @@
 //! The lines of a run as they stand in an element of the page.
 
-ghost use Rattle.std.specs.Prelude.{◌≡◌, ◌≢◌, ◌≤◌, ◌<◌, All, length, take};
+ghost use Rattle.std.specs.Prelude.{◌≡◌, ◌≢◌, ◌≤◌, ◌<◌, All, false, length, take};
 ghost use Rattle.its_page.specs.Inside.{spelled};
 
 use std::io;
@@ -51,8 +51,10 @@ pub struct Inside<'a, W> {
 }
 
 impl<'a, W: Write> Inside<'a, W> {
-    /// One that hands on to this writer.
-    pub fn new(out: &'a mut W) -> Inside<'a, W> {
+    /// One that hands on to this writer, which hasn't failed.
+    pub fn new(out: &'a mut W) -> Inside<'a, W>
+        ensures { result.has_failed ≡ false }
+    {
         Inside {
             out,
             has_failed: false,
@@ -60,7 +62,9 @@ impl<'a, W: Write> Inside<'a, W> {
     }
 
     /// Whether the other writer failed.
-    pub fn has_failed(&self) -> bool {
+    pub fn has_failed(&self) -> bool
+        ensures { result ≡ self.now.has_failed }
+    {
         self.has_failed
     }
 }

@@ -1,1 +1,3 @@
+pub mod FileFaults
+pub mod RecordFrames
 pub mod Walks

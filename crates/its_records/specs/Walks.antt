@@ -1,10 +1,13 @@
 -- Which records of a capture a command is over, and how a walk over it ends.
-use Rattle.std.specs.Prelude.{◌≡◌, ℕ, Bool, Option, ◌||◌, is_some, nat_lt, if◌then◌else◌}
+use Rattle.std.specs.Prelude.{◌≡◌, ◌⊎◌, ℕ, List, Bool, true, Option, ◌||◌, is_some, nat_lt}
+use Rattle.std.specs.Prelude.{if◌then◌else◌}
 use Rattle.its_choosing.specs.Choosing.{is_chosen}
 use Rattle.its_choosing.specs.declared.Choice.{Choice}
 use Rattle.its_choosing.specs.declared.Traits.{Traits}
+use Rattle.its_pcap.specs.declared.record.RecordHeader.{RecordHeader}
 use Rattle.its_reporting.specs.declared.status.Status.{Status}
 use Rattle.its_reporting.specs.declared.status.Status.TheVariants.{Done, Refused}
+use Rattle.its_records.specs.RecordFrames.{AreTraits}
 use Rattle.its_records.specs.declared.walk.Walked.{Walked}
 
 -- the status of a walk over a capture: done where the capture and each chosen record is good
@@ -12,8 +15,10 @@ abbrev pub walk_status : Walked → Status
 walk_status walked =
     if is_some walked.fault || nat_lt 0 walked.refused then Refused else Done
 
--- whether a record of this moment is chosen: by the moment, and by what its frame is, or that it has
--- none
-abbrev pub Chooses : Choice → ℕ → Bool → Type 0
-Chooses choice moment chosen =
-    (traits : Option Traits) × (chosen ≡ is_chosen choice moment traits)
+-- whether a record is chosen: by its moment and what its frame is, or that it has none; by its
+-- moment alone where nothing is asked of its frame
+abbrev pub Chooses : Choice → Bool → RecordHeader → List ℕ → Bool → Type 0
+Chooses choice linked h w chosen =
+    ((traits : Option Traits) × AreTraits h linked w traits
+    × (chosen ≡ is_chosen choice h.moment traits))
+    ⊎ ((chosen ≡ true) × ((traits : Option Traits) → is_chosen choice h.moment traits ≡ true))

@@ -1,5 +1,11 @@
 //! Why a record or a capture is refused: a code, and a sentence for a person.
 
+ghost use Rattle.std.specs.Prelude.{◌≡◌, IfOk, IfErr};
+ghost use Rattle.its_pcap.specs.Codes.{code_of};
+ghost use Rattle.its_records.specs.FileFaults.{EndsCommand, IsToldInLine};
+ghost use Rattle.its_records.specs.RecordFrames.{IsTold};
+ghost use Rattle.its_records.specs.declared.refusal.RecordFault.TheVariants as faults;
+
 use its_faults::FaultKind;
 use its_frame_text::FrameReason;
 use its_linkframe::{CaptureFault, FrameFault};
@@ -29,7 +35,9 @@ const SECURED: u8 = 2;
 
 impl RecordFault {
     /// Why these octets are no frame, with this fault.
-    pub fn of(fault: FrameFault, frame: &[u8]) -> RecordFault {
+    pub fn of(fault: FrameFault, frame: &[u8]) -> RecordFault
+        ensures { IsTold fault frame.now result }
+    {
         if let FrameFault::Packet(packet) = fault
             && packet.kind == FaultKind::BasicNext
         {
@@ -42,12 +50,16 @@ impl RecordFault {
     }
 
     /// What lines show, as `P4`, `L1` or `L5 G9 at 10`.
-    pub fn code(self) -> RecordCode {
+    pub fn code(self) -> RecordCode
+        ensures { result ≡ record { 0 = self } }
+    {
         RecordCode(self)
     }
 }
 
 impl From<LinkFault> for RecordFault {
+    ghost from_gives = { λ fault r. r ≡ faults.Link fault };
+
     fn from(fault: LinkFault) -> RecordFault {
         RecordFault::Link(fault)
     }
@@ -100,7 +112,10 @@ impl FileFault {
         file: &'a str,
         records: u64,
         format: Option<Format>,
-    ) -> Result<FileFault, Fault<'a>> {
+    ) -> Result<FileFault, Fault<'a>>
+        ensures line { IfOk result (IsToldInLine fault records format) }
+        ensures command { IfErr result (EndsCommand fault file.entry) }
+    {
         match fault {
             SourceFault::Capture(CaptureFault::Io) => Err(Fault::CannotRead(file)),
             SourceFault::Capture(CaptureFault::NoMemory) => Err(Fault::OutOfMemory(AllocError)),
@@ -115,7 +130,9 @@ impl FileFault {
     }
 
     /// What lines show, as `C1` or `P2`.
-    pub fn code(self) -> &'static str {
+    pub fn code(self) -> &'static str
+        ensures { result.now ≡ code_of self.fault }
+    {
         self.fault.code()
     }
 }

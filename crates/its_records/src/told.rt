@@ -1,5 +1,8 @@
 //! What is told of a file that is refused.
 
+ghost use Rattle.std.specs.Prelude.{◌≡◌, Some, None, if◌then◌else◌};
+ghost use Rattle.its_pcap.specs.Codes.{code_of};
+
 use crate::refusal::FileFault;
 use its_frame_text::Explanation;
 use serde::Serialize;
@@ -15,7 +18,13 @@ pub struct RefusedCapture {
 }
 
 impl RefusedCapture {
-    pub fn new(records: u64, fault: FileFault, explain: bool) -> RefusedCapture {
+    /// Of the file that is refused by this fault after so many records; with `explain` its line goes
+    /// on with the reason.
+    pub fn new(records: u64, fault: FileFault, explain: bool) -> RefusedCapture
+        ensures code { result.capture.now ≡ code_of fault.fault }
+        ensures record { result.record ≡ records }
+        ensures reason { result.reason ≡ if explain then Some fault else None }
+    {
         RefusedCapture {
             capture: fault.code(),
             record: records,

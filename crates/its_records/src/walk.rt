@@ -1,7 +1,12 @@
 //! The walk over the records of a file.
 
-ghost use Rattle.std.specs.Prelude.{◌≡◌, ◌≤◌, IfOk, IsTrue, None, true};
+ghost use Rattle.std.specs.Prelude.{◌≡◌, ◌≤◌, Option, IfOk, IfErr, IsTrue, None, true, take};
+ghost use Rattle.its_choosing.specs.Choosing.{is_chosen};
+ghost use Rattle.its_choosing.specs.declared.Traits.{Traits};
+ghost use Rattle.its_linklayers.specs.declared.link.TheConstants.{LONGEST_RECORD};
+ghost use Rattle.its_records.specs.RecordFrames.{traits_read};
 ghost use Rattle.its_records.specs.Walks.{walk_status, Chooses};
+ghost use Rattle.its_reporting.specs.declared.fault.Fault.TheVariants.{CannotRead};
 
 use crate::frame::{frame_of, traits_of};
 use crate::refusal::{FileFault, RecordFault};
@@ -37,7 +42,7 @@ impl Selection {
     }
 
     /// Whether a record is chosen, of which these are all octets: its frame is read apart from them,
-    /// in this room, where it has to be known.
+    /// in this room, where it has to be known. `OutOfMemory` where the room can't be had.
     pub fn has_record(
         &self,
         head: &RecordHeader,
@@ -45,7 +50,8 @@ impl Selection {
         linked: bool,
         room: &mut Vec<u8>,
     ) -> Result<bool, AllocError>
-        ensures { IfOk result (Chooses self.now.choice head.now.moment) }
+        ensures { IfOk result
+            (Chooses self.now.choice linked head.now (take LONGEST_RECORD octets.now)) }
     {
         let moment = head.moment;
         if self.has_any(moment) {
@@ -59,7 +65,8 @@ impl Selection {
 
     /// Whether a record of this moment is chosen, whatever its frame is.
     fn has_any(&self, moment: u64) -> bool
-        ensures { IsTrue result → Chooses self.now.choice moment true }
+        ensures { IsTrue result
+            → (traits : Option Traits) → is_chosen self.now.choice moment traits ≡ true }
     {
         let choice = &self.choice;
         choice.kinds.is_none()
@@ -71,9 +78,9 @@ impl Selection {
             && moment <= choice.until
     }
 
-    /// Whether a record of this moment is chosen.
+    /// Whether a record of this moment is chosen, of which this was read.
     fn has(&self, moment: u64, frame: &Result<FrameView<'_>, RecordFault>) -> bool
-        ensures { Chooses self.now.choice moment result }
+        ensures { result ≡ is_chosen self.now.choice moment (traits_read frame.now) }
     {
         let traits = match frame {
             Ok(frame) => Some(traits_of(frame)),
@@ -173,7 +180,9 @@ pub fn open_records<'a, R: Read + Drop>(
     file: &'a str,
     format: Option<Format>,
     reader: R,
-) -> Result<AnySource<Counted<R>>, Fault<'a>> {
+) -> Result<AnySource<Counted<R>>, Fault<'a>>
+    ensures fault { IfErr result (λ f. (f ≡ CannotRead file.entry) × (format ≡ None)) }
+{
     match AnySource::open(alloc, Counted::new(reader), format, LONGEST_RECORD) {
         Ok(source) => Ok(source),
         Err(_) => Err(Fault::CannotRead(file)),

@@ -1,5 +1,7 @@
 //! The lines of a simulation, as JSON.
 
+ghost use Rattle.std.specs.Prelude.{◌≡◌, IfOk, false};
+
 use crate::entry::{EntryKeys, entry_keys};
 use crate::fault::SimulationFault;
 use crate::note::{Note, NoteLine};
@@ -24,8 +26,10 @@ pub struct JsonLines<'a, W> {
 }
 
 impl<'a, W: Write> JsonLines<'a, W> {
-    /// No line yet, and room for one.
-    pub fn new(alloc: Global, out: &'a mut W) -> Result<JsonLines<'a, W>, AllocError> {
+    /// No line yet, and room for one; notes have none. It takes memory for that room.
+    pub fn new(alloc: Global, out: &'a mut W) -> Result<JsonLines<'a, W>, AllocError>
+        ensures { IfOk result (λ lines. lines.notes ≡ false) }
+    {
         Ok(JsonLines {
             line: JsonLine::new(alloc)?,
             out,
@@ -35,7 +39,9 @@ impl<'a, W: Write> JsonLines<'a, W> {
 
     /// The same objects and, where it is asked for, those of notes among them, as
     /// `{"note":"came","moment":500,"station":1}`.
-    pub fn noting(self, notes: bool) -> JsonLines<'a, W> {
+    pub fn noting(self, notes: bool) -> JsonLines<'a, W>
+        ensures { result ≡ record self.entry { notes = notes } }
+    {
         JsonLines { notes, ..self }
     }
 

@@ -1,5 +1,8 @@
 //! What is told of a run beside its events.
 
+ghost use Rattle.std.specs.Prelude.{◌≡◌};
+ghost use Rattle.its_simulation.specs.Notes.{is_told};
+
 use serde::Serialize;
 use std::fmt;
 
@@ -77,7 +80,9 @@ impl<'a> NoteLine<'a> {
 
 impl Note<'_> {
     /// Whether it has a line among those of events.
-    pub fn is_told(&self) -> bool {
+    pub fn is_told(&self) -> bool
+        ensures { result ≡ is_told self.now }
+    {
         !matches!(self, Note::Made { .. } | Note::Heard { .. })
     }
 }

@@ -1,5 +1,7 @@
 //! The lines of a simulation, as text.
 
+ghost use Rattle.std.specs.Prelude.{◌≡◌, false, true};
+
 use crate::action::Action;
 use crate::entry::EntryText;
 use crate::fault::SimulationFault;
@@ -22,7 +24,11 @@ pub struct TextLines<'a, W> {
 impl<'a, W: Write> TextLines<'a, W> {
     /// Lines without what an event does: a scenario's events are known. With `explain` a refusal
     /// goes on with its sentence in parentheses.
-    pub fn new(out: &'a mut W, explain: bool) -> TextLines<'a, W> {
+    pub fn new(out: &'a mut W, explain: bool) -> TextLines<'a, W>
+        ensures explain { result.explain ≡ explain }
+        ensures actions { result.actions ≡ false }
+        ensures notes { result.notes ≡ false }
+    {
         TextLines {
             out,
             explain,
@@ -33,7 +39,11 @@ impl<'a, W: Write> TextLines<'a, W> {
 
     /// Lines that tell what an event does before its entry, as
     /// `2 1001 1 deliver 0 accepted sent 1`.
-    pub fn with_actions(out: &'a mut W, explain: bool) -> TextLines<'a, W> {
+    pub fn with_actions(out: &'a mut W, explain: bool) -> TextLines<'a, W>
+        ensures explain { result.explain ≡ explain }
+        ensures actions { result.actions ≡ true }
+        ensures notes { result.notes ≡ false }
+    {
         TextLines {
             out,
             explain,
@@ -43,7 +53,9 @@ impl<'a, W: Write> TextLines<'a, W> {
     }
 
     /// The same lines and, where it is asked for, those of notes among them, as `- 500 1 came`.
-    pub fn noting(self, notes: bool) -> TextLines<'a, W> {
+    pub fn noting(self, notes: bool) -> TextLines<'a, W>
+        ensures { result ≡ record self.entry { notes = notes } }
+    {
         TextLines { notes, ..self }
     }
 }

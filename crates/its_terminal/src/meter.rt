@@ -1,5 +1,7 @@
 //! The line on standard error that says how far a run is, with its pace.
 
+ghost use Rattle.std.specs.Prelude.{◌≡◌, [], None};
+
 use crate::pace::Pace;
 use std::alloc::Global;
 use std::io::Write;
@@ -26,7 +28,11 @@ pub struct Meter<'a, R, E> {
 
 impl<'a, R: Clock, E: Write> Meter<'a, R, E> {
     /// One before the first line. `is_shown` says whether someone looks.
-    pub fn new(alloc: Global, rt: &'a R, err: &'a mut E, is_shown: bool) -> Meter<'a, R, E> {
+    pub fn new(alloc: Global, rt: &'a R, err: &'a mut E, is_shown: bool) -> Meter<'a, R, E>
+        ensures shown { result.is_shown ≡ is_shown }
+        ensures start { result.started ≡ None }
+        ensures line { result.line.items ≡ [] }
+    {
         Meter {
             rt,
             err,

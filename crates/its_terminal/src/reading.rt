@@ -1,5 +1,7 @@
 //! The runtime of a command that tells how far it has read a file.
 
+ghost use Rattle.std.specs.Prelude.{◌≡◌, Some, None, if◌then◌else◌};
+
 use crate::meter::millis;
 use crate::pace::Pace;
 use std::alloc::{Allocator, Global};
@@ -22,7 +24,9 @@ pub struct Reading<'a, R> {
 
 impl<'a, R> Reading<'a, R> {
     /// One that tells of the file of this name, where `is_shown`.
-    pub fn of(rt: &'a R, file: &'a str, is_shown: bool) -> Reading<'a, R> {
+    pub fn of(rt: &'a R, file: &'a str, is_shown: bool) -> Reading<'a, R>
+        ensures { result.file ≡ if is_shown then Some file.entry else None }
+    {
         Reading {
             rt,
             file: is_shown.then_some(file),

@@ -1,5 +1,7 @@
 //! A terminal, as a writer of lines.
 
+ghost use Rattle.std.specs.Prelude.{◌≡◌, [], None};
+
 use crate::painting::{Painter, RESET, paint};
 use std::alloc::Global;
 use std::io;
@@ -19,7 +21,11 @@ pub struct Screen<'a, W> {
 
 impl<'a, W: Write> Screen<'a, W> {
     /// One that hands on what it takes.
-    pub fn plain(alloc: Global, out: &'a mut W) -> Screen<'a, W> {
+    pub fn plain(alloc: Global, out: &'a mut W) -> Screen<'a, W>
+        ensures heads { result.heads ≡ None }
+        ensures painter { result.painter ≡ None }
+        ensures line { result.line.items ≡ [] }
+    {
         Screen {
             out,
             heads: None,
@@ -29,12 +35,16 @@ impl<'a, W: Write> Screen<'a, W> {
     }
 
     /// The same with column heads, where there are any.
-    pub fn headed(self, heads: Option<&'static str>) -> Screen<'a, W> {
+    pub fn headed(self, heads: Option<&'static str>) -> Screen<'a, W>
+        ensures { result ≡ record self.entry { heads = heads.entry } }
+    {
         Screen { heads, ..self }
     }
 
     /// The same, and its lines coloured, where they are.
-    pub fn painted(self, painter: Option<Painter>) -> Screen<'a, W> {
+    pub fn painted(self, painter: Option<Painter>) -> Screen<'a, W>
+        ensures { result ≡ record self.entry { painter = painter } }
+    {
         Screen { painter, ..self }
     }
 

@@ -1,0 +1,24 @@
+-- How what a subcommand prints is shown.
+use Rattle.std.specs.Prelude.{Bool, true, false, Option, None}
+use Rattle.geostation.specs.declared.subcommand.Subcommand.{Subcommand}
+use Rattle.geostation.specs.declared.subcommand.Subcommand.TheVariants as subcommands
+use Rattle.its_terminal.specs.declared.painting.Painter.{Painter}
+
+-- whether a line of column heads is put before its lines
+abbrev pub is_headed : Subcommand → Bool
+is_headed (subcommands.Mesh mesh) = mesh.heads
+is_headed subcommand = false
+
+-- how its lines are coloured, where they are
+abbrev pub painter_of : Subcommand → Option Painter
+painter_of (subcommands.Show show) = show.painter
+painter_of (subcommands.Sim sim) = sim.painter
+painter_of subcommand = None
+
+-- whether it is told how far it is
+abbrev pub is_told_on : Subcommand → Bool
+is_told_on (subcommands.Convert convert) = convert.progress
+is_told_on (subcommands.Import import) = import.progress
+is_told_on (subcommands.Sim sim) = sim.options.progress
+is_told_on (subcommands.View viewing) = viewing.options.progress
+is_told_on subcommand = false
