@@ -1,10 +1,12 @@
 -- What the arguments of a station have under the words of a scenario.
-use Rattle.std.specs.Prelude.{ℕ, List, Option, Some, None, cond, codes, is_some, nat_eq}
+use Rattle.std.specs.Prelude.{◌≡◌, ℕ, List, Option, Some, None, cond, codes, is_some, nat_eq}
 use Rattle.std.specs.Cmp.Lexicographic.{pointwise}
 use Rattle.std.specs.Option.{option_and_then, option_map}
 use Rattle.its_arguments.specs.declared.station.Argument.{Argument}
 use Rattle.its_arguments.specs.declared.station.StationArguments.{StationArguments}
 use Rattle.its_keys.specs.Fields.{FieldValues}
+use Rattle.clap.specs.declared.parser.matches.ArgMatches.{ArgMatches}
+use Rattle.its_arguments.specs.Options.{value_in}
 
 -- the argument under a word
 abbrev pub argument_of : StationArguments → List ℕ → Option Argument
@@ -24,3 +26,11 @@ argument_values station =
       truth = λ _. None;
       text = λ word. option_map (λ a. a.text.now) (argument_of station word);
     }
+
+-- the arguments are those that were matched: the first three, and the others where they are given
+pub record AreMatched (matches : ArgMatches) (station : StationArguments) : Type 0 where
+  pub address : value_in matches (codes "ADDRESS") ≡ Some station.address.text.now
+  pub lat : value_in matches (codes "LAT") ≡ Some station.lat.text.now
+  pub lon : value_in matches (codes "LON") ≡ Some station.lon.text.now
+  pub capacity : value_in matches (codes "capacity") ≡ option_map (λ a. a.text.now) station.capacity
+  pub remember : value_in matches (codes "remember") ≡ option_map (λ a. a.text.now) station.remember

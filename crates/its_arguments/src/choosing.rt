@@ -1,5 +1,12 @@
 //! What the options of a command choose: records of a capture, ports, how moments are told.
 
+ghost use Rattle.std.specs.Prelude.{◌≡◌, MatchResult, IfOk, IfErr, None, codes, map};
+ghost use Rattle.std.specs.Option.{option_map};
+ghost use Rattle.its_arguments.specs.Options.{ArePorts, IsBadValue, IsCount, IsFieldsFault};
+ghost use Rattle.its_arguments.specs.Options.{IsChoice, IsFlagged, IsGiven, IsRead, IsSelection};
+ghost use Rattle.its_arguments.specs.Options.{IsUnread, IsWhole, texts_in, time_named, value_in};
+ghost use Rattle.its_replay.specs.Units.{listed};
+
 use crate::bad_argument::BadArgument;
 use clap::ArgMatches;
 use its_commands::{Choice, Field, Kinds, Selection, Time};
@@ -7,6 +14,7 @@ use its_gnvalue::{GnAddress, Mac};
 use its_headers::Kind;
 use its_pcap::Format;
 use its_replay::PortList;
+use std::num::NonZeroU64;
 use std::str::FromStr;
 
 /// A list of kinds of packet.
@@ -42,6 +50,11 @@ struct AddressDigits(GnAddress);
 impl FromStr for AddressDigits {
     type Err = ();
 
+    ghost use Rattle.std.specs.Net.Grammar.{Parses};
+    ghost use Rattle.its_arguments.specs.Options.{IsAddress};
+
+    ghost from_str_gives = { Parses (λ text digits. IsAddress text digits.0) };
+
     fn from_str(digits: &str) -> Result<AddressDigits, ()> {
         let mut octets = [0; 8];
         hex::decode_to_slice(digits, &mut octets).map_err(|_| ())?;
@@ -57,25 +70,15 @@ struct MacDigits(Mac);
 impl FromStr for MacDigits {
     type Err = ();
 
+    ghost use Rattle.std.specs.Net.Grammar.{Parses};
+    ghost use Rattle.its_arguments.specs.Options.{IsMac};
+
+    ghost from_str_gives = { Parses (λ text digits. IsMac text digits.0) };
+
     fn from_str(digits: &str) -> Result<MacDigits, ()> {
         let mut octets = [0; 6];
         hex::decode_to_slice(digits, &mut octets).map_err(|_| ())?;
         Ok(MacDigits(Mac::from_octets(octets)))
-    }
-}
-
-/// How many there are, 1 and more.
-#[derive(Clone, Copy)]
-struct Count(u64);
-
-impl FromStr for Count {
-    type Err = ();
-
-    fn from_str(digits: &str) -> Result<Count, ()> {
-        match digits.parse() {
-            Ok(count) if count > 0 => Ok(Count(count)),
-            _ => Err(()),
-        }
     }
 }
 
@@ -94,6 +97,9 @@ fn value_of<'a, T: FromStr>(
 ) -> Result<Option<T>, BadArgument<'a>>
 where
     T::Err: Drop,
+    ensures { MatchResult result
+        (IsRead T.from_str_gives (value_in matches.now option.now))
+        (IsUnread T.from_str_gives option.now (value_in matches.now option.now)) }
 {
     let Some(word) = matches.get_str(option) else {
         return Ok(None);
@@ -110,7 +116,11 @@ where
 pub fn selection_of<'a>(
     matches: &ArgMatches<'a>,
     format: Option<Format>,
-) -> Result<Selection, BadArgument<'a>> {
+) -> Result<Selection, BadArgument<'a>>
+    ensures selection { IfOk result (IsSelection matches.now format) }
+    ensures port { IfOk result (λ selection.
+        IsGiven (IsWhole 16) (value_in matches.now (codes "port")) selection.choice.port) }
+{
     let selection = selection_to_any_port(matches, format)?;
     Ok(Selection {
         choice: Choice {
@@ -125,7 +135,10 @@ pub fn selection_of<'a>(
 pub fn selection_to_any_port<'a>(
     matches: &ArgMatches<'a>,
     format: Option<Format>,
-) -> Result<Selection, BadArgument<'a>> {
+) -> Result<Selection, BadArgument<'a>>
+    ensures selection { IfOk result (IsSelection matches.now format) }
+    ensures port { IfOk result (λ selection. selection.choice.port ≡ None) }
+{
     Ok(Selection {
         format,
         choice: choice_of(matches)?,
@@ -135,9 +148,19 @@ pub fn selection_to_any_port<'a>(
 
 /// The ports that a station opens at its start, by `--port`: at most 64, each given once. The fault
 /// is that of the first that is none or one too many.
-pub fn ports_of<'a>(matches: &ArgMatches<'a>) -> Result<PortList, BadArgument<'a>> {
+pub fn ports_of<'a>(matches: &ArgMatches<'a>) -> Result<PortList, BadArgument<'a>>
+    ensures { IfOk result (λ ports.
+        ArePorts (texts_in matches.now (codes "port")) (listed ports)) }
+{
+    ports_in(matches.get_strs("port").unwrap_or(&[]))
+}
+
+/// The ports of which these are the numbers.
+fn ports_in<'a>(words: &[&'a str]) -> Result<PortList, BadArgument<'a>>
+    ensures { IfOk result (λ ports. ArePorts (map (λ word. word.now) words.now) (listed ports)) }
+{
     let mut ports = PortList::new();
-    for word in matches.get_strs("port").unwrap_or(&[]) {
+    for word in words {
         let Ok(port) = word.parse() else {
             return Err(BadArgument::Value("port", word, PORT));
         };
@@ -153,13 +176,20 @@ pub fn ports_of<'a>(matches: &ArgMatches<'a>) -> Result<PortList, BadArgument<'a
 pub fn count_of<'a>(
     matches: &ArgMatches<'a>,
     option: &'a str,
-) -> Result<Option<u64>, BadArgument<'a>> {
-    let count = value_of::<Count>(matches, option, COUNT)?;
-    Ok(count.map(|count| count.0))
+) -> Result<Option<u64>, BadArgument<'a>>
+    ensures { MatchResult result
+        (IsGiven IsCount (value_in matches.now option.now))
+        (IsBadValue IsCount option.now (value_in matches.now option.now)) }
+{
+    let count = value_of::<NonZeroU64>(matches, option, COUNT)?;
+    Ok(count.map(NonZeroU64::get))
 }
 
 /// Which records are chosen, to whatever port their frames are.
-fn choice_of<'a>(matches: &ArgMatches<'a>) -> Result<Choice, BadArgument<'a>> {
+fn choice_of<'a>(matches: &ArgMatches<'a>) -> Result<Choice, BadArgument<'a>>
+    ensures choice { IfOk result (IsChoice matches.now) }
+    ensures port { IfOk result (λ choice. choice.port ≡ None) }
+{
     let wanted = "a list of beacon, shb, gbc and gac";
     let kinds = value_of::<KindList>(matches, "kind", wanted)?;
     let wanted = "the 16 hexadecimal digits of a station's address";
@@ -179,7 +209,9 @@ fn choice_of<'a>(matches: &ArgMatches<'a>) -> Result<Choice, BadArgument<'a>> {
 }
 
 /// How moments are told: by the word of `--time`, or as milliseconds.
-pub fn time_of(matches: &ArgMatches<'_>) -> Time {
+pub fn time_of(matches: &ArgMatches<'_>) -> Time
+    ensures { result ≡ time_named (value_in matches.now (codes "time")) }
+{
     match matches.get_str("time") {
         Some("utc") => Time::Utc,
         Some("relative") => Time::Relative,
@@ -190,7 +222,13 @@ pub fn time_of(matches: &ArgMatches<'_>) -> Time {
 
 /// The keys whose values are shown, where `--fields` lists them, parted by commas. Refused beside
 /// `--json`, and where one is no key.
-pub fn fields_of<'a>(matches: &ArgMatches<'a>) -> Result<Option<&'a str>, BadArgument<'a>> {
+pub fn fields_of<'a>(matches: &ArgMatches<'a>) -> Result<Option<&'a str>, BadArgument<'a>>
+    ensures names { IfOk result (λ names.
+        option_map (λ names. names.now) names ≡ value_in matches.now (codes "fields")) }
+    ensures alone { IfOk result (λ names.
+        IsFlagged matches.now (codes "json") → names ≡ None) }
+    ensures fault { IfErr result (IsFieldsFault (value_in matches.now (codes "fields"))) }
+{
     let Some(names) = matches.get_str("fields") else {
         return Ok(None);
     };

@@ -1,7 +1,7 @@
 //! The station that the arguments describe.
 
-ghost use Rattle.std.specs.Prelude.{◌≡◌};
-ghost use Rattle.its_arguments.specs.Arguments.{argument_of};
+ghost use Rattle.std.specs.Prelude.{◌≡◌, IfSome};
+ghost use Rattle.its_arguments.specs.Arguments.{AreMatched, argument_of};
 
 use clap::ArgMatches;
 use its_keys::Fields;
@@ -15,7 +15,9 @@ struct Argument<'a> {
 }
 
 impl<'a> Argument<'a> {
-    fn of(text: &'a str) -> Argument<'a> {
+    fn of(text: &'a str) -> Argument<'a>
+        ensures { result.text ≡ text.entry }
+    {
         Argument {
             text,
             number: text.parse().ok(),
@@ -35,7 +37,9 @@ pub struct StationArguments<'a> {
 
 impl<'a> StationArguments<'a> {
     /// Those that were matched: the first three are required, so there is an answer.
-    pub fn of(matches: &ArgMatches<'a>) -> Option<StationArguments<'a>> {
+    pub fn of(matches: &ArgMatches<'a>) -> Option<StationArguments<'a>>
+        ensures { IfSome result (AreMatched matches.now) }
+    {
         Some(StationArguments {
             address: Argument::of(matches.get_str("ADDRESS")?),
             lat: Argument::of(matches.get_str("LAT")?),
