@@ -3,7 +3,7 @@
 use crate::subcommand::{Subcommand, matched_format, subcommand_of};
 use clap::error::ErrorKind;
 use clap::{Command, Error};
-use its_arguments::add_commands;
+use its_arguments::{BadArgument, add_commands};
 use its_reporting::OutputFormat;
 use its_terminal::Console;
 use std::alloc::{AllocError, Global};
@@ -33,14 +33,20 @@ pub fn read<'a>(
     match subcommand_of(&matches, console) {
         Ok(Some(subcommand)) => Ok((subcommand, format)),
         Ok(None) => Err(program.error(ErrorKind::MissingSubcommand, "no command was given")?),
-        Err(bad) => {
-            let sentence = match bad.tip(alloc)? {
-                Some(word) => {
-                    format!(in alloc; "{bad}\n\n  tip: a similar value exists: '{word}'")?
-                }
-                None => format!(in alloc; "{bad}")?,
-            };
-            Err(program.error(ErrorKind::InvalidValue, sentence.as_str())?)
-        }
+        Err(bad) => Err(refusal(alloc, &mut program, bad)?),
+    }
+}
+
+/// The refusal of an argument's value.
+fn refusal(alloc: Global, program: &mut Command<'_>, bad: BadArgument<'_>) -> Result<Error, Error> {
+    let sentence = sentence_of(alloc, bad)?;
+    Ok(program.error(ErrorKind::InvalidValue, sentence.as_str())?)
+}
+
+/// What is wrong with an argument's value, and which one is similar, where one is.
+fn sentence_of(alloc: Global, bad: BadArgument<'_>) -> Result<String, AllocError> {
+    match bad.tip(alloc)? {
+        Some(word) => { format!(in alloc; "{bad}\n\n  tip: a similar value exists: '{word}'") }
+        None => format!(in alloc; "{bad}"),
     }
 }

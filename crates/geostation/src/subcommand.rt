@@ -19,7 +19,7 @@ use its_runs::{ResultFiles, RunFiles, RunOptions};
 use its_terminal::{Coloring, Console, Painter};
 
 /// What the program is to do.
-#[derive(Clone, Copy, Debug, PartialEq, Eq)]
+#[derive(Clone, Copy)]
 pub enum Subcommand<'a> {
     /// To show records.
     Show(Show<'a>),
@@ -46,7 +46,7 @@ pub enum Subcommand<'a> {
 }
 
 /// The records of a capture that are chosen.
-#[derive(Clone, Copy, Debug, PartialEq, Eq)]
+#[derive(Clone, Copy)]
 pub struct Records<'a> {
     /// The capture's file.
     pub file: &'a str,
@@ -55,7 +55,7 @@ pub struct Records<'a> {
 }
 
 /// `show`.
-#[derive(Clone, Copy, Debug, PartialEq, Eq)]
+#[derive(Clone, Copy)]
 pub struct Show<'a> {
     pub records: Records<'a>,
     pub showing: Showing<'a>,
@@ -64,7 +64,7 @@ pub struct Show<'a> {
 }
 
 /// `convert`.
-#[derive(Clone, Copy, Debug, PartialEq, Eq)]
+#[derive(Clone, Copy)]
 pub struct Convert<'a> {
     pub conversion: Conversion<'a>,
     pub selection: Selection,
@@ -73,7 +73,7 @@ pub struct Convert<'a> {
 }
 
 /// `import`.
-#[derive(Clone, Copy, Debug, PartialEq, Eq)]
+#[derive(Clone, Copy)]
 pub struct Import<'a> {
     /// The file of the lines.
     pub file: &'a str,
@@ -84,7 +84,7 @@ pub struct Import<'a> {
 }
 
 /// `sim`: the files of the run, and how it is run.
-#[derive(Clone, Copy, Debug, PartialEq, Eq)]
+#[derive(Clone, Copy)]
 pub struct Sim<'a> {
     pub files: RunFiles<'a>,
     pub options: RunOptions,
@@ -93,7 +93,7 @@ pub struct Sim<'a> {
 }
 
 /// `mesh`.
-#[derive(Clone, Copy, Debug, PartialEq, Eq)]
+#[derive(Clone, Copy)]
 pub struct Mesh<'a> {
     /// The scenario.
     pub file: &'a str,
@@ -105,7 +105,7 @@ pub struct Mesh<'a> {
 }
 
 /// `replay`.
-#[derive(Clone, Copy, Debug, PartialEq, Eq)]
+#[derive(Clone, Copy)]
 pub struct Replay<'a> {
     pub records: Records<'a>,
     /// The station.

@@ -61,7 +61,7 @@ pub fn convert<R: Read + Drop, W: Write, E: Write>(
 }
 
 /// What is converted, to which format, and how lines on standard error are printed.
-#[derive(Clone, Copy, Debug, PartialEq, Eq)]
+#[derive(Clone, Copy)]
 pub(crate) struct Converting<'a> {
     pub(crate) conversion: Conversion<'a>,
     pub(crate) to: Format,
@@ -152,7 +152,7 @@ fn is_linked(format: Format) -> bool
 }
 
 /// What became of a record.
-#[derive(Clone, Copy, Debug, PartialEq, Eq)]
+#[derive(Clone, Copy)]
 enum Copied {
     /// It isn't chosen.
     Passed,
@@ -163,7 +163,7 @@ enum Copied {
 }
 
 /// What a step of the source met.
-#[derive(Clone, Copy, Debug, PartialEq, Eq)]
+#[derive(Clone, Copy)]
 enum Met {
     /// A record.
     Record(Copied),
@@ -186,7 +186,7 @@ impl Met {
 }
 
 /// How far a file was copied.
-#[derive(Clone, Copy, Debug, PartialEq, Eq)]
+#[derive(Clone, Copy)]
 struct Progress {
     /// How many records were read.
     records: u64,
@@ -296,7 +296,7 @@ fn copy_record<'a, W: Write + Drop>(
 }
 
 /// What is said of the files where something is told of them on standard error.
-#[derive(Clone, Copy, Debug, PartialEq, Eq)]
+#[derive(Clone, Copy)]
 struct Telling<'a> {
     /// The name of the file that is read.
     file: &'a str,

@@ -18,7 +18,7 @@ const OLYMPIAD: u64 = 1_461;
 const YEAR: u64 = 365;
 
 /// A day.
-#[derive(Clone, Copy, Debug, PartialEq, Eq)]
+#[derive(Clone, Copy)]
 pub(crate) struct Date {
     year: u64,
     /// From 1.

@@ -22,7 +22,7 @@ pub enum Time {
 }
 
 /// A moment as it is told.
-#[derive(Clone, Copy, Debug, PartialEq, Eq)]
+#[derive(Clone, Copy)]
 pub(crate) enum Moment {
     /// Milliseconds.
     Raw(u64),
@@ -88,7 +88,7 @@ impl Serialize for Moment {
 }
 
 /// Tells the moments of the records of a file, one after the other.
-#[derive(Clone, Copy, Debug)]
+#[derive(Clone, Copy)]
 pub(crate) struct Clock {
     time: Time,
     /// The moment of the record before.

@@ -13,7 +13,7 @@ const INDEX: &str = "index.html";
 const BESIDE: [&str; 2] = ["../share/geostation/viewer", "../../../viewer"];
 
 /// Where the page lies.
-#[derive(Debug, Drop)]
+#[derive(Drop)]
 pub(crate) struct PagePlace {
     /// Its folder.
     pub(crate) folder: String,

@@ -5,7 +5,7 @@ use std::fmt;
 
 /// The name of a run's file, without its folders. It prints as it stands in an attribute of an
 /// element, and as `standard input` where the file is that.
-#[derive(Clone, Copy, Debug, PartialEq, Eq)]
+#[derive(Clone, Copy)]
 pub(crate) struct ShownName<'a>(pub(crate) &'a str);
 
 impl fmt::Display for ShownName<'_> {

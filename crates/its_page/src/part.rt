@@ -6,7 +6,7 @@ use std::str;
 const RUN: &[u8] = b"<script type=\"application/jsonl\" id=\"inside\"></script>";
 
 /// What a line of the page stands for.
-#[derive(Clone, Copy, Debug, PartialEq, Eq)]
+#[derive(Clone, Copy)]
 pub(crate) enum Part<'a> {
     /// Itself.
     Text,

@@ -5,7 +5,7 @@ use std::io;
 use std::io::{BufRead, ErrorKind, Write};
 
 /// From where the page and its run are read, and to where they are written.
-#[derive(Clone, Copy, Debug, PartialEq, Eq)]
+#[derive(Clone, Copy)]
 pub(crate) struct Way<'a> {
     /// The folder of the page.
     pub(crate) folder: &'a str,
@@ -36,7 +36,7 @@ pub(crate) fn fault_of<'a>(error: &io::Error, target: &'a str) -> Fault<'a> {
 }
 
 /// A call that failed while one file was copied to another.
-#[derive(Debug, Drop)]
+#[derive(Drop)]
 pub(crate) enum CopyError {
     /// A read.
     Read(io::Error),

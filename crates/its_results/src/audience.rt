@@ -16,7 +16,7 @@ use its_world::{Entry, What, World};
 use std::alloc::Global;
 
 /// A station that a packet is for.
-#[derive(Clone, Copy, Debug)]
+#[derive(Clone, Copy)]
 struct Target {
     station: usize,
     reach: Reach,

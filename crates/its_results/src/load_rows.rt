@@ -17,7 +17,7 @@ const HEAD: &str = "second,stations,frames,octets,busy_p50,busy_p95,busy_most";
 const SECOND: u64 = 1000;
 
 /// The load at a station in the second that is under way.
-#[derive(Clone, Copy, Debug)]
+#[derive(Clone, Copy)]
 struct StationLoad {
     is_present: bool,
     /// How long the channel is busy there, in microseconds.

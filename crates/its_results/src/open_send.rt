@@ -134,14 +134,9 @@ impl OpenSend {
 
     /// Writes its row. `times` are those of its first deliveries.
     fn write_row<W: Write>(&self, times: Quantiles, out: &mut W) -> io::Result<()> {
-        let (send, moment, station, port) = (self.send, self.moment, self.station, self.port);
-        let kind = self.kind;
-        let (inside, reached) = (self.audience.size(), self.audience.reached(None));
-        let (delivered, frames) = (self.delivered.len(), self.frames);
-        write!(out, "{send},{moment},{station},{kind},{port},")?;
-        write!(out, "{inside},{reached},{delivered},{frames},")?;
-        let (heard, lost, duplicates, full) = (self.heard, self.lost, self.duplicates, self.full);
-        write!(out, "{heard},{lost},{duplicates},{full},")?;
+        self.write_send(out)?;
+        self.write_audience(out)?;
+        self.write_deliveries(out)?;
         let Quantiles {
             least,
             p50,
@@ -149,6 +144,29 @@ impl OpenSend {
             most,
         } = times;
         writeln!(out, "{},{least},{p50},{p95},{most}", self.hops)
+    }
+
+    /// Writes when it was sent, by which station, and as what.
+    fn write_send<W: Write>(&self, out: &mut W) -> io::Result<()> {
+        let (send, moment, station, port) = (self.send, self.moment, self.station, self.port);
+        write!(out, "{send},{moment},{station},{},{port},", self.kind)
+    }
+
+    /// Writes for how many it was, how many of these it reached, and with how many frames.
+    fn write_audience<W: Write>(&self, out: &mut W) -> io::Result<()> {
+        let (inside, reached) = (self.audience.size(), self.audience.reached(None));
+        write!(
+            out,
+            "{inside},{reached},{},{},",
+            self.delivered.len(),
+            self.frames
+        )
+    }
+
+    /// Writes what became of the deliveries of its frames.
+    fn write_deliveries<W: Write>(&self, out: &mut W) -> io::Result<()> {
+        let (heard, lost, duplicates, full) = (self.heard, self.lost, self.duplicates, self.full);
+        write!(out, "{heard},{lost},{duplicates},{full},")
     }
 
     /// Writes its row, when nothing more comes of it.

@@ -3,7 +3,7 @@
 use its_gnvalue::NoMemory;
 
 /// The least, some of those between, and the greatest of numbers; 0 where there is none.
-#[derive(Clone, Copy, Debug, Default)]
+#[derive(Clone, Copy, Default)]
 pub(crate) struct Quantiles {
     pub(crate) least: u64,
     /// The least of them that at least 50 in a hundred don't exceed.

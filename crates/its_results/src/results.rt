@@ -80,27 +80,28 @@ impl<'a, R: Rows + Drop, W: Write + Drop> ResultFile<'a, R, W> {
     }
 
     /// Ends the file after a run that ended so. `CannotWrite` where it failed.
-    fn end(self, ran: Result<Status, Fault<'a>>) -> Result<Status, Fault<'a>>
+    fn end(mut self, ran: Result<Status, Fault<'a>>) -> Result<Status, Fault<'a>>
         requires { IfOk ran IsCommandStatus }
         ensures { IfOk result IsCommandStatus }
     {
-        let ResultFile {
-            name,
-            mut rows,
-            mut writer,
-            failed,
-        } = self;
-        let ended = rows.end(&mut writer);
-        let flushed = writer.flush();
-        if failed {
-            return Err(Fault::CannotWrite(name));
+        let finished = self.finish();
+        if self.failed {
+            return Err(Fault::CannotWrite(self.name));
         }
         let status = ran?;
-        match (ended, flushed) {
-            (Ok(()), Ok(())) => Ok(status),
-            (Err(SimulationFault::OutOfMemory(error)), _) => Err(Fault::OutOfMemory(error)),
-            _ => Err(Fault::CannotWrite(name)),
+        match finished {
+            Ok(()) => Ok(status),
+            Err(SimulationFault::OutOfMemory(error)) => Err(Fault::OutOfMemory(error)),
+            Err(_) => Err(Fault::CannotWrite(self.name)),
         }
+    }
+
+    /// Writes the rows that are left, and flushes the file in any case.
+    fn finish(&mut self) -> Result<(), SimulationFault> {
+        let ended = self.rows.end(&mut self.writer);
+        let flushed = self.writer.flush();
+        ended?;
+        Ok(flushed?)
     }
 }
 
@@ -116,6 +117,45 @@ fn begin_file<'a, R: Rows + Drop, W: Write + Drop>(
         (Some(name), Some(writer)) => Ok(Some(ResultFile::begin(name, rows, writer)?)),
         _ => Ok(None),
     }
+}
+
+/// The same of the packets for an area.
+fn begin_sends<'a, W: Write + Drop>(
+    alloc: Global,
+    scenario: &Scenario,
+    name: Option<&'a str>,
+    writer: Option<W>,
+) -> Result<Option<ResultFile<'a, SendRows, W>>, Fault<'a>>
+    ensures { name.entry ≡ None → IfOk result (λ file. file ≡ None) }
+{
+    begin_file(name, SendRows::new(alloc, scenario)?, writer)
+}
+
+/// The same of the stations.
+fn begin_stations<'a, W: Write + Drop>(
+    alloc: Global,
+    scenario: &Scenario,
+    name: Option<&'a str>,
+    writer: Option<W>,
+) -> Result<Option<ResultFile<'a, StationRows, W>>, Fault<'a>>
+    ensures { name.entry ≡ None → IfOk result (λ file. file ≡ None) }
+{
+    let configs = scenario.stations.as_slice();
+    let rows = StationRows::new(alloc, configs, scenario.present.as_slice())?;
+    begin_file(name, rows, writer)
+}
+
+/// The same of the load.
+fn begin_load<'a, W: Write + Drop>(
+    alloc: Global,
+    scenario: &Scenario,
+    name: Option<&'a str>,
+    writer: Option<W>,
+) -> Result<Option<ResultFile<'a, LoadRows, W>>, Fault<'a>>
+    ensures { name.entry ≡ None → IfOk result (λ file. file ≡ None) }
+{
+    let rows = LoadRows::new(alloc, scenario.present.as_slice())?;
+    begin_file(name, rows, writer)
 }
 
 /// The file, where there is one, takes an event that was done.
@@ -215,21 +255,13 @@ impl<'a, W: Write + Drop> Results<'a, W> {
             IfOk result (λ results. results.stations ≡ None) }
         ensures load { names.entry.load ≡ None → IfOk result (λ results. results.load ≡ None) }
     {
-        let configs = scenario.stations.as_slice();
-        let present = scenario.present.as_slice();
-        let ResultWriters {
+        let sends = begin_sends(alloc, scenario, names.sends, writers.sends)?;
+        let stations = begin_stations(alloc, scenario, names.stations, writers.stations)?;
+        let load = begin_load(alloc, scenario, names.load, writers.load)?;
+        Ok(Results {
             sends,
             stations,
             load,
-        } = writers;
-        Ok(Results {
-            sends: begin_file(names.sends, SendRows::new(alloc, scenario)?, sends)?,
-            stations: begin_file(
-                names.stations,
-                StationRows::new(alloc, configs, present)?,
-                stations,
-            )?,
-            load: begin_file(names.load, LoadRows::new(alloc, present)?, load)?,
         })
     }
 

@@ -18,7 +18,7 @@ const HEAD: &str = "station,id,address,from,to,away,sent,relayed,octets,heard,de
 const INTERVAL: u64 = 100;
 
 /// When a station is present.
-#[derive(Clone, Copy, Debug)]
+#[derive(Clone, Copy)]
 struct PresenceTimes {
     is_present: bool,
     /// When it was first present, where it was.
@@ -57,7 +57,7 @@ impl PresenceTimes {
 }
 
 /// How long the channel is busy at a station, in microseconds.
-#[derive(Clone, Copy, Debug, Default)]
+#[derive(Clone, Copy, Default)]
 struct BusyTime {
     whole: u64,
     /// The interval of the last frame, counted from the start of the run.
@@ -83,7 +83,7 @@ impl BusyTime {
 }
 
 /// What a station did, in numbers.
-#[derive(Clone, Copy, Debug, Default)]
+#[derive(Clone, Copy, Default)]
 struct Counts {
     sent: u64,
     relayed: u64,
@@ -145,6 +145,19 @@ struct Row {
     busy: BusyTime,
 }
 
+impl Row {
+    /// Of a station that has done nothing yet, and is there from the start or not yet.
+    fn new(id: String, address: GnAddress, is_present: bool) -> Row {
+        Row {
+            id,
+            address,
+            times: PresenceTimes::new(is_present),
+            counts: Counts::default(),
+            busy: BusyTime::default(),
+        }
+    }
+}
+
 /// The rows of the stations, as they are known so far.
 #[derive(Drop)]
 pub(crate) struct StationRows {
@@ -163,13 +176,7 @@ impl StationRows {
     ) -> Result<StationRows, NoMemory> {
         let mut rows = Vec::with_capacity(alloc, configs.len())?;
         for (config, is_present) in configs.iter().zip(present.iter()) {
-            rows.push(Row {
-                id: String::new(alloc),
-                address: config.address,
-                times: PresenceTimes::new(*is_present),
-                counts: Counts::default(),
-                busy: BusyTime::default(),
-            })?;
+            rows.push(Row::new(String::new(alloc), config.address, *is_present))?;
         }
         Ok(StationRows {
             alloc,
@@ -183,13 +190,9 @@ impl StationRows {
         let Some(made) = world.station(station) else {
             return Ok(());
         };
-        self.rows.push(Row {
-            id: String::from_str(self.alloc, id)?,
-            address: made.vector().address(),
-            times: PresenceTimes::new(false),
-            counts: Counts::default(),
-            busy: BusyTime::default(),
-        })?;
+        let id = String::from_str(self.alloc, id)?;
+        self.rows
+            .push(Row::new(id, made.vector().address(), false))?;
         Ok(())
     }
 

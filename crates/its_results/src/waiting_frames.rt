@@ -9,7 +9,7 @@ use std::alloc::Global;
 use std::collections::HashMap;
 
 /// A frame with deliveries still to come, or one that was just given.
-#[derive(Clone, Copy, Debug)]
+#[derive(Clone, Copy)]
 struct WaitingFrame {
     carried: CarriedPacket,
     /// How many deliveries of it are still to come.

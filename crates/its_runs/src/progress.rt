@@ -10,7 +10,7 @@ use std::io::{BufRead, Write};
 const EVENTS: usize = 65536;
 
 /// A line on standard error that is written over itself, and taken away at the end of the run.
-#[derive(Clone, Copy, Debug)]
+#[derive(Clone, Copy)]
 pub(crate) struct Progress {
     /// Whether the line is shown.
     is_shown: bool,

@@ -31,7 +31,7 @@ fn name_of(row: usize) -> &'static str
 }
 
 /// How many records there are in each row.
-#[derive(Clone, Copy, Debug, PartialEq, Eq)]
+#[derive(Clone, Copy)]
 pub(crate) struct Kinds {
     counts: [u64; ROWS],
 }

@@ -6,14 +6,14 @@ use std::alloc::{AllocError, Global};
 use std::collections::BTreeMap;
 
 /// What is counted of the frames to a port.
-#[derive(Clone, Copy, Debug, Drop)]
+#[derive(Clone, Copy, Drop)]
 struct Traffic {
     frames: u64,
     octets: u64,
 }
 
 /// What is told of a port: its keys in this order.
-#[derive(Clone, Copy, Debug, Drop, Serialize)]
+#[derive(Clone, Copy, Drop, Serialize)]
 pub(crate) struct PortRow {
     port: u16,
     frames: u64,

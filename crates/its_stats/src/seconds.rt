@@ -7,7 +7,7 @@ use std::alloc::{AllocError, Global};
 use std::collections::BTreeMap;
 
 /// What is counted of the frames of a second.
-#[derive(Clone, Copy, Debug, Drop)]
+#[derive(Clone, Copy, Drop)]
 struct Load {
     frames: u64,
     octets: u64,
@@ -16,7 +16,7 @@ struct Load {
 }
 
 /// What is told of a second: its keys in this order.
-#[derive(Clone, Copy, Debug, Drop, Serialize)]
+#[derive(Clone, Copy, Drop, Serialize)]
 pub(crate) struct SecondRow {
     second: u64,
     frames: u64,

@@ -86,7 +86,7 @@ impl Source {
 }
 
 /// What is told of a source: its keys in this order.
-#[derive(Clone, Copy, Debug, Drop, Serialize)]
+#[derive(Clone, Copy, Drop, Serialize)]
 pub(crate) struct SourceRow {
     address: Digits<8>,
     frames: u64,
