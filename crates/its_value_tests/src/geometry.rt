@@ -1,5 +1,6 @@
 //! Areas: borders, turned axes, distances and the nearest place.
 
+use crate::equality::{same, same_at};
 use its_geometry::{Area, AreaFault, Shape, contains, distance2, nearest};
 use its_gnvalue::Place;
 use std::test::Fail;
@@ -240,12 +241,12 @@ fn faults_of_areas_in_words(rt: HostRuntime) -> Result<(), Fail> {
 fn the_parts_of_an_area(rt: HostRuntime) -> Result<(), Fail> {
     let centre = Place::new(1, 2)?;
     let circle = Area::circle(centre, 3)?;
-    assert_eq!(rt; circle.shape(), Shape::Circle);
-    assert_eq!(rt; (circle.a(), circle.b(), circle.angle()), (3, 0, 0));
+    same(&rt, circle.shape(), Shape::Circle);
+    same(&rt, (circle.a(), circle.b(), circle.angle()), (3, 0, 0));
     let ellipse = Area::ellipse(centre, 4, 5, 6)?;
-    assert_eq!(rt; ellipse.shape(), Shape::Ellipse);
-    assert_eq!(rt; ellipse.centre(), centre);
-    assert_eq!(rt; (ellipse.a(), ellipse.b(), ellipse.angle()), (4, 5, 6));
+    same(&rt, ellipse.shape(), Shape::Ellipse);
+    same(&rt, ellipse.centre(), centre);
+    same(&rt, (ellipse.a(), ellipse.b(), ellipse.angle()), (4, 5, 6));
     Ok(())
 }
 
@@ -253,8 +254,8 @@ fn the_parts_of_an_area(rt: HostRuntime) -> Result<(), Fail> {
 fn the_first_of_the_nearest(rt: HostRuntime) -> Result<(), Fail> {
     let centre = Place::new(0, 0)?;
     let near = [Place::new(0, 10)?, Place::new(10, 0)?, Place::new(-10, 0)?];
-    assert_eq!(rt; nearest(centre, &near), Some(0));
-    assert_eq!(rt; nearest(Place::new(-5, 0)?, &near), Some(2));
+    same(&rt, nearest(centre, &near), Some(0));
+    same(&rt, nearest(Place::new(-5, 0)?, &near), Some(2));
     Ok(())
 }
 
@@ -262,9 +263,9 @@ fn the_first_of_the_nearest(rt: HostRuntime) -> Result<(), Fail> {
 fn the_first_of_equal_places(rt: HostRuntime) -> Result<(), Fail> {
     let centre = Place::new(0, 0)?;
     let equal = [Place::new(7, 7)?; 33];
-    assert_eq!(rt; nearest(centre, &equal[..0]), None);
+    same(&rt, nearest(centre, &equal[..0]), None);
     for n in [1, 7, 8, 9, 33] {
-        assert_eq!(rt; nearest(centre, &equal[..n]), Some(0), "{n}");
+        same_at(&rt, nearest(centre, &equal[..n]), Some(0), &n);
     }
     Ok(())
 }
@@ -275,9 +276,9 @@ fn the_first_of_two_far_apart(rt: HostRuntime) -> Result<(), Fail> {
     let mut two = [Place::new(7, 7)?; 33];
     two[8] = Place::new(3, -3)?;
     two[32] = Place::new(-3, 3)?;
-    assert_eq!(rt; nearest(centre, &two), Some(8));
+    same(&rt, nearest(centre, &two), Some(8));
     two[8] = Place::new(7, 7)?;
-    assert_eq!(rt; nearest(centre, &two), Some(32));
+    same(&rt, nearest(centre, &two), Some(32));
     Ok(())
 }
 
@@ -288,9 +289,9 @@ fn the_nearest_last_and_first(rt: HostRuntime) -> Result<(), Fail> {
     for i in 0..40 {
         places[i] = Place::new(100 * (50 - i as i32), 0)?;
     }
-    assert_eq!(rt; nearest(Place::new(0, 0)?, &places), Some(39));
-    assert_eq!(rt; nearest(Place::new(6000, 0)?, &places), Some(0));
-    assert_eq!(rt; nearest(Place::new(2949, 0)?, &places), Some(21));
-    assert_eq!(rt; nearest(Place::new(900_000_000, 0)?, &places), Some(0));
+    same(&rt, nearest(Place::new(0, 0)?, &places), Some(39));
+    same(&rt, nearest(Place::new(6000, 0)?, &places), Some(0));
+    same(&rt, nearest(Place::new(2949, 0)?, &places), Some(21));
+    same(&rt, nearest(Place::new(900_000_000, 0)?, &places), Some(0));
     Ok(())
 }

@@ -1,5 +1,6 @@
 //! The line of a value: its keys in order, its octets, and the kinds that no line has.
 
+use crate::equality::same;
 use its_json::{JsonFault, JsonLine, Octets, Printed};
 use serde::Serialize;
 use std::process::Abort;
@@ -36,7 +37,7 @@ fn expect<T: Serialize>(
     value: &T,
     want: &str,
 ) -> Result<(), Fail> {
-    assert_eq!(rt; line.of(value)?, want.as_bytes());
+    same(rt, line.of(value)?, want.as_bytes());
     Ok(())
 }
 
@@ -69,7 +70,7 @@ fn fields_are_keys_in_order(rt: HostRuntime) -> Result<(), Fail> {
 #[test]
 fn other_kinds_have_no_line(rt: HostRuntime) -> Result<(), Fail> {
     let mut line = JsonLine::new(rt.alloc())?;
-    assert_eq!(rt; line.of(&0.5f64).err(), Some(JsonFault::Kind));
-    assert_eq!(rt; line.of(&'a').err(), Some(JsonFault::Kind));
+    same(&rt, line.of(&0.5f64).err(), Some(JsonFault::Kind));
+    same(&rt, line.of(&'a').err(), Some(JsonFault::Kind));
     expect(&rt, &mut line, &(), "null\n")
 }

@@ -1,5 +1,6 @@
 //! The budgets of memory that tests leave.
 
+use crate::equality::same;
 use its_test_support::{MOST, STEP, Shortage};
 use std::test::Fail;
 
@@ -31,7 +32,7 @@ fn each_allocation_fails_in_turn(rt: HostRuntime) -> Result<(), Fail> {
         }
         before = now;
     }
-    assert_eq!(rt; (before, rises), (2, 2));
+    same(&rt, (before, rises), (2, 2));
     Ok(())
 }
 

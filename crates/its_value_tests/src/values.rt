@@ -1,5 +1,6 @@
 //! Values: vectors, ranges and printed text.
 
+use crate::equality::{same, same_at};
 use its_gnvalue::{
     GnAddress, Hops, Lifetime, LongPv, Mac, NoMemory, NoRoom, Place, ValueFault, newer,
 };
@@ -28,7 +29,7 @@ fn lifetimes(rt: HostRuntime) {
         (0, 0),
         (0xff, 6_300_000),
     ] {
-        assert_eq!(rt; Lifetime::from_octet(octet).millis(), want, "{octet}");
+        same_at(&rt, Lifetime::from_octet(octet).millis(), want, &octet);
     }
 }
 
@@ -36,25 +37,29 @@ fn lifetimes(rt: HostRuntime) {
 fn the_parts_of_an_address(rt: HostRuntime) -> Result<(), Fail> {
     let address = GnAddress::from_u64(0x9402_0200_0000_0001)?;
     assert!(rt; address.manual());
-    assert_eq!(rt; address.station_type(), 5);
-    assert_eq!(rt; address.reserved(), 2);
-    assert_eq!(rt; address.mid(), Mac::from_octets([2, 0, 0, 0, 0, 1]));
-    assert_eq!(rt;
+    same(&rt, address.station_type(), 5);
+    same(&rt, address.reserved(), 2);
+    same(&rt, address.mid(), Mac::from_octets([2, 0, 0, 0, 0, 1]));
+    same(
+        &rt,
         address.mid().octets().as_slice(),
-        [2, 0, 0, 0, 0, 1].as_slice()
+        [2, 0, 0, 0, 0, 1].as_slice(),
     );
-    assert_eq!(rt;
+    same(
+        &rt,
         format!(in rt.alloc(); "{address} {}", address.mid())?.as_str(),
-        "9402020000000001 020000000001"
+        "9402020000000001 020000000001",
     );
     let least = GnAddress::from_u64(0x0a)?;
-    assert_eq!(rt;
+    same(
+        &rt,
         format!(in rt.alloc(); "{least} {}", least.mid())?.as_str(),
-        "000000000000000a 00000000000a"
+        "000000000000000a 00000000000a",
     );
-    assert_eq!(rt;
+    same(
+        &rt,
         GnAddress::from_u64(0x1400_0300_0000_0001),
-        Err(ValueFault::GroupMid)
+        Err(ValueFault::GroupMid),
     );
     Ok(())
 }
@@ -62,23 +67,34 @@ fn the_parts_of_an_address(rt: HostRuntime) -> Result<(), Fail> {
 #[test]
 fn broadcast_is_a_group(rt: HostRuntime) {
     assert!(rt; Mac::BROADCAST.is_group());
-    assert_eq!(rt; Mac::BROADCAST.octets().as_slice(), [0xff; 6].as_slice());
+    same(
+        &rt,
+        Mac::BROADCAST.octets().as_slice(),
+        [0xff; 6].as_slice(),
+    );
 }
 
 #[test]
 fn latitude_is_judged_before_longitude(rt: HostRuntime) {
-    assert_eq!(rt;
+    same(
+        &rt,
         Place::new(900_000_001, 1_800_000_001),
-        Err(ValueFault::LatitudeRange)
+        Err(ValueFault::LatitudeRange),
     );
-    assert_eq!(rt; Place::new(-900_000_001, 0), Err(ValueFault::LatitudeRange));
-    assert_eq!(rt;
+    same(
+        &rt,
+        Place::new(-900_000_001, 0),
+        Err(ValueFault::LatitudeRange),
+    );
+    same(
+        &rt,
         Place::new(900_000_000, 1_800_000_001),
-        Err(ValueFault::LongitudeRange)
+        Err(ValueFault::LongitudeRange),
     );
-    assert_eq!(rt;
+    same(
+        &rt,
         Place::new(-900_000_000, -1_800_000_001),
-        Err(ValueFault::LongitudeRange)
+        Err(ValueFault::LongitudeRange),
     );
     assert!(rt; Place::new(-900_000_000, -1_800_000_000).is_ok());
     assert!(rt; Place::new(900_000_000, 1_800_000_000).is_ok());
@@ -94,10 +110,11 @@ fn the_ends_of_speeds_and_hops(rt: HostRuntime) -> Result<(), Fail> {
         (16383, true),
         (16384, false),
     ] {
-        assert_eq!(rt;
+        same_at(
+            &rt,
             LongPv::new(address, 0, place, true, speed, 0).is_ok(),
             fits,
-            "{speed}"
+            &speed,
         );
     }
     for (left, max, fits) in [
@@ -133,14 +150,16 @@ fn faults_have_a_code_and_a_sentence(rt: HostRuntime) -> Result<(), Fail> {
         ),
     ];
     for (fault, said) in faults {
-        assert_eq!(rt;
+        same(
+            &rt,
             format!(in rt.alloc(); "{}: {fault}", fault.code())?.as_str(),
-            said
+            said,
         );
     }
-    assert_eq!(rt;
+    same(
+        &rt,
         format!(in rt.alloc(); "{}, {}", NoMemory, NoRoom)?.as_str(),
-        "out of memory, no room in the slice"
+        "out of memory, no room in the slice",
     );
     Ok(())
 }

@@ -1,9 +1,10 @@
 //! What comes by a socket, whoever sent it.
 
-use super::{AFTER, BEFORE, DELIVER, FRAME, SEND, STATIONS, left_of, left_with, scenario};
+use super::{AFTER, BEFORE, DELIVER, FRAME, Left, SEND, STATIONS, left_of, left_with, scenario};
 use crate::scripted::Scripted;
 use its_reporting::Status;
 use std::alloc::{AllocError, Global};
+use std::process::Abort;
 use std::test::Fail;
 
 /// The octets that these digits spell.
@@ -26,6 +27,22 @@ static LONGEST: &str =
     "020000000009020000000001894711001a0a2040008005760a00000000001400020000000001\
     0000000000000000000000000000000000000000000000000064";
 
+/// Of a datagram of this length the mesh printed this entry, between the lines of the events. It
+/// ended well, and told nothing else.
+fn is_told_between(
+    rt: &impl Abort,
+    alloc: Global,
+    left: &Left,
+    entry: &str,
+    length: usize,
+) -> Result<(), Fail> {
+    let want = format!(in alloc; "{BEFORE}1000 1 {entry}\n{AFTER}")?;
+    assert_eq!(*rt; left.out.as_slice(), want.as_bytes(), "{length}: {entry}");
+    assert_eq!(*rt; left.status, Status::Done, "{length}");
+    assert!(*rt; left.err.is_empty(), "{length}");
+    Ok(())
+}
+
 /// One datagram of each length that matters: what is longer than 1469 octets is cut there.
 #[test]
 fn datagrams_of_each_length(rt: HostRuntime) -> Result<(), Fail> {
@@ -42,12 +59,8 @@ fn datagrams_of_each_length(rt: HostRuntime) -> Result<(), Fail> {
         (LONGEST, 1469, "refused S3 L3"),
     ];
     for (digits, length, entry) in cases {
-        let planted = [padded(rt.alloc(), digits, length)?];
-        let left = left_with(rt.alloc(), &planted)?;
-        let want = format!(in rt.alloc(); "{BEFORE}1000 1 {entry}\n{AFTER}")?;
-        assert_eq!(rt; left.out.as_slice(), want.as_bytes(), "{length}: {entry}");
-        assert_eq!(rt; left.status, Status::Done, "{length}");
-        assert!(rt; left.err.is_empty(), "{length}");
+        let left = left_with(rt.alloc(), &[padded(rt.alloc(), digits, length)?])?;
+        is_told_between(&rt, rt.alloc(), &left, entry, length)?;
     }
     Ok(())
 }
@@ -127,14 +140,12 @@ fn cuts(rt: HostRuntime) -> Result<(), Fail> {
     for length in 0..76usize {
         let mut frame = hex::decode(alloc, FRAME)?;
         frame.truncate(length);
-        let fault = match length.checked_sub(14) {
-            None => "L1".to_string(alloc)?,
-            Some(at) => format!(in alloc; "L5 G1 at {at}")?,
+        let entry = match length.checked_sub(14) {
+            None => "refused S3 L1".to_string(alloc)?,
+            Some(at) => format!(in alloc; "refused S3 L5 G1 at {at}")?,
         };
         let left = left_with(alloc, &[frame])?;
-        let want = format!(in alloc; "{BEFORE}1000 1 refused S3 {fault}\n{AFTER}")?;
-        assert_eq!(rt; left.out.as_slice(), want.as_bytes(), "{length}");
-        assert_eq!(rt; left.status, Status::Done, "{length}");
+        is_told_between(&rt, alloc, &left, entry.as_str(), length)?;
     }
     Ok(())
 }
@@ -158,15 +169,21 @@ fn lines_with(output: &[u8], start: &str) -> usize {
         .count()
 }
 
+/// A beacon of each source.
+fn beacons(alloc: Global) -> Result<Vec<Vec<u8>>, Fail> {
+    let mut planted = Vec::new(alloc);
+    for source in 0..SOURCES {
+        planted.push(beacon(alloc, source)?)?;
+    }
+    Ok(planted)
+}
+
 /// Beacons of far more sources than a location table has room for, and than 64 rounds of 64 take.
 /// The first 64 are accepted, also after those of before expired.
 #[test]
 fn a_flood(rt: HostRuntime) -> Result<(), Fail> {
     let alloc = rt.alloc();
-    let mut planted = Vec::new(alloc);
-    for source in 0..SOURCES {
-        planted.push(beacon(alloc, source)?)?;
-    }
+    let planted = beacons(alloc)?;
     let later = "station = 0, at = 21000, do = \"open\", port = 1";
     let last = "station = 0, at = 21000, do = \"close\", port = 1";
     let text = scenario(alloc, STATIONS, &[SEND, later, last])?;
