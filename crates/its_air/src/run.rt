@@ -169,11 +169,7 @@ impl<'a> Run<'a> {
         ensures ranges { IfOk result (λ run.
             All (λ filed. IsFiledInRange filed.now) run.queue.due.items) }
     {
-        let mut draws = Draws::of_seed(air.seed);
-        let mut queue = Queue::of_file(alloc, file, end_of(air, file), every.len())?;
-        let ticking = if air.beacons { configs.len() } else { 0 };
-        schedule_first_ticks(&mut queue, &mut draws, present, ticking)?;
-        schedule_traffic(&mut queue, &mut draws, present, every, configs.len())?;
+        let (queue, draws) = Run::begin_queue(alloc, configs, present, file, air, every)?;
         let world = World::of_apart(alloc, configs)?;
         let standings = PlaceIndex::of(alloc, air.range, world.stations())?;
         Ok(Run {
@@ -188,6 +184,36 @@ impl<'a> Run<'a> {
             hearers: Vec::new(alloc),
             done: 0,
         })
+    }
+
+    /// What waits at the start, and the draws behind those that this took.
+    fn begin_queue(
+        alloc: Global,
+        configs: &[Config],
+        present: &[bool],
+        file: &'a [FileEvent],
+        air: &Air,
+        every: &[Traffic],
+    ) -> Result<(Queue<'a>, Draws), AirFault>
+        requires events { All IsFiledInRange file.now }
+        requires moments { All (λ filed. moment_of filed < 2 ^ 63) file.now }
+        ensures due { IfOk result (λ begun.
+            AreDue (map filed_of file.now) (end_of air.now.until file.now)
+            (filed_due begun.0)) }
+        ensures start { IfOk result (λ begun. begun.0.taken ≡ 0) }
+        ensures until { IfOk result (λ begun. begun.0.until ≡ end_of air.now.until file.now) }
+        ensures timed { IfOk result (λ begun. Keeps begun.0 begun.1 (air_opening
+            (rules_of air.now (all_traffic every.now) (end_of air.now.until file.now) present.now)
+            (map config_of configs.now) (map filed_of file.now)).timetable) }
+        ensures ranges { IfOk result (λ begun.
+            All (λ filed. IsFiledInRange filed.now) begun.0.due.items) }
+    {
+        let mut draws = Draws::of_seed(air.seed);
+        let mut queue = Queue::of_file(alloc, file, end_of(air, file), every.len())?;
+        let ticking = if air.beacons { configs.len() } else { 0 };
+        schedule_first_ticks(&mut queue, &mut draws, present, ticking)?;
+        schedule_traffic(&mut queue, &mut draws, present, every, configs.len())?;
+        Ok((queue, draws))
     }
 
     /// Adds a station of this config, numbered behind all others, that is absent.

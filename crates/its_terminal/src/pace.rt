@@ -20,7 +20,7 @@ impl Pace {
         ensures rate { IfSome result (λ rate. rate ≡ self.done * 1000 / self.elapsed) }
         ensures none { IfNone result ((self.elapsed ≡ 0) ⊎ (2 ^ 64 ≤ self.done * 1000)) }
     {
-        rate_of(self.done, self.elapsed)
+        product_over(self.done, 1000, self.elapsed)
     }
 
     /// How many milliseconds are left at this rate. `None` where nothing is done or more than all is,
@@ -32,15 +32,14 @@ impl Pace {
             ⊎ (2 ^ 64 ≤ self.elapsed * (self.all - self.done))) }
     {
         let rest = self.all.checked_sub(self.done)?;
-        let product = self.elapsed.checked_mul(rest)?;
-        product.checked_div(self.done)
+        product_over(self.elapsed, rest, self.done)
     }
 }
 
-/// How much comes to a second, where so much comes to so many milliseconds.
-fn rate_of(count: u64, elapsed: u64) -> Option<u64>
-    ensures rate { IfSome result (λ rate. rate ≡ count * 1000 / elapsed) }
-    ensures none { IfNone result ((elapsed ≡ 0) ⊎ (2 ^ 64 ≤ count * 1000)) }
+/// A product over a divisor, as for the rate of so much in so many milliseconds.
+fn product_over(one: u64, other: u64, divisor: u64) -> Option<u64>
+    ensures quotient { IfSome result (λ quotient. quotient ≡ one * other / divisor) }
+    ensures none { IfNone result ((divisor ≡ 0) ⊎ (2 ^ 64 ≤ one * other)) }
 {
-    count.checked_mul(1000)?.checked_div(elapsed)
+    one.checked_mul(other)?.checked_div(divisor)
 }

@@ -8,8 +8,8 @@ use Rattle.its_air_model.specs.Timetable.{Timetable, of_file, schedule_all, sche
 use Rattle.its_air_model.specs.Timetable.{schedule_traffic}
 use Rattle.its_queue.specs.Traffics.{all_traffic}
 use Rattle.its_air.proofs.Stepping.{keeps_opening}
-use Rattle.its_air.proofs.run.Run.begin.Goals.{then-air, else-air}
-use Rattle.its_air.proofs.run.Run.begin.Goals as goal
+use Rattle.its_air.proofs.run.Run.begin_queue.Goals.{then-air, else-air}
+use Rattle.its_air.proofs.run.Run.begin_queue.Goals as goal
 
 pub returns-clause-timed : goal.returns-clause-timed
 returns-clause-timed c =
