@@ -1,7 +1,5 @@
-//! Damaged frames, floods, other sources, the longest payloads and want of memory, over both
-//! tables.
+//! Floods, other sources, the longest payloads and want of memory, over both tables.
 
-mod damage;
 mod flood;
 mod isolation;
 mod largest;

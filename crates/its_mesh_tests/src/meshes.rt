@@ -3,14 +3,11 @@
 mod datagrams;
 mod failures;
 mod loopback;
-mod options;
-mod scenarios;
 
 use crate::scripted::Scripted;
 use its_mesh::{MeshOptions, Sockets, mesh_over};
 use its_reporting::{Io, OutputFormat, Status};
 use std::alloc::{AllocError, Global};
-use std::io::{Read, Write};
 use std::test::Fail;
 
 /// Station 1 is 50 m north of station 0.
@@ -41,10 +38,6 @@ const BEFORE: &str = "0 1 opened\n1000 0 sent 0\n";
 
 static AFTER: &str = "1000 1 accepted port 2002 info 0 6869 sent 1\n1000 0 ignored own-source\n";
 
-/// Frame 0.
-static FRAME: &str = "ffffffffffff020000000001894711001a0a2040008000060a000000000014000200000000010\
-    00000000000000000000000000000000000000000000000006400000000000007d200006869";
-
 /// What `mesh` left: its status, standard output and standard error.
 #[derive(Drop)]
 struct Left {
@@ -54,26 +47,14 @@ struct Left {
 }
 
 /// Runs the mesh of a scenario over these sockets.
-fn run<R: Read + Drop, S: Sockets, W: Write, E: Write>(
-    alloc: Global,
-    reader: R,
-    options: MeshOptions,
-    sockets: &mut S,
-    out: &mut W,
-    err: &mut E,
-) -> Status {
+fn left_of<S: Sockets>(alloc: Global, text: &str, options: MeshOptions, sockets: &mut S) -> Left {
+    let (mut out, mut err) = (Vec::new(alloc), Vec::new(alloc));
     let mut io = Io {
-        out,
-        err,
+        out: &mut out,
+        err: &mut err,
         format: OutputFormat::default(),
     };
-    mesh_over(alloc, "a.toml", reader, options, sockets, &mut io)
-}
-
-fn left_of<R: Read + Drop, S: Sockets>(alloc: Global, reader: R, sockets: &mut S) -> Left {
-    let (mut out, mut err) = (Vec::new(alloc), Vec::new(alloc));
-    let options = MeshOptions::default();
-    let status = run(alloc, reader, options, sockets, &mut out, &mut err);
+    let status = mesh_over(alloc, "a.toml", text.as_bytes(), options, sockets, &mut io);
     Left { status, out, err }
 }
 
@@ -94,5 +75,5 @@ fn scenario(alloc: Global, stations: &str, events: &[&str]) -> Result<String, Al
 fn left_with(alloc: Global, planted: &[Vec<u8>]) -> Result<Left, Fail> {
     let text = scenario(alloc, STATIONS, &[OPEN, SEND, DELIVER])?;
     let mut sockets = Scripted::new(alloc, planted, None);
-    Ok(left_of(alloc, text.as_bytes(), &mut sockets))
+    Ok(left_of(alloc, text.as_str(), MeshOptions::default(), &mut sockets))
 }

@@ -1,13 +1,13 @@
-//! To whom a packet goes: over either table, and beside a plain list of the stations.
+//! To whom a packet goes, over either table.
 
-ghost use Rattle.std.specs.Prelude.{◌<◌, ◌≤◌, ◌^◌};
+ghost use Rattle.std.specs.Prelude.{◌≤◌, ◌^◌};
 
 use its_forwarding::{Choice, choose};
-use its_geometry::{Area, contains, distance2};
+use its_geometry::Area;
 use its_gnvalue::{GnAddress, LongPv, Mac, Place};
 use its_loctable::{Heard, LocationStore, OrderedTable, SortedTable, Verdict};
 use its_test_support::{FIRST, SECOND, THIRD};
-use std::alloc::{AllocError, Global};
+use std::alloc::Global;
 use std::test::Fail;
 
 /// An address with the MID of the first.
@@ -280,159 +280,6 @@ fn choices_over_both_tables(rt: HostRuntime) -> Result<(), Fail> {
             (ordered, sorted) == (None, None),
             "{number}: {ordered:?} {sorted:?}"
         );
-    }
-    Ok(())
-}
-
-/// Whether the place of the station of least address that has a MID is accurate, and inside an area.
-fn is_inside(stations: &[Heard], area: &Area, mid: Mac) -> bool {
-    let mut from: Option<Heard> = None;
-    for station in stations {
-        let is_less = match from {
-            Some(least) => station.address() < least.address(),
-            None => true,
-        };
-        if station.address().mid() == mid && is_less {
-            from = Some(*station);
-        }
-    }
-    match from {
-        Some(from) => from.vector().pai() && contains(area, from.vector().place()),
-        None => false,
-    }
-}
-
-/// The choice from all stations, in any order, all of them live.
-fn plain_choice(stations: &[Heard], own: Place, area: &Area, sender: Option<Mac>) -> Choice {
-    if contains(area, own) {
-        return Choice::Broadcast;
-    }
-    if let Some(mid) = sender {
-        if is_inside(stations, area, mid) {
-            return Choice::Drop;
-        }
-    }
-    let (mut limit, mut nearest) = (distance2(area.centre(), own), None);
-    for station in stations {
-        let distance = distance2(area.centre(), station.vector().place());
-        let is_nearer = match nearest {
-            Some(near) if distance == limit => station.address() < near,
-            _ => distance < limit,
-        };
-        if station.neighbour() && is_nearer {
-            (limit, nearest) = (distance, Some(station.address()));
-        }
-    }
-    match nearest {
-        Some(address) => Choice::To(address.mid()),
-        None => Choice::Broadcast,
-    }
-}
-
-/// A generator of numbers, which only have to differ.
-#[derive(Drop)]
-struct Draws {
-    state: u64,
-}
-
-impl Draws {
-    /// A number below a limit.
-    fn below(&mut self, limit: u64) -> u64
-        requires { 0 < limit }
-        ensures { result < limit }
-    {
-        self.state = self
-            .state
-            .wrapping_mul(6_364_136_223_846_793_005)
-            .wrapping_add(1_442_695_040_888_963_407);
-        (self.state >> 33) % limit
-    }
-
-    /// A place of a few: some are equally near to some centre.
-    fn place(&mut self) -> Option<Place> {
-        let north = self.below(9) as i32 * 10_000 - 40_000;
-        let east = self.below(9) as i32 * 10_000 - 40_000;
-        Place::new(north, east).ok()
-    }
-
-    /// An address of a few: some share a MID.
-    fn address(&mut self) -> u64 {
-        (self.below(4) << 58) + 0x0000_0200_0000_0000 + self.below(12)
-    }
-
-    /// A packet of a station, three in four of them beacons.
-    fn heard(&mut self) -> Option<Heard> {
-        let (address, place) = (self.address(), self.place()?);
-        let number = if self.below(3) == 0 { Some(0) } else { None };
-        heard(address, place, self.below(2) == 0, number)
-    }
-
-    fn sender(&mut self) -> Option<Mac> {
-        if self.below(2) == 0 {
-            None
-        } else {
-            mid_of(self.address())
-        }
-    }
-}
-
-/// Takes stations into a table and into a list. Whether the table accepts each that is new.
-fn fill<S: LocationStore>(
-    store: &mut S,
-    stations: &mut Vec<Heard>,
-    draws: &mut Draws,
-) -> Result<bool, AllocError> {
-    for _ in 0..draws.below(24) {
-        let Some(station) = draws.heard() else {
-            return Ok(false);
-        };
-        if store.lookup(1000, station.address()).is_none() {
-            if !accepts(store, 1000, &station) {
-                return Ok(false);
-            }
-            stations.push(station)?;
-        }
-    }
-    Ok(true)
-}
-
-/// Whether a choice is as by the list.
-fn is_as_by_list<S: LocationStore>(
-    store: &S,
-    stations: &[Heard],
-    draws: &mut Draws,
-) -> Option<bool> {
-    let (own, centre) = (draws.place()?, draws.place()?);
-    let area = Area::circle(centre, 100 + draws.below(2000) as u16).ok()?;
-    let sender = draws.sender();
-    let want = plain_choice(stations, own, &area, sender);
-    Some(choice(store, 1000, own, &area, sender) == want)
-}
-
-/// One table of pseudo-random stations: whether some choices over it are as by a list of them.
-fn one_table<S: LocationStore>(alloc: Global, draws: &mut Draws) -> Result<bool, AllocError> {
-    let mut stations = Vec::new(alloc);
-    let Some(mut store) = store_of::<S>(alloc, 64) else {
-        return Ok(false);
-    };
-    if !fill(&mut store, &mut stations, draws)? {
-        return Ok(false);
-    }
-    for _ in 0..8 {
-        if is_as_by_list(&store, &stations, draws) != Some(true) {
-            return Ok(false);
-        }
-    }
-    Ok(true)
-}
-
-#[test]
-fn choices_are_as_by_a_plain_list(rt: HostRuntime) -> Result<(), Fail> {
-    let mut draws = Draws { state: 1 };
-    for number in 0..1000 {
-        let ordered = one_table::<OrderedTable>(rt.alloc(), &mut draws)?;
-        let sorted = one_table::<SortedTable>(rt.alloc(), &mut draws)?;
-        assert!(rt; ordered && sorted, "{number}: {ordered} {sorted}");
     }
     Ok(())
 }

@@ -8,7 +8,6 @@ use its_loctable::{Heard, Known, LocationStore, StoreRefused, Verdict};
 use std::alloc::Global;
 
 mod memory;
-mod plain;
 mod recent;
 mod refusals;
 mod rows;

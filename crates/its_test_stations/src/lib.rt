@@ -10,7 +10,7 @@ use its_geometry::Area;
 use its_gnvalue::{Lifetime, TrafficClass};
 use its_loctable::LocationStore;
 use its_station::{GbcRequest, Handed, Outcome, Refused, Reply, Station, Why};
-use its_test_support::{LINK, PORT};
+use its_test_support::PORT;
 pub use rows::{Cast, HI, Known, Other, Row, Step, first_other, frames_of};
 pub use site::{CLOSED, FAR, NEAR, SENDER, Site, circle, receiver, station_at};
 
@@ -122,14 +122,4 @@ fn request_of<'a>(area: Area, max_hops: u8, payload: &'a [u8]) -> GbcRequest<'a>
         area,
         payload,
     }
-}
-
-/// The frame in which the second station passes on one that came with ten hops left.
-pub fn relay_of(frame: &Vec<u8>) -> Result<Vec<u8>, &'static str> {
-    let Ok(mut relay) = frame.clone() else {
-        return Err("out of memory");
-    };
-    *relay.get_mut(11).ok_or("short")? = 2;
-    *relay.get_mut(LINK + 3).ok_or("short")? = 9;
-    Ok(relay)
 }

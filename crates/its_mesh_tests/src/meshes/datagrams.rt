@@ -1,9 +1,10 @@
 //! What comes by a socket, whoever sent it.
 
-use super::{AFTER, BEFORE, DELIVER, FRAME, Left, SEND, STATIONS, left_of, left_with, scenario};
+use super::{AFTER, BEFORE, DELIVER, Left, SEND, STATIONS, left_of, left_with, scenario};
 use crate::scripted::Scripted;
+use its_mesh::MeshOptions;
 use its_reporting::Status;
-use std::alloc::{AllocError, Global};
+use std::alloc::Global;
 use std::process::Abort;
 use std::test::Fail;
 
@@ -65,91 +66,6 @@ fn datagrams_of_each_length(rt: HostRuntime) -> Result<(), Fail> {
     Ok(())
 }
 
-/// The same octets, with one bit turned, which is counted from the first octet's lowest.
-fn turned(alloc: Global, octets: &[u8], bit: usize) -> Result<Vec<u8>, AllocError> {
-    let mut damaged = Vec::from_slice(alloc, octets)?;
-    if let Some(octet) = damaged.get_mut(bit / 8) {
-        *octet ^= 1 << (bit % 8);
-    }
-    Ok(damaged)
-}
-
-/// What is printed of frame 0 with one bit turned, and then of frame 0, for each bit.
-fn turned_bits(alloc: Global) -> Result<Vec<Vec<u8>>, Fail> {
-    let frame = octets_of(alloc, FRAME)?;
-    let mut outputs = Vec::new(alloc);
-    for bit in 0..8 * 76 {
-        let left = left_with(alloc, &[turned(alloc, &frame, bit)?])?;
-        outputs.push(left.out)?;
-    }
-    Ok(outputs)
-}
-
-/// How the line of a refused frame goes on, and how many of the frames have it.
-static CODES: [(&str, u32); 18] = [
-    ("", 158),
-    ("L1", 0),
-    ("L2\n", 16),
-    ("L3", 0),
-    ("L4\n", 2),
-    ("L5 G1 at ", 9),
-    ("L5 G1 at 62\n", 9),
-    ("L5 G2 at 0\n", 4),
-    ("L5 G3 at 0\n", 4),
-    ("L5 G4 at ", 59),
-    ("L5 G5 at ", 0),
-    ("L5 G6 at 4\n", 3),
-    ("L5 G7 at 5\n", 4),
-    ("L5 G8 at 5\n", 2),
-    ("L5 G9 at 10\n", 8),
-    ("L5 G10 at 8\n", 6),
-    ("L5 G11 at ", 4),
-    ("L5 G12 at ", 37),
-];
-
-/// Of 608 frames with one bit turned, 16 have another type and 142 no good packet: so many have
-/// each code. A frame that is refused changes nothing.
-#[test]
-fn single_bits(rt: HostRuntime) -> Result<(), Fail> {
-    let alloc = rt.alloc();
-    let outputs = turned_bits(alloc)?;
-    let refused = format!(in alloc; "{BEFORE}1000 1 refused S3 ")?;
-    for (code, want) in CODES {
-        let start = format!(in alloc; "{refused}{code}")?;
-        let mut found = 0u32;
-        for output in &outputs {
-            if output.starts_with(start.as_bytes()) {
-                found = found.saturating_add(1);
-            }
-        }
-        assert_eq!(rt; found, want, "{code}");
-    }
-    for output in &outputs {
-        let lines = output.split(|octet| *octet == b'\n').count();
-        let is_refused = output.starts_with(refused.as_bytes());
-        assert!(rt; output.ends_with(AFTER.as_bytes()) && lines == 6 || !is_refused);
-        assert!(rt; output.starts_with(BEFORE.as_bytes()));
-    }
-    Ok(())
-}
-
-/// Each prefix of frame 0 is refused where it ends.
-#[test]
-fn cuts(rt: HostRuntime) -> Result<(), Fail> {
-    let alloc = rt.alloc();
-    for length in 0..76usize {
-        let mut frame = hex::decode(alloc, FRAME)?;
-        frame.truncate(length);
-        let entry = match length.checked_sub(14) {
-            None => "refused S3 L1".to_string(alloc)?,
-            Some(at) => format!(in alloc; "refused S3 L5 G1 at {at}")?,
-        };
-        let left = left_with(alloc, &[frame])?;
-        is_told_between(&rt, alloc, &left, entry.as_str(), length)?;
-    }
-    Ok(())
-}
-
 const SOURCES: u16 = 10_000;
 
 /// The beacon of one of many sources.
@@ -188,7 +104,7 @@ fn a_flood(rt: HostRuntime) -> Result<(), Fail> {
     let last = "station = 0, at = 21000, do = \"close\", port = 1";
     let text = scenario(alloc, STATIONS, &[SEND, later, last])?;
     let mut sockets = Scripted::new(alloc, planted.as_slice(), None);
-    let left = left_of(alloc, text.as_bytes(), &mut sockets);
+    let left = left_of(alloc, text.as_str(), MeshOptions::default(), &mut sockets);
     let cases = [
         ("1000 1 accepted", 64),
         ("1000 1 refused S4", 4032),
@@ -226,7 +142,12 @@ fn four_quiet_rounds(rt: HostRuntime) -> Result<(), Fail> {
     for (events, want) in cases {
         let text = scenario(rt.alloc(), STATIONS, events)?;
         let mut sockets = Scripted::new(rt.alloc(), &[], None);
-        let left = left_of(rt.alloc(), text.as_bytes(), &mut sockets);
+        let left = left_of(
+            rt.alloc(),
+            text.as_str(),
+            MeshOptions::default(),
+            &mut sockets,
+        );
         assert_eq!(rt; left.status, Status::Done, "{text}");
         assert_eq!(rt; sockets.receives, want, "{text}");
     }

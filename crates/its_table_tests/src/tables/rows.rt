@@ -8,7 +8,7 @@ use its_loctable::{Heard, LocationStore, StoreRefused, Verdict};
 use std::alloc::Global;
 
 /// What becomes of a packet.
-pub(super) type Answer = Result<Verdict, StoreRefused>;
+type Answer = Result<Verdict, StoreRefused>;
 
 pub(super) const ACCEPTED: Answer = Ok(Verdict::Accepted);
 
