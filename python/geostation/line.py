@@ -188,9 +188,15 @@ class Line(Calls):
 
     def _counts(self) -> Counts:
         told = self.ask("counts")
-        first = [told[key] for key in ("received", "accepted", "delivered", "relayed")]
-        parts = (IgnoredCounts(**told["ignored"]), RefusedCounts(**told["refused"]))
-        return Counts(*first, *parts, SentCounts(**told["sent"]))
+        return Counts(
+            received=told["received"],
+            accepted=told["accepted"],
+            delivered=told["delivered"],
+            relayed=told["relayed"],
+            ignored=IgnoredCounts(**told["ignored"]),
+            refused=RefusedCounts(**told["refused"]),
+            sent=SentCounts(**told["sent"]),
+        )
 
     def _look_up(self, now: int, address: int) -> Optional[Vector]:
         told = self._asked("look_up", now, address=f"{address:016x}")
