@@ -45,14 +45,6 @@ const LARGEST_SMALL: usize = 2048;
 /// The smallest piece that is asked for.
 const SMALLEST: usize = 8;
 
-/// What was written to a buffer that was all zeros: its octets before the first that is zero.
-pub fn written(buffer: &[u8]) -> &[u8] {
-    match buffer.split(|octet| *octet == 0).next() {
-        Some(octets) => octets,
-        None => buffer,
-    }
-}
-
 /// All memory of the process but for a budget.
 #[derive(Drop)]
 pub struct Shortage {
