@@ -1,11 +1,10 @@
 //! To whom a packet goes, over either table.
 
-ghost use Rattle.std.specs.Prelude.{◌≤◌, ◌^◌};
-
-use its_forwarding::{Choice, choose};
+use crate::fixtures::{accept, choice, heard, store_of};
+use its_forwarding::Choice;
 use its_geometry::Area;
-use its_gnvalue::{GnAddress, LongPv, Mac, Place};
-use its_loctable::{Heard, LocationStore, OrderedTable, SortedTable, Verdict};
+use its_gnvalue::{GnAddress, Mac, Place};
+use its_loctable::{LocationStore, OrderedTable, SortedTable, Verdict};
 use its_test_support::{FIRST, SECOND, THIRD};
 use std::alloc::Global;
 use std::test::Fail;
@@ -50,32 +49,6 @@ fn mid_of(address: u64) -> Option<Mac> {
     Some(GnAddress::from_u64(address).ok()?.mid())
 }
 
-fn heard(address: u64, place: Place, accurate: bool, number: Option<u16>) -> Option<Heard> {
-    let address = GnAddress::from_u64(address).ok()?;
-    let vector = LongPv::new(address, 0, place, accurate, 0, 0).ok()?;
-    Some(Heard::new(vector, number))
-}
-
-/// Whether the table accepts a packet, with nothing promised: all that the call's contract says
-/// would else be carried along in the proof of each test. So it is of `choice`.
-fn accepts<S: LocationStore>(store: &mut S, now: u64, heard: &Heard) -> bool
-    requires { now ≤ 2 ^ 62 }
-{
-    store.accept(now, heard) == Ok(Verdict::Accepted)
-}
-
-fn choice<S: LocationStore>(
-    store: &S,
-    now: u64,
-    own: Place,
-    area: &Area,
-    sender: Option<Mac>,
-) -> Choice
-    requires { now ≤ 2 ^ 62 }
-{
-    choose(store, now, own, area, sender)
-}
-
 fn hears<S: LocationStore>(
     store: &mut S,
     now: u32,
@@ -84,8 +57,9 @@ fn hears<S: LocationStore>(
     accurate: bool,
     number: Option<u16>,
 ) -> Option<bool> {
+    let address = GnAddress::from_u64(address).ok()?;
     let heard = heard(address, place_of(point)?, accurate, number)?;
-    Some(accepts(store, u64::from(now), &heard))
+    Some(accept(store, u64::from(now), &heard) == Ok(Verdict::Accepted))
 }
 
 fn hears_many<S: LocationStore>(store: &mut S, address: u64, count: u64, point: Point) -> bool {
@@ -134,28 +108,21 @@ fn holds<S: LocationStore>(store: &mut S, row: Row) -> bool {
     }
 }
 
-/// The number, from 0, of the first row that comes out otherwise over a new table; `None` where all
-/// come out so. An error says that there is no such table.
+/// The number, from 0, of the first row that comes out otherwise over a new table, which remembers
+/// eight numbers of each source; `None` where all come out so. An error says that there is no such
+/// table.
 fn first_other<S: LocationStore>(
     alloc: Global,
     capacity: u16,
     rows: &[Row],
 ) -> Result<Option<usize>, &'static str> {
-    let mut store = store_of::<S>(alloc, capacity).ok_or("no such table")?;
+    let mut store = store_of::<S>(alloc, capacity, 8).ok_or("no such table")?;
     for (number, row) in rows.iter().enumerate() {
         if !holds(&mut store, *row) {
             return Ok(Some(number));
         }
     }
     Ok(None)
-}
-
-/// A table that remembers eight numbers of each source.
-fn store_of<S: LocationStore>(alloc: Global, capacity: u16) -> Option<S> {
-    if !(1..=4096).contains(&capacity) {
-        return None;
-    }
-    S::empty(alloc, capacity, 8).ok()
 }
 
 const ORIGIN: Point = (0, 0);

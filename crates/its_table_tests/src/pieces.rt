@@ -3,10 +3,11 @@
 
 ghost use Rattle.std.specs.Prelude.{◌≤◌, ◌^◌};
 
-use its_forwarding::{Choice, choose};
+use crate::fixtures::{accept, choice, heard, store_of};
+use its_forwarding::Choice;
 use its_geometry::{Area, Centre, Nearer};
-use its_gnvalue::{GnAddress, LongPv, Place};
-use its_loctable::{Heard, LocationStore, OrderedTable, Piece, SortedTable};
+use its_gnvalue::{GnAddress, Place};
+use its_loctable::{LocationStore, OrderedTable, Piece, SortedTable};
 use its_test_support::FIRST;
 use std::alloc::Global;
 use std::test::Fail;
@@ -35,9 +36,7 @@ fn place_of(index: u16) -> Option<Place> {
     Place::new(10 * i32::from(index), 0).ok()
 }
 
-/// Whether a station is heard, a neighbour by a beacon, another by a geobroadcast, with nothing
-/// promised: all that the call's contract says would else be carried along in the proof of each
-/// test. So it is of `fill`.
+/// Whether a station is heard, a neighbour by a beacon, another by a geobroadcast.
 fn hears<S: LocationStore>(
     store: &mut S,
     now: u64,
@@ -47,12 +46,13 @@ fn hears<S: LocationStore>(
 ) -> bool
     requires { now ≤ 2 ^ 62 }
 {
-    match LongPv::new(address, 0, place, false, 0, 0) {
-        Ok(vector) => store.accept(now, &Heard::new(vector, number)).is_ok(),
-        Err(_) => false,
+    match heard(address, place, false, number) {
+        Some(heard) => accept(store, now, &heard).is_ok(),
+        None => false,
     }
 }
 
+/// Fills a piece, with nothing promised, as the fixtures.
 fn fill<S: LocationStore>(store: &S, now: u64, after: Option<GnAddress>, piece: &mut Piece)
     requires { now ≤ 2 ^ 62 }
 {
@@ -73,7 +73,7 @@ fn hears_both<S: LocationStore>(store: &mut S, now: u64, index: u16) -> Option<b
 /// A table of so many neighbours, heard by descending address, with as many other sources between
 /// them. The neighbour of one index is heard a moment earlier.
 fn table_of<S: LocationStore>(alloc: Global, count: u16, earlier: u16) -> Option<S> {
-    let mut store = S::empty(alloc, 200, 1).ok()?;
+    let mut store = store_of(alloc, 200, 1)?;
     for index in (0..count).rev() {
         let now = if index == earlier { NOW - 1 } else { NOW };
         if hears_both(&mut store, now, index) != Some(true) {
@@ -170,7 +170,7 @@ fn walks_by_pieces_over_both_tables(rt: HostRuntime) {
 
 /// A table of so many neighbours at one place, but for two, which stand nearer.
 fn near_two<S: LocationStore>(alloc: Global, count: u16, first: u16, second: u16) -> Option<S> {
-    let mut store = S::empty(alloc, 100, 1).ok()?;
+    let mut store = store_of(alloc, 100, 1)?;
     for index in 0..count {
         let east = if index == first || index == second {
             70_000
@@ -190,7 +190,7 @@ fn near_two<S: LocationStore>(alloc: Global, count: u16, first: u16, second: u16
 fn is_nearer<S: LocationStore>(alloc: Global, count: u16, first: u16, second: u16) -> Option<bool> {
     let store = near_two::<S>(alloc, count, first, second)?;
     let area = Area::circle(Place::new(0, 100_000).ok()?, 10).ok()?;
-    let found = choose(&store, NOW, Place::new(0, 0).ok()?, &area, None);
+    let found = choice(&store, NOW, Place::new(0, 0).ok()?, &area, None);
     Some(found == Choice::To(address_of(first)?.mid()))
 }
 

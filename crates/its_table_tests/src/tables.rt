@@ -3,9 +3,9 @@
 
 ghost use Rattle.std.specs.Prelude.{◌^◌, ◌≤◌};
 
+use crate::fixtures::heard;
 use its_gnvalue::{GnAddress, LongPv, Place};
-use its_loctable::{Heard, Known, LocationStore, StoreRefused, Verdict};
-use std::alloc::Global;
+use its_loctable::{Heard, Known, LocationStore};
 
 mod memory;
 mod recent;
@@ -16,26 +16,9 @@ mod worked;
 const FIRST: u64 = 0x1400_0200_0000_0001;
 
 /// A packet of a station at (0, 0): a GBC where there is a number, else a BEACON.
-fn heard_at(address: u64, timestamp: u32, number: Option<u16>) -> Option<Heard> {
+fn heard_at(address: u64, number: Option<u16>) -> Option<Heard> {
     let address = GnAddress::from_u64(address).ok()?;
-    let vector = LongPv::new(address, timestamp, Place::new(0, 0).ok()?, false, 0, 0).ok()?;
-    Some(Heard::new(vector, number))
-}
-
-/// What becomes of a packet, with nothing promised: all that the call's contract says would else be
-/// carried along in the proof of each test. So it is of the calls below.
-fn accept<S: LocationStore>(store: &mut S, now: u64, heard: &Heard) -> Result<Verdict, StoreRefused>
-    requires { now ≤ 2 ^ 62 }
-{
-    store.accept(now, heard)
-}
-
-/// A store, where the numbers are in their ranges and there is memory for it.
-fn store_of<S: LocationStore>(alloc: Global, capacity: u16, remember: u8) -> Option<S> {
-    if !(1..=4096).contains(&capacity) || !(1..=64).contains(&remember) {
-        return None;
-    }
-    S::empty(alloc, capacity, remember).ok()
+    heard(address, Place::new(0, 0).ok()?, false, number)
 }
 
 /// What is looked up.
@@ -55,6 +38,8 @@ struct LookUps {
     next: Option<LongPv>,
     by_mid: Option<Known>,
 }
+
+// The look-ups, with nothing promised, as the fixtures.
 
 fn lookup<S: LocationStore>(store: &S, now: u64, address: GnAddress) -> Option<Known>
     requires { now ≤ 2 ^ 62 }

@@ -4,7 +4,8 @@ ghost use Rattle.std.specs.Prelude.{◌≤◌};
 
 use super::rows::Row::{Packet, Unknown};
 use super::rows::{ACCEPTED, DUPLICATE, FULL, Row, first_other};
-use super::{FIRST, LookUps, Request, accept, heard_at, look_up_all, store_of};
+use super::{FIRST, LookUps, Request, heard_at, look_up_all};
+use crate::fixtures::{accept, store_of};
 use its_duplicates::Recent;
 use its_gnvalue::GnAddress;
 use its_loctable::{Heard, LocationStore, OrderedTable, SortedTable, StoreRefused, Verdict};
@@ -54,8 +55,8 @@ struct Packets {
 
 fn packets_of_both() -> Option<Packets> {
     Some(Packets {
-        first: heard_at(FIRST, 0, Some(7))?,
-        other: heard_at(OTHER, 0, Some(9))?,
+        first: heard_at(FIRST, Some(7))?,
+        other: heard_at(OTHER, Some(9))?,
     })
 }
 

@@ -1,8 +1,8 @@
 //! Packets and look-ups of a table as rows, each with what becomes of it. A test that is such rows
 //! holds no table, so its own proof is short.
 
-use super::{FIRST, LookUps, Request, accept, has_room, heard_at, look_up_all, lookup, remembers};
-use crate::tables::store_of;
+use super::{FIRST, LookUps, Request, has_room, heard_at, look_up_all, lookup, remembers};
+use crate::fixtures::{accept, store_of};
 use its_gnvalue::GnAddress;
 use its_loctable::{Heard, LocationStore, StoreRefused, Verdict};
 use std::alloc::Global;
@@ -49,7 +49,7 @@ pub(super) enum Row {
 }
 
 fn heard(source: u16, number: Option<u16>) -> Option<Heard> {
-    heard_at(FIRST + u64::from(source), 0, number)
+    heard_at(FIRST + u64::from(source), number)
 }
 
 fn address_of(source: u16) -> Option<GnAddress> {
