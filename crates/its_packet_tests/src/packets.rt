@@ -1,86 +1,58 @@
-//! Packets: shared vectors and checks; the tests stand in a file for each subject.
+//! Packets of typed values are written, octet for octet, and compared; payloads; what goes on.
 
-mod faults;
-mod kinds;
-mod memory;
-mod payload;
-mod relays;
-mod right_fields;
-mod wrong_fields;
-
-use its_gnvalue::NoRoom;
-use its_headers::{DecodeFault, FaultKind, Packet, PacketView, decode, encode_into};
+use crate::vectors::{BEACON, ENDS, GAC, GBC, SHB};
+use its_geometry::Area;
+use its_gnvalue::{GnAddress, Hops, Lifetime, LongPv, NoRoom, Place, TrafficClass};
+use its_headers::{
+    AreaPacket, Header, LONGEST_PAYLOAD, Packet, PacketView, Payload, SHORTEST_PAYLOAD,
+    SingleHopBroadcast, decode, encode_into, relay_into,
+};
 use its_test_support::put;
 use std::alloc::Global;
-use std::process::Abort;
 
-/// A beacon of a station at (0, 0).
-static BEACON: [u8; 36] = [
-    0x11, 0, 0x1a, 1, 0, 0x10, 0, 0x80, 0, 0, 1, 0, 0x14, 0, 2, 0, 0, 0, 0, 1, 0, 0, 0, 0, 0, 0, 0,
-    0, 0, 0, 0, 0, 0, 0, 0, 0,
-];
+/// Port 2002, info 0 and `hi`.
+static HI: [u8; 6] = [7, 0xd2, 0, 0, 0x68, 0x69];
 
-/// A single-hop broadcast of `hi` to port 2002.
-static SHB: [u8; 46] = [
-    0x11, 0, 0x1a, 1, 0x20, 0x50, 0, 0x80, 0, 6, 1, 0, 0x14, 0, 2, 0, 0, 0, 0, 1, 0, 0, 0, 0, 0, 0,
-    0, 0, 0, 0, 0, 0, 0, 0, 0, 0, 0, 0, 0, 0, 7, 0xd2, 0, 0, 0x68, 0x69,
-];
-
-/// A geobroadcast of `hi` to port 2002, for the circle of 100 m at (0, 0).
-static GBC: [u8; 62] = [
-    0x11, 0, 0x1a, 10, 0x20, 0x40, 0, 0x80, 0, 6, 10, 0, 0, 0, 0, 0, 0x14, 0, 2, 0, 0, 0, 0, 1, 0,
-    0, 0, 0, 0, 0, 0, 0, 0, 0, 0, 0, 0, 0, 0, 0, 0, 0, 0, 0, 0, 0, 0, 0, 0, 100, 0, 0, 0, 0, 0, 0,
-    7, 0xd2, 0, 0, 0x68, 0x69,
-];
-
-/// The geobroadcast as a geoanycast.
-static GAC: [u8; 62] = [
-    0x11, 0, 0x1a, 10, 0x20, 0x30, 0, 0x80, 0, 6, 10, 0, 0, 0, 0, 0, 0x14, 0, 2, 0, 0, 0, 0, 1, 0,
-    0, 0, 0, 0, 0, 0, 0, 0, 0, 0, 0, 0, 0, 0, 0, 0, 0, 0, 0, 0, 0, 0, 0, 0, 100, 0, 0, 0, 0, 0, 0,
-    7, 0xd2, 0, 0, 0x68, 0x69,
-];
-
-/// A geobroadcast no two fields of which are alike: an ellipse, and numbers at the ends of their
-/// ranges.
-static ENDS: [u8; 63] = [
-    0x11, 0, 0x7f, 3, 0x20, 0x42, 0xa5, 0, 0, 7, 4, 0, 0xff, 0xfe, 0, 0, 0x94, 2, 2, 3, 4, 5, 6, 7,
-    0x89, 0xab, 0xcd, 0xef, 0xf8, 0xa4, 0x32, 0xeb, 0x6b, 0x49, 0xd1, 0xff, 0xc0, 0, 0xff, 0xff,
-    0x35, 0xa4, 0xe9, 0, 0x94, 0xb6, 0x2e, 0, 0xff, 0xff, 0, 1, 1, 0x67, 0, 0, 7, 0xd2, 0, 1, 0xff,
-    0, 0x80,
-];
-
-/// The packets of these vectors.
-#[derive(Clone, Copy, Debug)]
-enum Vector {
-    Beacon,
-    Shb,
-    Gbc,
-    Gac,
-    Ends,
+/// The vector of a station at (0, 0).
+fn vector() -> Option<LongPv> {
+    let address = GnAddress::from_u64(0x1400_0200_0000_0001).ok()?;
+    LongPv::new(address, 0, Place::new(0, 0).ok()?, false, 0, 0).ok()
 }
 
-/// The octets of one of them.
-fn octets_of(vector: Vector) -> &'static [u8] {
-    match vector {
-        Vector::Beacon => &BEACON,
-        Vector::Shb => &SHB,
-        Vector::Gbc => &GBC,
-        Vector::Gac => &GAC,
-        Vector::Ends => &ENDS,
-    }
+/// The header of a packet with so many hops, all of them left.
+fn header(hops: u8) -> Option<Header> {
+    Some(Header {
+        hops: Hops::new(hops, hops)?,
+        lifetime: Lifetime::from_octet(0x1a),
+        class: TrafficClass::from_octet(0),
+        mobile: true,
+        vector: vector()?,
+    })
 }
 
-/// The first fault, as place and kind.
-fn fault_of(octets: &[u8]) -> Option<(usize, FaultKind)> {
-    let fault = PacketView::read(octets).err()?;
-    Some((fault.at, fault.kind))
+/// The payload of these packets.
+fn hi(alloc: Global) -> Option<Payload> {
+    let octets = Vec::from_slice(alloc, &HI).ok()?;
+    Payload::new(octets).ok()
 }
 
-/// The octets, and sevens behind them.
-fn before_sevens(octets: &[u8]) -> [u8; 80] {
-    let mut all = [7; 80];
-    put(&mut all, 0, octets);
-    all
+/// A single-hop broadcast.
+fn single_hop(alloc: Global) -> Option<Packet> {
+    Some(Packet::Shb(SingleHopBroadcast {
+        header: header(1)?,
+        media: [1, 2, 0xfe, 0xff],
+        payload: hi(alloc)?,
+    }))
+}
+
+/// What a geobroadcast and a geoanycast have for the circle of 100 m at (0, 0).
+fn for_area(alloc: Global) -> Option<AreaPacket> {
+    Some(AreaPacket {
+        header: header(10)?,
+        number: 0,
+        area: Area::circle(Place::new(0, 0).ok()?, 100).ok()?,
+        payload: hi(alloc)?,
+    })
 }
 
 /// What the writing of a packet answers that has so much room, 80 octets at most, and what stands
@@ -94,19 +66,136 @@ fn written(packet: &Packet, room: usize) -> (Result<usize, NoRoom>, [u8; 80]) {
     (answer, all)
 }
 
-/// The packet is written as these octets and no further, and into no shorter slice.
-fn writes(rt: &impl Abort, packet: &Packet, octets: &[u8]) {
-    let length = octets.len();
-    assert!(rt; packet.length() == length);
-    assert!(rt; written(packet, 80) == (Ok(length), before_sevens(octets)));
-    let short = written(packet, length.saturating_sub(1));
-    assert!(rt; short == (Err(NoRoom), [7; 80]));
+/// The octets, and sevens behind them.
+fn before_sevens(octets: &[u8]) -> [u8; 80] {
+    let mut all = [7; 80];
+    put(&mut all, 0, octets);
+    all
 }
 
-/// The octets are decoded whole, and the packet is written as they are.
-fn returns(rt: &impl Abort, alloc: Global, octets: &[u8]) -> Result<(), DecodeFault> {
-    let (packet, length) = decode(alloc, octets)?;
-    assert!(rt; length == octets.len());
-    writes(rt, &packet, octets);
-    Ok(())
+/// Whether the packet is written as these octets and no further, and into no shorter slice.
+fn is_written(packet: &Packet, octets: &[u8]) -> bool {
+    let size = octets.len();
+    packet.length() == size
+        && written(packet, 80) == (Ok(size), before_sevens(octets))
+        && written(packet, size.saturating_sub(1)) == (Err(NoRoom), [7; 80])
+}
+
+/// Whether there is a packet, and it is written so.
+fn is_made(packet: Option<Packet>, octets: &[u8]) -> bool {
+    match packet {
+        Some(packet) => is_written(&packet, octets),
+        None => false,
+    }
+}
+
+/// A geobroadcast and a geoanycast differ in the header type alone.
+#[test]
+fn typed_packets_are_written(rt: HostRuntime) {
+    let alloc = rt.alloc();
+    assert!(rt; is_made(header(1).map(Packet::Beacon), &BEACON));
+    assert!(rt; is_made(single_hop(alloc), &SHB));
+    assert!(rt; is_made(for_area(alloc).map(Packet::Gbc), &GBC));
+    assert!(rt; is_made(for_area(alloc).map(Packet::Gac), &GAC));
+}
+
+/// The packet that begins the octets.
+fn decoded(alloc: Global, octets: &[u8]) -> Option<Packet> {
+    let (packet, _) = decode(alloc, octets).ok()?;
+    Some(packet)
+}
+
+/// What was decoded is written as it was.
+#[test]
+fn decoded_packets_are_written(rt: HostRuntime) {
+    for octets in [BEACON.as_slice(), &SHB, &GBC, &GAC, &ENDS] {
+        assert!(rt; is_made(decoded(rt.alloc(), octets), octets));
+    }
+}
+
+/// Media octets, which no line tells.
+#[test]
+fn media_are_read(rt: HostRuntime) {
+    let media = match PacketView::read(&SHB) {
+        Ok((view, _)) => view.media(),
+        Err(_) => None,
+    };
+    assert!(rt; media == Some([1, 2, 0xfe, 0xff]));
+}
+
+/// Whether these octets are another packet than the geobroadcast.
+fn is_other(alloc: Global, octets: &[u8]) -> bool {
+    decoded(alloc, octets) != decoded(alloc, &GBC)
+}
+
+/// The geobroadcast with one bit turned, and an octet behind it.
+fn with_other(at: usize) -> [u8; 63] {
+    let mut octets = [0; 63];
+    put(&mut octets, 0, &GBC);
+    if at < octets.len() {
+        octets[at] ^= 1;
+    }
+    octets
+}
+
+/// Packets are equal where all that they say is.
+#[test]
+fn equal_packets(rt: HostRuntime) {
+    assert!(rt; !is_other(rt.alloc(), &GBC));
+    assert!(rt; is_other(rt.alloc(), &GAC));
+    for at in [2, 9, 13, 49, 61] {
+        assert!(rt; is_other(rt.alloc(), &with_other(at)), "octet {at}");
+    }
+}
+
+/// Whether so many octets are a payload, and how many it has and gives back, or are given back in
+/// its place.
+fn made_of(alloc: Global, size: usize) -> Option<(bool, usize, usize)> {
+    Some(match Payload::new(Vec::from_elem(alloc, 0, size).ok()?) {
+        Ok(payload) => (true, payload.octets().len(), payload.into_octets().len()),
+        Err(octets) => (false, octets.len(), octets.len()),
+    })
+}
+
+#[test]
+fn payloads(rt: HostRuntime) {
+    assert!(rt; (SHORTEST_PAYLOAD, LONGEST_PAYLOAD) == (4, 1398));
+    for (size, fits) in [
+        (0, false),
+        (3, false),
+        (4, true),
+        (1398, true),
+        (1399, false),
+    ] {
+        assert!(rt;
+            made_of(rt.alloc(), size) == Some((fits, size, size)),
+            "{size}"
+        );
+    }
+}
+
+/// What the relaying of a packet answers that has so much room, 80 octets at most, and what stands
+/// in those 80 then, which were sevens.
+fn relayed(packet: &[u8], room: usize) -> Option<(Result<usize, NoRoom>, [u8; 80])> {
+    let (view, _) = PacketView::read(packet).ok()?;
+    let mut all = [7; 80];
+    if view.hops().left() < 2 {
+        return None;
+    }
+    let answer = relay_into(&view, all.get_mut(..room)?);
+    Some((answer, all))
+}
+
+/// The geoanycast with one hop fewer, and sevens behind it.
+fn gac_on_its_way() -> [u8; 80] {
+    let mut all = before_sevens(&GAC);
+    put(&mut all, 3, &[9]);
+    all
+}
+
+/// A packet goes on in as many octets as it has, and in no fewer.
+#[test]
+fn one_octet_changes(rt: HostRuntime) {
+    assert!(rt; relayed(&GAC, 64) == Some((Ok(62), gac_on_its_way())));
+    assert!(rt; relayed(&GAC, 61) == Some((Err(NoRoom), [7; 80])));
 }
