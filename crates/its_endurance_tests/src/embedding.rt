@@ -5,9 +5,10 @@ mod known;
 mod mobile;
 
 use crate::vectors::{GEOBROADCAST, beacon_of};
+use its_faults::{Fault, FaultKind, FrameFault};
 use its_gnvalue::{GnAddress, Place};
 use its_loctable::SortedTable;
-use its_station::{Outcome, RefusedCode, Station};
+use its_station::{Outcome, Refused, RefusedCode, Station};
 use std::alloc::{AllocError, Global};
 use std::test::Fail;
 
@@ -96,11 +97,8 @@ fn lengths_of(frames: &[Vec<u8>]) -> Option<(usize, usize, usize)> {
 fn the_example_runs(rt: HostRuntime) -> Result<(), Fail> {
     let kept = kept_of_link(rt.alloc()).ok_or("no station, or out of memory")?;
     assert!(rt; kept.inbox.as_slice() == b"hi".as_slice());
-    assert_eq!(rt; lengths_of(&kept.outbox), Some((50, 76, 2)));
-    assert_eq!(rt;
-        lines_of(rt.alloc(), &kept.log)?.as_str(),
-        "S3 L1\nS1\nS1\nS4\n"
-    );
+    assert!(rt; lengths_of(&kept.outbox) == Some((50, 76, 2)));
+    assert!(rt; lines_of(rt.alloc(), &kept.log)?.as_str() == "S3 L1\nS1\nS1\nS4\n");
     Ok(())
 }
 
@@ -120,5 +118,28 @@ fn a_station_prints_but_for_its_table(rt: HostRuntime) -> Result<(), Fail> {
     assert!(rt; text.as_str().starts_with("Station { vector: LongPv { "));
     let end = " }, clock: 1000, next_number: 0, beacon_from: 4000, .. }";
     assert!(rt; text.as_str().ends_with(end));
+    Ok(())
+}
+
+/// Whether a refusal prints so, behind its code.
+fn prints(alloc: Global, refused: Refused, want: &str) -> bool {
+    match format!(in alloc; "{}: {refused}", refused.code()) {
+        Ok(told) => told.as_str() == want,
+        Err(_) => false,
+    }
+}
+
+/// Of all refusals the lines of the program tell these two otherwise, or not at all.
+#[test]
+fn refusals_have_codes_and_sentences(rt: HostRuntime) -> Result<(), Fail> {
+    let hops = Fault {
+        at: 10,
+        kind: FaultKind::HopAboveMax,
+    };
+    let packet = Refused::Frame(FrameFault::Packet(hops));
+    let want = "S3 L5 G9 at 10: no packet in the frame: \
+        more hops left than the maximum, at octet 10";
+    assert!(rt; prints(rt.alloc(), packet, want));
+    assert!(rt; prints(rt.alloc(), Refused::NoMemory, "S5: out of memory"));
     Ok(())
 }

@@ -1,5 +1,6 @@
-//! Floods, other sources, the longest payloads and want of memory, over both tables.
+//! Each call, floods, other sources, the longest payloads and want of memory, over both tables.
 
+mod calls;
 mod flood;
 mod isolation;
 mod largest;

@@ -7,4 +7,8 @@ mod embedding;
 #[cfg(test)]
 mod endurance;
 #[cfg(test)]
+mod fates;
+#[cfg(test)]
+mod stations;
+#[cfg(test)]
 mod vectors;

@@ -1,6 +1,6 @@
-//! Frames of the first station.
+//! Frames of the first station and of others.
 
-use its_test_support::put;
+use its_test_support::{LINK, put};
 
 /// A beacon.
 static BEACON: [u8; 50] = [
@@ -16,10 +16,29 @@ pub(crate) static GEOBROADCAST: [u8; 76] = [
     0x69,
 ];
 
+/// The geobroadcast with this sequence number.
+pub(crate) fn geobroadcast_of(number: u8) -> [u8; 76] {
+    let mut octets = GEOBROADCAST;
+    octets[LINK + 13] = number;
+    octets
+}
+
 /// The beacon of a station whose address ends in this number.
 pub(crate) fn beacon_of(number: u8) -> [u8; 50] {
     let mut octets = BEACON;
     put(&mut octets, 11, &[number]);
     put(&mut octets, 33, &[number]);
+    octets
+}
+
+/// The beacon of a station 50 m east of the origin, whose link address is `0210` and this number.
+pub(crate) fn beacon_of_many(number: u16) -> [u8; 50] {
+    let end = number.to_be_bytes();
+    let mut octets = BEACON;
+    put(&mut octets, 7, &[0x10]);
+    put(&mut octets, 10, &end);
+    put(&mut octets, 29, &[0x10]);
+    put(&mut octets, 32, &end);
+    put(&mut octets, 44, &[1, 0xc1]);
     octets
 }

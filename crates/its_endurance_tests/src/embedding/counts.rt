@@ -2,12 +2,12 @@
 
 ghost use Rattle.its_station.specs.Runs.{IsInRange};
 
+use crate::stations::{circle, receiver, request};
 use crate::vectors::{GEOBROADCAST, beacon_of};
 use its_gnvalue::NoMemory;
 use its_headers::Kind;
 use its_loctable::SortedTable;
 use its_station::{Call, Counts, GbcRequest, IgnoredCounts, RefusedCounts, SentCounts, Station};
-use its_test_stations::{circle, receiver, request};
 use its_test_support::PORT;
 use std::test::Fail;
 
@@ -117,7 +117,7 @@ static OF_FRAMES: Counts = Counts {
 
 #[test]
 fn what_becomes_of_frames_is_counted(rt: HostRuntime) -> Result<(), Fail> {
-    let counts = counts_of_frames(&mut receiver(rt.alloc(), 449)?);
+    let counts = counts_of_frames(&mut receiver(rt.alloc())?);
     assert_eq!(rt; counts, OF_FRAMES);
     Ok(())
 }
@@ -157,8 +157,8 @@ static OF_CALLS: Counts = Counts {
 
 #[test]
 fn what_came_of_calls_is_counted(rt: HostRuntime) -> Result<(), Fail> {
-    let request = request(circle()?, b"hi");
-    let counts = counts_of_calls(&mut receiver(rt.alloc(), 449)?, &request);
+    let request = request(circle().ok_or("no circle")?, b"hi");
+    let counts = counts_of_calls(&mut receiver(rt.alloc())?, &request);
     assert_eq!(rt; counts, OF_CALLS);
     Ok(())
 }
@@ -195,7 +195,7 @@ static OF_REPLIES: Counts = Counts {
 #[test]
 fn replies_are_counted_as_what_they_tell(rt: HostRuntime) -> Result<(), Fail> {
     let octets = Vec::from_slice(rt.alloc(), &GEOBROADCAST)?;
-    let mut station = receiver(rt.alloc(), 449)?;
+    let mut station = receiver(rt.alloc())?;
     let counts = counts_of_replies(&mut station, octets, Vec::new(rt.alloc()));
     assert_eq!(rt; counts, OF_REPLIES);
     Ok(())

@@ -1,11 +1,12 @@
 //! What an embedding program reads of a station and of a world.
 
+use crate::fates::{Fate, fate_of};
+use crate::stations::{circle, receiver, request};
 use crate::vectors::{GEOBROADCAST, beacon_of};
 use its_gnvalue::{GnAddress, Place};
 use its_linkframe::{FrameView, read_frame};
 use its_loctable::{LocationStore, OrderedTable, SortedTable};
 use its_station::{GbcRequest, Outcome, Station};
-use its_test_stations::{Fate, circle, fate_of, receiver, request};
 use its_test_support::{FIRST, PORT, SECOND};
 use std::alloc::Global;
 use std::test::Fail;
@@ -31,7 +32,7 @@ fn is_refused(station: &mut Station<SortedTable>, now: u64, frame: &FrameView<'_
 #[test]
 fn a_frame_is_read_once(rt: HostRuntime) -> Result<(), Fail> {
     let frame = read_frame(&GEOBROADCAST)?;
-    let mut station = receiver(rt.alloc(), 449)?;
+    let mut station = receiver(rt.alloc())?;
     assert!(rt; frame.packet.vector().address().as_u64() == FIRST);
     assert!(rt; is_delivered(&mut station, 1000, &frame));
     assert!(rt; is_refused(&mut station, 999, &frame) && station.clock() == 1000);
@@ -76,8 +77,11 @@ fn is_told(station: &Station<OrderedTable>, place: Place) -> bool {
 /// What a station that moved tells of itself, before and after it sends.
 #[test]
 fn a_station_tells_what_it_knows_of_itself(rt: HostRuntime) -> Result<(), Fail> {
-    let (place, request) = (Place::new(7, -7)?, request(circle()?, b"hi"));
-    let mut station = receiver(rt.alloc(), 449)?;
+    let (place, request) = (
+        Place::new(7, -7)?,
+        request(circle().ok_or("no circle")?, b"hi"),
+    );
+    let mut station = receiver(rt.alloc())?;
     assert!(rt; moves(&mut station, 5, place, -3, 900));
     assert!(rt; is_told(&station, place) && station.next_number() == 0);
     assert!(rt; sends(&mut station, 6, &request) && station.next_number() == 1);
@@ -92,7 +96,7 @@ fn beacons_of(station: &Station<SortedTable>) -> (u64, u64) {
 #[test]
 fn a_beacon_comes_at_its_moment(rt: HostRuntime) -> Result<(), Fail> {
     let place = Place::new(449, 0)?;
-    let mut station = receiver(rt.alloc(), 449)?;
+    let mut station = receiver(rt.alloc())?;
     assert!(rt; moves(&mut station, 40, place, 0, 0));
     assert_eq!(rt; beacons_of(&station), (0, 40));
     assert!(rt; beacon_comes(&mut station, 40) == Some(true));
@@ -138,7 +142,7 @@ fn knows<S: LocationStore>(station: &Station<S>, now: u32, address: u64) -> bool
 
 /// The first beacon came at 1000, so at 21000 its entry has expired.
 fn has_neighbours<S: LocationStore>(alloc: Global) -> Result<bool, &'static str> {
-    let mut station = receiver::<S>(alloc, 449)?;
+    let mut station = receiver::<S>(alloc)?;
     let heard = hears(&mut station);
     Ok(heard && knows(&station, 1010, FIRST) && are_neighbours(&station, [5, 9]))
 }

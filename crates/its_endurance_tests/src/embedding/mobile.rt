@@ -1,10 +1,10 @@
 //! The flag by which a station's packets say that it is mobile (EN 302 636-4-1, Common Header).
 
+use crate::stations::{circle, receiver, request};
 use crate::vectors::GEOBROADCAST;
 use its_gnvalue::TrafficClass;
 use its_loctable::{LocationStore, OrderedTable, SortedTable};
-use its_station::{GbcRequest, ShbRequest, Station};
-use its_test_stations::{circle, deliver, receiver, request};
+use its_station::{GbcRequest, Outcome, ShbRequest, Station};
 use its_test_support::{LINK, PORT};
 use std::alloc::Global;
 use std::test::Fail;
@@ -55,12 +55,15 @@ fn of_beacon<S: LocationStore>(station: &mut Station<S>, now: u64) -> Option<u8>
 
 /// The flags of the relay of what a mobile source sent.
 fn of_relay<S: LocationStore>(station: &mut Station<S>, now: u64) -> Option<u8> {
-    flags_of(deliver(station, now, &GEOBROADCAST).1)
+    match station.receive(now, &GEOBROADCAST) {
+        Ok(Outcome::Accepted { sent, .. }) => flags_of(sent),
+        Ok(Outcome::Ignored(_)) | Err(_) => None,
+    }
 }
 
 /// Whether a packet of each kind that the station originates at a moment has these flags.
 fn are_flags<S: LocationStore>(station: &mut Station<S>, now: u64, flags: Option<u8>) -> bool {
-    let Ok(area) = circle() else {
+    let Some(area) = circle() else {
         return false;
     };
     let request = request(area, b"hi");
@@ -82,7 +85,7 @@ fn told<S: LocationStore>(station: &Station<S>) -> (bool, u64, u64) {
 /// What is set is kept through a restart. What a mobile source sent goes on as it came, also from a
 /// stationary station.
 fn is_as_set<S: LocationStore>(alloc: Global) -> Result<bool, &'static str> {
-    let mut station = receiver::<S>(alloc, 449)?;
+    let mut station = receiver::<S>(alloc)?;
     let is_mobile = station.is_mobile() && are_flags(&mut station, 1000, MOBILE);
     station.set_mobile(false);
     let is_set = told(&station) == (false, 1000, 4000);

@@ -1,26 +1,13 @@
 //! The longest payload: sent, delivered and passed on.
 
+use crate::stations::{circle, receiver, request, station_of};
 use its_loctable::{LocationStore, OrderedTable, SortedTable};
 use its_station::{Outcome, Station};
-use its_test_stations::Fate::Sent;
-use its_test_stations::Row::Call;
-use its_test_stations::Step::{SendGeoanycast, SendGeobroadcast};
-use its_test_stations::{Cast, HI, Row, SENDER, frames_of, receiver};
+use its_test_support::FIRST;
 use std::alloc::Global;
 use std::test::Fail;
 
 const LONGEST: [u8; 1394] = [0x5a; 1394];
-
-const LONG: Cast = Cast {
-    payload: &LONGEST,
-    ..HI
-};
-
-/// A geobroadcast and a geoanycast.
-static SENDS: [Row; 2] = [
-    Call(0, 1000, SendGeobroadcast(LONG), Sent),
-    Call(0, 1000, SendGeoanycast(LONG), Sent),
-];
 
 /// Whether the frame is of 1468 octets, and ends with port 2002, info 0 and the payload.
 fn is_longest(frame: &[u8]) -> bool {
@@ -44,29 +31,36 @@ fn delivers<S: LocationStore>(near: &mut Station<S>, frame: &[u8]) -> (bool, Opt
 /// Whether a geobroadcast is delivered, and goes on.
 fn is_passed_on<S: LocationStore>(near: &mut Station<S>, frame: &[u8]) -> bool {
     match delivers(near, frame) {
-        (true, Some(relay)) => is_longest(&relay),
+        (true, Some(relay)) => is_longest(frame) && is_longest(&relay),
         _ => false,
     }
 }
 
 /// Whether a geoanycast is delivered, and doesn't go on.
 fn is_kept<S: LocationStore>(near: &mut Station<S>, frame: &[u8]) -> bool {
-    matches!(delivers(near, frame), (true, None))
+    is_longest(frame) && matches!(delivers(near, frame), (true, None))
 }
 
-fn longest<S: LocationStore>(alloc: Global) -> Result<bool, &'static str> {
-    let frames = frames_of::<S>(alloc, &[SENDER], &SENDS)?;
-    let [broadcast, anycast] = frames.as_slice() else {
-        return Err("not two frames");
-    };
-    let mut near = receiver::<S>(alloc, 449)?;
-    let are_sent = is_longest(broadcast) && is_longest(anycast);
-    Ok(are_sent && is_passed_on(&mut near, broadcast) && is_kept(&mut near, anycast))
+fn broadcast_of<S: LocationStore>(station: &mut Station<S>) -> Option<Vec<u8>> {
+    let request = request(circle()?, &LONGEST);
+    station.send_geobroadcast(1000, &request).ok()
+}
+
+fn anycast_of<S: LocationStore>(station: &mut Station<S>) -> Option<Vec<u8>> {
+    let request = request(circle()?, &LONGEST);
+    station.send_geoanycast(1000, &request).ok()
+}
+
+fn longest<S: LocationStore>(alloc: Global) -> Option<bool> {
+    let mut sender = station_of::<S>(alloc, FIRST)?;
+    let (broadcast, anycast) = (broadcast_of(&mut sender)?, anycast_of(&mut sender)?);
+    let mut near = receiver::<S>(alloc).ok()?;
+    Some(is_passed_on(&mut near, &broadcast) && is_kept(&mut near, &anycast))
 }
 
 #[test]
 fn the_longest_payload_over_both_tables(rt: HostRuntime) -> Result<(), Fail> {
-    assert!(rt; longest::<OrderedTable>(rt.alloc())?);
-    assert!(rt; longest::<SortedTable>(rt.alloc())?);
+    assert!(rt; longest::<OrderedTable>(rt.alloc()) == Some(true));
+    assert!(rt; longest::<SortedTable>(rt.alloc()) == Some(true));
     Ok(())
 }
