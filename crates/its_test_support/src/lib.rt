@@ -6,4 +6,4 @@ mod shortage;
 mod vectors;
 
 pub use shortage::{MOST, STEP, Shortage};
-pub use vectors::{FIRST, GEOBROADCAST, LINK, PORT, RELAYED, SECOND, THIRD, WORKED, put};
+pub use vectors::{FIRST, GEOBROADCAST, LINK, PORT, RELAYED, SECOND, THIRD, put};

@@ -25,45 +25,6 @@ pub static RELAYED: &str =
     "ffffffffffff020000000002894711001a092040008000060a000000000014000200000000010000000000\
     00000000000000000000000000000000000000006400000000000007d200006869";
 
-/// A scenario: station 1 opens a port, station 0 sends a geobroadcast, whose frame is delivered to
-/// 1.
-pub static WORKED: &str = "\
-[[station]]
-address = \"1400020000000001\"
-lat = 0
-lon = 0
-[[station]]
-address = \"1400020000000002\"
-lat = 449
-lon = 0
-[[event]]
-station = 1
-at = 0
-do = \"open\"
-port = 2002
-[[event]]
-station = 0
-at = 1000
-do = \"gbc\"
-port = 2002
-info = 0
-tc = 0
-lt = 26
-hops = 10
-shape = \"circle\"
-alat = 0
-alon = 0
-a = 100
-b = 0
-angle = 0
-payload = \"6869\"
-[[event]]
-station = 1
-at = 1010
-do = \"deliver\"
-frame = 0
-";
-
 /// Puts octets at a place, where they fit.
 pub fn put(octets: &mut [u8], at: usize, with: &[u8]) {
     if at <= octets.len() && with.len() <= octets.len() - at {

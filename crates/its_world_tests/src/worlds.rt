@@ -1,13 +1,12 @@
-//! Worlds of stations: schedules, refusals, frames that are let go, and memory that runs out.
+//! Worlds of stations: schedules, frames that are let go, memory that runs out, and what they show.
 
 ghost use Rattle.std.specs.Prelude.{◌≤◌, All, IfOk, length};
 ghost use Rattle.its_world.specs.Events.{IsConfig, IsInRange};
 
 mod memory;
-mod numbers;
-mod refusals;
 mod released;
 mod schedules;
+mod shown;
 
 use its_geometry::Area;
 use its_gnvalue::{GnAddress, Lifetime, Place, TrafficClass};

@@ -1,0 +1,29 @@
+//! What a world shows of its stations, and why there is none: codes and sentences.
+
+use super::{config, new_world};
+use its_test_support::{FIRST, SECOND};
+use its_world::WorldFault;
+use std::test::Fail;
+
+#[test]
+fn faults_of_worlds_have_codes_and_sentences(rt: HostRuntime) -> Result<(), Fail> {
+    let shared = WorldFault::SameMid(1, 3);
+    assert_eq!(rt; shared.code(), "M1");
+    assert_eq!(rt; WorldFault::NoMemory.code(), "M2");
+    let said = format!(in rt.alloc(); "{shared}, {}", WorldFault::NoMemory)?;
+    assert_eq!(rt;
+        said.as_str(),
+        "stations 1 and 3 share a MID, out of memory"
+    );
+    Ok(())
+}
+
+/// The station of a number is shown, and none where there is none.
+#[test]
+fn a_world_shows_its_stations(rt: HostRuntime) -> Result<(), Fail> {
+    let world = new_world(rt.alloc(), &[config(FIRST, 0, 0)?, config(SECOND, 449, 0)?])?;
+    let address = world.station(1).map(|station| station.address().as_u64());
+    assert_eq!(rt; address, Some(SECOND));
+    assert!(rt; world.station(2).is_none());
+    Ok(())
+}
