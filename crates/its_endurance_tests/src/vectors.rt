@@ -19,7 +19,7 @@ pub(crate) static GEOBROADCAST: [u8; 76] = [
 /// The geobroadcast with this sequence number.
 pub(crate) fn geobroadcast_of(number: u8) -> [u8; 76] {
     let mut octets = GEOBROADCAST;
-    octets[LINK + 13] = number;
+    put(&mut octets, LINK + 13, &[number]);
     octets
 }
 

@@ -38,12 +38,11 @@ fn run(world: &mut World, events: &[Event]) -> Run
 fn fate_in(world: &mut World, event: Event) -> Option<Fate>
     requires { IsInRange event.what }
 {
-    let ran = run(world, &[event]);
-    ran.log.first().map(|entry| fate_of(entry))
+    fate_at(run(world, &[event]).log.first())
 }
 
 /// What came of an event. A packet counts as delivered where it is "hi" for `PORT`, with info 0.
-#[derive(Clone, Copy, Debug, PartialEq, Eq)]
+#[derive(Clone, Copy, PartialEq, Eq)]
 enum Fate {
     Opened,
     Sent(usize),
@@ -68,6 +67,14 @@ fn fate_of(entry: &Entry) -> Fate {
             && handed.info == 0
             && handed.payload.as_slice() == b"hi".as_slice() => { Fate::Relayed(*frame) }
         _ => Fate::Other,
+    }
+}
+
+/// The same of an entry, where there is one.
+fn fate_at(entry: Option<&Entry>) -> Option<Fate> {
+    match entry {
+        Some(entry) => Some(fate_of(entry)),
+        None => None,
     }
 }
 

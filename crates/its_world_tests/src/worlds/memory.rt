@@ -90,7 +90,7 @@ fn make_and_run_short(
             Ok(Some(PartialRun { world, run }))
         }
         Err(fault) => {
-            assert_eq!(rt; fault, WorldFault::NoMemory);
+            assert!(rt; fault == WorldFault::NoMemory);
             Ok(None)
         }
     }
@@ -98,9 +98,9 @@ fn make_and_run_short(
 
 /// The entries are those from this event on.
 fn has_fates(rt: &impl Abort, run: &Run, from: usize) {
-    assert_eq!(rt; run.done, run.log.len());
+    assert!(rt; run.done == run.log.len());
     for (want, entry) in FATES.iter().skip(from).zip(run.log.iter()) {
-        assert_eq!(rt; fate_of(entry), *want);
+        assert!(rt; fate_of(entry) == *want);
     }
 }
 
@@ -115,8 +115,8 @@ fn does_the_rest(rt: &impl Abort, world: &mut World, rest: &[Event], done: usize
 
 fn has_frames(rt: &impl Abort, world: &World, frames: &Frames) {
     assert!(rt; world.released() == 0 && world.frames() == 2);
-    assert_eq!(rt; world.frame(0), frames.sent.as_slice());
-    assert_eq!(rt; world.frame(1), frames.relayed.as_slice());
+    assert!(rt; world.frame(0) == frames.sent.as_slice());
+    assert!(rt; world.frame(1) == frames.relayed.as_slice());
 }
 
 /// With ample memory a world goes on where it stopped, and its log and frames are the whole ones.
@@ -129,7 +129,7 @@ fn goes_on(
     requires { All (λ event. IsInRange event.what) events.now }
 {
     let done = partial.run.done;
-    assert_eq!(rt; partial.run.out_of_memory, done < FATES.len());
+    assert!(rt; partial.run.out_of_memory == (done < FATES.len()));
     has_fates(rt, &partial.run, 0);
     let rest = events.get(done..).ok_or("too many are done")?;
     does_the_rest(rt, &mut partial.world, rest, done);
@@ -171,24 +171,6 @@ fn made_and_done_with(
     let done = partial.run.done;
     goes_on(rt, &mut partial, events, frames)?;
     Ok(Some(done))
-}
-
-#[test]
-fn a_world_is_made_short_of_memory(rt: HostRuntime) -> Result<(), Fail> {
-    let alloc = rt.alloc();
-    let configs = [small(FIRST, 0)?, small(SECOND, 449)?];
-    let mut shortage = Shortage::new(alloc)?;
-    let mut refused = 0;
-    for step in 0..BUDGETS {
-        assert!(rt; shortage.leave(step * APART), "at step {step}");
-        let Err(fault) = new_world(alloc, &configs) else {
-            break;
-        };
-        assert_eq!(rt; fault, WorldFault::NoMemory);
-        refused = step + 1;
-    }
-    assert!(rt; 0 < refused && refused < BUDGETS, "{refused}");
-    Ok(())
 }
 
 /// Some budgets end the run before each of the events, and the last one has room for all.

@@ -1,6 +1,6 @@
 //! One geobroadcast among three stations, under every schedule of five deliveries.
 
-use super::{Fate, config, deliver, fate_of, new_world, open, run, send};
+use super::{Fate, config, deliver, fate_at, new_world, open, run, send};
 use its_station::Why;
 use its_test_support::{FIRST, GEOBROADCAST, LINK, SECOND, THIRD, put};
 use its_world::{EntryFault, Run, World};
@@ -76,9 +76,7 @@ fn begun(rt: &impl Abort, alloc: Global) -> Result<World, Fail> {
 }
 
 fn has_sent(rt: &impl Abort, ran: &Run) {
-    assert!(rt; !ran.out_of_memory);
-    let last = ran.log.last().map(|entry| fate_of(entry));
-    assert_eq!(rt; last, Some(Fate::Sent(0)));
+    assert!(rt; !ran.out_of_memory && fate_at(ran.log.last()) == Some(Fate::Sent(0)));
 }
 
 /// The first frame, as this station gives it with so many hops left.
@@ -98,12 +96,12 @@ fn has_frames(
     flood: &Flood,
     first: &[u8],
 ) -> Result<(), Fail> {
-    assert_eq!(rt; first.len(), 76);
-    assert!(rt; world.released() == 0 && world.frames() == flood.frames.len());
+    assert!(rt; first.len() == 76 && world.released() == 0);
+    assert!(rt; world.frames() == flood.frames.len());
     for number in 0..world.frames() {
         let copied = *flood.frames.get(number).ok_or("no such frame")?;
         let want = given(alloc, first, copied)?;
-        assert_eq!(rt; world.frame(number), want.as_slice());
+        assert!(rt; world.frame(number) == want.as_slice(), "frame {number}");
     }
     Ok(())
 }
@@ -119,8 +117,10 @@ fn one_delivery(
     let want = flood.deliver(station, frame)?;
     let ran = run(world, &[deliver(station, frame)]);
     assert!(rt; !ran.out_of_memory && ran.done == 1);
-    let fate = ran.log.first().map(|entry| fate_of(entry));
-    assert_eq!(rt; fate, Some(want), "{frame} to {station}");
+    assert!(rt;
+        fate_at(ran.log.first()) == Some(want),
+        "{frame} to {station}"
+    );
     Ok(matches!(&want, Fate::Relayed(_)))
 }
 

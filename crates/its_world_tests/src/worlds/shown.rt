@@ -2,28 +2,27 @@
 
 use super::{config, new_world};
 use its_test_support::{FIRST, SECOND};
-use its_world::WorldFault;
+use its_world::{World, WorldFault};
 use std::test::Fail;
 
 #[test]
 fn faults_of_worlds_have_codes_and_sentences(rt: HostRuntime) -> Result<(), Fail> {
     let shared = WorldFault::SameMid(1, 3);
-    assert_eq!(rt; shared.code(), "M1");
-    assert_eq!(rt; WorldFault::NoMemory.code(), "M2");
+    assert!(rt; shared.code() == "M1" && WorldFault::NoMemory.code() == "M2");
     let said = format!(in rt.alloc(); "{shared}, {}", WorldFault::NoMemory)?;
-    assert_eq!(rt;
-        said.as_str(),
-        "stations 1 and 3 share a MID, out of memory"
-    );
+    assert!(rt; said.as_str() == "stations 1 and 3 share a MID, out of memory");
     Ok(())
+}
+
+/// The address of the station of a number.
+fn address_of(world: &World, station: usize) -> Option<u64> {
+    Some(world.station(station)?.address().as_u64())
 }
 
 /// The station of a number is shown, and none where there is none.
 #[test]
 fn a_world_shows_its_stations(rt: HostRuntime) -> Result<(), Fail> {
     let world = new_world(rt.alloc(), &[config(FIRST, 0, 0)?, config(SECOND, 449, 0)?])?;
-    let address = world.station(1).map(|station| station.address().as_u64());
-    assert_eq!(rt; address, Some(SECOND));
-    assert!(rt; world.station(2).is_none());
+    assert!(rt; address_of(&world, 1) == Some(SECOND) && address_of(&world, 2) == None);
     Ok(())
 }
