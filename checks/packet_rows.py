@@ -1,4 +1,5 @@
-"""Packets of each kind, and what becomes of them where a field is another one, for checks/packets.
+"""Packets of each kind, for checks/packets and checks/calls, and what becomes of them where a field
+is another one.
 
 Places are those of octets of a packet, from its first; a fault is told as `G9 at 10` with the
 octet at which its field begins. The values are those of EN 302 636-4-1 clause 9.
