@@ -13,10 +13,9 @@ from concurrent.futures import ThreadPoolExecutor
 from dataclasses import dataclass
 from pathlib import Path
 
-TOP = Path(__file__).resolve().parent.parent
+from program import PROGRAM, TOP, is_there
+
 DATA = TOP / "cases/data"
-BUILT = TOP / "crates/geostation/out/geostation"
-PROGRAM = Path(os.environ.get("GEOSTATION") or BUILT).absolute()
 # A run that takes longer than this, in seconds, hangs.
 LONGEST = 120
 NO_MEMORY = b"geostation: out of memory\n"
@@ -141,8 +140,7 @@ def run_check(files, check):
     """Runs a check, and gives the status of its process. The check is called with a bench that has
     these files, and gives what is otherwise than it has to be, how much it tried, and what it saw
     where nothing is."""
-    if not os.access(PROGRAM, os.X_OK):
-        print("the program isn't built: './geostation --build' or 'rt ci' builds it")
+    if not is_there():
         return 77
     compiler = shutil.which(os.environ.get("CC") or "gcc") or shutil.which("clang")
     if compiler is None:
