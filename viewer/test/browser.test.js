@@ -785,6 +785,19 @@ test('a dropped file opens', async () => {
   noFault();
 });
 
+test('a run and its street net are dropped together, in any order', async () => {
+  await page.value(`(() => {
+    const data = new DataTransfer();
+    data.items.add(new File(['{"type":"LineString","coordinates":[[0,0],[0,0.001]]}'], 'a.geojson'));
+    data.items.add(new File([geostation.sample], 'dropped.jsonl'));
+    document.dispatchEvent(new DragEvent('drop', {dataTransfer: data, cancelable: true}));
+  })()`);
+  await page.until('geostation.app.map.ground.streets.length === 1');
+  assert.equal(await text('#name'), 'dropped.jsonl');
+  assert.equal(await page.value('document.getElementById("fault").hidden'), true);
+  noFault();
+});
+
 /** Serves the page and the samples. */
 function serve() {
   const server = http.createServer((request, answer) => {
