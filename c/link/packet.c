@@ -13,7 +13,7 @@
 #include <sys/ioctl.h>
 #include <unistd.h>
 
-enum { ETHERTYPE = 0x8947, LOOK_EACH = 1000 /* ms */ };
+enum { ETHERTYPE = 0x8947, LOOK_EACH = 250 /* ms */ };
 
 /* False if the interface went meanwhile. */
 static bool ask(const struct link *l, unsigned long what, struct ifreq *about) {

@@ -243,7 +243,7 @@ def write_track(path):
             la = f"{int(lat):02d}{lat % 1 * 60:08.5f},N"
             lo = f"{int(lon):03d}{lon % 1 * 60:08.5f},E"
             now = datetime.now(timezone.utc) + timedelta(seconds=k / 5)
-            t = now.strftime("%H%M%S.00")
+            t = now.strftime("%H%M%S.") + f"{now.microsecond // 10000:02d}"
             day = now.strftime("%d%m%y")
             f.write(sentence(f"GPRMC,{t},A,{la},{lo},27.21,049.3,{day},,,A"))
             f.write(sentence(f"GPGGA,{t},{la},{lo},1,08,0.9,10.0,M,47.0,M,,"))
