@@ -9,6 +9,17 @@
 #include <time.h>
 #include <unistd.h>
 
+enum { BATCH = 16 }; /* frames that one call of the system takes */
+
+static struct {
+    size_t count, next; /* frames that were taken; which of them comes next */
+    struct received frames[BATCH];
+    struct sockaddr_ll from[BATCH];
+    char control[BATCH][CMSG_SPACE(sizeof(struct timespec))];
+    struct iovec to[BATCH];
+    struct mmsghdr about[BATCH];
+} batch;
+
 /* Space for bursts; with CAP_NET_ADMIN it may be over net.core.rmem_max. The kernel counts its own
  * overhead too, so that it doubles what is asked for. */
 void link_enlarge_buffer(int fd) {
@@ -111,30 +122,54 @@ static uint64_t time_of(struct msghdr *about, const struct link *l, const struct
     return now->moment - waited;
 }
 
+/* Takes as many frames as wait, up to a batch. */
+static void fill(const struct link *l) {
+    for (size_t k = 0; k < BATCH; k++) {
+        batch.to[k] = (struct iovec){ batch.frames[k].octets, FRAME_ROOM };
+        batch.about[k].msg_hdr = (struct msghdr){
+            .msg_name = &batch.from[k], .msg_namelen = sizeof batch.from[k],
+            .msg_iov = &batch.to[k], .msg_iovlen = 1,
+            .msg_control = batch.control[k], .msg_controllen = sizeof batch.control[k],
+        };
+    }
+    int n = l->fd >= 0 ? recvmmsg(l->fd, batch.about, BATCH, MSG_DONTWAIT, NULL) : -1;
+    batch.count = n > 0 ? (size_t)n : 0;
+    batch.next = 0;
+}
+
+/* Is there a frame in the batch? After one that wasn't full no frame waits. */
+static bool has_frame(const struct link *l) {
+    if (batch.next == batch.count) {
+        bool was_full = batch.count == BATCH || batch.count == 0;
+        batch.count = batch.next = 0;
+        if (was_full) {
+            fill(l);
+        }
+    }
+    return batch.next < batch.count;
+}
+
 /* The next frame. Frames that the host sent itself are skipped and not counted; those with a VLAN
  * tag are skipped and counted. */
-enum waiting link_receive(struct link *l, const struct instant *now, struct received *r) {
-    struct sockaddr_ll from = { .sll_family = 0 };
-    char control[CMSG_SPACE(sizeof(struct timespec))];
-    struct iovec to = { r->octets, sizeof r->octets };
-    struct msghdr about = { .msg_name = &from, .msg_namelen = sizeof from, .msg_iov = &to,
-                            .msg_iovlen = 1, .msg_control = control,
-                            .msg_controllen = sizeof control };
-    ssize_t n = l->fd >= 0 ? recvmsg(l->fd, &about, MSG_DONTWAIT) : -1;
-    if (n < 0) {
+enum waiting link_receive(struct link *l, const struct instant *now, struct received **r) {
+    if (!has_frame(l)) {
         l->empty_at = now->moment;
         return NONE_WAITS;
     }
-    if (l->wanted != NULL && from.sll_pkttype == PACKET_OUTGOING) {
+    size_t k = batch.next++;
+    const struct sockaddr_ll *from = &batch.from[k];
+    struct received *got = &batch.frames[k];
+    got->length = batch.about[k].msg_len;
+    if (l->wanted != NULL && from->sll_pkttype == PACKET_OUTGOING) {
         return SKIPPED;
     }
     l->frames++;
-    if (l->wanted != NULL && packet_is_foreign(l, r->octets, (size_t)n, &from)) {
+    if (l->wanted != NULL && packet_is_foreign(l, got->octets, got->length, from)) {
         l->tagged++;
         return SKIPPED;
     }
-    r->length = (size_t)n;
-    r->at = time_of(&about, l, now);
+    got->at = time_of(&batch.about[k].msg_hdr, l, now);
+    *r = got;
     return RECEIVED;
 }
 

@@ -9,6 +9,7 @@
 #include <unistd.h>
 
 enum { SIGNALS, LINK, WATCH, GPS, METRICS, FIRST_CLIENT, ALL = FIRST_CLIENT + 1 + 2 * CLIENTS };
+/* All frames of a turn are those of whole batches (link.c). */
 enum { FRAMES_A_TURN = 64, LONGEST_WAIT = 60000 /* ms */ };
 
 static int open_signals(void) {
@@ -41,7 +42,7 @@ static bool read_signal(int signals, struct program *p) {
 }
 
 static void read_frames(struct station *s) {
-    static struct received r;
+    struct received *r;
     struct instant now = clock_instant();
     for (int k = 0; k < FRAMES_A_TURN; k++) {
         enum waiting found = link_receive(s->link, &now, &r);
@@ -49,7 +50,7 @@ static void read_frames(struct station *s) {
             return;
         }
         if (found == RECEIVED) {
-            station_hear(s, &r);
+            station_hear(s, r);
         }
     }
 }

@@ -108,7 +108,7 @@ enum news { NO_NEWS = 0, NEWS_UP = 1, NEWS_MAC = 2 };
 void link_open(struct link *l, struct options *o);
 enum sending link_send(struct link *l, const uint8_t *frame, size_t length);
 enum waiting { NONE_WAITS, SKIPPED, RECEIVED };
-enum waiting link_receive(struct link *l, const struct instant *now, struct received *r);
+enum waiting link_receive(struct link *l, const struct instant *now, struct received **r);
 unsigned link_look(struct link *l); /* looks at the interface: which news are there? */
 uint64_t link_kernel_dropped(struct link *l);
 void link_enlarge_buffer(int fd);
