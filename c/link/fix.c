@@ -123,15 +123,31 @@ static bool is_credible(const struct fix *f, const struct place *p, uint64_t now
         || (f->moment <= now + AHEAD_AT_MOST && now < f->moment + p->fix_timeout);
 }
 
+/* Once, until a report is credible again. */
+static void report_time(const struct fix *f, struct place *p, uint64_t now) {
+    bool ahead = f->moment > now;
+    uint64_t off = ahead ? f->moment - now : now - f->moment;
+    if (!p->time_reported) {
+        note("gpsd: the time of a report is %llu s %s the clock: it is ignored",
+             (unsigned long long)(off / 1000), ahead ? "ahead of" : "behind");
+    }
+    p->time_reported = true;
+}
+
 /* A report without a position, or of another time, only says that the old position isn't accurate
  * any more. */
 bool fix_take(const struct fix *f, struct place *p, uint64_t now) {
-    if (!is_position(f) || !is_credible(f, p, now)) {
+    bool credible = is_credible(f, p, now);
+    if (!credible) {
+        report_time(f, p, now);
+    }
+    if (!is_position(f) || !credible) {
         bool changed = p->known && p->accurate;
         p->accurate = 0;
         return changed;
     }
     uint64_t moment = f->timed ? f->moment : now;
+    p->time_reported = false;
     p->known = true;
     p->fix_at = moment < now ? moment : now;
     p->fix = now - p->fix_at < OLD_AFTER ? FIX_CURRENT : FIX_OLD;

@@ -142,6 +142,7 @@ struct place {
     enum fix_state fix;
     uint64_t fix_at;     /* the time of the last fix, or of the start */
     uint32_t fix_timeout;
+    bool time_reported; /* that the time of fixes is not credible */
     uint64_t told_at;
     uint32_t timestamp;
     int32_t latitude, longitude;

@@ -5,6 +5,7 @@ import os
 import resource
 import shutil
 import signal
+import socket
 import subprocess
 import tempfile
 import time
@@ -12,7 +13,8 @@ from contextlib import ExitStack
 from pathlib import Path
 
 import frames
-from common import (OTHER, PLACE, PROGRAM, connect, gbc, has, notes, now_ms, run, stamp, until)
+from common import (OTHER, PLACE, PROGRAM, connect, gbc, has, notes, now_ms, run, stamp, udp,
+                    until)
 from frames import GBC
 from net import PATIENCE, Daemon, Net, ip, wait_for_link
 
@@ -184,6 +186,20 @@ def test_kernel_drops():
         assert counts["link"]["kernel_dropped"] > 0, counts
         has({"link": counts["link"]}, d.ask(do="counts"))
         notes.append(f"{counts['link']['kernel_dropped']} of 30,000 frames counted as dropped")
+
+
+def test_kernel_drops_of_udp():
+    """The same on UDP."""
+    d = udp(1, 47901, "127.0.0.1:47902")
+    frame = frames.beacon(OTHER, stamp())
+    d.process.send_signal(signal.SIGSTOP)
+    with socket.socket(socket.AF_INET, socket.SOCK_DGRAM) as s:
+        for _ in range(30000):
+            s.sendto(frame, ("127.0.0.1", 47901))
+    d.process.send_signal(signal.SIGCONT)
+    counts = d.until(lambda n: n["link"]["frames"] + n["link"]["kernel_dropped"] == 30000)
+    assert counts["link"]["kernel_dropped"] > 0, counts
+    assert d.end()[0] == 0
 
 
 def test_mac():

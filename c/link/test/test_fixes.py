@@ -150,7 +150,8 @@ def test_reports_that_are_no_fix():
         has(PLACED, until_sent(d, pai=0))
         gpsd.link.sendall(report())
         until_sent(d, **PLACED, pai=1)
-    assert gpsd.end()[0] == 0
+    status, _, said = gpsd.end()
+    assert status == 0 and b"ahead of the clock" in said and b"behind the clock" in said, said
 
 
 def test_junk():
