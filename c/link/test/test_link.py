@@ -387,18 +387,11 @@ def test_arguments():
         [*to[:2], *address, *place], [*to[2:], "--interface", "lo", *place],
         ["--udp", "127.0.0.1:0", "--to", "127.0.0.1", *place, *address],
         ["--interface", "lo", "--udp", "127.0.0.1:0", *place],
-        ["--interface", "lo", *place, "--station-type", "32"],
-        ["--interface", "lo", *place, "--capacity", "4097"],
-        ["--interface", "lo", *place, "--capacity", "0"],
-        ["--interface", "lo", *place, "--remember", "65"],
-        ["--interface", "lo", *place, "--port", "65536"],
-        ["--interface", "lo", *place, "--forward-spread", "1001"],
-        ["--interface", "lo", *place, "--gps-timeout", "0"],
-        ["--interface", "lo", *place, "--client-timeout", "86401"],
-        ["--interface", "lo", *place, "--config", "/nosuch"],
         ["--interface", "lo", *place, "--port", "1", "--port", "1"],
-        ["--interface", "lo", *place, "--address", "3c00030000000000"],
-        ["--interface", "lo", *place, "--address", "3c0002000000000"],
+        *(["--interface", "lo", *place, *more.split()] for more in (
+            "--station-type 32", "--capacity 4097", "--capacity 0", "--remember 65",
+            "--port 65536", "--forward-spread 1001", "--gps-timeout 0", "--client-timeout 86401",
+            "--config /nosuch", "--address 3c00030000000000", "--address 3c0002000000000")),
         *(["--interface", "lo", "--position", p] for p in
           ("91,0", "x", "1,2x", "1", "0,180.0000001", "1.12345678,0", "1.,0", "+1,0", "-,0")),
     ]
