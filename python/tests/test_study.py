@@ -5,6 +5,7 @@ import contextlib
 import gzip
 import importlib.util
 import io
+import itertools
 import json
 import os
 import random
@@ -117,8 +118,8 @@ class Sweeps(Folder):
         self.assertEqual(len(runs), 8)
         rows = runs.rows()
         points = [(row["loss"], row["range"], row["seed"]) for row in rows]
-        wanted = [(loss, range_, seed) for loss in (20, 0) for range_ in (250, 400) for seed in (1, 2)]
-        self.assertEqual(points, wanted)
+        wanted = itertools.product((20, 0), (250, 400), (1, 2))
+        self.assertEqual(points, list(wanted))
         self.assertEqual([row["reached"] for row in rows], [7, 6, 7, 6, 9, 8, 9, 8])
         self.assertEqual(rows[0]["reach"], 70)
 
@@ -212,6 +213,7 @@ class Sweeps(Folder):
         runs = self.sweep(seeds=3, executor=Broken(1))
         self.assertEqual([run.status for run in runs], [0, None, 0])
         self.assertEqual(runs.record["sweep"]["failed"], 1)
+        self.assertEqual(runs.record["sweep"]["faults"], ["RuntimeError: the worker is gone"])
         self.assertIn("start the sweep again", runs.rows()[1]["message"])
 
     def test_an_input_that_changes_ends_the_sweep(self):
@@ -479,7 +481,8 @@ class Commands(Folder):
         words = ["--set", "loss=0,20", "--seeds", "2", "--out", self.out, "--jobs", "1"]
         status, said, _ = self.call("sweep", self.scenario, *words)
         self.assertEqual(status, 0)
-        self.assertRegex(said, r": 0 runs found, 4 run, 0 failed, in .* s, processors busy ")
+        wanted = ": 4 runs done, 0 kept from before, 0 failed, in .* s, processors busy "
+        self.assertRegex(said, wanted)
         status, table, _ = self.call("table", self.out)
         self.assertEqual((status, table), (0, load(self.out).csv()))
         _, table, _ = self.call("table", self.out, "--metric", "reached", "--by", "loss")
@@ -492,7 +495,7 @@ class Commands(Folder):
         words = ["--set", "loss=0,98", "--out", self.out, "--jobs", "1"]
         status, _, said = self.call("sweep", self.scenario, *words)
         self.assertEqual(status, 1)
-        self.assertIn("1 runs failed; the first, loss=98 seed=1", said)
+        self.assertIn("failed runs: 1; the first, loss=98 seed=1, in ", said)
 
     def test_a_text_of_the_scenario_stays_a_text(self):
         words = ["--set", "event.0.id=7,8", "--out", self.out, "--jobs", "1"]

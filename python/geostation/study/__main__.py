@@ -99,8 +99,8 @@ def _parser() -> argparse.ArgumentParser:
     plot.add_argument("-o", "--output", metavar="FILE", required=True, help=", ".join(_FIGURES))
 
     fcd = commands.add_parser("fcd", help="print traces as CSV that --moves reads")
-    fcd.add_argument("file", metavar="FILE", help="SUMO's FCD as XML, or CSV, or gzip; - is a pipe")
-    fcd.add_argument("--penetration", metavar="P", type=float, help="vehicles with a station, in %%")
+    fcd.add_argument("file", metavar="FILE", help="FCD as XML or CSV, or gzip; - is a pipe")
+    fcd.add_argument("--penetration", metavar="P", type=float, help="vehicles with a station, %%")
     fcd.add_argument("--seed", metavar="N", type=int, default=1, help="which they are [default: 1]")
     fcd.add_argument("--keep", metavar="ID", action="append", help="a vehicle that has one anyhow")
     return parser
@@ -117,7 +117,7 @@ def _add_results(parser: argparse.ArgumentParser) -> None:
     parser.add_argument("folder", metavar="DIR", help="folder of a sweep")
     _add_pairs(parser, "--where", "use these values of a parameter only")
     parser.add_argument(
-        "--level", metavar="P", type=float, default=LEVEL, help=f"of the interval [default: {LEVEL}]"
+        "--level", metavar="P", type=float, default=LEVEL, help=f"interval [default: {LEVEL}]"
     )
 
 
@@ -153,11 +153,13 @@ def _sweep(given: argparse.Namespace) -> int:
         **_parameters(study, given.set),
     )
     about = runs.record["sweep"]
-    busy = f", processors busy {about['busy']:.2f}" if about.get("run") else ""
+    busy = f", processors busy {about['busy']:.2f}" if about["run"] else ""
     print(
-        f"{given.out}: {about['found']} runs found, {about['run']} run, {about['failed']} failed, "
-        f"in {about['seconds']:.1f} s{busy}"
+        f"{given.out}: {about['run']} runs done, {about['found']} kept from before, "
+        f"{about['failed']} failed, in {about['seconds']:.1f} s{busy}"
     )
+    for fault in about["faults"]:
+        print(f"{_NAME}: a worker failed: {fault}", file=sys.stderr)
     return _report_failed(runs, given.part)
 
 
@@ -168,9 +170,10 @@ def _report_failed(runs: Runs, part: Tuple[int, int]) -> int:
         return 0
     first = failed[0]
     values = " ".join(f"{name}={value}" for name, value in first.parameters.items())
+    status = "missing" if first.status is None else f"status {first.status}"
     print(
-        f"{_NAME}: {len(failed)} runs failed; the first, {values} in {first.folder.name}: "
-        f"status {first.status}: {first.message}",
+        f"{_NAME}: failed runs: {len(failed)}; the first, {values}, in {first.folder.name}: "
+        f"{status}: {first.message}",
         file=sys.stderr,
     )
     return 1

@@ -62,7 +62,7 @@ _STYLE: Dict[str, Any] = {
     "svg.hashsalt": "geostation",
     "pdf.fonttype": 42,
 }
-_UNDATED: Dict[str, Dict[str, None]] = {"svg": {"Date": None}, "pdf": {"CreationDate": None}, "ps": {"CreationDate": None}}
+_UNDATED: Dict[str, Dict[str, None]] = {"svg": {"Date": None}, "pdf": {"CreationDate": None}}
 _INCHES = (3.5, 2.5)
 
 
@@ -117,6 +117,7 @@ def _draw_line(axes: Any, rows: List["Row"], over: str, places: Dict[Any, float]
         marker=_MARKS[n % len(_MARKS)],
         linestyle=_DASHES[n % len(_DASHES)],
         capsize=2,
+        capthick=0.8,
         elinewidth=0.8,
         markeredgewidth=0,
     )

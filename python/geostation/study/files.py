@@ -43,7 +43,8 @@ def write(path: Path, parts: Iterable[bytes]) -> None:
 def remove_leftovers(folder: Path) -> None:
     """Removes what processes of this machine that have ended left under temporary names."""
     mark = f"-{socket.gethostname()}-"
-    for path in (*folder.glob(f".*{mark}*"), *folder.glob(f"*/.*{mark}*")):
+    places = (folder, folder / "scenarios", folder / "moves")
+    for path in (path for place in places for path in place.glob(f".*{mark}*")):
         process = path.name.rpartition(mark)[2].partition("-")[0]
         if not process.isdigit() or Path("/proc", process).exists():
             continue

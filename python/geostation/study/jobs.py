@@ -82,13 +82,16 @@ class Job:
 
 @dataclass(frozen=True)
 class Outcome:
-    """How a run ended. `seconds` are the worker's, `cpu` those of the program's processor."""
+    """How a run ended, for the figures of a sweep: what is kept of it is in its folder.
+
+    `status` is the program's, or `None` if a worker could not do the run because of `fault`.
+    `seconds` are the worker's, `cpu` those of the program on its processor.
+    """
 
     status: Optional[int]
-    message: str
-    complete: bool
     seconds: float = 0.0
     cpu: float = 0.0
+    fault: str = ""
 
 
 def read_record(folder: Path) -> Optional[Dict[str, Any]]:
@@ -132,7 +135,7 @@ def _run_in(job: Job, scratch: Path, folder: Path, begun: float) -> Outcome:
     total = _total(scratch / SUMMARY)
     complete = status in (0, 1) and not fault and total is not None
     message = fault or _message(scratch / MESSAGES, status)
-    outcome = Outcome(status, message, complete, time.perf_counter() - begun, cpu)
+    outcome = Outcome(status, time.perf_counter() - begun, cpu)
     record = {
         "parameters": job.parameters,
         "status": status,

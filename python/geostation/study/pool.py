@@ -32,7 +32,8 @@ def _end(*_: Any) -> None:
 def _begin(parent: int) -> None:
     """Lets a worker end with its parent, whatever ends that. Otherwise it would wait forever."""
     signal.signal(signal.SIGTERM, _end)
-    signal.signal(signal.SIGINT, _end)
+    if signal.getsignal(signal.SIGINT) is not signal.SIG_IGN:
+        signal.signal(signal.SIGINT, _end)
     try:
         ctypes.CDLL(None).prctl(_SET_SIGNAL_OF_PARENTS_END, signal.SIGTERM)
     except (OSError, AttributeError):

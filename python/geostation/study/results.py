@@ -12,7 +12,7 @@ from typing import Any, Dict, Iterable, Iterator, List, Mapping, Optional, Seque
 from .errors import StudyError, cannot
 from .jobs import LOAD, SENDS, read_record
 from .parameters import SEED, Point, plain
-from .statistics import LEVEL, RESAMPLES, summarise
+from .statistics import LEVEL, RESAMPLES, mean, summarise
 
 STUDY = "study.json"
 TABLES = {"sends": SENDS, "load": LOAD}
@@ -67,7 +67,7 @@ def _value(text: str) -> Any:
 
 
 def _completed(row: Row) -> Row:
-    """Returns a row of a send with the reach in percent, and nothing in place of pretended zeros."""
+    """Returns a row of a send with the reach in percent, and without zeros that say nothing."""
     if "inside" not in row:
         return row
     if not row.get("delivered"):
@@ -259,7 +259,7 @@ class Runs:
             groups.setdefault(tuple(run.parameters[name] for name in names), []).append(run)
         rows = []
         for key, runs in groups.items():
-            means = [sum(v) / len(v) for run in runs if (v := values.get(id(run)))]
+            means = [mean(v) for run in runs if (v := values.get(id(run)))]
             middle, low, high = summarise(means, level, resamples, seed)
             row: Row = dict(zip(names, key))
             row.update(mean=middle, low=low, high=high, n=len(means))

@@ -10,7 +10,7 @@ import shutil
 import subprocess
 import sys
 import time
-from concurrent.futures import CancelledError, Executor, as_completed
+from concurrent.futures import BrokenExecutor, CancelledError, Executor, as_completed
 from datetime import datetime, timezone
 from pathlib import Path
 from typing import Any, Dict, List, Mapping, Optional, Tuple, Union
@@ -47,12 +47,12 @@ PathLike = Union[str, Path]
 class Program:
     """The program `geostation` that does the runs."""
 
-    def __init__(self, name: Optional[str]):
+    def __init__(self, name: Optional[PathLike]):
         """Finds a program by its path or name, by GEOSTATION_PROGRAM, or as `geostation`.
 
         Raises `StudyError` with status 3 if it can't be run.
         """
-        wanted = name or os.environ.get("GEOSTATION_PROGRAM") or "geostation"
+        wanted = str(name or os.environ.get("GEOSTATION_PROGRAM") or "geostation")
         found = shutil.which(wanted)
         if found is None:
             raise StudyError(
@@ -87,7 +87,7 @@ class Study:
         scenario: PathLike,
         moves: Optional[PathLike] = None,
         *,
-        program: Optional[str] = None,
+        program: Optional[PathLike] = None,
     ):
         """Reads the scenario. Raises `StudyError` with status 3 if a file or the program is
         missing."""
@@ -343,7 +343,10 @@ def _collect(executor: Executor, jobs: List[Job], shown: Progress) -> List[Outco
 
     What a worker could not do at all is an outcome without a status: its run stays missing.
     """
-    futures = [executor.submit(execute, job) for job in jobs]
+    try:
+        futures = [executor.submit(execute, job) for job in jobs]
+    except BrokenExecutor as error:
+        raise StudyError(f"the executor failed: {error}", 3) from None
     outcomes: Dict[int, Outcome] = {}
     places = {id(future): place for place, future in enumerate(futures)}
     try:
@@ -364,7 +367,7 @@ def _outcome(future: Any) -> Outcome:
     except StudyError:
         raise
     except (CancelledError, Exception) as error:
-        return Outcome(None, f"the executor failed: {error}", False)
+        return Outcome(None, fault=f"{type(error).__name__}: {error}")
     return found
 
 
@@ -378,6 +381,7 @@ def _figures(outcomes: List[Outcome], seconds: float, workers: Optional[int]) ->
         "seconds": round(seconds, 3),
         "seconds_of_runs": round(together, 3),
         "cpu": round(sum(outcome.cpu for outcome in outcomes), 3),
+        "faults": sorted({outcome.fault for outcome in outcomes if outcome.fault}),
     }
     if workers is not None and seconds > 0:
         figures["busy"] = round(together / (seconds * workers), 3)
