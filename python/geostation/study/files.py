@@ -40,13 +40,22 @@ def write(path: Path, parts: Iterable[bytes]) -> None:
         raise
 
 
+def _is_running(process: str) -> bool:
+    """Says whether a process of this machine runs. One that nobody waited for does not."""
+    try:
+        state = Path("/proc", process, "stat").read_text().rpartition(")")[2].split()[0]
+    except (OSError, IndexError):
+        return False
+    return state not in ("Z", "X")
+
+
 def remove_leftovers(folder: Path) -> None:
     """Removes what processes of this machine that have ended left under temporary names."""
     mark = f"-{socket.gethostname()}-"
     places = (folder, folder / "scenarios", folder / "moves")
     for path in (path for place in places for path in place.glob(f".*{mark}*")):
         process = path.name.rpartition(mark)[2].partition("-")[0]
-        if not process.isdigit() or Path("/proc", process).exists():
+        if not process.isdigit() or _is_running(process):
             continue
         if path.is_dir():
             shutil.rmtree(path, ignore_errors=True)

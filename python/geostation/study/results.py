@@ -128,7 +128,7 @@ class Runs:
         return iter(self._runs)
 
     def __repr__(self) -> str:
-        return f"<{len(self)} runs in {self.out}, {len(self.failed)} failed>"
+        return f"<{len(self)} runs in {self.out.name}, {len(self.failed)} failed>"
 
     @property
     def failed(self) -> List[Run]:

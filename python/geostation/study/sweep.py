@@ -148,9 +148,9 @@ class _Plan:
         self.points = points(parameters, seeds)
         self._moves: Dict[int, Input] = {}
         self._scenarios: Dict[str, str] = {}
-        self._always = tuple(study.scenario.senders()) if PENETRATION in parameters else ()
         if PENETRATION in parameters and study.moves is None:
             raise StudyError("penetration is a share of the vehicles of moves: there are none")
+        self._always = tuple(study.scenario.senders()) if PENETRATION in parameters else ()
         try:
             out.mkdir(parents=True, exist_ok=True)
         except OSError as error:
@@ -221,15 +221,16 @@ class _Plan:
             command=(program.path, "sim", *words, scenario_name),
             inputs=(Input(program.path, program.sha256), *inputs),
             program=program.record(),
-            air={**self._own_air(), **air},
+            air={**(self._own_air() or {}), **air},
             feed=feed,
         )
 
-    def _own_air(self) -> Dict[str, Any]:
+    def _own_air(self) -> Optional[Dict[str, Any]]:
+        """Returns the keys of `[air]`, or `None` if the scenario can't be read here."""
         try:
             return self.study.scenario.air()
         except StudyError:
-            return {}  # the program says what is wrong
+            return None  # if it is no TOML, the program says so
 
     def _name(self, file: Input) -> str:
         """Returns the name of a file as a run's folder sees it."""
@@ -270,6 +271,7 @@ class _Plan:
             shown.close()
         seconds = time.perf_counter() - begun
         about.update(_figures(outcomes, seconds, workers), ended=_now())
+        remove_leftovers(self.out)
         return Runs(self.out, self._record(about))
 
     def _run_all(
