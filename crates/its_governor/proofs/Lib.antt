@@ -1,0 +1,6 @@
+pub mod Bounds
+pub mod Buckets
+pub mod Receptions
+pub mod Replies
+pub mod SourceBounds
+pub mod Runs
