@@ -513,6 +513,18 @@ class Note(NamedTuple):
     words: str
 
 
+class Hidden(NamedTuple):
+    """What no line has: a frame comes into the hearing of a station, or a row makes a station."""
+
+    moment: int
+    station: int
+    heard: int | None = None
+    made: str | None = None
+
+
+Told = Done | Note | Hidden
+
+
 class World:
     """The stations of a scenario, and all frames that they gave."""
 
@@ -534,7 +546,7 @@ class World:
         self.known: dict[str, int] = {}
         self.last: dict[str, int] = {}
 
-    def run(self) -> Iterator[Done | Note]:
+    def run(self) -> Iterator[Told]:
         """The events of the run, each with its entry, and its notes, done as they are asked for."""
         if self.air is None:
             return (Done(event, self.do(event)) for event in self.events)
@@ -634,7 +646,7 @@ class AirRun:
         due = [(world.last[i] + gone, s) for i, s in world.known.items() if s in world.present]
         return min(due, default=None)
 
-    def run(self) -> Iterator[Done | Note]:
+    def run(self) -> Iterator[Told]:
         self.put_first()
         row = self.world.next_row()
         while True:
@@ -658,10 +670,11 @@ class AirRun:
                 _, _, event, own = heapq.heappop(self.waiting)
                 yield from self.run_event(now, event, own)
 
-    def run_row(self, row: Row) -> Iterator[Done | Note]:
+    def run_row(self, row: Row) -> Iterator[Told]:
         world, is_new = self.world, row.id not in self.world.known
         if is_new:
             world.make(row)
+            yield Hidden(row.at, world.known[row.id], made=row.id)
         station = world.known[row.id]
         world.last[row.id] = row.at
         self.greatest = max(self.greatest, row.at)
@@ -672,7 +685,7 @@ class AirRun:
         if station not in world.present:
             yield from self.come(station, row.at)
 
-    def run_event(self, now: int, event: dict, own: str | int | None) -> Iterator[Done | Note]:
+    def run_event(self, now: int, event: dict, own: str | int | None) -> Iterator[Told]:
         """An event of the scenario, or of the air's own."""
         world = self.world
         if world.moves is not None and "id" in event:
@@ -695,7 +708,7 @@ class AirRun:
         if event["do"] == "move" and not refused and not is_present:
             yield from self.come(station, now)
 
-    def do(self, event: dict) -> Iterator[Done | Note]:
+    def do(self, event: dict) -> Iterator[Told]:
         """An event of the world, and who hears its frame. Returns whether it was refused."""
         world, station, now = self.world, event["station"], event["at"]
         is_heard = station in world.present
@@ -707,6 +720,7 @@ class AirRun:
                 if self.draws.draw(100) < self.air.get("loss", 0):
                     yield Note(now, hearer, f"lost {frame}")
                 else:
+                    yield Hidden(now, hearer, heard=frame)
                     self.put({"station": hearer, "at": at, "do": "deliver", "frame": frame})
         return entry.word.startswith("refused")
 
@@ -736,6 +750,8 @@ class AirRun:
 def lines(world: World, notes: bool) -> Iterator[str]:
     number = 0
     for told in world.run():
+        if isinstance(told, Hidden):
+            continue
         if isinstance(told, Note):
             if notes:
                 yield f"- {told.moment} {told.station} {told.words}"
@@ -771,10 +787,10 @@ class Send:
         return f"{reached} frames {self.frames} hops {self.hops} last {last}"
 
 
-def count_inside(world: World, sender: int, port: int, area: Area) -> int:
-    """How many other stations are present and in an area, with a port open."""
-    others = [world.stations[number] for number in world.present if number != sender]
-    return sum(port in s.ports and area.holds(s.vector.place) for s in others)
+def audience(world: World, sender: int, port: int, area: Area) -> list[int]:
+    """The other stations that are present and in an area, with a port open."""
+    others = [(n, world.stations[n]) for n in sorted(world.present) if n != sender]
+    return [n for n, s in others if port in s.ports and area.holds(s.vector.place)]
 
 
 def summary(world: World) -> Iterator[str]:
@@ -795,7 +811,7 @@ def summary(world: World) -> Iterator[str]:
             elif word == "sent" and event["do"] in ("gbc", "gac"):
                 at, station, do, port = (event[key] for key in ("at", "station", "do", "port"))
                 area = read_area(event, world.stations[station].vector.place)
-                inside = count_inside(world, station, port, area)
+                inside = len(audience(world, station, port, area))
                 send = Send(f"send {number} {at} {station} {do} port {port} inside {inside}", at)
                 sends.append(send)
             if gave:

@@ -1,53 +1,33 @@
-"""Compares the counts of `geostation stats --json` with those of what Wireshark read.
+"""Compares the tables of `geostation stats --json` with those of what Wireshark read.
 
     python3 checks/counted.py DISSECTED STATS
 
-DISSECTED has the lines of `checks/dissect.py`, STATS the object of `stats`. Compared are the kinds,
-each source's frames with its first and last moment, and each port's frames.
+DISSECTED has the lines of `checks/dissect.py`, STATS the object of `stats`. All tables are computed
+by checks/capture_counts.py, from Wireshark's fields alone.
 """
 
 import json
 import sys
-from collections import Counter
+
+# What is imported leaves no file beside the sources.
+sys.dont_write_bytecode = True
+
+from capture_counts import Counts, Seen
+
+# The octets of a frame before its payload: Ethernet (14), basic and common header (12), the header
+# of the kind, and BTP (4).
+HEADERS = {"beacon": 14 + 12 + 24, "shb": 14 + 12 + 28 + 4, "gbc": 14 + 12 + 44 + 4}
+HEADERS["gac"] = HEADERS["gbc"]
 
 
-def counts_of(frames: list[dict]) -> dict:
-    """The counts of the frames, as `stats` has them."""
-    moments: dict[str, list[int]] = {}
-    for frame in frames:
-        moments.setdefault(frame["address"], []).append(frame["moment"])
-    kinds = Counter(frame["kind"] for frame in frames)
-    ports = Counter(frame["port"] for frame in frames if "port" in frame)
-    order = sorted(moments, key=lambda address: (-len(moments[address]), address))
-    return {
-        "records": {kind: kinds[kind] for kind in ("beacon", "shb", "gbc", "gac") if kind in kinds},
-        "sources": [
-            {
-                "address": address,
-                "frames": len(moments[address]),
-                "first": min(moments[address]),
-                "last": max(moments[address]),
-            }
-            for address in order
-        ],
-        "ports": [{"port": port, "frames": ports[port]} for port in sorted(ports)],
-    }
-
-
-COMPARED = {"sources": ("address", "frames", "first", "last"), "ports": ("port", "frames")}
-
-
-def told(stats: dict) -> dict:
-    """What `stats` tells of the same."""
-    rows = {
-        name: [{key: row[key] for key in keys} for row in stats[name]]
-        for name, keys in COMPARED.items()
-    }
-    return {"records": stats["records"], **rows}
+def seen(frame: dict) -> Seen:
+    octets = HEADERS[frame["kind"]] + len(frame.get("payload", "")) // 2
+    keys = {key: frame[key] for key in ("moment", "kind", "address", "hops")}
+    return Seen(**keys, octets=octets, port=frame.get("port"), number=frame.get("number"))
 
 
 with open(sys.argv[1]) as lines, open(sys.argv[2]) as one:
-    wanted = counts_of([json.loads(line) for line in lines])
-    found = told(json.load(one))
+    wanted = Counts([seen(json.loads(line)) for line in lines], [], None).all()
+    found = json.load(one)
 if found != wanted:
     sys.exit(f"Wireshark's counts are {wanted}, those of stats {found}")

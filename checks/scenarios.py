@@ -1,9 +1,14 @@
-"""Writes random scenarios with an air into a folder, for checks/air.
+"""Writes random scenarios into a folder, for checks/air.
 
     python3 checks/scenarios.py FOLDER COUNT
 
-COUNT of them are random-N.toml; as many are moves-N.toml, each with a file of moves, moves-N.csv.
-Each is drawn from its number alone.
+Each is drawn from its number alone:
+
+- COUNT of them are random-N.toml, with an air;
+- as many are moves-N.toml, each with a file of moves, moves-N.csv;
+- a fourth of COUNT are crowd-N.toml: many stations in each other's hearing, small tables, stations
+  that leave and come back;
+- as many are plain-N.toml, without an air: frames are delivered by events, some of them late.
 """
 
 import json
@@ -189,6 +194,106 @@ class Maker:
         return "\n".join(self.parts)
 
 
+class CrowdMaker(Maker):
+    """A scenario whose numbers have something of everything: see checks/run_numbers.py."""
+
+    def __init__(self, number):
+        super().__init__(number)
+        self.many = self.coarse = self.sends = False
+        self.beacons = self.comes = True
+        self.home, self.spread, self.start, self.span = (0, 0), 20000, 0, 9000
+        self.stations = self.draw.randint(24, 32)
+        self.delay = self.draw.choice([20, 200])
+        self.ample = self.forgetful = False
+        # Small tables and losses, or neither: then a packet comes to twenty stations and more.
+        self.are_small = number % 3 != 0
+
+    def add_air(self):
+        self.add("[air]", {
+            "range": 350, "delay": self.delay,
+            "loss": self.draw.choice([20, 60]) if self.are_small else 0,
+            "seed": self.draw.randrange(2**63), "beacons": self.draw.choice([True, None]),
+            "until": self.span + 1000 if self.rarely(2) else None,
+        })  # fmt: skip
+
+    def add_station(self, number):
+        lat, lon = self.place()
+        self.places.append((lat, lon))
+        self.add("[[station]]", {
+            "address": f"14000200000000{number:02x}",
+            "lat": lat,
+            "lon": lon,
+            "capacity": self.draw.choice([None, None, 1, 2, 3]) if self.are_small else None,
+            "absent": True if self.rarely(8) else None,
+        })  # fmt: skip
+
+    def area(self):
+        # Round one of the places, wide enough for most or for a few.
+        alat, alon = self.draw.choice(self.places)
+        a = self.draw.choice([100, 600])
+        return {"shape": "circle", "alat": alat, "alon": alon, "a": a, "b": 0, "angle": 0}
+
+    def make(self):
+        self.add_air()
+        for number in range(self.stations):
+            self.add_station(number)
+        for station in range(self.stations):
+            self.add_event("open", at=0, station=station, port=2002)
+        for _ in range(self.draw.randint(4, 7)):
+            at = self.draw.randint(500, self.span)
+            do = self.draw.choice(["gbc", "gbc", "gac"])
+            self.add_event(do, at=at, **{**self.keys(do), "port": 2002, "hops": 3})
+            # While its frames are under way a port closes, and a station goes away.
+            behind = at + self.delay // 2
+            self.add_event("close", at=behind, port=2002)
+            self.add_event("move", at=behind, **{**self.keys("move"), "lat": 200000})
+        for station in range(0, self.stations, 4):
+            for _ in range(self.draw.randint(0, 3)):
+                first, second = sorted(self.draw.sample(range(self.span), 2))
+                self.add_event("leave", at=first, station=station)
+                self.add_event("move", at=second, station=station, **self.keys("move"))
+        self.add_event("leave", at=self.span + 900)
+        for _ in range(3):
+            self.add_event("deliver", **self.keys("deliver"))
+        return "\n".join(self.parts)
+
+
+class PlainMaker(Maker):
+    """A scenario without an air: frames are delivered by events."""
+
+    def __init__(self, number):
+        super().__init__(number)
+        self.many = self.coarse = self.sends = self.comes = False
+        self.home, self.spread, self.start, self.span = (0, 0), 8000, 0, 6000
+        self.stations = self.draw.randint(4, 7)
+        self.ample = self.rarely(2)
+        self.forgetful = False
+
+    def area(self):
+        # Without an air an area has its own centre.
+        alat, alon = self.draw.choice(self.places)
+        return {"alat": alat, "alon": alon, **super().area()}
+
+    def make(self):
+        for number in range(self.stations):
+            self.add_station(number)
+        for station in range(self.stations):
+            if not self.rarely(6):
+                self.add_event("open", at=0, station=station, port=2002)
+        at, frames = 0, 1
+        for do in self.draw.choices(["gbc", "gac", "shb", "move", "deliver", "close"],
+                                    [4, 2, 2, 1, 30, 1], k=120):  # fmt: skip
+            keys = self.keys(do)
+            if do == "deliver":
+                keys = {"frame": self.draw.randrange(max(frames - 6, 0), frames + 1)}
+            at += self.draw.choice([0, 1, 30])
+            # Some come after what the station did later: that is refused.
+            late = self.draw.randint(0, at) if do == "deliver" and self.rarely(4) else at
+            self.add_event(do, at=late, **keys)
+            frames += do in ("gbc", "gac", "shb")
+        return "\n".join(self.parts)
+
+
 # What a file of moves calls its columns after SUMO, and how many decimals these have of the own
 # unit.
 SUMO = {
@@ -345,3 +450,6 @@ for number in range(count):
     maker = MovesMaker(number)
     (folder / f"moves-{number}.toml").write_text(maker.make())
     (folder / f"moves-{number}.csv").write_text(maker.csv(), newline="")
+for number in range(-(-count // 4)):
+    (folder / f"crowd-{number}.toml").write_text(CrowdMaker(number).make())
+    (folder / f"plain-{number}.toml").write_text(PlainMaker(number).make())
