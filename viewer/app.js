@@ -1,10 +1,10 @@
-//! The page: opens a run, and keeps its parts showing the same moment, station and send.
+//! The page: opens a run, and keeps all parts at the same time, station and warning.
 
 (function (geostation) {
   'use strict';
 
   const {byId, element, grouped} = geostation.dom;
-  const {reading, way: ways, why, reason, rows, words, filter, clock, load} = geostation;
+  const {files, reading, way: ways, why, reason, rows, words, filter, clock, load} = geostation;
   const {countUpTo} = geostation.columns;
   const LIMITS = {links: geostation.map.MOST_LINKS, circles: geostation.map.MOST_CIRCLES};
 
@@ -15,7 +15,8 @@
   const state = {run: undefined, at: 0, note: undefined, station: undefined, kind: '', result: '',
     send: -1, chosen: undefined, rows: undefined, frames: {}, opening: 0, listed: 0};
 
-  const map = new geostation.map.RunMap(byId('map'), byId('canvas'), toggleStation, showFrame);
+  const map = new geostation.map.RunMap(byId('map'), byId('canvas'), byId('streets'), toggleStation,
+    showFrame);
   const timeline = new geostation.timeline.Timeline(go, stepBy);
   const strip = new geostation.strip.Strip();
   const events = new geostation.list.List(byId('events'),
@@ -40,42 +41,44 @@
     byId('totals').textContent = told;
   }
 
-  /** Opens a run; a file that is none gets a sentence. @param {Blob} blob @param {string} name */
+  /** Opens a file. If it can't be read, a sentence says why. @param {Blob} blob */
   async function open(blob, name) {
     state.opening += 1;
     const mine = state.opening;
     byId('fault').hidden = true;
     try {
-      if (await isLoad(blob)) return void openLoad(await blob.text(), name);
+      const kind = await files.kindOf(blob);
+      if (kind === 'load') return void openLoad(await blob.text(), name);
+      if (kind === 'net') return void openNet(await blob.text());
       const run = await reading.read(geostation.open.pieces(blob, tell), blob.size);
       if (mine === state.opening) begin(run, name);
     } catch (fault) {
-      if (mine === state.opening) refuse(name, fault);
+      if (mine === state.opening) refuse(name, files.reasonOf(fault));
     }
-  }
-
-  /** Whether a file is what `sim --load` writes. @param {Blob} blob */
-  async function isLoad(blob) {
-    return (await blob.slice(0, load.HEAD.length).text()) === load.HEAD;
   }
 
   /** Takes the load of all stations from a file of `sim --load`. @param {string} text */
   function openLoad(text, name) {
     const {RunFault} = reading;
-    if (!state.run) throw new RunFault('A file of “--load” goes with a run: open that first.');
+    if (!state.run) throw new RunFault('A file of “--load” goes with a run. Open the run first.');
     const told = load.told(text, load.bins(state.run).bins);
-    if (!told) throw new RunFault('It begins as a file of “--load”, but isn’t one.');
+    if (!told) throw new RunFault('This file begins as a file of “--load”, but isn’t one.');
     state.loads.set(undefined, told);
-    byId('load').title = `Of all stations as ${name} tells`;
+    byId('load').title = `Load of all stations, from ${name}`;
     showTotals();
     showLoad();
   }
 
-  /** @param {string} name @param {any} fault */
-  function refuse(name, fault) {
-    const known = fault instanceof reading.RunFault || fault instanceof DOMException;
-    const because = known ? fault.message : `It can't be read: ${fault.message}`;
-    byId('fault').textContent = `${name}: ${because}`;
+  /** Shows a street net beneath the run. @param {string} text */
+  function openNet(text) {
+    const {NetFault, read} = geostation.streets;
+    if (!state.run) throw new NetFault('A street net goes with a run. Open the run first.');
+    map.showStreets(read(text));
+  }
+
+  /** Reports why a file can't be read. @param {string} name @param {string} why */
+  function refuse(name, why) {
+    byId('fault').textContent = `${name}: ${why}`;
     byId('fault').hidden = false;
     if (state.run) showTotals();
     else tell('');
@@ -89,7 +92,7 @@
     ways.follow(run));
     state.total = ways.total(run);
     document.body.dataset.state = 'run';
-    document.title = `${name}: geostation`;
+    document.title = `${name}: geostation viewer`;
     byId('name').textContent = name;
     for (const id of ['station', 'kind', 'result']) byId(id).value = '';
     byId('load').title = '';
@@ -144,7 +147,7 @@
     go(event, note);
   }
 
-  /** Goes to an event, or to a note that stands behind it. @param {number} at */
+  /** Goes to an event, or to a note after it. @param {number} at */
   function go(at, note) {
     const {run} = state;
     state.at = Math.max(0, Math.min(at, run.events.length - 1));
@@ -203,7 +206,7 @@
     return rows.send(state, send, send && judgementOf(send));
   }
 
-  /** Shows the way of a send, or all frames. @param {number} send -1 for all */
+  /** Shows the path of a warning, or all frames. @param {number} send -1 for all */
   function chooseSend(send) {
     setSend(send);
     if (state.run.events.length > 0 || map.scene) drawMap();
@@ -215,6 +218,7 @@
     const chosen = state.sends[send];
     Object.assign(state, {chosen, send: chosen ? send : -1});
     state.steps = chosen ? ways.tree(run, chosen) : [];
+    state.path = chosen && ways.path(run, state.steps);
     state.deliveries = chosen ? ways.deliveries(run, chosen) : new Int32Array(0);
     state.area = chosen && ways.packetOf(run, chosen)?.area;
     state.judgement = chosen && judgementOf(chosen);
@@ -240,7 +244,7 @@
     ];
     box.replaceChildren(...parts.map(([name, value]) =>
       element('div', '', element('dt', '', name), element('dd', '', String(value)))));
-    box.title = 'In the area: other stations that stood in it at the send, with a port open';
+    box.title = 'In the area: the other stations in it when the warning was sent, with an open port';
   }
 
   /** The stations that the chosen send didn't reach. */
@@ -253,14 +257,15 @@
     missed.show(count, -1);
     if (!judgement) return;
     const few = deaf.slice(0, 6).map((station) => run.name(station)).join(', ');
-    const closed = deaf.length === 0 ? '' : ` Its port wasn’t open at ` +
+    const closed = deaf.length === 0 ? '' : ` The port wasn’t open at ` +
       `${few}${deaf.length > 6 ? ` and ${deaf.length - 6} more` : ''}.`;
     byId('missed-title').textContent = count === 0
-      ? `All in its area have it.${closed}` : `In its area without it: ${count}.${closed}`;
+      ? `Reached all stations in the area.${closed}`
+      : `Not reached in the area: ${count}.${closed}`;
     byId('missed').hidden = count === 0;
   }
 
-  /** Tells why a station wasn't reached, and goes to where it came closest. @param {number} row */
+  /** Says why a station wasn't reached, and goes to where the path came closest. @param {number} row */
   function pickMissed(row) {
     timeline.pause();
     const miss = state.judgement.missed[row];
@@ -302,17 +307,18 @@
     const percent = (share) => `${(100 * share).toFixed(share < 0.1 ? 2 : 0)} %`;
     const rate = (1000 * bin.frames) / strip.load.width;
     const again = repeats.delivered === 0 ? `${repeats.duplicates} duplicates`
-      : `${(repeats.duplicates / repeats.delivered).toFixed(1)} duplicates a delivery`;
-    const full = repeats.full > 0 ? `, ${repeats.full} refused as full` : '';
+      : `${(repeats.duplicates / repeats.delivered).toFixed(1)} duplicates per delivery`;
+    const full = repeats.full > 0 ? `, full for ${repeats.full} frames` : '';
     const busy = station === undefined
-      ? `air busy ${percent(bin.busy)} (median), ${percent(bin.most)} (most)`
-      : `air busy ${percent(bin.busy)}`;
-    const table = `${station === undefined ? 'fullest table' : 'table'} ${bin.table}${full}`;
+      ? `channel busy ${percent(bin.busy)} (median), ${percent(bin.most)} (most)`
+      : `channel busy ${percent(bin.busy)}`;
+    const table = `${station === undefined ? 'largest location table' : 'location table'} ` +
+      `${bin.table}${full}`;
     byId('load').textContent = [station === undefined ? 'All' : `Station ${run.name(station)}`,
       `${Math.round(rate)} frames/s`, busy, again, table].join(' · ');
   }
 
-  /** Shows a frame that came, or was lost, and the one that was given for it. */
+  /** Shows a frame that was received or lost, and the one that was forwarded. */
   function showFrame(frame, event) {
     const {run} = state;
     const {frame: came, sent} = run.events.at(event);
@@ -353,6 +359,8 @@
     byId('zoom-in').addEventListener('click', () => map.zoom(1.5));
     byId('zoom-out').addEventListener('click', () => map.zoom(1 / 1.5));
     byId('zoom-fit').addEventListener('click', () => map.fit());
+    byId('save').addEventListener('click', () =>
+      geostation.saving.save(map, `${state.name}.svg`));
     byId('range').addEventListener('change', drawMap);
     byId('all').addEventListener('click', showAll);
     byId('station').addEventListener('input', () => {
@@ -382,11 +390,17 @@
     for (const handle of document.querySelectorAll('.handle')) geostation.split.listen(handle);
   }
 
+  for (const key of document.querySelectorAll('.key [data-mark]')) {
+    const {mark} = key.dataset;
+    key.setAttribute('class', `symbol ${mark}`);
+    key.setAttribute('d', geostation.shape.markPath(geostation.shape.markOf(mark), 4.2));
+  }
+  byId('loading').remove();
   state.wanted = clock.eventOf(location.hash);
   geostation.open.shown(open);
   geostation.open.dropped(open);
   listen();
-  geostation.open.inside(open);
+  geostation.open.inside(open, refuse);
   geostation.open.named(open, refuse);
   geostation.app = {state, open, go, map, timeline};
 })(globalThis.geostation ??= {});

@@ -9,7 +9,10 @@
   const NEAR = 9;
   /** How strong one that is away is painted, where it has a part in the warning. */
   const FAINT = 0.35;
-  const ROLES = ['idle', 'reached', 'delivered', 'sender'];
+  /** In this order they are painted: the sender lies above the others. */
+  const ROLES = ['missed', 'missed reached', 'reached', 'delivered', 'sender'];
+  /** The least size of a mark whose shape is seen, in pixels. */
+  const LEAST_MARK = 2.6;
   const COLOURS = {idle: '--idle', reached: '--accepted', delivered: '--delivered',
     sender: '--sender', missed: '--red', accepted: '--accepted', duplicate: '--duplicate',
     other: '--duplicate', refused: '--refused', lost: '--red', chosen: '--accent',
@@ -135,17 +138,14 @@
     drawRoles() {
       const {roles, active, chosen} = this.scene;
       const {colours, context, radius} = this;
+      const size = Math.max(LEAST_MARK, 1.5 * radius);
       for (const role of ROLES) {
+        const path = new Path2D(shape.markPath(shape.markOf(role), size));
         for (const [i, words] of roles) {
-          if (roleOf(words) !== role) continue;
+          if (words !== role) continue;
           context.globalAlpha = this.isAway(i) ? FAINT : 1;
-          this.dot(i, 1.6 * radius, colours[role]);
+          this.mark(i, path, role);
         }
-      }
-      for (const [i, words] of roles) {
-        if (!words.includes('missed')) continue;
-        context.globalAlpha = this.isAway(i) ? FAINT : 1;
-        this.ring(i, 1.7 * radius, colours.missed, Math.max(1, 0.7 * radius));
       }
       context.globalAlpha = 1;
       if (active !== undefined) this.ring(active, radius + 3, colours.active, 2);
@@ -173,11 +173,18 @@
       }
     }
 
-    dot(index, radius, colour) {
-      this.context.fillStyle = colour;
-      this.context.beginPath();
-      this.context.arc(this.xs[index], this.ys[index], radius, 0, 7);
-      this.context.fill();
+    /** @param {number} index of a station @param {Path2D} path @param {string} role */
+    mark(index, path, role) {
+      const {context, colours} = this;
+      const isMissed = role.startsWith('missed');
+      context.save();
+      context.translate(this.xs[index], this.ys[index]);
+      context.strokeStyle = isMissed ? colours.missed : colours.ground;
+      context.lineWidth = isMissed ? 2.5 : 1.5;
+      context.stroke(path);
+      context.fillStyle = colours[role === 'missed' ? 'idle' : role.replace('missed ', '')];
+      context.fill(path);
+      context.restore();
     }
 
     ring(index, radius, colour, width) {
@@ -209,7 +216,7 @@
       context.strokeStyle = this.colours[kind];
       context.lineWidth = (isThin ? 1 : 2) + (isNew ? 1.2 : 0);
       context.globalAlpha = isNew ? 1 : 0.75;
-      context.setLineDash(kind === 'lost' ? [7, 5] : []);
+      context.setLineDash(kind === 'lost' ? [7, 5] : kind === 'refused' ? [2, 4] : []);
       context.beginPath();
       context.moveTo(x1, y1);
       context.quadraticCurveTo(cx, cy, x2, y2);
@@ -251,11 +258,6 @@
   function pixelOf(colour) {
     const [r, g, b] = [1, 3, 5].map((at) => parseInt(colour.slice(at, at + 2), 16));
     return ((255 << 24) | (b << 16) | (g << 8) | r) >>> 0;
-  }
-
-  /** @param {string} words */
-  function roleOf(words) {
-    return words === 'missed' ? 'idle' : words.replace('missed ', '');
   }
 
   geostation.canvas = {Painted, pixelOf};

@@ -26,17 +26,20 @@
       const radius = length <= names.MOST ? 8 : length <= 300 ? 5 : 3.5;
       this.stations = run.stations.map((_, i) => this.makeStation(i, radius));
       this.layers.stations.replaceChildren(...this.stations.map(({dot}) => dot));
+      this.layers.sender.replaceChildren();
       this.layers.trails.replaceChildren();
     }
 
     /** @param {number} index @param {number} radius */
     makeStation(index, radius) {
-      const dot = svg('circle', {class: 'station', r: radius, 'data-station': index});
+      const d = shape.markPath('circle', radius);
+      const dot = svg('path', {class: 'station', d, 'data-station': index});
       const {id, address} = this.run.stations[index];
       const title = svg('title');
       title.textContent = `station ${index}${id === undefined ? '' : `, ${id}`}, ${address}`;
       dot.append(title);
-      return {dot, radius, trail: undefined, place: undefined, role: '', x: 0, y: 0};
+      return {dot, radius, mark: 'circle', trail: undefined, place: undefined, role: '', x: 0,
+        y: 0};
     }
 
     /** @param {any} scene @param {boolean} isAnew whether all moves on the screen */
@@ -73,7 +76,8 @@
       if (isAnew || place.lat !== station.place?.lat || place.lon !== station.place?.lon) {
         station.place = place;
         Object.assign(station, this.map.screenOf(place));
-        set(station.dot, {cx: station.x.toFixed(1), cy: station.y.toFixed(1)});
+        const [x, y] = [station.x.toFixed(1), station.y.toFixed(1)];
+        station.dot.setAttribute('transform', `translate(${x} ${y})`);
         this.drawTrail(station, index);
       }
       const isThere = this.run.presence.isThere(index, told, at);
@@ -82,6 +86,16 @@
       if (role === station.role) return;
       station.role = role;
       station.dot.setAttribute('class', `station ${role}`);
+      this.drawMark(station);
+    }
+
+    /** Gives a station the mark of its role. The sender lies above the others. */
+    drawMark(station) {
+      const mark = shape.markOf(station.role);
+      if (mark === station.mark) return;
+      station.mark = mark;
+      station.dot.setAttribute('d', shape.markPath(mark, station.radius));
+      this.layers[mark === 'star' ? 'sender' : 'stations'].append(station.dot);
     }
 
     /** @param {any} station @param {number} index */
@@ -140,7 +154,7 @@
     }
 
     clear() {
-      for (const name of ['stations', 'trails']) this.layers[name].replaceChildren();
+      for (const name of ['stations', 'sender', 'trails']) this.layers[name].replaceChildren();
       for (const pool of [this.links, this.labels]) {
         pool.begin();
         pool.finish();

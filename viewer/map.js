@@ -17,7 +17,7 @@
   /**
    * @typedef {object} Link a frame that reached a station
    * @property {number} from station @property {number} to station @property {number} frame
-   * @property {number} event of the delivery, of a lost one of the giving
+   * @property {number} event of the delivery, of a lost frame that of its sending
    * @property {string} kind accepted, duplicate, other, refused or lost
    * @property {boolean} isNew whether the present event is it
    */
@@ -25,7 +25,7 @@
   /**
    * @typedef {object} Scene what is to be seen
    * @property {number} at the present event
-   * @property {number} told how many notes were told until then
+   * @property {number} told how many notes there were until then
    * @property {number | undefined} active the present event's station
    * @property {number | undefined} chosen station
    * @property {Link[]} links
@@ -39,15 +39,20 @@
     /**
      * @param {SVGSVGElement} root
      * @param {HTMLCanvasElement} canvas below it
+     * @param {HTMLCanvasElement} ground below that, for the streets
      * @param {(station: number) => void} pickStation
      * @param {(frame: number, event: number) => void} pickFrame
      */
-    constructor(root, canvas, pickStation, pickFrame) {
+    constructor(root, canvas, ground, pickStation, pickFrame) {
       this.root = root;
+      this.canvas = canvas;
+      this.ground = new geostation.ground.Ground(ground, this);
+      /** The streets of the net that was opened last. @type {Float64Array[]} */
+      this.net = [];
       this.layers = {};
       root.append(geostation.drawn.makeMarkers());
-      for (const name of ['grid', 'areas', 'circles', 'trails', 'links', 'stations', 'labels',
-        'scale']) {
+      for (const name of ['grid', 'areas', 'circles', 'trails', 'links', 'stations', 'sender',
+        'labels', 'scale']) {
         this.layers[name] = svg('g', {class: name});
         root.append(this.layers[name]);
       }
@@ -79,7 +84,14 @@
       this.painter = run.stations.length > MOST_ELEMENTS ? this.painted : this.drawn;
       this.painter.begin(run);
       this.bounds = this.findBounds(areas);
+      this.ground.begin(this.net);
       this.fit();
+    }
+
+    /** Shows these streets beneath the run. @param {Float64Array[]} lines */
+    showStreets(lines) {
+      this.net = lines;
+      this.ground.begin(lines);
     }
 
     /** @param {import('./geo.js').Place} place @returns {Point} */
@@ -152,6 +164,7 @@
       this.view = view;
       const {width, height} = this.box;
       this.root.setAttribute('viewBox', `0 0 ${width} ${height}`);
+      this.ground.draw();
       this.drawScale(width, height);
       if (this.scene) this.draw(true);
     }

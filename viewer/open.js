@@ -1,10 +1,13 @@
-//! Ways to open a run: the one that stands in the page itself, choosing a file, dropping one, the
-//! sample, and `?run=NAME` where the page is served.
+//! Ways to open a run: the one in the page itself, choosing a file, dropping files, the sample, and
+//! `?run=NAME` if the page is served.
 
 (function (geostation) {
   'use strict';
 
   const {byId} = geostation.dom;
+  const {files} = geostation;
+  const {RunFault} = geostation.reading;
+
   /**
    * The octets of a file, a piece at a time, as the browser has them: more is fetched while one is
    * read.
@@ -28,18 +31,48 @@
   }
 
   /**
-   * Opens the run that stands in the page itself, where `geostation view` has put one. It isn't
-   * kept there: its lines are read once.
+   * Opens the run and the street net that `geostation view` has put into the page. They aren't kept
+   * there, as they are read only once. A run that the browser can't read is reported.
    * @param {(blob: Blob, name: string) => Promise<void>} open
+   * @param {(name: string, why: string) => void} refuse
    */
-  async function inside(open) {
-    const element = byId('inside');
-    const text = element.textContent;
-    element.remove();
-    if (text.trim() !== '') await open(new Blob([text.trimStart()]), element.dataset.name);
+  async function inside(open, refuse) {
+    const {name, large} = byId('inside').dataset;
+    const run = taken('inside');
+    const net = byId('net') ? {name: byId('net').dataset.name, text: taken('net')} : undefined;
+    if (name === undefined) return;
+    if (large !== undefined) return void refuse(name, files.TOO_LARGE[large] ?? files.UNREADABLE);
+    if (run.trim() === '') return void refuse(name, files.UNREADABLE);
+    await open(blobOf(run), name);
+    if (net) await open(blobOf(spelledOut(net.text)), net.name);
   }
 
-  /** @param {(blob: Blob, name: string) => void} open */
+  /**
+   * The text of an element, which is taken from the page. It is empty if the browser can't hold it.
+   * @param {string} id
+   */
+  function taken(id) {
+    const element = byId(id);
+    try {
+      return element.textContent;
+    } catch {
+      return '';
+    } finally {
+      element.remove();
+    }
+  }
+
+  /** A text as a file, without the line feed at its front. @param {string} text */
+  function blobOf(text) {
+    return new Blob([text]).slice(text.startsWith('\n') ? 1 : 0);
+  }
+
+  /** XML as it was before its signs `<` were spelled for the page. @param {string} text */
+  function spelledOut(text) {
+    return /^\s*\\u003c/.test(text) ? text.replaceAll('\\u003c', '<') : text;
+  }
+
+  /** @param {(blob: Blob, name: string) => Promise<void>} open */
   function shown(open) {
     const input = byId('file');
     const pick = () => input.click();
@@ -48,13 +81,12 @@
     byId('sample').addEventListener('click', () =>
       open(new Blob([geostation.sample]), 'sample: ice on a road'));
     input.addEventListener('change', () => {
-      const [file] = input.files;
-      if (file) open(file, file.name);
+      openAll(open, input.files);
       input.value = '';
     });
   }
 
-  /** @param {(blob: Blob, name: string) => void} open */
+  /** @param {(blob: Blob, name: string) => Promise<void>} open */
   function dropped(open) {
     const drop = byId('drop');
     document.addEventListener('dragover', (event) => {
@@ -67,15 +99,25 @@
     document.addEventListener('drop', (event) => {
       event.preventDefault();
       drop.hidden = true;
-      const [file] = event.dataTransfer.files;
-      if (file) open(file, file.name);
+      openAll(open, event.dataTransfer.files);
     });
   }
 
   /**
-   * `?run=NAME` opens a file that is served from where the page is.
+   * Opens files one by one, the run first, as the others go with it.
+   * @param {(blob: Blob, name: string) => Promise<void>} open @param {FileList} list
+   */
+  async function openAll(open, list) {
+    const kinds = await Promise.all(Array.from(list, async (file) =>
+      ({file, isRun: (await files.kindOf(file).catch(() => 'run')) === 'run'})));
+    const sorted = [...kinds.filter(({isRun}) => isRun), ...kinds.filter(({isRun}) => !isRun)];
+    for (const {file} of sorted) await open(file, file.name);
+  }
+
+  /**
+   * `?run=NAME` opens a file from the server of the page.
    * @param {(blob: Blob, name: string) => Promise<void>} open
-   * @param {(name: string, fault: any) => void} refuse
+   * @param {(name: string, why: string) => void} refuse
    */
   async function named(open, refuse) {
     const name = new URLSearchParams(location.search).get('run');
@@ -83,13 +125,13 @@
     try {
       const address = new URL(name, location.href);
       if (address.origin !== location.origin || location.protocol === 'file:') {
-        throw new Error('“?run=” opens only what is served beside this page: drop it here');
+        throw new RunFault('“?run=” opens only files from the server of this page.');
       }
       const answer = await fetch(address);
-      if (!answer.ok) throw new Error(`the server answered ${answer.status}`);
+      if (!answer.ok) throw new RunFault(`The server answered ${answer.status}.`);
       await open(await answer.blob(), name);
     } catch (fault) {
-      refuse(name, fault);
+      refuse(name, files.reasonOf(fault));
     }
   }
 

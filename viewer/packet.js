@@ -1,14 +1,14 @@
-//! The panel of a frame: its packet's fields in words and units, and its octets.
+//! The panel of a frame: the fields of its packet in words and units, and its octets.
 
 (function (geostation) {
   'use strict';
 
   const {element} = geostation.dom;
   const KINDS = {
-    beacon: 'BEACON: a station tells where it is',
-    shb: 'SHB: a message for all in reach',
-    gbc: 'GBC: a message for all in an area',
-    gac: 'GAC: a message for any one in an area',
+    beacon: 'beacon: the position of a station',
+    shb: 'SHB: a message to all stations in range',
+    gbc: 'GBC: a message to all stations in an area',
+    gac: 'GAC: a message to any station in an area',
   };
 
   /** Tenths of a microdegree as degrees. @param {number} value */
@@ -24,7 +24,7 @@
   /** @param {import('./geo.js').Area} area */
   function areaWords(area) {
     const size = area.shape === 'circle' ? `${area.a} m` : `${area.a} m by ${area.b} m`;
-    const turned = area.angle === 0 ? '' : `, turned ${area.angle}°`;
+    const turned = area.angle === 0 ? '' : `, turned by ${area.angle}°`;
     return `${area.shape}, ${size}${turned}, at ${place(area)}`;
   }
 
@@ -44,10 +44,10 @@
     }
     if (p.area) rows.push(['area', areaWords(p.area)]);
     rows.push(['hops left', `${p.left} of ${p.max}`], ['source', p.address]);
-    if (p.number !== undefined) rows.push(['number', String(p.number)]);
+    if (p.number !== undefined) rows.push(['sequence number', String(p.number)]);
     rows.push(
       ['time stamp', `${p.tst} ms`],
-      ['its place', `${place(p)}${p.pai ? '' : ', not accurate'}`],
+      ['position', `${place(p)}${p.pai ? '' : ', not accurate'}`],
       ['speed, heading', `${(p.speed / 100).toFixed(2)} m/s, ${(p.heading / 10).toFixed(1)}°`],
       ['lifetime', `${geostation.frame.lifetimeMillis(p.lifetime) / 1000} s`],
       ['traffic class', p.trafficClass.toString(16).padStart(2, '0')],
@@ -67,7 +67,7 @@
   }
 
   /**
-   * What became of a frame.
+   * What the stations did with a frame.
    * @param {import('./run.js').Run} run @param {number} number
    */
   function fate(run, number) {
@@ -76,13 +76,13 @@
     const count = (result) => deliveries.filter((index) => run.events.is(index, result)).length;
     const lost = run.lost.of(number).length;
     const from = run.name(run.events.station.values[giver]);
-    const words = `Frame ${number}, given by station ${from} at ${run.moment(giver)} ms: ` +
+    const words = `Frame ${number}, sent by station ${from} at ${run.moment(giver)} ms: ` +
       `${count('accepted')} accepted it, ${count('ignored')} ignored it, ` +
       `${count('refused')} refused it`;
     return lost > 0 ? `${words}, ${lost} lost it.` : `${words}.`;
   }
 
-  /** The rows of a frame's fields, none where it is no packet. */
+  /** The rows of a frame's fields, none if it is no valid packet. */
   function rowsOf(run, number) {
     const {packet, fault} = geostation.frame.read(run.frames.octets(number));
     return {rows: packet ? fields(packet) : [], fault};
@@ -95,7 +95,7 @@
    */
   function part(run, number, title, before) {
     const {rows, fault} = rowsOf(run, number);
-    const body = fault ? element('p', 'quiet', `Its octets are no packet: ${fault}.`)
+    const body = fault ? element('p', 'quiet', `Not a valid packet: ${fault}.`)
       : table(rows, new Map(before));
     const code = element('code', 'octets', geostation.frame.toHex(run.frames.octets(number)));
     return element('div', 'frame', ...(title ? [element('h3', '', title)] : []),
@@ -103,7 +103,7 @@
   }
 
   /**
-   * Shows the frame that came and the one that was given, or that there is none.
+   * Shows the frame that was received and the one that was forwarded, or that there is none.
    * @param {HTMLElement} box @param {import('./run.js').Run} run
    * @param {{came?: number, given?: number}} frames
    */
@@ -112,13 +112,13 @@
     const isThere = (number) => number !== undefined && number < run.frames.length;
     if (isThere(came) && isThere(given)) {
       const {rows} = rowsOf(run, came);
-      box.replaceChildren(part(run, came, 'The frame that came', []),
-        part(run, given, 'The frame that was given for it', rows));
+      box.replaceChildren(part(run, came, 'Received frame', []),
+        part(run, given, 'Forwarded frame', rows));
       return;
     }
     const number = came ?? given;
-    const why = number === undefined ? 'The present event has no frame.'
-      : `No frame has the number ${number}.`;
+    const why = number === undefined ? 'This event has no frame.'
+      : `There is no frame ${number}.`;
     box.replaceChildren(isThere(number) ? part(run, number, '', [])
       : element('p', 'quiet', why));
   }

@@ -11,7 +11,7 @@
   /** No line of a run comes near it: 65535 stations take some 4 million letters. */
   const LONGEST_LINE = 1 << 24;
   const NONE = new Uint8Array(0);
-  const NOT_A_RUN = 'This isn’t the output of “sim --json”';
+  const NOT_A_RUN = 'This file isn’t the output of “sim --json”';
 
   /** A file isn't the output of `sim --json`; the message says why. */
   class RunFault extends Error {}
@@ -59,7 +59,7 @@
         this.rest = NONE;
       }
       this.rest = this.joined(piece.subarray(end));
-      if (this.rest.length > LONGEST_LINE) throw new RunFault(`${NOT_A_RUN}: a line has no end.`);
+      if (this.rest.length > LONGEST_LINE) throw new RunFault(`${NOT_A_RUN}: a line is too long.`);
     }
 
     /** What is left of the pieces before, and octets behind it. @param {Uint8Array} octets */
@@ -90,7 +90,7 @@
     /** @returns {Run} once all was taken @throws {RunFault} where there was no line */
     end() {
       if (this.rest.length > 0) this.take(Uint8Array.of(LINE_FEED));
-      if (this.lines === 0) throw new RunFault(`${NOT_A_RUN}: it is empty.`);
+      if (this.lines === 0) throw new RunFault(`${NOT_A_RUN}: it’s empty.`);
       return this.run.end();
     }
 
@@ -104,7 +104,7 @@
 
     /** @param {string} why @returns {never} */
     refuse(why) {
-      throw new RunFault(`Line ${this.lines} isn't one of “sim --json”: ${why}.`);
+      throw new RunFault(`Line ${this.lines} isn’t a line of “sim --json”: ${why}.`);
     }
 
     /** @param {string} text */
@@ -113,20 +113,20 @@
       try {
         value = JSON.parse(text);
       } catch {
-        if (this.lines > 1) this.refuse('it is no JSON, or it is cut');
+        if (this.lines > 1) this.refuse('it isn’t JSON, or it’s cut');
       }
       if (typeof value === 'object' && value !== null && !Array.isArray(value)) return value;
-      if (this.lines > 1) this.refuse('it is no JSON object');
-      throw new RunFault(`${NOT_A_RUN}: its first line is no JSON object.`);
+      if (this.lines > 1) this.refuse('it isn’t a JSON object');
+      throw new RunFault(`${NOT_A_RUN}: the first line isn’t a JSON object.`);
     }
 
     /** @param {any} value */
     addStations(value) {
       if ('total' in value || 'send' in value) {
-        throw new RunFault(`${NOT_A_RUN} alone, but a summary: leave out “--summary”.`);
+        throw new RunFault('This file is a summary. Make the run without “--summary”.');
       }
       if (!Array.isArray(value.stations)) {
-        throw new RunFault(`${NOT_A_RUN}: its first line has no “stations”.`);
+        throw new RunFault(`${NOT_A_RUN}: the first line has no “stations”.`);
       }
       for (const station of value.stations) this.addStation(station);
       if (value.air !== undefined) this.addAir(value.air);
@@ -134,10 +134,10 @@
 
     /** @param {any} air */
     addAir(air) {
-      if (!isWhole(air?.range, 1, 65535)) this.refuse('its air has no range');
+      if (!isWhole(air?.range, 1, 65535)) this.refuse('“range” of “air” is missing or invalid');
       const {range, delay = 1, loss = 0, beacons = false, until = null} = air;
-      if (!isWhole(delay, 0, 65535)) this.refuse('the air’s delay is none');
-      if (!isWhole(loss, 0, 100)) this.refuse('the air’s loss is none');
+      if (!isWhole(delay, 0, 65535)) this.refuse('“delay” of “air” is invalid');
+      if (!isWhole(loss, 0, 100)) this.refuse('“loss” of “air” is invalid');
       this.run.air = {range, delay, loss, beacons, until};
     }
 
@@ -145,8 +145,8 @@
     addStation(station) {
       const {stations, events} = this.run;
       const i = stations.length;
-      if (!/^[0-9a-f]{16}$/.test(station?.address)) this.refuse(`station ${i} has no address`);
-      if (!isPlace(station)) this.refuse(`station ${i} has no place`);
+      if (!/^[0-9a-f]{16}$/.test(station?.address)) this.refuse(`station ${i} has no valid address`);
+      if (!isPlace(station)) this.refuse(`station ${i} has no valid position`);
       const {address, lat, lon, id} = station;
       const name = typeof id === 'string' ? {id} : {};
       stations.push({address, lat, lon, ...name, born: events.length});
@@ -161,14 +161,14 @@
       else if (value.address !== undefined) this.addMade(value);
       else if (value.send !== undefined) this.addSummary(value);
       else if (value.total === undefined) {
-        this.refuse(`“event” isn't ${this.run.events.length}`);
+        this.refuse(`“event” isn’t ${this.run.events.length}`);
       }
     }
 
     /** @param {any} value */
     addMade(value) {
       const {length} = this.run.stations;
-      if (value.station !== length) this.refuse(`“station” isn't ${length}`);
+      if (value.station !== length) this.refuse(`“station” isn’t ${length}`);
       this.addStation(value);
     }
 
@@ -190,7 +190,7 @@
         typeof pair[1] === 'string';
       const {send, missed} = value;
       if (missed !== undefined && !(Array.isArray(missed) && missed.every(isPair))) {
-        this.refuse('“missed” is no list of stations and reasons');
+        this.refuse('“missed” isn’t a list of stations and reasons');
       }
       this.run.summaries.set(send, value);
     }
@@ -209,7 +209,7 @@
     readEvent(value, text) {
       const {row, run: {events}} = this;
       row.clear();
-      if (value.event !== events.length) this.refuse(`“event” isn't ${events.length}`);
+      if (value.event !== events.length) this.refuse(`“event” isn’t ${events.length}`);
       row.moment = this.moment(value, text, events);
       row.station = this.whole(value, 'station', 65535);
       row.do = this.oneOf(value, 'do', DO);
@@ -224,7 +224,7 @@
 
     /** @param {any} value */
     readMove(value) {
-      if (!isPlace(value)) this.refuse('a move has no place');
+      if (!isPlace(value)) this.refuse('the position of the move is missing or invalid');
       this.row.lat = value.lat;
       this.row.lon = value.lon;
     }
@@ -240,15 +240,15 @@
     readPayload(value) {
       this.row.port = this.whole(value, 'port', 65535);
       this.row.info = this.whole(value, 'info', 65535);
-      if (!isHex(value.payload)) this.refuse('“payload” is no hexadecimal');
+      if (!isHex(value.payload)) this.refuse('“payload” isn’t hexadecimal');
       this.row.payload = this.run.events.words.number(value.payload);
     }
 
     /** @param {any} value */
     readSent(value) {
       const {length} = this.run.frames;
-      if (value.sent !== length) this.refuse(`“sent” isn't ${length}`);
-      if (!isHex(value.octets)) this.refuse('“octets” are missing or no hexadecimal');
+      if (value.sent !== length) this.refuse(`“sent” isn’t ${length}`);
+      if (!isHex(value.octets)) this.refuse('“octets” is missing or isn’t hexadecimal');
       this.row.sent = value.sent;
     }
 
@@ -258,7 +258,7 @@
      */
     moment(value, text, table) {
       const {moment} = value;
-      if (!isWhole(moment, 0, 2 ** 63)) this.refuse('“moment” is missing or no moment');
+      if (!isWhole(moment, 0, 2 ** 63)) this.refuse('“moment” is missing or invalid');
       if (!Number.isSafeInteger(moment)) {
         table.exact.set(table.length, /"moment":(\d+)/.exec(text)?.[1]);
       }
@@ -267,7 +267,7 @@
 
     /** @param {any} value @param {string} key @param {number} most */
     whole(value, key, most) {
-      if (!isWhole(value[key], 0, most)) this.refuse(`“${key}” is missing or no number`);
+      if (!isWhole(value[key], 0, most)) this.refuse(`“${key}” is missing or not a valid number`);
       return value[key];
     }
 

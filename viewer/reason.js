@@ -8,13 +8,13 @@
   /** A reason in a few words. @type {Record<string, string>} */
   const SHORT = {
     closed: 'port not open', outside: 'had left the area', full: 'table full',
-    refused: 'refused it', ignored: 'ignored it', lost: 'lost on the way',
-    unheard: 'no frame came near',
+    refused: 'refused it', ignored: 'ignored it', lost: 'lost on the channel',
+    unheard: 'no frame in range',
   };
 
   /** @param {import('./why.js').Miss} miss */
   function short({reason, isLikely}) {
-    return isLikely ? 'likely lost on the way' : SHORT[reason] ?? reason;
+    return isLikely ? 'likely lost on the channel' : SHORT[reason] ?? reason;
   }
 
   /**
@@ -27,32 +27,32 @@
     const who = `Station ${run.name(miss.station)}`;
     if (event === undefined || isLikely) return missing(run, send, miss, who);
     const when = `frame ${frame} at ${run.moment(event)} ms`;
-    const giver = run.name(run.events.station.values[run.frames.giver.values[frame]]);
+    const sender = run.name(run.events.station.values[run.frames.giver.values[frame]]);
     const words = {
-      closed: `accepted ${when} in the area, but its port ` +
+      closed: `accepted ${when} in the area. Its port ` +
         `${way.packetOf(run, send)?.port} wasn’t open.`,
-      outside: `accepted ${when} outside the area: it had left it.`,
-      full: `refused ${when}: its location table was full (S4).`,
+      outside: `accepted ${when} after it had left the area.`,
+      full: `refused ${when}. Its location table was full (S4).`,
       refused: `refused ${when} (${run.events.wordOf(event)}).`,
       ignored: `ignored ${when} (${run.events.wordOf(event)}).`,
-      lost: `was in range of station ${giver}, but ${when} was lost on the way.`,
+      lost: `was in range of station ${sender}. On the channel it lost ${when}.`,
     };
     return `${who} ${words[reason] ?? `wasn’t reached: ${reason}.`}`;
   }
 
-  /** Where no frame came: the nearest one that was given, and where the way ended. */
+  /** If no frame came: the nearest one that was sent, and where the path ended. */
   function missing(run, send, {station, isLikely}, who) {
     const near = nearest(run, send, station);
     const {metres, isTold} = hearing.range(run);
-    const range = isTold ? `they are heard within ${metres} m`
-      : `frames were heard up to ${Math.round(metres)} m in this run`;
-    const likely = isLikely ? ' It was likely lost: the run has no notes that tell.' : '';
-    return `${who} had no frame of it. The nearest, frame ${near.frame}, was given by station ` +
-      `${run.name(near.giver)} ${Math.round(near.metres)} m away; ${range}.${likely}` +
+    const range = isTold ? `The range is ${metres} m`
+      : `In this run frames were received from up to ${Math.round(metres)} m away`;
+    const likely = isLikely ? ' The frame was likely lost. The run has no notes that say so.' : '';
+    return `${who} received no frame of it. The nearest was frame ${near.frame}, sent by station ` +
+      `${run.name(near.giver)} ${Math.round(near.metres)} m away. ${range}.${likely}` +
       `${ending(run, send)}`;
   }
 
-  /** The frame of a send that was given nearest to a station. */
+  /** The frame of a send that was sent nearest to a station. */
   function nearest(run, send, station) {
     let best = {far: -1n, frame: send.first, giver: 0, metres: 0};
     for (const frame of send.numbers) {
@@ -67,7 +67,7 @@
     return best;
   }
 
-  /** Where the way of a send ended by a loss: its last frame that nobody accepted, who lost it. */
+  /** Where a loss ended the path: the last frame that no station accepted, and who lost it. */
   function ending(run, send) {
     for (const frame of [...send.numbers].reverse()) {
       const isAccepted = (event) => run.events.is(event, 'accepted');
@@ -77,11 +77,11 @@
       const at = Array.from(lost.subarray(0, 4), (note) =>
         run.name(run.notes.station.values[note]));
       const more = lost.length > at.length ? ' and more' : '';
-      return ` Its way ended at station ${run.name(giver)}, whose frame ${frame} was lost at ` +
+      return ` The path ended at station ${run.name(giver)}. Its frame ${frame} was lost at ` +
         `${at.join(', ')}${more}.`;
     }
     const isAlone = send.numbers.every((frame) => run.deliveries.of(frame).length === 0);
-    return isAlone ? ' Nobody heard any frame of it.' : '';
+    return isAlone ? ' No station received any frame of it.' : '';
   }
 
   geostation.reason = {short, sentence};

@@ -1,4 +1,4 @@
-//! What stands in the rows of the page's lists, from what the page shows.
+//! The rows of the lists of the page.
 
 (function (geostation) {
   'use strict';
@@ -37,7 +37,7 @@
    * @returns {Row}
    */
   function send({run}, send, judgement) {
-    if (!send) return {kind: 'send', cells: [['entry', 'All frames, as they come']]};
+    if (!send) return {kind: 'send', cells: [['entry', 'All frames, in order']]};
     const {moment, station, do: what, port} = ways.figures(run, send);
     const {inside, reached} = judgement;
     const entered = `port ${port ?? '?'}, ${reached.length} of ${inside.length} reached`;
@@ -54,12 +54,12 @@
         ['note', reason.short(missed)]]};
   }
 
-  /** A hop of the chosen warning's way. @param {any} state @param {number} row @returns {Row} */
+  /** A hop of the chosen warning's path. @param {any} state @param {number} row @returns {Row} */
   function step({run, steps, chosen, at}, row) {
     const {event, station, hop, delivered, sent, duplicates} = steps[row];
     const done = [hop === 0 ? 'sent it' : delivered ? 'delivered' : 'accepted'];
-    if (hop > 0 && sent !== undefined) done.push('relayed');
-    if (duplicates > 0) done.push(`${duplicates} knew it`);
+    if (hop > 0 && sent !== undefined) done.push('forwarded');
+    if (duplicates > 0) done.push(`${duplicates} duplicate${duplicates > 1 ? 's' : ''}`);
     const kind = hop === 0 ? 'sent' : delivered ? 'accepted delivered' : 'accepted';
     const note = done.join(', ');
     return {kind: `step ${kind}${event > at ? ' later' : ''}`, hop: Math.min(hop, 12), title: note,

@@ -37,15 +37,45 @@
       to: run.notes.station.values[note], isNew: giver === at}));
   }
 
-  /** The frames of a chosen send so far: the last ones that have room, and how many there are. */
+  /**
+   * The frames of a chosen send so far, as many as there is room for, and how many there are. Those
+   * along its path have room first: the ones that stations accepted. Then come lost frames and the
+   * latest others. The path is drawn last, above the others.
+   */
   function ofSend(state, most) {
-    const {run, at, deliveries, chosen} = state;
+    const {run, at, deliveries, chosen, path} = state;
     const end = countUpTo(deliveries, at);
-    const came = Array.from(deliveries.subarray(Math.max(0, end - most), end), (index) =>
-      delivered(run, index, at));
+    const first = path.events.subarray(0, countUpTo(path.events, at));
     const given = chosen.numbers.filter((frame) => run.frames.giver.values[frame] <= at);
     const gone = given.flatMap((frame) => lost(run, frame, at));
-    return {links: [...gone, ...came], count: gone.length + end};
+    const along = ofPath(path, first, most);
+    const room = most - along.length;
+    const lostLinks = gone.slice(Math.max(0, gone.length - room));
+    const others = latest(deliveries, end, new Set(first), room - lostLinks.length);
+    const links = [...others, ...along].map((index) => delivered(run, index, at));
+    return {links: [...lostLinks, ...links], count: gone.length + end};
+  }
+
+  /** The latest deliveries of some that aren't along the path, in the order of the run. */
+  function latest(deliveries, end, path, most) {
+    const found = [];
+    for (let i = end - 1; i >= 0 && found.length < most; i -= 1) {
+      if (!path.has(deliveries[i])) found.push(deliveries[i]);
+    }
+    return found.reverse();
+  }
+
+  /**
+   * The frames along the path for which there is room: first those that a relay forwarded.
+   * @param {{events: Int32Array, forwarded: Set<number>}} path
+   * @param {Int32Array} first those of its events that were run @param {number} most
+   */
+  function ofPath({forwarded}, first, most) {
+    const all = Array.from(first);
+    if (all.length <= most) return all;
+    const isForwarded = (index) => forwarded.has(index);
+    return [...all.filter(isForwarded), ...all.filter((index) => !isForwarded(index))]
+      .slice(0, most).sort((a, b) => a - b);
   }
 
   /** The frames of the last moments, of any kind. */

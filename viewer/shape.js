@@ -1,4 +1,4 @@
-//! Shapes on the map: arcs between stations, the borders of areas, round lengths.
+//! Shapes on the map: the marks of stations, arcs between them, the borders of areas, round lengths.
 
 (function (geostation) {
   'use strict';
@@ -27,6 +27,39 @@
   function toward(from, to, by) {
     const part = by / (Math.hypot(to.x - from.x, to.y - from.y) || 1);
     return {x: from.x + (to.x - from.x) * part, y: from.y + (to.y - from.y) * part};
+  }
+
+  /** The mark of each role: stations differ by shape as well as by colour. */
+  const MARKS = {sender: 'star', delivered: 'square', reached: 'diamond', missed: 'triangle'};
+  /** Where a mark has its corners, turned clockwise from the top, in radii. */
+  const CORNERS = {
+    star: [0, 1, 2, 3, 4].flatMap((i) => [[72 * i, 1.85], [72 * i + 36, 0.85]]),
+    square: [[45, 1.3], [135, 1.3], [225, 1.3], [315, 1.3]],
+    diamond: [[0, 1.4], [90, 1.4], [180, 1.4], [270, 1.4]],
+    triangle: [[0, 1.6], [120, 1.6], [240, 1.6]],
+  };
+
+  /** The mark of a station whose roles are these words, a circle for a bystander. */
+  function markOf(words) {
+    const role = ['sender', 'delivered', 'reached', 'missed'].find((name) =>
+      words.split(' ').includes(name));
+    return MARKS[role] ?? 'circle';
+  }
+
+  /**
+   * The path of a mark about the origin.
+   * @param {string} mark @param {number} radius in pixels
+   */
+  function markPath(mark, radius) {
+    const r = radius.toFixed(1);
+    if (mark === 'circle') return `M0 -${r}a${r} ${r} 0 0 1 0 ${2 * r}a${r} ${r} 0 0 1 0 -${2 * r}z`;
+    const points = CORNERS[mark].map(([turn, far]) => {
+      const angle = (turn * Math.PI) / 180;
+      const x = radius * far * Math.sin(angle);
+      const y = -radius * far * Math.cos(angle);
+      return `${x.toFixed(2)} ${y.toFixed(2)}`;
+    });
+    return `M${points.join('L')}z`;
   }
 
   /**
@@ -67,5 +100,5 @@
     return {x: a * x1 + b * cx + c * x2, y: a * y1 + b * cy + c * y2};
   }
 
-  geostation.shape = {arc, pathOf, along, outline, roundLength};
+  geostation.shape = {markOf, markPath, arc, pathOf, along, outline, roundLength};
 })(globalThis.geostation ??= {});

@@ -58,7 +58,7 @@
     drawMarks() {
       const {length} = this.marked;
       const every = Math.ceil(length / MOST_MARKS);
-      byId('marks').title = every > 1 ? `One in ${every} of ${length} warnings is marked` : '';
+      byId('marks').title = every > 1 ? `One of ${every} among ${length} warnings is marked` : '';
       const marks = this.marked.filter((_, i) => i % every === 0).map(({event, name}) => {
         const mark = element('button', 'mark');
         mark.type = 'button';
@@ -106,7 +106,7 @@
       if (this.at >= this.count - 1) this.go(0);
       this.playing = true;
       this.clock = new clock.Clock(this.times, this.at);
-      this.mark('⏸', 'Pause');
+      this.mark('Pause');
       let before = performance.now();
       const turn = (now) => {
         if (!this.playing) return;
@@ -131,13 +131,12 @@
       const wasPlaying = this.playing;
       this.playing = false;
       this.clock = undefined;
-      this.mark('▶', 'Play');
+      this.mark('Play');
       if (wasPlaying) this.paused?.();
     }
 
-    /** @param {string} sign @param {string} name */
-    mark(sign, name) {
-      this.button.textContent = sign;
+    /** Shows what the button does: its sign is drawn by its name. @param {string} name */
+    mark(name) {
       this.button.setAttribute('aria-label', name);
       // While it plays, each event would be read out.
       byId('present').setAttribute('aria-live', this.playing ? 'off' : 'polite');

@@ -134,6 +134,22 @@
   }
 
   /**
+   * The path of a send: the events at which stations accepted it, in the order of the run, and those
+   * among them whose station forwarded it to another that accepted it.
+   * @param {import('./run.js').Run} run @param {Step[]} steps of its tree
+   * @returns {{events: Int32Array, forwarded: Set<number>}}
+   */
+  function path(run, steps) {
+    const accepted = steps.filter(({hop}) => hop > 0);
+    const frames = new Set(accepted.map(({event}) => run.events.frame.values[event]));
+    const leading = accepted.filter(({sent}) => frames.has(sent));
+    return {
+      events: Int32Array.from(accepted, ({event}) => event).sort(),
+      forwarded: new Set(leading.map(({event}) => event)),
+    };
+  }
+
+  /**
    * All deliveries of a send's frames, in the order of the run.
    * @param {import('./run.js').Run} run @param {Send} send @returns {Int32Array}
    */
@@ -169,5 +185,5 @@
     return {events: events.length, frames: frames.length, deliveries, duplicates, ignored, refused};
   }
 
-  geostation.way = {follow, figures, tree, deliveries, end, total, packetOf};
+  geostation.way = {follow, figures, tree, path, deliveries, end, total, packetOf};
 })(globalThis.geostation ??= {});

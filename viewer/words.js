@@ -39,12 +39,12 @@
     const who = note === 'absent' ? String(id) : run.name(station);
     if (note !== 'lost') return {who, what: note, entry: WHAT[note]};
     const giver = run.events.station.values[run.frames.giver.values[frame]];
-    const from = giver === undefined ? '' : `given by station ${run.name(giver)}`;
+    const from = giver === undefined ? '' : `sent by station ${run.name(giver)}`;
     return {who, what: `lost ${frame}`, entry: from};
   }
 
-  const WHAT = {came: 'is there from now on', left: 'is away from now on',
-    absent: 'is away: its event isn’t run'};
+  const WHAT = {came: 'present from now on', left: 'away from now on',
+    absent: 'away: its event isn’t run'};
 
   /** @param {import('./run.js').Run} run @param {number} number of a note */
   function ofNote(run, number) {

@@ -107,6 +107,39 @@ test('a page with a run in it opens that, from wherever it lies', async () => {
   noFault();
 });
 
+/** Opens a page that is written for it. @param {string} name @param {string} text */
+async function openPage(name, text) {
+  const file = path.join(room, name);
+  fs.writeFileSync(file, text);
+  await page.go(pathToFileURL(file).href);
+}
+
+test('a page whose run can’t be read says so, and doesn’t greet in silence', async () => {
+  const fault = async (element) => {
+    await openPage('faulty.html', whole(element));
+    await page.until(`!document.getElementById('fault').hidden`);
+    return text('#fault');
+  };
+  const run = fs.readFileSync(FOUR, 'utf8');
+  assert.match(await fault(elementOf('a.toml', run.slice(0, 900))), /^a\.toml: Line \d+ .* cut\.$/);
+  assert.match(await fault(elementOf('a.toml', 'words\n')), /first line isn’t a JSON object/);
+  assert.match(await fault(elementOf('a.toml', '')), /^a\.toml: This page holds a run, but/);
+  assert.match(await fault('<script type="application/jsonl" id="inside" data-name="a.toml" ' +
+    'data-large="scenario"></script>'), /^a\.toml: The run of this scenario is too large/);
+  assert.equal(await page.value('document.getElementById("loading")'), null);
+  noFault();
+});
+
+test('a page that is cut before its scripts end says so', async () => {
+  const file = path.join(room, 'cut.html');
+  const uncut = whole(elementOf('a.toml', fs.readFileSync(FOUR, 'utf8')));
+  fs.writeFileSync(file, uncut.slice(0, uncut.indexOf('"event":3')));
+  await page.call('Page.navigate', {url: pathToFileURL(file).href});
+  await page.until(`!!document.getElementById('loading') &&
+    getComputedStyle(document.getElementById('loading')).visibility === 'visible'`);
+  assert.match(await text('#loading'), /the file of the page is cut/);
+});
+
 test('four stations: counts, figures, the tree of hops', async () => {
   await show(FOUR);
   assert.equal(await text('#totals'), '4 stations · 8 events · 4 frames · 1 delivery · ' +
@@ -115,12 +148,12 @@ test('four stations: counts, figures, the tree of hops', async () => {
   assert.deepEqual(await figures(), {'delivered at': '1', 'in the area': '1', frames: '4',
     hops: '3', last: '3 ms', 'dup./delivery': '2.0'});
   assert.deepEqual(await rows('tree'), [
-    'station 0 sent it +0 ms', 'station 1 accepted, relayed +1 ms',
-    'station 2 accepted, relayed, 1 knew it +2 ms',
-    'station 3 delivered, relayed, 1 knew it +3 ms',
+    'station 0 sent it +0 ms', 'station 1 accepted, forwarded +1 ms',
+    'station 2 accepted, forwarded, 1 duplicate +2 ms',
+    'station 3 delivered, forwarded, 1 duplicate +3 ms',
   ]);
   assert.deepEqual(await rows('sends'),
-    ['All frames, as they come', '1000 0 gbc port 2002, 1 of 1 reached']);
+    ['All frames, in order', '1000 0 gbc port 2002, 1 of 1 reached']);
   noFault();
 });
 
@@ -167,7 +200,7 @@ test('a click on a frame shows its packet', async () => {
   await show(FOUR);
   await page.press('End');
   await clickLine('g.link[data-frame="2"].accepted .seen');
-  assert.equal(await text('#packet .fate'), 'Frame 2, given by station 2 at 1002 ms: ' +
+  assert.equal(await text('#packet .fate'), 'Frame 2, sent by station 2 at 1002 ms: ' +
     '1 accepted it, 1 ignored it, 0 refused it.');
   const shown = await text('#packet .fields');
   for (const words of ['6869 “hi”', 'circle, 100 m, at 0.0108000°, 0.0000000°', '8 of 10',
@@ -183,6 +216,118 @@ test('a click on an event and on a hop goes there', async () => {
   assert.match(await text('#present'), /^Event 6,/);
   await page.click('#tree .row:nth-child(2)');
   assert.match(await text('#present'), /^Event 2,/);
+  noFault();
+});
+
+test('the path of a warning in a dense run, the sender above all', async () => {
+  const file = path.join(room, 'dense.jsonl');
+  fs.writeFileSync(file, samples.dense());
+  await show(file);
+  const kinds = await page.value('geostation.app.map.scene.links.map(({kind}) => kind)');
+  assert.equal(kinds.length, 400);
+  assert.ok(kinds.slice(-99).every((kind) => kind === 'accepted'));
+  assert.match(await text('#unseen'), /^Not drawn: 1,054 of 1,454 frames; /);
+  const top = await page.value(`(() => {
+    const sender = document.querySelector('.station.sender');
+    const {x, y, width, height} = sender.getBoundingClientRect();
+    const found = document.elementFromPoint(x + width / 2, y + height / 2);
+    return [found === sender, document.querySelectorAll('.stations .sender').length];
+  })()`);
+  assert.deepEqual(top, [true, 0]);
+  // Another warning's sender goes above in its turn, and this one back.
+  await page.value('document.getElementById("sends").scrollTop = 0');
+  await page.click('#sends [data-index="0"]');
+  assert.equal(await page.value('document.querySelectorAll("g.sender *").length'), 0);
+  noFault();
+});
+
+test('stations differ by shape, and frames by their line', async () => {
+  await show(samples.COMERS);
+  const marks = await page.value(`['sender', 'delivered', 'reached', 'missed', 'away']
+    .map((role) => document.querySelector('.station.' + role).getAttribute('d')
+      .replace(/[0-9.-]+/g, '').replace(/ /g, ''))`);
+  // Ten corners, four, four, three, and a circle; the square and the diamond are turned.
+  assert.deepEqual(marks, ['MLLLLLLLLLz', 'MLLLz', 'MLLLz', 'MLLz', 'Maaz']);
+  const first = await page.value(`['delivered', 'reached'].map((role) =>
+    Number(/^M([0-9.-]+)/.exec(document.querySelector('.station.' + role).getAttribute('d'))[1]))`);
+  assert.ok(first[0] > 5 && first[1] === 0, `${first}`);
+  assert.deepEqual(await page.value(`[...document.querySelectorAll('.key [data-mark]')].map((key) =>
+    key.getAttribute('d').replace(/[0-9.-]+/g, '').replace(/ /g, ''))`),
+  ['MLLLLLLLLLz', 'MLLLz', 'MLLLz', 'MLLz', 'Maaz', 'Maaz']);
+  noFault();
+});
+
+test('a street net is drawn beneath the run', async () => {
+  const net = path.join(room, 'town.net.xml');
+  // A street of 1 km from station 0 of the four to the north, in the zone 31 of UTM.
+  fs.writeFileSync(net, '<net><location netOffset="0,0" projParameter="+proj=utm +zone=31"/>' +
+    '<edge id="a"><lane id="a_0" shape="166021.443,0 166021.443,1000"/></edge></net>');
+  await page.choose(net);
+  await page.until('!document.getElementById("fault").hidden');
+  assert.equal(await text('#fault'),
+    'town.net.xml: A street net goes with a run. Open the run first.');
+  await show(FOUR);
+  await page.choose(net);
+  await page.until('geostation.app.map.ground.streets.length === 1');
+  const ends = await page.value(`(() => {
+    const canvas = document.getElementById('streets');
+    const {data} = canvas.getContext('2d').getImageData(0, 0, canvas.width, canvas.height);
+    let [west, east, top, bottom] = [Infinity, 0, Infinity, 0];
+    data.forEach((value, i) => {
+      if (i % 4 !== 3 || value < 128) return;
+      const [x, y] = [((i - 3) / 4) % canvas.width, Math.floor((i - 3) / 4 / canvas.width)];
+      [west, east] = [Math.min(west, x), Math.max(east, x + 1)];
+      [top, bottom] = [Math.min(top, y), Math.max(bottom, y + 1)];
+    });
+    const {e, f} = document.querySelector('[data-station="0"]').transform.baseVal[0].matrix;
+    const bar = document.querySelector('.bar').getBBox().width;
+    return {dx: (west + east) / 2 - e, dy: bottom - f, high: (bottom - top) / bar,
+      metres: document.querySelector('.bar-text').textContent};
+  })()`);
+  assert.ok(Math.abs(ends.dx) < 1.5 && Math.abs(ends.dy) < 3, JSON.stringify(ends));
+  assert.ok(Math.abs(ends.high * parseFloat(ends.metres) - 1000) < 15, JSON.stringify(ends));
+  const saved = await page.value('geostation.saving.textOf(geostation.app.map)');
+  assert.match(saved, /<path d="M[0-9.]+ [0-9.]+L[0-9.]+ [0-9.]+" fill="none" stroke="#d5dde6"/);
+  fs.writeFileSync(net, '<net><location netOffset="0,0" projParameter="!"/></net>');
+  await page.choose(net);
+  await page.until('!document.getElementById("fault").hidden');
+  assert.match(await text('#fault'), /no place on earth/);
+  noFault();
+});
+
+test('a page with a street net in it shows that beneath the run', async () => {
+  const net = '<script type="text/plain" id="net" data-name="town.net.xml">\n\\u003cnet>' +
+    '\\u003clocation netOffset="0,0" projParameter="+proj=utm +zone=31"/>\\u003cedge id="a">' +
+    '\\u003clane id="a_0" shape="166021.443,0 166021.443,1000"/>\\u003c/edge>\\u003c/net>\n</script>';
+  await openPage('net.html', whole(`${elementOf('a', fs.readFileSync(FOUR, 'utf8'))}\n${net}`));
+  await page.until('geostation.app?.map.ground.streets.length === 1');
+  assert.equal(await page.value('document.getElementById("fault").hidden'), true);
+  assert.equal(await page.value('document.getElementById("net")'), null);
+  noFault();
+});
+
+test('the map is saved as SVG, with its looks in it', async () => {
+  await show(samples.COMERS);
+  const saved = await page.value(`(() => {
+    const text = geostation.saving.textOf(geostation.app.map);
+    const file = new DOMParser().parseFromString(text, 'image/svg+xml');
+    const stars = [...file.querySelectorAll('path')].filter((mark) =>
+      mark.getAttribute('d').split('L').length === 10);
+    return {faults: file.querySelectorAll('parsererror').length, text,
+      stars: stars.map((mark) => mark.getAttribute('fill'))};
+  })()`);
+  assert.equal(saved.faults, 0);
+  assert.deepEqual(saved.stars, ['rgb(179, 69, 14)']);
+  assert.match(saved.text, /^<\?xml version="1\.0" encoding="UTF-8"\?>\n<svg xmlns=/);
+  assert.match(saved.text, /marker-end="url\(#tip-accepted\)"/);
+  assert.doesNotMatch(saved.text, /var\(|class=|file:/);
+  const name = await page.value(`(() => {
+    let name;
+    HTMLAnchorElement.prototype.click = function () { name = this.download; };
+    document.getElementById('save').click();
+    return name;
+  })()`);
+  assert.equal(name, 'comers.jsonl.svg');
   noFault();
 });
 
@@ -207,7 +352,8 @@ test('a road: areas of each shape, trails, another send', async () => {
 test('lines are as long as the scale bar says', async () => {
   await show(FOUR);
   const {bar, words, far} = await page.value(`(() => {
-    const at = (i) => document.querySelector('[data-station="' + i + '"]').cy.baseVal.value;
+    const at = (i) => document.querySelector('[data-station="' + i + '"]').transform.baseVal[0]
+      .matrix.f;
     const bar = document.querySelector('.bar').getBBox().width;
     return {bar, words: document.querySelector('.bar-text').textContent, far: at(0) - at(3)};
   })()`);
@@ -223,8 +369,12 @@ test('space plays to the end and stops', async () => {
   await page.press(' ');
   const name = 'document.getElementById("play").getAttribute("aria-label")';
   assert.equal(await page.value(name), 'Pause');
+  const signs = () => page.value(`['play', 'pause'].filter((sign) =>
+    getComputedStyle(document.querySelector('#play .' + sign)).display !== 'none')`);
+  assert.deepEqual(await signs(), ['pause']);
   await page.until('geostation.app.state.at === 7');
   await page.until(`${name} === "Play"`);
+  assert.deepEqual(await signs(), ['play']);
   noFault();
 });
 
@@ -261,7 +411,7 @@ test('why did 11 not get the second warning? two clicks', async () => {
   await page.value('document.getElementById("sample").click()');
   await page.until('document.body.dataset.state === "run"');
   assert.deepEqual(await rows('missed'),
-    ['10 lost lost on the way', '11 unheard no frame came near']);
+    ['10 lost lost on the channel', '11 unheard no frame in range']);
   assert.equal(await count('.station.sender'), 1);
   assert.equal(await count('.station.delivered'), 1);
   assert.equal(await count('.station.reached'), 8);
@@ -269,7 +419,7 @@ test('why did 11 not get the second warning? two clicks', async () => {
   assert.ok(await count('g.link.lost') > 0);
   await page.click('#sends [data-index="2"]');
   await page.click('#missed .row:nth-child(3)');
-  assert.match(await text('#why'), /^Station 11 had no frame of it\..* lost at 1\.$/);
+  assert.match(await text('#why'), /^Station 11 received no frame of it\..* lost at 1\.$/);
   assert.equal(await count('.station.missed'), 3);
   assert.equal(await count('circle.range'), 0);
   await page.click('#range');
@@ -293,7 +443,7 @@ function hue(rgb) {
   return Math.round(60 * turn + 360) % 360;
 }
 
-test('a warning at once: orange, green, blue, a red ring, grey, red dashes', async () => {
+test('a warning at once: colours and shapes of the stations', async () => {
   await show(samples.COMERS);
   await page.until('document.getAnimations().length === 0');
   const style = (selector, key) => page.value(
@@ -308,8 +458,8 @@ test('a warning at once: orange, green, blue, a red ring, grey, red dashes', asy
   assert.notEqual(await style('g.link.lost .seen', 'strokeDasharray'), 'none');
   assert.equal(await text('.bar-text'), '500 m');
   assert.deepEqual(await page.value(`[...document.querySelectorAll('.legend li')]
-    .filter((key) => !key.hidden).map((key) => key.textContent.trim())`), ['sent it', 'delivered',
-    'accepted', 'not reached', 'bystander', 'away', 'accepted', 'ignored', 'refused', 'lost',
+    .filter((key) => !key.hidden).map((key) => key.textContent.trim())`), ['sender', 'delivered',
+    'accepted', 'not reached', 'bystander', 'away', 'first copy', 'ignored', 'refused', 'lost',
     'range']);
   noFault();
 });
@@ -320,16 +470,16 @@ test('stations that come and leave: drawn faint while they are away, told by not
   await show(samples.COMERS);
   assert.equal(await page.value('document.getElementById("away").hidden'), false);
   const away = () => page.value(`[...document.querySelectorAll('.station.away')]
-    .map((dot) => Number(dot.dataset.station))`);
+    .map((dot) => Number(dot.dataset.station)).sort()`);
   assert.deepEqual(await away(), [5, 7]);
   assert.notEqual(await page.value(
     'getComputedStyle(document.querySelector(".station.away")).strokeDasharray'), 'none');
   assert.equal(await count('.station.missed'), 1);
   await pick('kind', 'came');
   assert.deepEqual(await rows('events'),
-    ['2500 5 came is there from now on', '5200 6 came is there from now on']);
+    ['2500 5 came present from now on', '5200 6 came present from now on']);
   await page.click('#events [data-index="0"]');
-  assert.equal(await text('#present'), 'Note, 2500 ms, station 5: came, is there from now on');
+  assert.equal(await text('#present'), 'Note, 2500 ms, station 5: came, present from now on');
   assert.deepEqual(await away(), [7]);
   await page.press('ArrowLeft');
   await pick('kind', 'left');
@@ -347,9 +497,9 @@ test('what was lost is listed and drawn at its sending', async () => {
   await pick('result', 'lost');
   await page.click('#events [data-index="0"]');
   const words = await text('#present');
-  const [, station, frame] = /station (\d): lost (\d+), given by station \d$/.exec(words);
+  const [, station, frame] = /station (\d): lost (\d+), sent by station \d$/.exec(words);
   assert.equal(await count(`g.link.lost.new[data-frame="${frame}"]`), 1);
-  assert.ok((await text('#packet .fate')).startsWith(`Frame ${frame}, given by station`));
+  assert.ok((await text('#packet .fate')).startsWith(`Frame ${frame}, sent by station`));
   assert.match(await text('#packet .fate'), / 1 lost it\.$/);
   const active = 'document.querySelector(".station.active").dataset.station';
   assert.equal(await page.value(active), station);
@@ -360,7 +510,7 @@ test('what was lost is listed and drawn at its sending', async () => {
   await page.click('#sends [data-index="1"]');
   await clickLine('g.link.lost .seen');
   assert.equal(await count('#packet .frame'), 1);
-  assert.match(await text('#packet .fate'), /^Frame \d+, given by station [1-4] .* 1 lost it\.$/);
+  assert.match(await text('#packet .fate'), /^Frame \d+, sent by station [1-4] .* 1 lost it\.$/);
   // Along all that is listed an arrow goes from an event to the note behind it, and on.
   await page.click('#all');
   await page.click('#sends [data-index="4"]');
@@ -434,10 +584,10 @@ test('marks of warnings lead to them; the load stands under the slider', async (
   assert.equal(await count('.mark'), 3);
   await page.click('.mark:nth-child(2)');
   assert.match(await text('#present'), /^Event 55, 3000 ms,/);
-  assert.equal(await text('#load'), 'All · 10 frames/s · air busy 0.00 % (median), ' +
-    '0.18 % (most) · 1.5 duplicates a delivery · fullest table 3');
+  assert.equal(await text('#load'), 'All · 10 frames/s · channel busy 0.00 % (median), ' +
+    '0.18 % (most) · 1.5 duplicates per delivery · largest location table 3');
   await page.click('.station[data-station="0"]');
-  assert.match(await text('#load'), /^Station 0 · 10 frames\/s · air busy 0\.18 % · /);
+  assert.match(await text('#load'), /^Station 0 · 10 frames\/s · channel busy 0\.18 % · /);
   noFault();
 });
 
@@ -451,7 +601,7 @@ test('a file of --load is shown with the run it goes with', async () => {
   await show(samples.LOSS);
   await page.choose(file);
   await page.until('document.getElementById("load").title.includes("load.csv")');
-  assert.match(await text('#load'), /^All · 10 frames\/s · air busy 0\.30 % \(median\), 0\.90 % /);
+  assert.match(await text('#load'), /^All · 10 frames\/s · channel busy 0\.30 % \(median\), 0\.90 % /);
   noFault();
 });
 
@@ -555,8 +705,8 @@ test('a file that is no run gets a sentence, and leaves the last run', async () 
     return text('#fault');
   };
   assert.match(await fault(write('photo.png', Buffer.from('89504e470d0a1a0a', 'hex'))),
-    /its first line is no JSON object/);
-  assert.match(await fault(write('empty.jsonl', '')), /it is empty/);
+    /the first line isn’t a JSON object/);
+  assert.match(await fault(write('empty.jsonl', '')), /it’s empty/);
   assert.equal(await page.value('document.body.dataset.state'), 'empty');
   await show(FOUR);
   assert.equal(await page.value('document.getElementById("fault").hidden'), true);
@@ -590,7 +740,7 @@ test('a frame is drawn by what became of it', async () => {
   })()`);
   const [thick, isDashed] = await drawn('accepted');
   const [thin, isThinDashed] = await drawn('duplicate');
-  assert.deepEqual([isDashed, isThinDashed, (await drawn('refused'))[1]], [false, false, false]);
+  assert.deepEqual([isDashed, isThinDashed, (await drawn('refused'))[1]], [false, false, true]);
   assert.deepEqual((await drawn('lost'))[1], true);
   assert.ok(thin < thick);
   assert.equal(await text('#present'),
@@ -635,6 +785,19 @@ test('a dropped file opens', async () => {
   noFault();
 });
 
+test('a run and its street net are dropped together, in any order', async () => {
+  await page.value(`(() => {
+    const data = new DataTransfer();
+    data.items.add(new File(['{"type":"LineString","coordinates":[[0,0],[0,0.001]]}'], 'a.geojson'));
+    data.items.add(new File([geostation.sample], 'dropped.jsonl'));
+    document.dispatchEvent(new DragEvent('drop', {dataTransfer: data, cancelable: true}));
+  })()`);
+  await page.until('geostation.app.map.ground.streets.length === 1');
+  assert.equal(await text('#name'), 'dropped.jsonl');
+  assert.equal(await page.value('document.getElementById("fault").hidden'), true);
+  noFault();
+});
+
 /** Serves the page and the samples. */
 function serve() {
   const server = http.createServer((request, answer) => {
@@ -657,15 +820,15 @@ test('?run= opens a file beside the page where it is served, and no other', asyn
   assert.match(await text('#totals'), /^4 stations · 8 events/);
   await page.go(`${top}?run=none.jsonl`);
   await page.until('!document.getElementById("fault").hidden');
-  assert.match(await text('#fault'), /the server answered 404/);
+  assert.match(await text('#fault'), /The server answered 404/);
   await page.go(`${top}?run=http://127.0.0.2/x`);
   await page.until('!document.getElementById("fault").hidden');
-  assert.match(await text('#fault'), /served beside this page/);
+  assert.match(await text('#fault'), /only files from the server of this page/);
   server.closeAllConnections();
   server.close();
   await page.go(`${URL_OF_PAGE}?run=test/data/four.jsonl`);
   await page.until('!document.getElementById("fault").hidden');
-  assert.match(await text('#fault'), /served beside this page/);
+  assert.match(await text('#fault'), /only files from the server of this page/);
 });
 
 test('1000 stations and 200,000 events open and step without stalling', async (context) => {

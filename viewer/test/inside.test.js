@@ -19,27 +19,51 @@ const DATA = path.join(TOP, '..', 'cases', 'data');
 /** A name of a vehicle that would end the element, begin a comment, and is no ASCII. */
 const NAME = '</script><!--<script>&amp;\u00e9';
 
-/** What the page opens of an element with this text. */
-async function opened(textContent, name) {
-  const element = {textContent, dataset: {name}, isThere: true};
-  element.remove = () => (element.isThere = false);
-  globalThis.document = {getElementById: (id) => (id === 'inside' ? element : undefined)};
-  const runs = [];
-  await open.inside(async (blob, called) => runs.push([await blob.text(), called]));
+/** What the page does with elements of these texts and attributes: what it opens and refuses. */
+async function opened(texts) {
+  const elements = new Map(Object.entries(texts).map(([id, {text, ...dataset}]) =>
+    [id, {get textContent() { return text(); }, dataset, remove: () => elements.delete(id)}]));
+  globalThis.document = {getElementById: (id) => elements.get(id)};
+  const [runs, refusals] = [[], []];
+  await open.inside(async (blob, called) => runs.push([await blob.text(), called]),
+    (name, why) => refusals.push([name, why]));
   delete globalThis.document;
-  assert.equal(element.isThere, false);
-  return runs;
+  assert.equal(elements.size, 0);
+  return {runs, refusals};
 }
 
-test('the run that stands in the page is opened under its name', async () => {
-  assert.deepEqual(await opened('\n{"stations":[]}\n', 'a.jsonl'), [
-    ['{"stations":[]}\n', 'a.jsonl'],
-  ]);
+test('the run in the page is opened under its name, and then its street net', async () => {
+  const inside = {text: () => '\n{"stations":[]}\n', name: 'a.jsonl'};
+  assert.deepEqual(await opened({inside}), {runs: [['{"stations":[]}\n', 'a.jsonl']],
+    refusals: []});
+  const net = {text: () => '\n\\u003cnet>\\u003c/net>\n', name: 'town.net.xml'};
+  assert.deepEqual((await opened({inside, net})).runs.at(-1), ['<net></net>\n', 'town.net.xml']);
+  const json = {text: () => '\n{"name":"\\u003c"}\n', name: 'a.geojson'};
+  assert.deepEqual((await opened({inside, net: json})).runs.at(-1),
+    ['{"name":"\\u003c"}\n', 'a.geojson']);
 });
 
-test('where none stands there, none is opened', async () => {
-  assert.deepEqual(await opened('', undefined), []);
-  assert.deepEqual(await opened('\n', undefined), []);
+test('if there is no run in the page, none is opened', async () => {
+  assert.deepEqual(await opened({inside: {text: () => ''}}), {runs: [], refusals: []});
+});
+
+test('a run that the browser can’t read is reported', async () => {
+  const {runs, refusals} = await opened({inside: {text: () => '', name: 'big.toml'}});
+  assert.deepEqual(runs, []);
+  assert.equal(refusals[0][0], 'big.toml');
+  assert.match(refusals[0][1], /can’t read it.*too large.*Drop the file of the run here/);
+  const fails = () => {
+    throw new RangeError('Invalid string length');
+  };
+  assert.match((await opened({inside: {text: fails, name: 'a'}})).refusals[0][1], /can’t read it/);
+});
+
+test('a run or a net that was too large for the page is named with the way to open it', async () => {
+  const why = async (large) =>
+    (await opened({inside: {text: () => '', name: 'a', large}})).refusals[0][1];
+  assert.match(await why('lines'), /run is too large.*Drop its file here/);
+  assert.match(await why('scenario'), /too large.*“geostation sim --json”.*drop that file here/);
+  assert.match(await why('net'), /street net is too large.*without “--net”/);
 });
 
 /** Why the program can't be asked; false where it can. */

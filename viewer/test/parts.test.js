@@ -195,35 +195,35 @@ test('a line without an end is refused before it fills the memory', async () => 
   const endless = reading.read((async function* () {
     for (; pieces < 64; pieces += 1) yield new Uint8Array(1 << 20).fill(120);
   })());
-  await assert.rejects(endless, /a line has no end/);
+  await assert.rejects(endless, /a line is too long/);
   assert.ok(pieces < 20);
 });
 
 test('what is no run is refused with a sentence', async () => {
   const open = '{"event":0,"moment":0,"station":0,"do":"open","result":"opened"}';
   const cases = [
-    ['', /it is empty/], ['\x89PNG\r\n', /its first line is no JSON object/],
-    ['[]\n', /its first line is no JSON object/], ['{"a":1}\n', /has no “stations”/],
-    ['{"send":1,"moment":2}\n', /summary/], ['{"stations":[{}]}\n', /station 0 has no address/],
-    ['{"stations":[{"address":"1400020000000001","lat":900000001,"lon":0}]}', /no place/],
+    ['', /it’s empty/], ['\x89PNG\r\n', /the first line isn’t a JSON object/],
+    ['[]\n', /the first line isn’t a JSON object/], ['{"a":1}\n', /has no “stations”/],
+    ['{"send":1,"moment":2}\n', /summary/], ['{"stations":[{}]}\n', /station 0 has no valid address/],
+    ['{"stations":[{"address":"1400020000000001","lat":900000001,"lon":0}]}', /no valid position/],
     [`${HEAD}\n${open.slice(0, 20)}`, /^Line 2 .* cut/], [`${HEAD}\n\n`, /^Line 2 /],
-    [`${HEAD}\n${open}\n${open}\n`, /^Line 3 .*“event” isn't 1/],
+    [`${HEAD}\n${open}\n${open}\n`, /^Line 3 .*“event” isn’t 1/],
     [`${HEAD}\n${open.replace('"moment":0', '"moment":-1')}`, /“moment”/],
     [`${HEAD}\n${open.replace('"station":0', '"station":"0"')}`, /“station”/],
     [`${HEAD}\n${open.replace('open"', 'fly"')}`, /“do”/],
     [`${HEAD}\n${open.replace('open"', 'constructor"')}`, /“do”/],
     [`${HEAD}\n{"note":"gone","moment":1}`, /“note” is unknown/],
     [`${HEAD}\n{"note":"lost","moment":1,"station":0}`, /“frame”/],
-    [`${HEAD}\n{"station":2,"address":"1400020000000003","lat":0,"lon":0}`, /isn't 1/],
-    [HEAD.replace('}]}', '}],"air":{}}'), /air has no range/],
+    [`${HEAD}\n{"station":2,"address":"1400020000000003","lat":0,"lon":0}`, /isn’t 1/],
+    [HEAD.replace('}]}', '}],"air":{}}'), /“range” of “air” is missing/],
     [`${HEAD}\n{"send":1,"missed":[1]}`, /“missed”/],
     [`${HEAD}\n${open.replace('opened', 'gone')}`, /“result”/],
-    [`${HEAD}\n${open.replace('opened"', 'sent","sent":1')}`, /“sent” isn't 0/],
+    [`${HEAD}\n${open.replace('opened"', 'sent","sent":1')}`, /“sent” isn’t 0/],
     [`${HEAD}\n${open.replace('opened"', 'sent","sent":0,"octets":"0"')}`, /“octets”/],
     [`${HEAD}\n${open.replace('opened', 'ignored')}`, /“why”/],
     [`${HEAD}\n${open.replace('opened', 'refused')}`, /“code”/],
     [`${HEAD}\n${open.replace('open"', 'deliver"')}`, /“frame”/],
-    [`${HEAD}\n${open.replace('open"', 'move"')}`, /a move has no place/],
+    [`${HEAD}\n${open.replace('open"', 'move"')}`, /position of the move is missing/],
   ];
   for (const [text, sentence] of cases) {
     await assert.rejects(read(text), (fault) => {

@@ -66,15 +66,15 @@ test('notes are listed among the events, by kind, result and station', async () 
   const run = await read(COMERS);
   const list = (chosen) => Array.from(filter.rows(run, chosen), (place) => run.entries.at(place))
     .map(({event, note}) => (note === undefined ? event : words.ofNote(run, note)));
-  const comes = 'Note, 5200 ms, station 6: came, is there from now on';
+  const comes = 'Note, 5200 ms, station 6: came, present from now on';
   assert.deepEqual(list({kind: 'came'}),
-    ['Note, 2500 ms, station 5: came, is there from now on', comes]);
-  assert.deepEqual(list({kind: 'left'}), ['Note, 3500 ms, station 6: left, is away from now on']);
+    ['Note, 2500 ms, station 5: came, present from now on', comes]);
+  assert.deepEqual(list({kind: 'left'}), ['Note, 3500 ms, station 6: left, away from now on']);
   assert.equal(list({station: 6}).filter((row) => typeof row === 'string').length, 3);
   assert.ok(list({station: 6}).includes(comes));
   const lost = list({kind: 'gbc', result: 'lost'});
-  assert.equal(lost.at(-1), 'Note, 6000 ms, station 1: lost 28, given by station 0');
-  assert.ok(lost.every((row) => /: lost \d+, given by station \d$/.test(row)));
+  assert.equal(lost.at(-1), 'Note, 6000 ms, station 1: lost 28, sent by station 0');
+  assert.ok(lost.every((row) => /: lost \d+, sent by station \d$/.test(row)));
   assert.ok(list({result: 'lost'}).length > lost.length);
 });
 
@@ -82,7 +82,7 @@ test('a note of an event that isn’t run, and of a moment past what a number ho
   const run = await readLines([{stations: stations(1)},
     {note: 'absent', moment: 3000, id: '<script>'}]);
   assert.equal(words.ofNote(run, 0),
-    'Note, 3000 ms, station <script>: absent, is away: its event isn’t run');
+    'Note, 3000 ms, station <script>: absent, away: its event isn’t run');
   const text = '{"stations":[]}\n{"note":"left","moment":4611686018427387903,"station":0}';
   assert.equal((await read(text)).noteMoment(0), '4611686018427387903');
 });

@@ -70,6 +70,30 @@ function road() {
   return world.run();
 }
 
+/**
+ * A hundred vehicles in streets 200 m apart, each in range of many others. Vehicle 50 warns all
+ * within 500 m, and most frames of the warning are duplicates to most that receive them.
+ */
+function dense() {
+  let seed = 3;
+  const draw = (below) => {
+    seed = (seed * 1103515245 + 12345) % 2 ** 31;
+    return Math.floor((seed / 2 ** 31) * below);
+  };
+  const shrink = Math.cos((48.137 * Math.PI) / 180);
+  const places = Array.from({length: 100}, (_, i) => {
+    const [along, street] = [draw(1200), 200 * draw(7)];
+    const [east, north] = i % 2 === 0 ? [along, street] : [street, along];
+    return {lat: 481366820 + Math.round(north / 0.011132),
+      lon: 115754230 + Math.round(east / (0.011132 * shrink))};
+  });
+  const world = new World({range: 300, until: 2000}, places);
+  for (let i = 0; i < 100; i += 1) if (i !== 50) world.put(0, i, 'open', {port: 2002});
+  const area = {shape: 'circle', ...places[50], a: 500, b: 0, angle: 0};
+  world.put(1000, 50, 'gbc', {area, port: 2002, payload: '696365'});
+  return world.run();
+}
+
 /** In the city one station in so many comes, and one leaves. */
 const COMERS_EVERY = 50;
 
@@ -265,4 +289,4 @@ ${loss()}\`.slice(1);
 `;
 }
 
-module.exports = {four, road, town, city, kept, loss, pageSample, DATA, LOSS, COMERS};
+module.exports = {dense, four, road, town, city, kept, loss, pageSample, DATA, LOSS, COMERS};

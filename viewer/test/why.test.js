@@ -114,7 +114,7 @@ test('without an air’s range what was nearer than others heard was likely lost
   const {missed: misses} = why.judge(found, way.follow(found).sends[0]);
   assert.deepEqual(misses.map(({station, reason: word, isLikely = false}) =>
     [station, word, isLikely]), [[1, 'unheard', true], [3, 'unheard', false]]);
-  assert.deepEqual(misses.map(reason.short), ['likely lost on the way', 'no frame came near']);
+  assert.deepEqual(misses.map(reason.short), ['likely lost on the channel', 'no frame in range']);
 });
 
 test('reasons that the summary tells behind the run are taken', async () => {
@@ -132,9 +132,9 @@ test('the road with losses: each station without a warning, with its reason', as
     [miss.station, miss.reason])),
   [[[10, 'lost'], [11, 'unheard']], [[9, 'unheard'], [10, 'unheard'], [11, 'unheard']], []]);
   const words = reason.sentence(found, sends[1], judged[1].missed[2]);
-  assert.match(words, /^Station 11 had no frame of it\. The nearest, frame 22, was given by /);
-  assert.match(words, /station 0 \d+ m away; they are heard within 500 m\. Its way ended at /);
-  assert.match(words, / station 0, whose frame 22 was lost at 1\.$/);
+  assert.match(words, /^Station 11 received no frame of it\. The nearest was frame 22, sent by /);
+  assert.match(words, /station 0 \d+ m away\. The range is 500 m\. The path ended at /);
+  assert.match(words, / station 0\. Its frame 22 was lost at 1\.$/);
 });
 
 test('each frame of that road was delivered or lost at each station in range', async () => {
@@ -225,8 +225,10 @@ test('lost copies are arcs of the map, from the giver to who lost them', async (
   const found = await read(samples.loss());
   const followed = way.follow(found);
   const chosen = followed.sends[1];
-  const state = {run: found, at: chosen.event, chosen, ...followed, steps: way.tree(found, chosen),
-    deliveries: way.deliveries(found, chosen), judgement: why.judge(found, chosen), frames: {}};
+  const steps = way.tree(found, chosen);
+  const state = {run: found, at: chosen.event, chosen, ...followed, steps,
+    path: way.path(found, steps), deliveries: way.deliveries(found, chosen),
+    judgement: why.judge(found, chosen), frames: {}};
   const shown = scene.scene(state, {links: 400, circles: 60, isRange: true});
   assert.deepEqual(shown.links.map(({from, to, kind, frame}) => [from, to, kind, frame]),
     [[0, 1, 'lost', 22]]);
@@ -236,8 +238,54 @@ test('lost copies are arcs of the map, from the giver to who lost them', async (
     isRange: true});
   assert.deepEqual(before.links, []);
   const few = scene.scene({...state, at: way.end(found, followed.sends[2]),
-    chosen: followed.sends[2], deliveries: way.deliveries(found, followed.sends[2])},
+    chosen: followed.sends[2], deliveries: way.deliveries(found, followed.sends[2]),
+    path: way.path(found, way.tree(found, followed.sends[2]))},
   {links: 5, circles: 3, isRange: true});
   assert.equal(few.links.length, 5);
   assert.match(few.unseen.join('; '), /^\d+ of \d+ frames; 9 circles$/);
 });
+
+/** What the page shows of the hundred vehicles once their warning has ended. */
+async function denseState() {
+  const found = await read(samples.dense());
+  const followed = way.follow(found);
+  const [chosen] = followed.sends;
+  const steps = way.tree(found, chosen);
+  return {run: found, at: way.end(found, chosen), chosen, ...followed, steps,
+    path: way.path(found, steps), deliveries: way.deliveries(found, chosen),
+    judgement: why.judge(found, chosen), frames: {}};
+}
+
+test('of more frames than there is room for, those along the path are drawn, above the others',
+  async () => {
+    const state = await denseState();
+    const shown = (links) => scene.scene(state, {links, circles: 60, isRange: false});
+    const {links, unseen} = shown(400);
+    assert.equal(links.length, 400);
+    const accepted = links.filter(({kind}) => kind === 'accepted').map(({to}) => to);
+    // Each vehicle but the sender accepted the warning once.
+    assert.deepEqual([...accepted].sort((a, b) => a - b),
+      [...Array(100).keys()].filter((i) => i !== 50));
+    assert.ok(links.slice(-99).every(({kind}) => kind === 'accepted'));
+    assert.match(unseen.join(), /^1,054 of 1,454 frames$/);
+    // The latest of the others have the rest of the room, in the order of the run.
+    const others = links.slice(0, 301).map(({event}) => event);
+    assert.deepEqual(others, [...state.deliveries].filter((event) =>
+      !state.path.events.includes(event)).slice(-301));
+  });
+
+test('of a path with more frames than there is room for, those that were forwarded come first',
+  async () => {
+    const state = await denseState();
+    const {size} = state.path.forwarded;
+    assert.ok(size > 5 && size < 60, `${size}`);
+    const {links} = scene.scene(state, {links: 60, circles: 60, isRange: false});
+    assert.equal(links.length, 60);
+    assert.ok(links.every(({kind}) => kind === 'accepted'));
+    const drawn = new Set(links.map(({event}) => event));
+    assert.ok([...state.path.forwarded].every((event) => drawn.has(event)));
+    // Each arc of them begins at the sender or where another that was forwarded ends.
+    const ends = new Set([...state.path.forwarded].map((event) =>
+      state.run.events.station.values[event]));
+    assert.ok(links.every(({from}) => from === 50 || ends.has(from)));
+  });
