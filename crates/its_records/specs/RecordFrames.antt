@@ -21,11 +21,14 @@ use Rattle.its_records.specs.declared.refusal.RecordFault.TheVariants as faults
 
 -- ---- the frame of a record
 
--- what is read of the octets that a link layer carries: Ethernet fills short frames up
+-- what is read of the octets that a link layer carries: Ethernet fills short frames up, and cooked
+-- captures have them as they came
 abbrev pub IsReadAs : LinkLayer → List ℕ → List ℕ → Type 0
 IsReadAs layers.Ethernet carried text = IsUnpadded carried text
 IsReadAs layers.Ieee80211 carried text = text ≡ carried
 IsReadAs layers.Radiotap carried text = text ≡ carried
+IsReadAs layers.Sll carried text = IsUnpadded carried text
+IsReadAs layers.Sll2 carried text = IsUnpadded carried text
 
 -- what is read of a record's octets: all, or, where they have the header of their link layer, what
 -- that carries
