@@ -1,12 +1,16 @@
 """Layers of scapy for GeoNetworking and BTP-B, where scapy is installed: nothing else needs this.
 
-`GeoNetworking` is bound to the Ethernet type 0x8947, and `BTPB` to it: the Basic Header, the Common
-Header and the extended header of EN 302 636-4-1 are one layer, whose last fields hang on the type.
+`GeoNetworking` is bound to the Ethernet type 0x8947, also behind SNAP (IEEE 802.11, radiotap), a VLAN
+tag and the header of a Linux cooked capture, and `BTPB` is bound to it. The Basic Header, the Common
+Header and the extended header of EN 302 636-4-1 are one layer, whose last fields depend on the type.
+
+`fuzz` is scapy's `fuzz`, but it keeps the fields that a receiver checks first, so that packets get past
+them.
 """
 
 from __future__ import annotations
 
-from typing import Any
+from typing import Any, Iterable
 
 from scapy.fields import (
     BitEnumField,
@@ -21,8 +25,9 @@ from scapy.fields import (
     XIntField,
     XLongField,
 )
-from scapy.layers.l2 import Ether
+from scapy.layers.l2 import SNAP, CookedLinux, Dot1AD, Dot1Q, Ether
 from scapy.packet import Packet, bind_layers
+from scapy.packet import fuzz as fuzz_all
 
 BEACON, ANYCAST, BROADCAST, SINGLE_HOP = 1, 3, 4, 5
 TYPES = {BEACON: "beacon", ANYCAST: "gac", BROADCAST: "gbc", SINGLE_HOP: "shb"}
@@ -103,5 +108,38 @@ class BTPB(Packet):  # type: ignore[misc]
     fields_desc = [ShortField("port", 0), ShortField("info", 0)]
 
 
+# Fields that lead to the rest of a packet: a receiver that finds another value in one reads no further.
+LEADING = (
+    "version",
+    "basic_next",
+    "reserved",
+    "next_header",
+    "common_reserved",
+    "type",
+    "subtype",
+    "flags",
+    "common_reserved_2",
+    "number_reserved",
+    "area_reserved",
+)
+
+
+def fuzz(packet: Any, keep: Iterable[str] = LEADING) -> Any:
+    """Returns a copy of a packet that draws each field that isn't set at random, as scapy's `fuzz`.
+
+    The fields of `GeoNetworking` in `keep` stay as they are.
+    """
+    fuzzed = fuzz_all(packet)
+    layer = fuzzed.getlayer(GeoNetworking)
+    if layer is not None:
+        for name in keep:
+            layer.default_fields[name] = layer.get_field(name).default
+    return fuzzed
+
+
 bind_layers(Ether, GeoNetworking, type=0x8947)
+bind_layers(Dot1Q, GeoNetworking, type=0x8947)
+bind_layers(Dot1AD, GeoNetworking, type=0x8947)
+bind_layers(SNAP, GeoNetworking, OUI=0, code=0x8947)
+bind_layers(CookedLinux, GeoNetworking, proto=0x8947)
 bind_layers(GeoNetworking, BTPB, next_header=2)

@@ -15,6 +15,7 @@ mod rows;
 mod showing;
 mod text;
 mod told;
+mod utc;
 mod written;
 
 pub use checking::check;
@@ -25,3 +26,4 @@ pub use importing::{LineFault, LinesFault, read_lines, write_records};
 pub use its_records::{Choice, Kinds, Selection};
 pub use moment::Time;
 pub use showing::{Showing, show};
+pub use utc::utc_moment;

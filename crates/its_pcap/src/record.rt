@@ -70,7 +70,7 @@ impl RecordFault {
 impl fmt::Display for RecordFault {
     fn fmt<W: fmt::Write>(&self, f: &mut fmt::Formatter<W>) -> fmt::Result {
         let sentence = match self {
-            RecordFault::LinkType => "a link layer other than Ethernet, IEEE 802.11 and radiotap",
+            RecordFault::LinkType => "a link layer that is not read",
             RecordFault::CutFrame => "fewer octets were captured than were on the wire",
         };
         write!(f, "{sentence}")

@@ -16,6 +16,8 @@ abbrev pub IsUnfilled : LinkLayer → List ℕ → List ℕ → Type 0
 IsUnfilled layers.Ethernet frame octets = IsUnpadded frame octets
 IsUnfilled layers.Ieee80211 frame octets = octets ≡ frame
 IsUnfilled layers.Radiotap frame octets = octets ≡ frame
+IsUnfilled layers.Sll frame octets = IsUnpadded frame octets
+IsUnfilled layers.Sll2 frame octets = IsUnpadded frame octets
 
 -- the octets that a station hears of a record of this link layer
 abbrev pub IsFrameOf : LinkLayer → List ℕ → List ℕ → Type 0

@@ -75,6 +75,8 @@ fn unfilled(layer: LinkLayer, frame: &[u8]) -> &[u8]
 {
     match layer {
         LinkLayer::Ethernet => without_padding(frame),
+        LinkLayer::Sll => without_padding(frame),
+        LinkLayer::Sll2 => without_padding(frame),
         LinkLayer::Ieee80211 | LinkLayer::Radiotap => frame,
     }
 }
