@@ -97,17 +97,29 @@ pub struct Place {
     pub number: u64,
     /// Its moment, in milliseconds.
     pub moment: u64,
+    /// The nanoseconds of its time below the millisecond.
+    pub nanos: u32,
     /// The moment of the file's first record.
     pub first: u64,
+    /// The nanoseconds of that below the millisecond.
+    pub first_nanos: u32,
+    /// The number of its interface, from 0.
+    pub interface: u32,
 }
 
 impl Place {
-    /// The place behind so many records, of which the first has this moment, if there is one.
-    fn of(number: u64, head: &RecordHeader, first: Option<u64>) -> Place {
+    /// The place behind so many records, of which the first has this moment and these nanoseconds
+    /// below it, if there is one.
+    fn of(number: u64, head: &RecordHeader, first: Option<(u64, u32)>) -> Place {
+        let (moment, nanos) = (head.moment, head.fine.nanos);
+        let (first, first_nanos) = first.unwrap_or((moment, nanos));
         Place {
             number,
-            moment: head.moment,
-            first: first.unwrap_or(head.moment),
+            moment,
+            nanos,
+            first,
+            first_nanos,
+            interface: head.interface,
         }
     }
 }
@@ -247,7 +259,7 @@ fn walk<'a, S: RecordSource, V: RecordVisitor, W: Write>(
         match source.next_into(octets) {
             Ok(Step::Record(head)) => {
                 let place = Place::of(walked.read, &head, first);
-                first = Some(place.first);
+                first = Some((place.first, place.first_nanos));
                 walked.read += 1;
                 match visit(selection, place, &head, octets, linked, visitor, out)? {
                     Visited::Passed => {}
@@ -258,7 +270,7 @@ fn walk<'a, S: RecordSource, V: RecordVisitor, W: Write>(
                     }
                 }
             }
-            Ok(Step::Passed) => {}
+            Ok(Step::Interface | Step::Passed) => {}
             Ok(Step::End) => return Ok((walked, None)),
             Err(fault) => return Ok((walked, Some(fault))),
         }
