@@ -9,6 +9,7 @@ mod field;
 mod files;
 mod frame_line;
 mod importing;
+mod losses;
 mod moment;
 mod output;
 mod rows;

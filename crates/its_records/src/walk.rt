@@ -112,8 +112,14 @@ pub struct Place {
     pub number: u64,
     /// Its moment, in milliseconds.
     pub moment: u64,
+    /// The nanoseconds of its time below the millisecond.
+    pub nanos: u32,
     /// The moment of the file's first record.
     pub first: u64,
+    /// The nanoseconds of that below the millisecond.
+    pub first_nanos: u32,
+    /// The number of its interface, from 0.
+    pub interface: u32,
     /// How many of its octets the file has.
     pub length: u32,
     /// What the headers of its link layer say.
@@ -123,19 +129,24 @@ pub struct Place {
 }
 
 impl Place {
-    /// The place behind so many records, of which the first has this moment, if there is one, of a
-    /// record with these octets.
+    /// The place behind so many records, of which the first has this moment and these nanoseconds
+    /// below it, if there is one, of a record with these octets.
     fn of(
         number: u64,
         head: &RecordHeader,
-        first: Option<u64>,
+        first: Option<(u64, u32)>,
         octets: &[u8],
         linked: bool,
     ) -> Place {
+        let (moment, nanos) = (head.moment, head.fine.nanos);
+        let (first, first_nanos) = first.unwrap_or((moment, nanos));
         Place {
             number,
-            moment: head.moment,
-            first: first.unwrap_or(head.moment),
+            moment,
+            nanos,
+            first,
+            first_nanos,
+            interface: head.interface,
             length: head.captured,
             link: link_facts(head, octets, linked),
             known: None,
@@ -250,11 +261,15 @@ pub fn each_record<'a, S: Source + Drop, V: RecordVisitor, W: Write>(
     let (walked, first, fault) = ended?;
     match fault {
         Some(fault) => {
+            let begun = match first {
+                Some((moment, _)) => Some(moment),
+                None => None,
+            };
             let told = FileFault::of(fault, file, walked.read, selection.format)?;
             Ok(Walked {
                 records: walked.records,
                 refused: walked.refused,
-                fault: Some(told.begun(source.format(), first)),
+                fault: Some(told.begun(source.format(), begun)),
                 read: walked.read,
             })
         }
@@ -273,7 +288,7 @@ fn walk<'a, S: RecordSource, V: RecordVisitor, W: Write>(
     octets: &mut Vec<u8>,
     visitor: &mut V,
     out: &mut W,
-) -> Result<(Walked, Option<u64>, Option<SourceFault>), Fault<'a>>
+) -> Result<(Walked, Option<(u64, u32)>, Option<SourceFault>), Fault<'a>>
     ensures { IfOk result (λ ended. ended.0.refused ≤ ended.0.records) }
 {
     let mut walked = Walked::begin();
@@ -291,7 +306,7 @@ fn walk<'a, S: RecordSource, V: RecordVisitor, W: Write>(
         match source.next_into(octets) {
             Ok(Step::Record(head)) => {
                 let place = Place::of(walked.read, &head, first, octets.as_slice(), linked);
-                first = Some(place.first);
+                first = Some((place.first, place.first_nanos));
                 walked.read += 1;
                 let visited = if selection.partial && linked && is_cut(&head) {
                     visit_cut(selection, place, &head, octets, &mut room, visitor, out)?
@@ -307,7 +322,7 @@ fn walk<'a, S: RecordSource, V: RecordVisitor, W: Write>(
                     }
                 }
             }
-            Ok(Step::Passed) => {}
+            Ok(Step::Interface | Step::Passed) => {}
             Ok(Step::End) => return Ok((walked, first, None)),
             Err(fault) => return Ok((walked, first, Some(fault))),
         }

@@ -65,6 +65,7 @@ abbrev pub TellsStep : Choice → Bool → List ℕ → Result Step SourceFault 
     → List Heard → StationModel → Type 0
 TellsStep choice linked w (Ok (steps.Record head)) s told next =
     TellsRecord choice linked head w s told next
+TellsStep choice linked w (Ok steps.Interface) s told next = (told ≡ []) × (next ≡ s)
 TellsStep choice linked w (Ok steps.Passed) s told next = (told ≡ []) × (next ≡ s)
 TellsStep choice linked w (Ok steps.End) s told next = (told ≡ []) × (next ≡ s)
 TellsStep choice linked w (Err fault) s told next = (told ≡ []) × (next ≡ s)
@@ -88,6 +89,7 @@ TellsSteps {S} gives choice linked file s (given ∷ more) told left end =
 -- how many records one call gave, and why it gave none
 abbrev pub records_of : Result Step SourceFault → ℕ
 records_of (Ok (steps.Record head)) = 1
+records_of (Ok steps.Interface) = 0
 records_of (Ok steps.Passed) = 0
 records_of (Ok steps.End) = 0
 records_of (Err fault) = 0

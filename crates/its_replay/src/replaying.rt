@@ -138,6 +138,7 @@ fn go_on<'f, S: RecordSource, K: HeardSink>(
 {
     match source.next_into(octets) {
         Ok(Step::Record(head)) => { hear(alloc, station, choice, &head, linked, octets, sink) }
+        Ok(Step::Interface) => Ok(Gone::NoRecord),
         Ok(Step::Passed) => Ok(Gone::NoRecord),
         Ok(Step::End) => Ok(Gone::End(None)),
         Err(fault) => Ok(Gone::End(Some(fault))),
