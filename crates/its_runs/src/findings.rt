@@ -23,8 +23,6 @@ pub(crate) struct Findings<'s, 'a, W: Write + Drop> {
     full: FullTables,
     audiences: Audiences,
     results: Results<'a, W>,
-    /// Whether nothing is told but what makes the status another than `Done`.
-    quiet: bool,
 }
 
 impl<'s, 'a, W: Write + Drop> Findings<'s, 'a, W> {
@@ -43,7 +41,6 @@ impl<'s, 'a, W: Write + Drop> Findings<'s, 'a, W> {
             full: FullTables::new(),
             audiences: Audiences::new(alloc, scenario, are_wanted)?,
             results,
-            quiet: options.quiet,
         })
     }
 
@@ -105,7 +102,7 @@ impl<'s, 'a, W: Write + Drop> Findings<'s, 'a, W> {
         requires { IsCommandStatus status }
         ensures { IsCommandStatus result }
     {
-        self.tell_full(err);
+        self.report_full(err);
         let are_met = self.report_unmet(err);
         if are_met || status != Status::Done {
             status
@@ -126,7 +123,7 @@ impl<'s, 'a, W: Write + Drop> Findings<'s, 'a, W> {
         ensures { IfOk result IsCommandStatus }
     {
         if is_cut_short(&fault) {
-            self.tell_full(&mut io.err);
+            self.report_full(&mut io.err);
         }
         match fault_of_air(fault, moves) {
             RunFault::Stopped(fault) => Err(fault),
@@ -134,9 +131,9 @@ impl<'s, 'a, W: Write + Drop> Findings<'s, 'a, W> {
         }
     }
 
-    /// Tells that location tables were full, in an air and unless it is quiet.
-    fn tell_full<E: Write>(&self, err: &mut E) {
-        if self.scenario.air.is_some() && !self.quiet {
+    /// Reports that location tables were full, in an air: the numbers of the run are wrong then.
+    fn report_full<E: Write>(&self, err: &mut E) {
+        if self.scenario.air.is_some() {
             self.full.report(err);
         }
     }
