@@ -3,9 +3,11 @@
 ghost use Rattle.std.specs.Prelude.{IfOk};
 ghost use Rattle.its_reporting.specs.Statuses.{IsCommandStatus};
 
+use crate::asked::Asked;
 use crate::course::Course;
 use crate::fault::{RunFault, fault_of_air, is_cut_short};
 use its_air::AirFault;
+use its_frame_text::Explanation;
 use its_gnvalue::NoMemory;
 use its_reporting::{Fault, Io, Status};
 use its_results::{Audience, Audiences, FullTables, Results};
@@ -89,7 +91,7 @@ impl<'s, 'a, W: Write + Drop> Findings<'s, 'a, W> {
         ensures { IfOk result IsCommandStatus }
     {
         let told = match ran {
-            Ok(status) => Ok(self.tell(status, &mut io.err)),
+            Ok(status) => Ok(self.tell(status, io)),
             Err(fault) => self.tell_fault(fault, moves, io),
         };
         self.results.end(told)
@@ -98,12 +100,13 @@ impl<'s, 'a, W: Write + Drop> Findings<'s, 'a, W> {
     /// Tells on standard error what was found out about a run with this status: that location
     /// tables were full, and each expectation that isn't met. `Refused` where one isn't, of a run
     /// that is done.
-    fn tell<E: Write>(&self, status: Status, err: &mut E) -> Status
+    fn tell<P, E: Write>(&self, status: Status, io: &mut Io<P, E>) -> Status
         requires { IsCommandStatus status }
         ensures { IsCommandStatus result }
     {
+        let (explain, err) = (io.format.explain, &mut io.err);
         self.report_full(err);
-        let are_met = self.report_unmet(err);
+        let are_met = self.report_unmet(explain, err);
         if are_met || status != Status::Done {
             status
         } else {
@@ -138,19 +141,27 @@ impl<'s, 'a, W: Write + Drop> Findings<'s, 'a, W> {
         }
     }
 
-    /// Tells of each expectation that isn't met, and gives whether there is none.
-    fn report_unmet<E: Write>(&self, err: &mut E) -> bool {
+    /// Reports each expectation that isn't met, with `explain` what it asks for. Returns whether
+    /// each is met.
+    fn report_unmet<E: Write>(&self, explain: bool, err: &mut E) -> bool {
         let mut are_met = true;
         for (number, expectation) in self.scenario.expectations.iter().enumerate() {
-            are_met &= self.report_one(number, expectation, err);
+            let asked = Explanation(explain.then_some(Asked(*expectation)));
+            are_met &= self.report_one(number, expectation, asked, err);
         }
         are_met
     }
 
-    /// Tells of an expectation that isn't met, and gives whether it is.
-    fn report_one<E: Write>(&self, number: usize, expectation: &Expectation, err: &mut E) -> bool {
+    /// Reports an expectation that isn't met, with what it asks for. Returns whether it is met.
+    fn report_one<E: Write>(
+        &self,
+        number: usize,
+        expectation: &Expectation,
+        asked: Explanation<Asked>,
+        err: &mut E,
+    ) -> bool {
         let Some(audience) = self.audiences.get(expectation.send) else {
-            let _ = writeln!(err, "geostation: expect {number}: no such send");
+            let _ = writeln!(err, "geostation: expect {number}: no such send{asked}");
             return false;
         };
         let size = audience.size();
@@ -162,7 +173,7 @@ impl<'s, 'a, W: Write + Drop> Findings<'s, 'a, W> {
         if reached < wanted {
             let _ = writeln!(
                 err,
-                "geostation: expect {number}: reached {reached} of {size}"
+                "geostation: expect {number}: reached {reached} of {size}{asked}"
             );
         }
         reached >= wanted

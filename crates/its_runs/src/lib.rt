@@ -1,6 +1,7 @@
 //! The command `sim`: a scenario is run, its lines are printed, and its frames go to a file.
 #![tactic(auto)]
 
+mod asked;
 mod bad_row;
 mod both;
 mod course;
@@ -8,6 +9,7 @@ mod fault;
 mod files;
 mod findings;
 mod frames;
+mod in_file;
 mod input;
 mod options;
 mod outputs;

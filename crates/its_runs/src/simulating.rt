@@ -6,7 +6,7 @@ ghost use Rattle.its_runs.specs.Runs.{EndsRun, IsMovedStatus, IsRunStatus};
 
 use crate::both::Both;
 use crate::course::Course;
-use crate::fault::{RunFault, is_cut_short};
+use crate::fault::{RunFault, fault_of_scenario, is_cut_short};
 use crate::findings::{Finding, Findings, SummaryDetails};
 use crate::frames::Frames;
 use crate::options::RunOptions;
@@ -305,7 +305,9 @@ pub fn read_scenario<'a, R: Read + Drop>(
     ensures { IfOk result (λ scenario. vec_len scenario.stations ≤ most_stations) }
 {
     let text = read_text(alloc, file, reader)?;
-    Ok(Scenario::read(alloc, text.as_slice(), most_stations, reading)?)
+    Scenario::read(alloc, text.as_slice(), most_stations, reading).map_err(
+        |fault| fault_of_scenario(fault, file),
+    )
 }
 
 /// The same, but that whatever stands under `air` and `expect` is passed over. With `strict` a key
@@ -321,7 +323,9 @@ pub fn read_scenario_without_air<'a, R: Read + Drop>(
     ensures none { IfOk result (λ scenario. scenario.air ≡ None) }
 {
     let text = read_text(alloc, file, reader)?;
-    Ok(Scenario::read_without_air(alloc, text.as_slice(), most_stations, strict)?)
+    Scenario::read_without_air(alloc, text.as_slice(), most_stations, strict).map_err(
+        |fault| fault_of_scenario(fault, file),
+    )
 }
 
 /// All that the reader gives. `file` is its name.
