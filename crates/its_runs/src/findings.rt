@@ -10,7 +10,7 @@ use its_air::AirFault;
 use its_frame_text::Explanation;
 use its_gnvalue::NoMemory;
 use its_reporting::{Fault, Io, Status};
-use its_results::{Audience, Audiences, FullTables, Results};
+use its_results::{Audience, Audiences, FailedEvents, FullTables, Results};
 use its_scenario::Scenario;
 use its_settings::{Expectation, Reached};
 use its_simulation::{EventRecord, EventSink, Note, SimulationFault};
@@ -23,8 +23,11 @@ use std::io::{BufRead, Write};
 pub(crate) struct Findings<'s, 'a, W: Write + Drop> {
     scenario: &'s Scenario,
     full: FullTables,
+    failed: FailedEvents,
     audiences: Audiences,
     results: Results<'a, W>,
+    /// Whether an event that wasn't run makes the status `Refused`.
+    strict: bool,
 }
 
 impl<'s, 'a, W: Write + Drop> Findings<'s, 'a, W> {
@@ -41,8 +44,10 @@ impl<'s, 'a, W: Write + Drop> Findings<'s, 'a, W> {
         Ok(Findings {
             scenario,
             full: FullTables::new(),
+            failed: FailedEvents::new(alloc, scenario)?,
             audiences: Audiences::new(alloc, scenario, are_wanted)?,
             results,
+            strict: options.strict,
         })
     }
 
@@ -62,6 +67,7 @@ impl<'s, 'a, W: Write + Drop> Findings<'s, 'a, W> {
     /// Takes an event that was done.
     fn take(&mut self, world: &World, done: &EventRecord<'_>) -> Result<(), SimulationFault> {
         self.full.take(self.scenario, done);
+        self.failed.take(done)?;
         self.audiences.take(world, done)?;
         self.results.take(world, done)
     }
@@ -73,16 +79,17 @@ impl<'s, 'a, W: Write + Drop> Findings<'s, 'a, W> {
         moment: u64,
         note: &Note<'_>,
     ) -> Result<(), SimulationFault> {
+        self.failed.take_note(moment, note)?;
         self.audiences.take_note(moment, note)?;
         self.results.take_note(world, moment, note)
     }
 
-    /// Ends the files of a run that ended so, and tells on standard error what was found out about
-    /// it. `moves` is the name of its file of moves, where there is one. `CannotWrite` where a file
-    /// failed, `Refused` where something that is expected isn't met, of a run that is done, and
-    /// where a line of moves ended it.
+    /// Ends the files of a run that ended so, and reports on standard error what was found out about
+    /// it. `moves` is the name of its file of moves, if there is one. `CannotWrite` if a file
+    /// failed. `Refused` if a line of moves ended the run, and of a run that is done if something
+    /// that is expected isn't met or, with `strict`, if an event wasn't run.
     pub(crate) fn end<P, E: Write>(
-        self,
+        mut self,
         ran: Result<Status, AirFault>,
         moves: Option<&'a str>,
         io: &mut Io<P, E>,
@@ -91,32 +98,39 @@ impl<'s, 'a, W: Write + Drop> Findings<'s, 'a, W> {
         ensures { IfOk result IsCommandStatus }
     {
         let told = match ran {
-            Ok(status) => Ok(self.tell(status, io)),
+            Ok(status) => self.conclude(status, io),
             Err(fault) => self.tell_fault(fault, moves, io),
         };
         self.results.end(told)
     }
 
-    /// Tells on standard error what was found out about a run with this status: that location
-    /// tables were full, and each expectation that isn't met. `Refused` where one isn't, of a run
-    /// that is done.
-    fn tell<P, E: Write>(&self, status: Status, io: &mut Io<P, E>) -> Status
+    /// Reports on standard error what was found out about a run with this status: full location
+    /// tables, events that weren't run, and each expectation that isn't met. `OutOfMemory` if an
+    /// allocation failed.
+    fn conclude<P, E: Write>(
+        &mut self,
+        status: Status,
+        io: &mut Io<P, E>,
+    ) -> Result<Status, Fault<'a>>
         requires { IsCommandStatus status }
-        ensures { IsCommandStatus result }
+        ensures { IfOk result IsCommandStatus }
     {
+        self.failed.end(self.scenario)?;
         let (explain, err) = (io.format.explain, &mut io.err);
         self.report_full(err);
+        self.failed.report(explain, err);
         let are_met = self.report_unmet(explain, err);
-        if are_met || status != Status::Done {
-            status
+        let are_run = !self.strict || self.failed.count() == 0;
+        if are_met && are_run || status != Status::Done {
+            Ok(status)
         } else {
-            Status::Refused
+            Ok(Status::Refused)
         }
     }
 
-    /// Tells on standard error of a run that this ended what was found out till then, where its
-    /// file of moves did: that location tables were full, and which line is bad. That is told here,
-    /// before the files are ended, which may fail as well.
+    /// Reports on standard error what was found out about a run that this fault ended: if its file
+    /// of moves did, full location tables, events that weren't run, and which line is bad. This
+    /// comes before the files are ended, which may fail as well.
     fn tell_fault<P, E: Write>(
         &self,
         fault: AirFault,
@@ -127,6 +141,7 @@ impl<'s, 'a, W: Write + Drop> Findings<'s, 'a, W> {
     {
         if is_cut_short(&fault) {
             self.report_full(&mut io.err);
+            self.failed.report(io.format.explain, &mut io.err);
         }
         match fault_of_air(fault, moves) {
             RunFault::Stopped(fault) => Err(fault),

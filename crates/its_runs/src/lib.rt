@@ -24,6 +24,8 @@ pub use fault::RunFault;
 pub use files::{RunFiles, simulate_file};
 pub use its_results::ResultFiles;
 pub use options::RunOptions;
-pub use simulating::{read_scenario, read_scenario_without_air, simulate, simulate_scenario};
+pub use simulating::{
+    read_scenario, read_scenario_without_air, report_unknown, simulate, simulate_scenario,
+};
 pub use target::{FrameTarget, frame_target};
 pub use watched::is_refused;

@@ -15,6 +15,7 @@ use crate::progress::Progress;
 use crate::summary::print_summary;
 use crate::watched::Watched;
 use its_air::{AirFault, run_moves, run_scenario};
+use its_frame_text::Explanation;
 use its_moves::Rows;
 use its_reporting::{Fault, Io, OutputFormat, Status};
 use its_scenario::{Reading, Scenario};
@@ -101,6 +102,7 @@ pub(crate) fn run_into<'a, M: BufRead + Drop, F: Write + Drop, W: Write, E: Writ
         mut frames,
         results,
     } = outputs;
+    report_unknown(course.scenario, &mut io.err);
     let mut progress = Progress::of(course);
     let mut findings = Findings::new(alloc, course, io.format.explain, results)?;
     let finding = Finding {
@@ -289,6 +291,15 @@ fn run_moved<M: BufRead + Drop, S: EventSink>(
 {
     run_moves(alloc, scenario, air, rows, watched)?;
     Ok(watched.status(strict))
+}
+
+/// Reports on standard error each key of a scenario's document that is none of its words: a table
+/// of that name is ignored. A write that fails is ignored.
+pub fn report_unknown<E: Write>(scenario: &Scenario, err: &mut E) {
+    for key in &scenario.unknown {
+        let tip = Explanation(key.tip());
+        let _ = writeln!(err, "geostation: scenario: {key}{tip}");
+    }
 }
 
 /// Reads to the end of the reader, and what it gave as a scenario of at most so many stations, in

@@ -140,7 +140,7 @@ fn read_numbered_addressed(
     ensures ranges { IfOk result (λ addressed. FitsFileEvent addressed.filed) }
     ensures refused { IfErr result IsPastToml }
 {
-    read_addressed(alloc, table, stations).map_err(|fault| {
+    read_addressed(alloc, table, number, stations).map_err(|fault| {
         ScenarioFault::of_key(alloc, fault, Part::Event(number), table, &EVENT_KEYS)
     })
 }

@@ -18,7 +18,7 @@ use crate::scenario::{Reading, Scenario};
 use crate::settings::{read_every, read_expectations, read_known_air, read_known_moves};
 use crate::stations::read_stations;
 use crate::table_keys::SCENARIO_KEYS;
-use crate::unknown::refuse_all_unknown;
+use crate::unknown::{refuse_all_unknown, unknown_keys};
 use its_keys::{Key, SetAir, Wrong, items_of, value_of};
 use its_settings::{Air, Moves};
 use its_world::refuse_shared;
@@ -28,6 +28,7 @@ use toml::{Table, Value};
 /// The tables of a document that are read.
 #[derive(Clone, Copy)]
 pub(crate) struct Tables<'a> {
+    document: &'a Table,
     stations: &'a [Value],
     events: &'a [Value],
     /// Whether it is run with the moves of a file.
@@ -47,6 +48,7 @@ impl<'a> Tables<'a> {
             AreWithoutAir (table_view document.now) (parts_in tables)) }
     {
         Ok(Tables {
+            document,
             stations: array_of_tables(document, "station").ok_or(ScenarioFault::Stations)?,
             events: array_of_tables(document, "event").ok_or(ScenarioFault::Events)?,
             has_moves: false,
@@ -102,6 +104,7 @@ impl<'a> Tables<'a> {
         let addressed = read_all_addressed(alloc, parts.addressed, stations.len())?;
         let expectations = read_expectations(alloc, self.expectations)?;
         refuse_shared(alloc, stations.as_slice())?;
+        let unknown = unknown_keys(alloc, self.document)?;
         Ok(Scenario {
             stations,
             present,
@@ -112,6 +115,7 @@ impl<'a> Tables<'a> {
             every,
             moves,
             expectations,
+            unknown,
         })
     }
 

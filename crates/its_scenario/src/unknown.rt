@@ -101,6 +101,18 @@ fn first_unknown<'a>(table: &'a Table, known: &[Key]) -> Option<&'a str> {
     None
 }
 
+/// The keys of the document itself that are none of its words, in the order of their octets.
+pub(crate) fn unknown_keys(alloc: Global, document: &Table) -> Result<Vec<UnknownKey>, AllocError> {
+    let mut unknown = Vec::new(alloc);
+    for name in document.keys() {
+        let name = name.as_str();
+        if !is_known(name, &SCENARIO_KEYS) {
+            unknown.push(UnknownKey::of(alloc, None, name, &SCENARIO_KEYS)?)?;
+        }
+    }
+    Ok(unknown)
+}
+
 /// A key that is missing from a part of the scenario, where a key that is none of its words is near.
 /// It prints as the missing one's place in the scenario: `air: range`.
 #[derive(Debug, Drop, PartialEq, Eq)]
