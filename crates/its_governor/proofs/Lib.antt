@@ -1,0 +1,5 @@
+pub mod Bounds
+pub mod Buckets
+pub mod Receptions
+pub mod Replies
+pub mod Runs

@@ -1,0 +1,5 @@
+pub mod Bucket
+pub mod Sources
+pub mod Memory
+pub mod Governing
+pub mod Runs

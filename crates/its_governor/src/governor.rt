@@ -1,0 +1,205 @@
+//! What passes a governor.
+
+ghost use Rattle.std.specs.Prelude.{◌≡◌, Bool, true, false, IfOk, IsTrue, IsFalse, Option, None};
+ghost use Rattle.its_headers.specs.Seen.{Seen};
+ghost use Rattle.its_linkframe.specs.Frames.{transmission_of};
+ghost use Rattle.its_governor.specs.Governing.{IsNewGovernor, room_in, draw_from, source_room};
+ghost use Rattle.its_governor.specs.Governing.{source_drawn, is_echo, may_forward, passed_of};
+ghost use Rattle.its_governor.specs.Governing.{after_forwarding, after_delivery, after_judging};
+ghost use Rattle.its_governor.specs.Governing.{IsDraw};
+
+use crate::bucket::Bucket;
+use crate::memory::DeliveryMemory;
+use crate::rate::Limits;
+use crate::sources::SourceBuckets;
+use its_gnvalue::{GnAddress, NoMemory};
+use its_linkframe::FrameView;
+use std::alloc::Global;
+
+/// How often something was withheld. A count stays at 2^64 - 1 once it is there.
+#[derive(Clone, Copy, Debug, PartialEq, Eq)]
+pub struct WithheldCounts {
+    /// Frames that the station would have forwarded.
+    pub suppressed: u64,
+    /// Payloads that were delivered before.
+    pub repeated: u64,
+    /// Own packets: the calls were refused.
+    pub over_rate: u64,
+}
+
+/// What passes of an accepted packet.
+#[derive(Clone, Copy, Debug, PartialEq, Eq)]
+pub struct Passed {
+    /// Whether its payload is delivered.
+    pub delivers: bool,
+    /// Whether it is forwarded.
+    pub forwards: bool,
+}
+
+/// The limits of a station, and what is left of them.
+#[derive(Drop)]
+pub struct Governor {
+    pub(crate) forward: Option<Bucket>,
+    pub(crate) sources: Option<SourceBuckets>,
+    pub(crate) own: Option<Bucket>,
+    pub(crate) hop_cap: u8,
+    pub(crate) delivered: Option<DeliveryMemory>,
+    pub(crate) counts: WithheldCounts,
+}
+
+impl Governor {
+    /// A governor of these limits, whose buckets are full. It takes all its memory here.
+    pub fn new(alloc: Global, limits: &Limits) -> Result<Governor, NoMemory>
+        ensures { IfOk result (IsNewGovernor limits.now) }
+    {
+        let sources = match limits.source {
+            Some(rate) => Some(SourceBuckets::new(alloc, rate)?),
+            None => None,
+        };
+        let delivered = if limits.delivers_once {
+            Some(DeliveryMemory::new(alloc)?)
+        } else {
+            None
+        };
+        Ok(Governor {
+            forward: limits.forward.map(Bucket::new),
+            sources,
+            own: limits.own.map(Bucket::new),
+            hop_cap: limits.hop_cap,
+            delivered,
+            counts: WithheldCounts {
+                suppressed: 0,
+                repeated: 0,
+                over_rate: 0,
+            },
+        })
+    }
+
+    /// How often something was withheld.
+    pub fn counts(&self) -> WithheldCounts
+        ensures { result ≡ self.now.counts }
+    {
+        self.counts
+    }
+
+    /// What passes of a packet that a station accepted: whether it is delivered, and whether it is
+    /// forwarded. A packet that is remembered as delivered passes neither way.
+    pub fn judge(&mut self, now: u64, frame: &FrameView<'_>, handed: bool, sent: bool) -> Passed
+        ensures passed { result ≡ passed_of self.old now (transmission_of frame.now) handed sent }
+        ensures state { self.new
+            ≡ after_judging self.old now (transmission_of frame.now) handed sent }
+        ensures once { IsTrue (is_echo self.old.delivered now (transmission_of frame.now)) →
+            IsFalse result.delivers }
+        ensures open { IsTrue (may_forward self.old now (transmission_of frame.now)) →
+            result ≡ record { delivers = handed; forwards = sent } }
+        ensures deliveries { self.old.delivered ≡ None → result.delivers ≡ handed }
+        ensures room { IsDraw self.old.forward result.forwards now self.new.forward }
+    {
+        let forwards = sent && self.may_forward(now, frame);
+        let delivers = handed && !self.is_echo(now, frame);
+        self.note_forwarding(now, frame.packet.vector().address(), sent, forwards);
+        self.note_delivery(now, frame, handed, delivers);
+        Passed { delivers, forwards }
+    }
+
+    /// Whether a packet may be forwarded.
+    fn may_forward(&self, now: u64, frame: &FrameView<'_>) -> bool
+        ensures { result ≡ may_forward self.now now (transmission_of frame.now) }
+    {
+        frame.packet.hops().left() <= self.hop_cap
+            && has_room(&self.forward, now)
+            && self.source_has_room(now, frame.packet.vector().address())
+            && !self.is_echo(now, frame)
+    }
+
+    /// Whether the bucket of a source has room.
+    fn source_has_room(&self, now: u64, source: GnAddress) -> bool
+        ensures { result ≡ source_room self.now.sources source now }
+    {
+        match &self.sources {
+            Some(sources) => sources.bucket_of(source).has_room(now),
+            None => true,
+        }
+    }
+
+    /// Whether a packet was delivered before, and is remembered.
+    fn is_echo(&self, now: u64, frame: &FrameView<'_>) -> bool
+        ensures { result ≡ is_echo self.now.delivered now (transmission_of frame.now) }
+    {
+        match (&self.delivered, frame.packet.number()) {
+            (Some(delivered), Some(number)) => {
+                delivered.holds(frame.packet.vector().address(), number, now)
+            }
+            _ => false,
+        }
+    }
+
+    /// Takes a frame that is forwarded out of its buckets, and counts one that isn't.
+    fn note_forwarding(&mut self, now: u64, source: GnAddress, sent: bool, forwards: bool)
+        ensures { self.new ≡ after_forwarding self.old now source sent forwards }
+    {
+        if forwards {
+            draw(&mut self.forward, now);
+            if let Some(sources) = &mut self.sources {
+                sources.draw(source, now);
+            }
+        } else if sent {
+            self.counts.suppressed = self.counts.suppressed.saturating_add(1);
+        }
+    }
+
+    /// Remembers a packet that is delivered, and counts one that was before.
+    fn note_delivery(&mut self, now: u64, frame: &FrameView<'_>, handed: bool, delivers: bool)
+        ensures { self.new
+            ≡ after_delivery self.old now (transmission_of frame.now) handed delivers }
+    {
+        if delivers {
+            self.remember(now, frame);
+        } else if handed {
+            self.counts.repeated = self.counts.repeated.saturating_add(1);
+        }
+    }
+
+    /// Remembers a packet that is delivered, if it has a number and the governor a memory.
+    fn remember(&mut self, now: u64, frame: &FrameView<'_>)
+        ensures { self.new ≡ after_delivery self.old now (transmission_of frame.now) true true }
+    {
+        if let (Some(delivered), Some(number)) = (&mut self.delivered, frame.packet.number()) {
+            let until = now.saturating_add(frame.packet.lifetime().millis());
+            delivered.note(frame.packet.vector().address(), number, until);
+        }
+    }
+
+    /// Whether an own packet may be sent.
+    pub fn may_send(&self, now: u64) -> bool
+        ensures { result ≡ room_in self.now.own now }
+    {
+        has_room(&self.own, now)
+    }
+
+    /// An own packet was sent.
+    pub fn note_sent(&mut self, now: u64)
+        ensures { self.new ≡ record self.old { own = draw_from self.old.own now } }
+    {
+        draw(&mut self.own, now);
+    }
+}
+
+/// Whether a bucket has room for a frame. A limit that isn't there has.
+fn has_room(bucket: &Option<Bucket>, now: u64) -> bool
+    ensures { result ≡ room_in bucket.now now }
+{
+    match bucket {
+        Some(bucket) => bucket.has_room(now),
+        None => true,
+    }
+}
+
+/// Takes a frame out of a bucket, if there is one.
+fn draw(bucket: &mut Option<Bucket>, now: u64)
+    ensures { bucket.new ≡ draw_from bucket.old now }
+{
+    if let Some(bucket) = bucket {
+        bucket.draw(now);
+    }
+}

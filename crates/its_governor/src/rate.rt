@@ -1,0 +1,57 @@
+//! Rates of frames, and the limits of a station.
+
+/// How many frames may pass at once, and how many per second from then on.
+#[derive(Clone, Copy, Debug, PartialEq, Eq)]
+pub struct Rate {
+    /// The size of the bucket: frames that may pass at once.
+    pub burst: u32,
+    /// Frames that are added to the bucket per second, up to its size.
+    pub per_second: u32,
+}
+
+/// The limits on what a station sends. `None` is no limit.
+#[derive(Clone, Copy, Debug, PartialEq, Eq)]
+pub struct Limits {
+    /// All frames that are forwarded.
+    pub forward: Option<Rate>,
+    /// The frames of each source that are forwarded.
+    pub source: Option<Rate>,
+    /// The station's own packets, without its beacons.
+    pub own: Option<Rate>,
+    /// A packet with more hops left than this is not forwarded. 255 is no limit.
+    pub hop_cap: u8,
+    /// Whether a packet for an area that was delivered is not delivered again within its lifetime,
+    /// as long as it is among the last 1024 of them.
+    pub delivers_once: bool,
+}
+
+impl Limits {
+    /// No limit: all passes.
+    pub const NONE: Limits = Limits {
+        forward: None,
+        source: None,
+        own: None,
+        hop_cap: 255,
+        delivers_once: false,
+    };
+
+    /// Limits that a channel of 6 Mbit/s bears. A frame of 100 octets takes some 250 microseconds
+    /// of it. So 100 frames per second are 2.5 % of the channel, and ten stations in reach of each
+    /// other that all forward take a quarter of it. A source has a fifth of that.
+    pub const CHANNEL: Limits = Limits {
+        forward: Some(Rate {
+            burst: 50,
+            per_second: 100,
+        }),
+        source: Some(Rate {
+            burst: 20,
+            per_second: 20,
+        }),
+        own: Some(Rate {
+            burst: 50,
+            per_second: 50,
+        }),
+        hop_cap: 10,
+        delivers_once: true,
+    };
+}
