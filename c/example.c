@@ -51,6 +51,14 @@ static uint32_t drawn(void) {
     return (uint32_t)(state >> 33);
 }
 
+/* All stations that received a frame to all would forward it at the same time, and their frames
+ * collide on the air: each waits for a random time first. A unit with much traffic keeps such
+ * frames in a queue meanwhile, as c/link/forwards.c does, and sends its own at once. */
+static void wait_to_forward(void) {
+    const struct timespec spread = { .tv_sec = 0, .tv_nsec = (long)(drawn() % 2000) * 1000 };
+    nanosleep(&spread, NULL);
+}
+
 /* The jitter of a beacon: drawn once for each. */
 static uint16_t drawn_jitter(void) {
     return (uint16_t)(drawn() % (GEOSTATION_JITTER_MAX + 1));
@@ -78,7 +86,10 @@ static void hear(struct geostation *s, int link, const struct sockaddr_in *peer)
     } else if (r.delivered) {
         printf("port %u: %.*s\n", r.port, (int)r.payload_length, (char *)got + r.payload_start);
     }
-    put_on_air(link, peer, frame, r.relay_length);
+    if (r.relay_length != 0) {
+        wait_to_forward();
+        put_on_air(link, peer, frame, r.relay_length);
+    }
 }
 
 /* Asleep until a moment, the end, or a frame that comes, which is taken. */

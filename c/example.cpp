@@ -35,6 +35,7 @@ int main() {
         std::fprintf(stderr, "%s\n", geostation::text(sent));
         return 1;
     }
+    // On a radio `relay` is sent after a random wait below 2 ms, so that relays don't collide.
     const auto got = b.receive(11, Octets{frame.octets.data(), frame.size}, relay);
     std::printf("%.*s at port %u, %zu octets go on\n", static_cast<int>(got.payload.size),
                 reinterpret_cast<const char *>(got.payload.data), unsigned{got.reception.port},

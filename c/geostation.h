@@ -411,7 +411,14 @@ int geostation_look_up(const geostation_handle *s, uint64_t now, uint64_t addres
 
 /* Writes the counts of the station. What returned BAD_ARGUMENT or NO_ROOM isn't counted; a restart
  * keeps the counts. */
+#if defined(__cplusplus) && defined(__GNUC__)
+#pragma GCC diagnostic push
+#pragma GCC diagnostic ignored "-Wshadow" /* the struct and the call have one name */
+#endif
 void geostation_counts(const geostation_handle *s, struct geostation_counts *out);
+#if defined(__cplusplus) && defined(__GNUC__)
+#pragma GCC diagnostic pop
+#endif
 
 /* Does what a line of JSON asks for at the moment `now`: a call of the station, or what it knows, as
  * a line of the command `station` (docs/STATION.md). An `at` in the line is passed over. Writes the

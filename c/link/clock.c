@@ -1,9 +1,10 @@
-/* One clock for moments and time stamps. The time of day is taken once; from then on the time since
- * the machine's start leads, so that a step of the time of day moves nothing: a station refuses
- * each call that is before its last one. */
+/* One clock for times of calls and time stamps. The time of day is taken once. From then on the
+ * time since the machine's start leads, so that a step of the time of day moves nothing: a station
+ * refuses each call that is before its last one. */
 #define _GNU_SOURCE
 #include "parts.h"
-#include <stdio.h>
+#include <errno.h>
+#include <string.h>
 #include <sys/timex.h>
 #include <time.h>
 
@@ -12,7 +13,7 @@
 enum { AHEAD_THEN = 32, AHEAD_SINCE = 5 };
 
 static int64_t ahead_ms;     /* of TAI before UTC, since the epoch */
-static int64_t from_boot_ms; /* the moment at which the machine started */
+static int64_t from_boot_ms; /* the time at which the machine started */
 
 static int64_t ms_of(clockid_t id) {
     struct timespec t;
@@ -22,13 +23,16 @@ static int64_t ms_of(clockid_t id) {
 
 void clock_start(void) {
     struct timex kernel = { .modes = 0 };
-    if (adjtimex(&kernel) == TIME_ERROR) {
-        fputs("geostation-link: the clock isn't synchronised: time stamps may be wrong\n", stderr);
+    int state = adjtimex(&kernel);
+    if (state == TIME_ERROR) {
+        note("the clock isn't synchronised: time stamps may be wrong");
+    } else if (state < 0) {
+        note("whether the clock is synchronised isn't known: %s", strerror(errno));
     }
     ahead_ms = (kernel.tai > 0 ? kernel.tai - AHEAD_THEN : AHEAD_SINCE) * INT64_C(1000);
     int64_t moment = ms_of(CLOCK_REALTIME) - EPOCH * 1000 + ahead_ms;
     if (moment < 0) {
-        fail(FAILED, "the clock of this machine stands before 2004");
+        fail(FAILED, "the clock of this machine is before 2004");
     }
     from_boot_ms = moment - ms_of(CLOCK_BOOTTIME);
 }
@@ -37,7 +41,17 @@ uint64_t clock_now(void) {
     return (uint64_t)(from_boot_ms + ms_of(CLOCK_BOOTTIME));
 }
 
-uint32_t clock_stamp_of_utc(int64_t seconds, long nanoseconds) {
-    return (uint32_t)((uint64_t)(seconds - EPOCH) * 1000 + (uint64_t)(nanoseconds / 1000000)
-                      + (uint64_t)ahead_ms);
+uint64_t clock_micros(void) {
+    struct timespec t;
+    clock_gettime(CLOCK_MONOTONIC, &t);
+    return (uint64_t)t.tv_sec * 1000000 + (uint64_t)(t.tv_nsec / 1000);
+}
+
+struct instant clock_instant(void) {
+    return (struct instant){ clock_now(), ms_of(CLOCK_REALTIME) };
+}
+
+uint64_t clock_of_utc(int64_t seconds, long nanoseconds) {
+    int64_t moment = (seconds - EPOCH) * 1000 + nanoseconds / 1000000 + ahead_ms;
+    return moment < 0 ? 0 : (uint64_t)moment;
 }

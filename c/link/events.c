@@ -1,4 +1,4 @@
-/* Lines that answer no request: they go to all clients. */
+/* Lines that answer no request. Events are for all clients; `lost` and `closed` are for one. */
 #include "parts.h"
 #include <inttypes.h>
 #include <stdarg.h>
@@ -30,15 +30,32 @@ void event_link(struct text *t, uint64_t now, bool up) {
     put(t, "\"up\":%s}\n", up ? "true" : "false");
 }
 
+void event_mac(struct text *t, uint64_t now, const uint8_t mac[6]) {
+    begin(t, now, "mac");
+    put(t, "\"mac\":\"%02x%02x%02x%02x%02x%02x\"}\n", mac[0], mac[1], mac[2], mac[3], mac[4],
+        mac[5]);
+}
+
+void event_fix(struct text *t, uint64_t now, enum fix_state state) {
+    static const char *const names[] = { "none", "current", "old", "lost" };
+    begin(t, now, "fix");
+    put(t, "\"state\":\"%s\"}\n", names[state]);
+}
+
 void event_lost(struct text *t, uint64_t now, uint64_t count) {
     begin(t, now, "lost");
     put(t, "\"count\":%" PRIu64 "}\n", count);
 }
 
-void event_delivered(struct text *t, uint64_t now, const struct geostation_reception *r,
+void event_closed(struct text *t, uint64_t now) {
+    begin(t, now, "closed");
+    put(t, "\"reason\":\"idle while others wait\"}\n");
+}
+
+void event_delivered(struct text *t, uint64_t at, const struct geostation_reception *r,
                      const uint8_t *payload) {
     static const char digits[] = "0123456789abcdef";
-    begin(t, now, "delivered");
+    begin(t, at, "delivered");
     put(t, "\"source\":\"%016" PRIx64 "\",\"port\":%u,\"info\":%u,\"tc\":%u,\"payload\":\"",
         r->source, r->port, r->info, r->traffic_class);
     for (size_t k = 0; k < r->payload_length; k++) {

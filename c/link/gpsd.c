@@ -1,46 +1,31 @@
-/* Fixes of gpsd. The connection is the program's own, as that of libgps would wait; libgps reads
- * the reports (TPV). Without libgps there is no --gpsd. */
+/* The connection to gpsd. Nothing here waits: a connection that fails or ends is tried again, and
+ * what gpsd sends is read as it comes. */
 #define _GNU_SOURCE
 #include "parts.h"
-
-#ifndef GEOSTATION_LINK_GPS
-bool gpsd_is_built_in(void) { return false; }
-void gpsd_start(struct gpsd *g, const struct options *o) {
-    (void)o;
-    g->fd = -1;
-    g->try_at = UINT64_MAX;
-}
-void gpsd_try(struct gpsd *g, uint64_t now) { (void)g, (void)now; }
-bool gpsd_read(struct gpsd *g, struct place *p, uint64_t now) {
-    (void)g, (void)p, (void)now;
-    return false;
-}
-#else
 #include <errno.h>
-#include <gps.h>
-#include <math.h>
 #include <string.h>
-#include <sys/socket.h>
 #include <unistd.h>
 
-enum { TRY_EACH = 2000 /* ms */, ACCURATE_TO = 10 /* metres */ };
-
-static struct gps_data_t said; /* what libgps read */
-
-bool gpsd_is_built_in(void) { return true; }
+enum { TRY_EACH = 2000 /* ms */ };
 
 void gpsd_start(struct gpsd *g, const struct options *o) {
     g->fd = -1;
-    g->at = o->gpsd_at;
-    g->try_at = o->gpsd ? 0 : UINT64_MAX;
+    g->wanted = o->gpsd != NULL;
+    g->at = &o->gpsd_at;
+    g->try_at = g->wanted ? 0 : UINT64_MAX;
 }
 
-static void hang_up(struct gpsd *g, uint64_t now) {
+static void hang_up(struct gpsd *g, uint64_t now, const char *why) {
     if (g->fd >= 0) {
         close(g->fd);
     }
     g->fd = -1;
+    g->connecting = false;
     g->try_at = now + TRY_EACH;
+    if (!g->reported) {
+        note("gpsd: %s: trying again each %d s", why, TRY_EACH / 1000);
+    }
+    g->reported = true;
 }
 
 /* Begins to connect. */
@@ -48,10 +33,10 @@ void gpsd_try(struct gpsd *g, uint64_t now) {
     g->length = 0;
     g->too_long = false;
     g->connecting = true;
-    g->fd = socket(AF_INET, SOCK_STREAM | SOCK_NONBLOCK | SOCK_CLOEXEC, 0);
-    if (g->fd < 0 || (connect(g->fd, (struct sockaddr *)&g->at, sizeof g->at) != 0
+    g->fd = socket(g->at->at.ss_family, SOCK_STREAM | SOCK_NONBLOCK | SOCK_CLOEXEC, 0);
+    if (g->fd < 0 || (connect(g->fd, (const struct sockaddr *)&g->at->at, g->at->length) != 0
                       && errno != EINPROGRESS)) {
-        hang_up(g, now);
+        hang_up(g, now, strerror(errno));
     }
 }
 
@@ -61,60 +46,27 @@ static void ask(struct gpsd *g, uint64_t now) {
     int why = 0;
     socklen_t size = sizeof why;
     g->connecting = false;
-    if (getsockopt(g->fd, SOL_SOCKET, SO_ERROR, &why, &size) != 0 || why != 0
-        || send(g->fd, watch, sizeof watch - 1, MSG_NOSIGNAL) != (ssize_t)(sizeof watch - 1)) {
-        hang_up(g, now);
+    if (getsockopt(g->fd, SOL_SOCKET, SO_ERROR, &why, &size) != 0 || why != 0) {
+        hang_up(g, now, strerror(why != 0 ? why : errno));
+    } else if (send(g->fd, watch, sizeof watch - 1, MSG_NOSIGNAL) != (ssize_t)(sizeof watch - 1)) {
+        hang_up(g, now, "it takes no request");
+    } else if (g->reported) {
+        note("gpsd: connected");
+        g->reported = false;
     }
 }
 
-static bool is_place(const struct gps_fix_t *f) {
-    return f->mode >= MODE_2D && isfinite(f->latitude) && isfinite(f->longitude)
-        && fabs(f->latitude) <= 90 && fabs(f->longitude) <= 180;
-}
-
-/* An error that isn't told doesn't count. */
-static bool is_accurate(const struct gps_fix_t *f) {
-    double error = isfinite(f->eph) ? f->eph : hypot(f->epx, f->epy);
-    return f->mode >= MODE_3D && !(error > ACCURATE_TO);
-}
-
-static void take_motion(struct place *p, const struct gps_fix_t *f) {
-    p->speed = (int16_t)(isfinite(f->speed) ? fmin(round(fabs(f->speed) * 100), 16383) : 0);
-    if (isfinite(f->track) && f->track >= 0 && f->track <= 360) {
-        p->heading = (uint16_t)(lround(f->track * 10) % 3600);
-    }
-}
-
-/* A report without a place takes away that the old one is accurate; its time stamp stays. */
-static bool take_fix(struct place *p, const struct gps_fix_t *f, uint64_t now) {
-    if (!is_place(f)) {
-        bool changed = p->known && p->accurate;
-        p->accurate = 0;
-        return changed;
-    }
-    p->known = true;
-    p->timestamp = f->time.tv_sec > 0 ? clock_stamp_of_utc(f->time.tv_sec, f->time.tv_nsec)
-                                      : (uint32_t)now;
-    p->accurate = is_accurate(f);
-    p->latitude = (int32_t)lround(f->latitude * 1e7);
-    p->longitude = (int32_t)lround(f->longitude * 1e7);
-    take_motion(p, f);
-    return true;
-}
-
-/* Of what gpsd says only reports of fixes are handed to libgps. */
 static bool end_line(struct gpsd *g, struct place *p, uint64_t now) {
+    struct fix f;
     bool whole = !g->too_long;
-    g->line[g->length] = 0;
+    size_t length = g->length;
+    g->line[length] = 0;
     g->length = 0;
     g->too_long = false;
-    if (!whole || strncmp(g->line, "{\"class\":\"TPV\"", 14) != 0) {
-        return false;
-    }
-    memset(&said, 0, sizeof said);
-    return gps_unpack(g->line, &said) == 0 && take_fix(p, &said.fix, now);
+    return whole && fix_read(&f, g->line, length) && fix_take(&f, p, now);
 }
 
+/* At most one block in each turn of the loop, so that no stream holds up the station. */
 bool gpsd_read(struct gpsd *g, struct place *p, uint64_t now) {
     char got[4096];
     bool changed = false;
@@ -132,9 +84,10 @@ bool gpsd_read(struct gpsd *g, struct place *p, uint64_t now) {
             g->too_long = true;
         }
     }
-    if (n == 0 || (n < 0 && errno != EAGAIN && errno != EINTR)) {
-        hang_up(g, now);
+    if (n == 0) {
+        hang_up(g, now, "the connection ended");
+    } else if (n < 0 && errno != EAGAIN && errno != EINTR) {
+        hang_up(g, now, strerror(errno));
     }
     return changed;
 }
-#endif

@@ -1,20 +1,41 @@
-/* The link, whatever it is over. Nothing here waits: what the link doesn't take now is lost, as on
- * the air, and counted. */
+/* The link, whatever it is over. Nothing here waits: a frame that the link doesn't take now is
+ * lost, as on the air, and counted. */
 #define _GNU_SOURCE
 #include "parts.h"
+#include <errno.h>
 #include <linux/if_packet.h>
-#include <sys/socket.h>
+#include <linux/sock_diag.h>
+#include <string.h>
+#include <time.h>
 #include <unistd.h>
 
-/* Room for bursts; with CAP_NET_ADMIN it may be over the system's limit. */
-static void enlarge_room(int fd) {
-    const int room = 4 << 20;
-    if (setsockopt(fd, SOL_SOCKET, SO_RCVBUFFORCE, &room, sizeof room) != 0) {
-        (void)setsockopt(fd, SOL_SOCKET, SO_RCVBUF, &room, sizeof room);
+enum { BATCH = 16 }; /* frames that one call of the system takes */
+
+static struct {
+    size_t count, next; /* frames that were taken; which of them comes next */
+    struct received frames[BATCH];
+    struct sockaddr_ll from[BATCH];
+    char control[BATCH][CMSG_SPACE(sizeof(struct timespec))];
+    struct iovec to[BATCH];
+    struct mmsghdr about[BATCH];
+} batch;
+
+/* Space for bursts; with CAP_NET_ADMIN it may be over net.core.rmem_max. The kernel counts its own
+ * overhead too, so that it doubles what is asked for. */
+void link_enlarge_buffer(int fd) {
+    const int wanted = 4 << 20;
+    int got = 0;
+    socklen_t size = sizeof got;
+    if (setsockopt(fd, SOL_SOCKET, SO_RCVBUFFORCE, &wanted, sizeof wanted) != 0) {
+        (void)setsockopt(fd, SOL_SOCKET, SO_RCVBUF, &wanted, sizeof wanted);
+    }
+    if (getsockopt(fd, SOL_SOCKET, SO_RCVBUF, &got, &size) == 0 && got / 2 < wanted) {
+        note("the receive buffer has %d of %d bytes: set net.core.rmem_max, or grant CAP_NET_ADMIN",
+             got / 2, wanted);
     }
 }
 
-/* Where no address was given, it is of the station type and the interface's MAC. */
+/* If no address was given, it is made of the station type and the interface's MAC. */
 static void make_address(struct options *o, const uint8_t mac[6]) {
     o->address = o->station_type << 58;
     for (int k = 0; k < 6; k++) {
@@ -24,55 +45,150 @@ static void make_address(struct options *o, const uint8_t mac[6]) {
 }
 
 void link_open(struct link *l, struct options *o) {
-    l->watch = -1;
+    l->watch = l->fd = -1;
     l->up = true;
+    l->wanted = o->interface;
+    l->empty_at = clock_now();
     if (o->interface == NULL) {
         udp_open(l, o);
-    } else {
-        packet_open(l, o->interface);
-        if (!o->addressed) {
-            make_address(o, l->mac);
-        }
-        packet_take(l, o->address);
+        link_enlarge_buffer(l->fd);
+        return;
     }
-    enlarge_room(l->fd);
+    l->address = o->addressed ? o->address : 0;
+    if (o->wait_interface) {
+        packet_wait(l);
+    }
+    if (!packet_open(l)) {
+        fail(FAILED, "%s: there is no such interface", o->interface);
+    }
+    if (!o->addressed) {
+        make_address(o, l->mac);
+    }
+    l->address = o->address;
 }
 
-void link_send(struct link *l, const uint8_t *frame, size_t length) {
-    if (l->index != 0) {
-        l->dropped += send(l->fd, frame, length, MSG_DONTWAIT) < 0;
+static enum sending result_of(int error) {
+    switch (error) {
+    case ENOBUFS: case EAGAIN: case ENOMEM: return QUEUE_FULL;
+    case EMSGSIZE: return FRAME_TOO_LONG;
+    default: return LINK_DOWN;
     }
+}
+
+static enum sending send_to_peers(struct link *l, const uint8_t *frame, size_t length) {
+    enum sending result = LINK_DOWN;
+    bool taken = false;
     for (size_t k = 0; k < l->peer_count; k++) {
-        l->dropped += sendto(l->fd, frame, length, MSG_DONTWAIT,
-                             (const struct sockaddr *)&l->peers[k], sizeof l->peers[k]) < 0;
+        const struct address *to = &l->peers[k];
+        if (sendto(l->fd, frame, length, MSG_DONTWAIT, (const struct sockaddr *)&to->at,
+                   to->length) < 0) {
+            result = result_of(errno);
+            l->dropped++;
+        } else {
+            taken = true;
+        }
     }
+    return taken ? SENT : result;
 }
 
-/* The length of the next frame, which is written to `octets` of FRAME_ROOM. What it passes over are
- * frames that the host sent itself, which aren't counted, and those with a VLAN tag. */
-ssize_t link_receive(struct link *l, uint8_t *octets) {
-    struct sockaddr_ll from = { .sll_family = 0 };
-    socklen_t size = sizeof from;
-    ssize_t n = l->index != 0
-        ? recvfrom(l->fd, octets, FRAME_ROOM, MSG_DONTWAIT, (struct sockaddr *)&from, &size)
-        : recv(l->fd, octets, FRAME_ROOM, MSG_DONTWAIT);
-    if (n < 0 || (l->index != 0 && from.sll_pkttype == PACKET_OUTGOING)) {
-        return n < 0 ? -1 : 0;
+/* SENT: the socket took the frame; on UDP, for one peer at least. */
+enum sending link_send(struct link *l, const uint8_t *frame, size_t length) {
+    if (l->wanted == NULL) {
+        return send_to_peers(l, frame, length);
+    }
+    enum sending result = SENT;
+    if (!l->up) {
+        result = LINK_DOWN;
+    } else if (send(l->fd, frame, length, MSG_DONTWAIT) < 0) {
+        result = result_of(errno);
+    }
+    l->dropped += result != SENT;
+    return result;
+}
+
+/* When the kernel received it. No clock's jump counts: it was after the last time at which no frame
+ * waited, and before now. */
+static uint64_t time_of(struct msghdr *about, const struct link *l, const struct instant *now) {
+    int64_t age = 0;
+    for (struct cmsghdr *c = CMSG_FIRSTHDR(about); c != NULL; c = CMSG_NXTHDR(about, c)) {
+        if (c->cmsg_level == SOL_SOCKET && c->cmsg_type == SCM_TIMESTAMPNS) {
+            struct timespec t;
+            memcpy(&t, CMSG_DATA(c), sizeof t);
+            age = now->realtime - ((int64_t)t.tv_sec * 1000 + t.tv_nsec / 1000000);
+        }
+    }
+    uint64_t longest = now->moment > l->empty_at ? now->moment - l->empty_at : 0;
+    uint64_t waited = age <= 0 ? 0 : (uint64_t)age < longest ? (uint64_t)age : longest;
+    return now->moment - waited;
+}
+
+/* Takes as many frames as wait, up to a batch. */
+static void fill(const struct link *l) {
+    for (size_t k = 0; k < BATCH; k++) {
+        batch.to[k] = (struct iovec){ batch.frames[k].octets, FRAME_ROOM };
+        batch.about[k].msg_hdr = (struct msghdr){
+            .msg_name = &batch.from[k], .msg_namelen = sizeof batch.from[k],
+            .msg_iov = &batch.to[k], .msg_iovlen = 1,
+            .msg_control = batch.control[k], .msg_controllen = sizeof batch.control[k],
+        };
+    }
+    int n = l->fd >= 0 ? recvmmsg(l->fd, batch.about, BATCH, MSG_DONTWAIT, NULL) : -1;
+    batch.count = n > 0 ? (size_t)n : 0;
+    batch.next = 0;
+}
+
+/* Is there a frame in the batch? After one that wasn't full no frame waits. */
+static bool has_frame(const struct link *l) {
+    if (batch.next == batch.count) {
+        bool was_full = batch.count == BATCH || batch.count == 0;
+        batch.count = batch.next = 0;
+        if (was_full) {
+            fill(l);
+        }
+    }
+    return batch.next < batch.count;
+}
+
+/* The next frame. Frames that the host sent itself are skipped and not counted; those with a VLAN
+ * tag are skipped and counted. */
+enum waiting link_receive(struct link *l, const struct instant *now, struct received **r) {
+    if (!has_frame(l)) {
+        l->empty_at = now->moment;
+        return NONE_WAITS;
+    }
+    size_t k = batch.next++;
+    const struct sockaddr_ll *from = &batch.from[k];
+    struct received *got = &batch.frames[k];
+    got->length = batch.about[k].msg_len;
+    if (l->wanted != NULL && from->sll_pkttype == PACKET_OUTGOING) {
+        return SKIPPED;
     }
     l->frames++;
-    if (l->index != 0 && packet_is_foreign(l, octets, (size_t)n, &from)) {
+    if (l->wanted != NULL && packet_is_foreign(l, got->octets, got->length, from)) {
         l->tagged++;
-        return 0;
+        return SKIPPED;
     }
-    return n;
+    got->at = time_of(&batch.about[k].msg_hdr, l, now);
+    *r = got;
+    return RECEIVED;
 }
 
-bool link_changed(struct link *l) {
+unsigned link_look(struct link *l) {
     uint8_t news[8192];
-    bool was = l->up;
     while (recv(l->watch, news, sizeof news, MSG_DONTWAIT) > 0) {
         /* that something changed is all that is read of it */
     }
-    packet_look(l);
-    return l->up != was;
+    return packet_look(l);
+}
+
+/* Frames that came and that the kernel dropped, as the receive buffer was full. */
+uint64_t link_kernel_dropped(struct link *l) {
+    uint32_t memory[SK_MEMINFO_VARS] = { 0 };
+    socklen_t size = sizeof memory;
+    if (l->wanted != NULL) {
+        l->kernel_dropped += packet_drops(l);
+    } else if (getsockopt(l->fd, SOL_SOCKET, SO_MEMINFO, memory, &size) == 0) {
+        l->kernel_dropped = memory[SK_MEMINFO_DROPS];
+    }
+    return l->kernel_dropped;
 }

@@ -1,13 +1,15 @@
-/* The program waits in one place, for the link, clients, fixes, signals and the next beacon. */
+/* The program waits in one place: for the link, clients, fixes, signals and what is due. */
 #define _GNU_SOURCE
 #include "parts.h"
 #include <errno.h>
 #include <signal.h>
-#include <stddef.h>
+#include <string.h>
 #include <sys/signalfd.h>
+#include <time.h>
 #include <unistd.h>
 
-enum { SIGNALS, LINK, WATCH, GPS, FIRST_CLIENT, ALL = FIRST_CLIENT + 1 + 2 * CLIENTS };
+enum { SIGNALS, LINK, WATCH, GPS, METRICS, FIRST_CLIENT, ALL = FIRST_CLIENT + 1 + 2 * CLIENTS };
+/* All frames of a turn are those of whole batches (link.c). */
 enum { FRAMES_A_TURN = 64, LONGEST_WAIT = 60000 /* ms */ };
 
 static int open_signals(void) {
@@ -15,88 +17,166 @@ static int open_signals(void) {
     sigemptyset(&set);
     sigaddset(&set, SIGINT);
     sigaddset(&set, SIGTERM);
+    sigaddset(&set, SIGHUP);
     sigaddset(&set, SIGUSR1);
     sigprocmask(SIG_BLOCK, &set, NULL);
     signal(SIGPIPE, SIG_IGN);
+    signal(SIGHUP, SIG_DFL); /* from here on it is read */
     return signalfd(-1, &set, SFD_CLOEXEC | SFD_NONBLOCK);
 }
 
 /* Is the program to end? */
-static bool read_signal(int signals, struct station *s) {
+static bool read_signal(int signals, struct program *p) {
     struct signalfd_siginfo got;
     if (read(signals, &got, sizeof got) != sizeof got) {
         return false;
     }
     if (got.ssi_signo == SIGUSR1) {
-        station_print_counts(s, clock_now());
+        station_print_counts(&p->station, clock_now());
+    } else if (got.ssi_signo == SIGHUP) {
+        reload(p);
+    } else {
+        return true;
     }
-    return got.ssi_signo != SIGUSR1;
+    return false;
 }
 
-/* Those of a turn are of one moment. */
-static void read_frames(struct station *s, struct clients *c) {
-    static uint8_t octets[FRAME_ROOM];
-    uint64_t now = clock_now();
+static void read_frames(struct station *s) {
+    struct received *r;
+    struct instant now = clock_instant();
     for (int k = 0; k < FRAMES_A_TURN; k++) {
-        ssize_t n = link_receive(s->link, octets);
-        if (n < 0) {
+        enum waiting found = link_receive(s->link, &now, &r);
+        if (found == NONE_WAITS) {
             return;
         }
-        if (n > 0 || s->link->index == 0) {
-            station_hear(s, octets, (size_t)n, now, c);
+        if (found == RECEIVED) {
+            station_hear(s, r);
         }
     }
 }
 
-static void look_at_link(struct station *s, struct clients *c) {
+static void look_at_link(struct program *p) {
     struct text t;
-    if (link_changed(s->link)) {
-        event_link(&t, clock_now(), s->link->up);
-        clients_tell(c, &t, clock_now());
-    }
-}
-
-static void follow_gpsd(struct gpsd *g, struct station *s, bool ready) {
     uint64_t now = clock_now();
-    if (g->fd < 0 && now >= g->try_at) {
-        gpsd_try(g, now);
-    } else if (ready && gpsd_read(g, s->place, now)) {
-        place_tell(s->place, s->handle, now);
+    unsigned news = link_look(&p->link);
+    if ((news & NEWS_UP) != 0) {
+        event_link(&t, now, p->link.up);
+        clients_tell(&p->clients, &t, now);
+        note("%s: the link is %s", p->link.name, p->link.up ? "up" : "down");
+    }
+    if ((news & NEWS_MAC) != 0) {
+        event_mac(&t, now, p->link.mac);
+        clients_tell(&p->clients, &t, now);
+        note("%s: the interface has another MAC; the station keeps its address", p->link.name);
     }
 }
 
-/* How long to wait, in ms: until the next beacon is due, or gpsd is to be tried again. */
-static int wait_of(const struct station *s, const struct gpsd *g) {
-    uint64_t now = clock_now(), due = s->place->known ? s->beacon_at : UINT64_MAX;
-    if (g->fd < 0 && g->try_at < due) {
-        due = g->try_at;
-    }
-    return due <= now ? 0 : due - now < LONGEST_WAIT ? (int)(due - now) : LONGEST_WAIT;
+static void tell_fix(struct program *p, uint64_t now) {
+    static const char *const sentences[] = {
+        "no fix", "the fix is current", "the last fix is old: the position isn't accurate",
+        "the last fix is too old, or there was none: nothing is sent",
+    };
+    struct text t;
+    event_fix(&t, now, p->place.fix);
+    clients_tell(&p->clients, &t, now);
+    note("position: %s", sentences[p->place.fix]);
 }
 
-void loop(struct station *s, struct gpsd *g, struct clients *c) {
-    int signals = open_signals();
-    struct pollfd on[ALL];
-    while (!clients_is_ended(c)) {
-        on[SIGNALS] = (struct pollfd){ signals, POLLIN, 0 };
-        on[LINK] = (struct pollfd){ s->link->fd, POLLIN, 0 };
-        on[WATCH] = (struct pollfd){ s->link->watch, POLLIN, 0 };
-        on[GPS] = (struct pollfd){ g->fd, g->connecting ? POLLOUT : POLLIN, 0 };
-        clients_poll(c, on + FIRST_CLIENT);
-        if (poll(on, ALL, wait_of(s, g)) < 0 && errno != EINTR) {
+static void follow_gpsd(struct program *p, bool ready) {
+    uint64_t now = clock_now();
+    enum fix_state was = p->place.fix;
+    bool changed = false;
+    if (p->gpsd.fd < 0 && now >= p->gpsd.try_at) {
+        gpsd_try(&p->gpsd, now);
+    } else if (ready) {
+        changed = gpsd_read(&p->gpsd, &p->place, now);
+    }
+    if (place_age(&p->place, now) || changed) {
+        if (p->place.known) {
+            p->station.last = now;
+            place_tell(&p->place, p->station.handle, now);
+        }
+    }
+    if (p->place.fix != was) {
+        tell_fix(p, now);
+    }
+}
+
+static uint64_t least(uint64_t a, uint64_t b) { return a < b ? a : b; }
+
+/* The time of the next thing to do, in ms. */
+static uint64_t due_of(const struct program *p, uint64_t now) {
+    uint64_t due = place_is_usable(&p->place) ? p->station.beacon_at : UINT64_MAX;
+    due = least(due, p->gpsd.fd < 0 ? p->gpsd.try_at : UINT64_MAX);
+    due = least(due, place_ages_at(&p->place));
+    due = least(due, clients_due(&p->clients, now));
+    due = least(due, p->metrics.write_at);
+    return least(due, notify_due());
+}
+
+/* How long to wait: until something is due, or a frame is to be forwarded. */
+static struct timespec wait_of(const struct program *p) {
+    uint64_t now = clock_now(), due = due_of(p, now), forward = forwards_due(&p->forwards);
+    uint64_t micros = due <= now ? 0 : least(due - now, LONGEST_WAIT) * 1000;
+    if (forward != UINT64_MAX) {
+        uint64_t at = clock_micros();
+        micros = least(micros, forward > at ? forward - at : 0);
+    }
+    return (struct timespec){ .tv_sec = (time_t)(micros / 1000000),
+                              .tv_nsec = (long)(micros % 1000000) * 1000 };
+}
+
+/* Waits, and says what is ready. */
+static void wait_for(struct program *p, int signals, struct pollfd *on) {
+    struct timespec wait = wait_of(p);
+    on[SIGNALS] = (struct pollfd){ signals, POLLIN, 0 };
+    on[LINK] = (struct pollfd){ p->link.fd, POLLIN, 0 };
+    on[WATCH] = (struct pollfd){ p->link.watch, POLLIN, 0 };
+    on[GPS] = (struct pollfd){ p->gpsd.fd, p->gpsd.connecting ? POLLOUT : POLLIN, 0 };
+    on[METRICS] = (struct pollfd){ p->metrics.listening, POLLIN, 0 };
+    clients_poll(&p->clients, on + FIRST_CLIENT, clock_now());
+    if (ppoll(on, ALL, &wait, NULL) < 0) {
+        if (errno != EINTR) {
             fail(FAILED, "poll: %m");
         }
-        if (on[SIGNALS].revents != 0 && read_signal(signals, s)) {
-            return;
+        for (int k = 0; k < ALL; k++) {
+            on[k].revents = 0;
         }
-        if (on[WATCH].revents != 0) {
-            look_at_link(s, c);
-        }
-        if (on[LINK].revents != 0) {
-            read_frames(s, c);
-        }
-        follow_gpsd(g, s, on[GPS].revents != 0);
-        station_beacon(s, clock_now());
-        clients_turn(c, on + FIRST_CLIENT);
     }
+}
+
+/* The station's own frames go before those that it forwards. */
+static void turn(struct program *p, const struct pollfd *on) {
+    if (on[WATCH].revents != 0) {
+        look_at_link(p);
+    }
+    if (on[LINK].revents != 0) {
+        read_frames(&p->station);
+    }
+    follow_gpsd(p, on[GPS].revents != 0);
+    station_beacon(&p->station, clock_now());
+    clients_turn(&p->clients, on + FIRST_CLIENT);
+    forwards_send(&p->forwards, clock_micros());
+    if (on[METRICS].revents != 0) {
+        metrics_serve(&p->metrics, &p->station, clock_now());
+    }
+    metrics_write(&p->metrics, &p->station, clock_now());
+    notify_alive(clock_now());
+}
+
+void loop(struct program *p) {
+    struct pollfd on[ALL];
+    int signals = open_signals();
+    notify("READY=1\nSTATUS=Running");
+    while (!clients_is_ended(&p->clients)) {
+        wait_for(p, signals, on);
+        if (on[SIGNALS].revents != 0 && read_signal(signals, p)) {
+            break;
+        }
+        turn(p, on);
+    }
+    notify("STOPPING=1");
+    clients_drain(&p->clients);
+    forwards_send(&p->forwards, UINT64_MAX);
+    close(signals);
 }

@@ -1,27 +1,26 @@
-/* geostation-link: one ITS station on a Linux interface, or on UDP. docs/LINK.md tells of it. */
+/* geostation-link: one ITS station on a Linux interface, or on UDP. docs/LINK.md describes it. */
 #define _GNU_SOURCE
 #include "parts.h"
 #include <fcntl.h>
-#include <stdio.h>
+#include <signal.h>
+#include <string.h>
+#include <sys/resource.h>
 #include <unistd.h>
 
-static struct options options;
-static struct link air;
-static struct place place;
-static struct gpsd gpsd;
-static struct clients clients;
-static struct station station = { .link = &air, .place = &place };
+static struct program program;
 
 /* A place that is given is accurate, and known from the start. */
-static void start_place(void) {
-    place.known = place.fixed = options.placed;
-    place.accurate = 1;
-    place.latitude = options.latitude;
-    place.longitude = options.longitude;
-    place.timestamp = (uint32_t)clock_now();
+static void start_place(struct place *p, const struct options *o) {
+    p->known = p->fixed = o->placed;
+    p->accurate = 1;
+    p->latitude = o->latitude;
+    p->longitude = o->longitude;
+    p->timestamp = (uint32_t)clock_now();
+    p->fix_at = clock_now();
+    p->fix_timeout = o->gps_timeout;
 }
 
-/* Where standard input, output or error is closed, no socket takes its number. */
+/* If standard input, output or error is closed, no socket takes its number. */
 static void hold_standard_files(void) {
     int fd;
     do {
@@ -32,23 +31,57 @@ static void hold_standard_files(void) {
     }
 }
 
+static void look_at_limits(void) {
+    struct rlimit files;
+    if (getrlimit(RLIMIT_NOFILE, &files) == 0 && files.rlim_cur < OPEN_FILES) {
+        fail(FAILED, "the limit of open files is %llu, and %d are needed: ulimit -n %d",
+             (unsigned long long)files.rlim_cur, OPEN_FILES, OPEN_FILES);
+    }
+}
+
+static void start(struct program *p) {
+    signal(SIGHUP, SIG_IGN); /* until the options can be read again */
+    look_at_limits();
+    clock_start();
+    notify_start();
+    resolve_addresses(&p->options);
+    link_open(&p->link, &p->options);
+    forwards_start(&p->forwards, &p->link, p->options.forward_spread);
+    start_place(&p->place, &p->options);
+    p->station.link = &p->link;
+    p->station.forwards = &p->forwards;
+    p->station.place = &p->place;
+    p->station.clients = &p->clients;
+    station_open(&p->station, &p->options, clock_now());
+    gpsd_start(&p->gpsd, &p->options);
+    p->clients.station = &p->station;
+    clients_start(&p->clients, &p->options);
+    metrics_start(&p->metrics, p->options.metrics);
+}
+
 int main(int argc, char **argv) {
+    struct program *p = &program;
+    struct fault f;
     if (geostation_abi() != GEOSTATION_ABI) {
         fail(FAILED, "libgeostation is another version than its header");
     }
     hold_standard_files();
-    read_arguments(&options, argc, argv);
-    clock_start();
-    link_open(&air, &options);
-    start_place();
-    station_open(&station, &options, clock_now());
-    gpsd_start(&gpsd, &options);
-    clients.station = &station;
-    clients_start(&clients, options.listen);
-    loop(&station, &gpsd, &clients);
-    station_print_counts(&station, clock_now());
-    clients_end(&clients);
-    geostation_free(station.probe);
-    geostation_free(station.handle);
+    p->argc = argc;
+    p->argv = argv;
+    if (!read_arguments(&p->options, argc, argv, &f)) {
+        fail(f.status, "%s", f.text);
+    }
+    if (p->options.check) {
+        return 0;
+    }
+    start(p);
+    loop(p);
+    station_print_counts(&p->station, clock_now());
+    clients_end(&p->clients);
+    metrics_end(&p->metrics);
+    station_close(&p->station);
+    if (p->clients.output_fault != 0 && p->clients.listening < 0) {
+        fail(FAILED, "standard output: %s", strerror(p->clients.output_fault));
+    }
     return 0;
 }

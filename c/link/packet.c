@@ -1,5 +1,5 @@
 /* A network interface, by a packet socket for GeoNetworking's EtherType alone (EN 302 636-4-1). It
- * takes CAP_NET_RAW and nothing else. */
+ * requires CAP_NET_RAW and nothing else. An interface that goes and comes back is opened again. */
 #define _GNU_SOURCE
 #include "parts.h"
 #include <arpa/inet.h>
@@ -11,21 +11,18 @@
 #include <net/if_arp.h>
 #include <string.h>
 #include <sys/ioctl.h>
-#include <sys/socket.h>
+#include <unistd.h>
 
-enum { ETHERTYPE = 0x8947 };
+enum { ETHERTYPE = 0x8947, LOOK_EACH = 250 /* ms */ };
 
-static struct ifreq asked(const struct link *l, unsigned long what) {
-    struct ifreq about;
-    memset(&about, 0, sizeof about);
-    memcpy(about.ifr_name, l->name, sizeof about.ifr_name);
-    if (ioctl(l->fd, what, &about) != 0) {
-        fail(FAILED, "%s: %m", l->name);
-    }
-    return about;
+/* False if the interface went meanwhile. */
+static bool ask(const struct link *l, unsigned long what, struct ifreq *about) {
+    memset(about, 0, sizeof *about);
+    memcpy(about->ifr_name, l->name, sizeof about->ifr_name);
+    return ioctl(l->fd, what, about) == 0;
 }
 
-/* Readable where an interface of this machine changed. No right is needed. */
+/* Readable if an interface of this machine changed. It needs no right. */
 static int open_watch(void) {
     struct sockaddr_nl groups = { .nl_family = AF_NETLINK, .nl_groups = RTMGRP_LINK };
     int fd = socket(AF_NETLINK, SOCK_RAW | SOCK_CLOEXEC, NETLINK_ROUTE);
@@ -35,56 +32,138 @@ static int open_watch(void) {
     return fd;
 }
 
-/* Is it up? One that is gone ends the program. Its name may have changed; its number doesn't. */
-void packet_look(struct link *l) {
-    if (if_indextoname(l->index, l->name) == NULL) {
-        fail(FAILED, "%s: the interface is gone", l->name);
+void packet_wait(struct link *l) {
+    struct pollfd news = { open_watch(), POLLIN, 0 };
+    uint8_t rest[8192];
+    if (if_nametoindex(l->wanted) == 0) {
+        note("%s: waiting for the interface", l->wanted);
+        notify("READY=1\nSTATUS=Waiting for the interface");
     }
-    unsigned flags = (unsigned)(unsigned short)asked(l, SIOCGIFFLAGS).ifr_flags;
-    l->up = (flags & IFF_UP) != 0 && (flags & IFF_RUNNING) != 0;
+    while (if_nametoindex(l->wanted) == 0) {
+        notify_alive(clock_now());
+        if (poll(&news, 1, LOOK_EACH) > 0) {
+            (void)!recv(news.fd, rest, sizeof rest, MSG_DONTWAIT);
+        }
+    }
+    close(news.fd);
+}
+
+/* The interface receives frames to the station's own MID too, if that isn't its MAC. */
+static bool take_address(const struct link *l) {
+    struct packet_mreq more = { .mr_ifindex = (int)l->index, .mr_type = PACKET_MR_UNICAST,
+                                .mr_alen = 6 };
+    for (int k = 0; k < 6; k++) {
+        more.mr_address[k] = (unsigned char)(l->address >> (40 - 8 * k));
+    }
+    return l->address == 0 || memcmp(more.mr_address, l->mac, 6) == 0
+        || setsockopt(l->fd, SOL_PACKET, PACKET_ADD_MEMBERSHIP, &more, sizeof more) == 0;
 }
 
 static void read_mac(struct link *l) {
-    struct ifreq about = asked(l, SIOCGIFHWADDR);
+    struct ifreq about;
+    if (!ask(l, SIOCGIFHWADDR, &about)) {
+        return;
+    }
     if (about.ifr_hwaddr.sa_family != ARPHRD_ETHER
         && about.ifr_hwaddr.sa_family != ARPHRD_LOOPBACK) {
-        fail(FAILED, "%s: no Ethernet interface", l->name);
+        fail(FAILED, "%s: not an Ethernet interface", l->name);
     }
     memcpy(l->mac, about.ifr_hwaddr.sa_data, sizeof l->mac);
 }
 
-void packet_open(struct link *l, const char *name) {
-    l->index = if_nametoindex(name);
-    if (l->index == 0) {
-        fail(FAILED, "%s: %m", name);
-    }
-    strncpy(l->name, name, sizeof l->name - 1);
-    /* no protocol before it is bound: else frames of all interfaces come */
+static void read_state(struct link *l) {
+    struct ifreq about;
+    bool known = ask(l, SIOCGIFFLAGS, &about);
+    unsigned flags = known ? (unsigned)(unsigned short)about.ifr_flags : 0;
+    l->up = (flags & IFF_UP) != 0 && (flags & IFF_RUNNING) != 0;
+}
+
+static void open_socket(struct link *l) {
+    const int on = 1;
+    /* no protocol before it is bound: otherwise frames of all interfaces come */
     l->fd = socket(AF_PACKET, SOCK_RAW | SOCK_CLOEXEC, 0);
-    if (l->fd < 0) {
-        fail(FAILED, errno == EPERM ? "%s: no permission: it takes CAP_NET_RAW" : "%s: %m", name);
+    if (l->fd < 0 && errno == EPERM) {
+        fail(FAILED, "%s: no permission: CAP_NET_RAW is needed", l->wanted);
     }
-    read_mac(l);
-    l->watch = open_watch();
+    if (l->fd < 0) {
+        fail(FAILED, "%s: %m", l->wanted);
+    }
+    (void)setsockopt(l->fd, SOL_SOCKET, SO_TIMESTAMPNS, &on, sizeof on);
+    (void)setsockopt(l->fd, SOL_PACKET, PACKET_IGNORE_OUTGOING, &on, sizeof on);
+    link_enlarge_buffer(l->fd);
+}
+
+bool packet_open(struct link *l) {
+    l->index = if_nametoindex(l->wanted);
+    if (l->index == 0) {
+        return false;
+    }
+    strncpy(l->name, l->wanted, sizeof l->name - 1);
+    open_socket(l);
+    if (l->watch < 0) {
+        l->watch = open_watch();
+    }
     struct sockaddr_ll at = { .sll_family = AF_PACKET, .sll_protocol = htons(ETHERTYPE),
                               .sll_ifindex = (int)l->index };
     if (bind(l->fd, (struct sockaddr *)&at, sizeof at) != 0) {
-        fail(FAILED, "%s: %m", name);
+        packet_close(l);
+        return false;
     }
-    packet_look(l);
+    read_mac(l);
+    read_state(l);
+    if (!take_address(l)) {
+        note("%s: it takes no second address: frames to the station alone may be lost", l->name);
+    }
+    return true;
 }
 
-/* The interface takes frames for the station's own MID too, where that isn't its MAC. */
-void packet_take(const struct link *l, uint64_t address) {
-    struct packet_mreq more = { .mr_ifindex = (int)l->index, .mr_type = PACKET_MR_UNICAST,
-                                .mr_alen = 6 };
-    for (int k = 0; k < 6; k++) {
-        more.mr_address[k] = (unsigned char)(address >> (40 - 8 * k));
+void packet_close(struct link *l) {
+    l->kernel_dropped += packet_drops(l);
+    close(l->fd);
+    l->fd = -1;
+    l->index = 0;
+    l->up = false;
+}
+
+static unsigned open_again(struct link *l) {
+    uint8_t old[6];
+    memcpy(old, l->mac, sizeof old);
+    if (!packet_open(l)) {
+        return NO_NEWS;
     }
-    if (memcmp(more.mr_address, l->mac, 6) != 0
-        && setsockopt(l->fd, SOL_PACKET, PACKET_ADD_MEMBERSHIP, &more, sizeof more) != 0) {
-        fail(FAILED, "%s: it takes no second address: %m", l->name);
+    note("%s: the interface is back", l->name);
+    return (l->up ? NEWS_UP : NO_NEWS) | (memcmp(old, l->mac, 6) != 0 ? NEWS_MAC : NO_NEWS);
+}
+
+/* Its name may have changed; its number doesn't, while it is there. */
+unsigned packet_look(struct link *l) {
+    bool was = l->up;
+    uint8_t old[6];
+    memcpy(old, l->mac, sizeof old);
+    if (l->index == 0) {
+        return open_again(l);
     }
+    if (if_indextoname(l->index, l->name) == NULL) {
+        note("%s: the interface is gone: waiting for it", l->wanted);
+        packet_close(l);
+        return (was ? NEWS_UP : NO_NEWS) | open_again(l);
+    }
+    read_state(l);
+    read_mac(l);
+    bool changed = memcmp(old, l->mac, sizeof old) != 0;
+    if (changed && !take_address(l)) {
+        note("%s: it takes no second address: frames to the station alone may be lost", l->name);
+    }
+    return (l->up != was ? NEWS_UP : NO_NEWS) | (changed ? NEWS_MAC : NO_NEWS);
+}
+
+/* Since it was asked last. */
+uint64_t packet_drops(const struct link *l) {
+    struct tpacket_stats counts = { 0, 0 };
+    socklen_t size = sizeof counts;
+    bool known = l->fd >= 0
+        && getsockopt(l->fd, SOL_PACKET, PACKET_STATISTICS, &counts, &size) == 0;
+    return known ? counts.tp_drops : 0;
 }
 
 /* Did the frame come with a tag of another network (IEEE 802.1Q)? The kernel takes tags off before

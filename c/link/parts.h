@@ -1,4 +1,4 @@
-/* The parts of geostation-link, a file each: what one may ask of another. */
+/* The parts of geostation-link: one file each, and what each offers to the others. */
 #ifndef GEOSTATION_LINK_PARTS_H
 #define GEOSTATION_LINK_PARTS_H
 
@@ -6,62 +6,143 @@
 #include <netinet/in.h>
 #include <poll.h>
 #include <stdbool.h>
+#include <stddef.h>
+#include <sys/socket.h>
 #include <sys/types.h>
 
 enum {
     BAD_ARGUMENTS = 2,
-    FAILED = 3, /* something of the system failed */
+    FAILED = 3, /* the system refused something */
     PEERS = 16,
     PORTS = 64,
     CLIENTS = 17,             /* the first one is standard input and output */
-    FRAME_ROOM = 2048,        /* over any frame: one that was cut isn't a frame either */
-    EVENTS_ROOM = 128 * 1024, /* no event is put behind more octets, and no request is read */
+    FRAME_ROOM = 2048,        /* longer than any frame, so a frame that was cut is not valid */
+    EVENTS_ROOM = 128 * 1024, /* no event is queued after more bytes, and no request is read */
+    CONFIG_ROOM = 8192,       /* longest configuration file, in bytes */
+    FORWARDS = 256,           /* forwarded frames that may wait at a time */
+    OPEN_FILES = 64,          /* descriptors that the program needs */
 };
 
-/* fail.c: ends the program with a sentence on standard error that says what failed and why. */
+/* fail.c: messages on standard error. */
+struct fault {
+    int status;
+    char text[512];
+};
 _Noreturn __attribute__((format(printf, 2, 3))) void fail(int status, const char *format, ...);
+__attribute__((format(printf, 1, 2))) void note(const char *format, ...); /* never waits */
+__attribute__((format(printf, 3, 4))) bool set_fault(struct fault *f, int status,
+                                                     const char *format, ...); /* is false */
 
-/* arguments.c: what the command line says. */
+/* draws.c: random numbers. They spread frames in time and are not secrets. */
+uint16_t draw(void);
+uint32_t draw_below(uint32_t bound); /* 0 to bound - 1; 0 if bound is 0 */
+
+/* arguments.c and config.c: what the command line and the configuration file say. */
+struct address {
+    struct sockaddr_storage at;
+    socklen_t length;
+};
 struct options {
-    const char *interface, *listen;
-    bool udp, gpsd, placed, addressed, stationary;
-    struct sockaddr_in local, peers[PEERS], gpsd_at;
+    const char *interface, *listen, *metrics, *udp, *gpsd, *to[PEERS];
+    bool placed, addressed, typed, stationary, wait_interface, check;
+    struct address local, peers[PEERS], gpsd_at; /* filled by resolve_addresses */
     size_t peer_count, port_count;
     uint64_t address, station_type;
     int32_t latitude, longitude; /* 0.1 microdegree */
     uint16_t capacity, remember, ports[PORTS];
+    uint32_t forward_spread;              /* microseconds */
+    uint32_t client_timeout, gps_timeout; /* milliseconds */
+    char config[CONFIG_ROOM];             /* the text of the file, to which the pointers lead */
 };
-void read_arguments(struct options *o, int argc, char **argv);
+struct setting { /* an option, and where it is written */
+    const char *file; /* NULL: on the command line */
+    int line;
+    const char *name, *value; /* value: NULL if there is none */
+};
+bool read_arguments(struct options *o, int argc, char **argv, struct fault *f);
+bool take_setting(struct options *o, int option, const struct setting *s, struct fault *f);
+bool read_config(struct options *o, const char *path, struct fault *f);
+int option_named(const char *name, int *argument); /* its letter, or -1 */
+
+/* values.c: the texts of values. Each of these sets the fault and returns false for a bad one. */
+bool number_of(const struct setting *s, uint64_t least, uint64_t most, uint64_t *out,
+               struct fault *f);
+bool address_of(const struct setting *s, uint64_t *out, struct fault *f);
+bool position_of(const struct setting *s, struct options *o, struct fault *f);
+bool host_port_of(const struct setting *s, struct fault *f);
+bool refuse_value(const struct setting *s, const char *why, struct fault *f);
+void resolve_addresses(struct options *o);
 
 /* clock.c: milliseconds of TAI since 2004-01-01. */
+struct instant {
+    uint64_t moment;
+    int64_t realtime; /* CLOCK_REALTIME at the same time, in ms */
+};
 void clock_start(void);
 uint64_t clock_now(void);
-uint32_t clock_stamp_of_utc(int64_t seconds, long nanoseconds); /* of a time of day, modulo 2^32 */
+uint64_t clock_micros(void); /* since the start of the machine */
+struct instant clock_instant(void);
+uint64_t clock_of_utc(int64_t seconds, long nanoseconds); /* may be before 2004: then 0 */
 
-/* link.c, over packet.c or udp.c: where frames come from and go to. */
+/* link.c, over packet.c or udp.c: frames from and to the link. */
 struct link {
-    int fd, watch;      /* watch: readable where some interface changed, or -1 */
-    unsigned index;     /* of the interface; 0 on UDP */
-    char name[16];
+    int fd, watch;      /* watch: readable if some interface changed, or -1 */
+    unsigned index;     /* of the interface; 0 on UDP and while the interface is gone */
+    char name[16];      /* as the interface is called now */
+    const char *wanted; /* the name that --interface has, or NULL on UDP */
+    uint64_t address;   /* of the station */
     uint8_t mac[6];
     bool up;
-    const struct sockaddr_in *peers;
+    const struct address *peers;
     size_t peer_count;
-    uint64_t frames, padded, tagged, dropped;
+    uint64_t empty_at; /* the last time at which no frame waited */
+    uint64_t frames, padded, tagged, dropped, kernel_dropped, suppressed;
 };
+struct received {
+    size_t length;
+    uint64_t at; /* when the kernel received it */
+    uint8_t octets[FRAME_ROOM];
+};
+enum sending { SENT, LINK_DOWN, QUEUE_FULL, FRAME_TOO_LONG };
+enum news { NO_NEWS = 0, NEWS_UP = 1, NEWS_MAC = 2 };
 void link_open(struct link *l, struct options *o);
-void link_send(struct link *l, const uint8_t *frame, size_t length);
-ssize_t link_receive(struct link *l, uint8_t *octets); /* -1: none waits; 0: passed over */
-bool link_changed(struct link *l);                     /* looks again: is `up` another now? */
-void packet_open(struct link *l, const char *name);
-void packet_take(const struct link *l, uint64_t address);
-void packet_look(struct link *l);
+enum sending link_send(struct link *l, const uint8_t *frame, size_t length);
+enum waiting { NONE_WAITS, SKIPPED, RECEIVED };
+enum waiting link_receive(struct link *l, const struct instant *now, struct received **r);
+unsigned link_look(struct link *l); /* looks at the interface: which news are there? */
+uint64_t link_kernel_dropped(struct link *l);
+void link_enlarge_buffer(int fd);
+void packet_wait(struct link *l);
+bool packet_open(struct link *l); /* false: there is no such interface */
+void packet_close(struct link *l);
+unsigned packet_look(struct link *l);
 bool packet_is_foreign(const struct link *l, const uint8_t *octets, size_t n, const void *from);
+uint64_t packet_drops(const struct link *l);
 void udp_open(struct link *l, const struct options *o);
 
-/* place.c: where the station stands, as it was told last. */
+/* forwards.c: frames that the station forwards, each sent after a random wait. */
+struct forwards {
+    struct link *link;
+    uint32_t spread; /* the wait is below this, in microseconds; 0: none */
+    size_t count;    /* of frames that wait */
+    uint64_t dropped; /* frames for which there was no free place */
+    uint16_t order[FORWARDS], lengths[FORWARDS]; /* the first `count` places of order are used */
+    uint64_t due[FORWARDS];
+    uint8_t frames[FORWARDS][GEOSTATION_FRAME_MAX];
+};
+void forwards_start(struct forwards *w, struct link *l, uint32_t spread);
+void forwards_put(struct forwards *w, const uint8_t *frame, size_t length);
+void forwards_send(struct forwards *w, uint64_t until); /* those that are due by then */
+uint64_t forwards_due(const struct forwards *w);        /* microseconds; UINT64_MAX: none waits */
+
+/* place.c: the position that the station has. */
+enum fix_state { FIX_NONE, FIX_CURRENT, FIX_OLD, FIX_LOST };
 struct place {
-    bool known, fixed; /* fixed: no fix comes, so the same place is told again as time goes on */
+    bool known, fixed; /* fixed: it comes from --position */
+    enum fix_state fix;
+    uint64_t fix_at;     /* the time of the last fix, or of the start */
+    uint32_t fix_timeout;
+    bool time_reported; /* that the time of fixes is not credible */
     uint64_t told_at;
     uint32_t timestamp;
     int32_t latitude, longitude;
@@ -69,23 +150,48 @@ struct place {
     uint16_t heading;
     uint8_t accurate;
 };
+bool place_is_usable(const struct place *p);
 void place_tell(struct place *p, geostation_handle *s, uint64_t now);
 void place_refresh(struct place *p, geostation_handle *s, uint64_t now);
-void place_take(struct place *p, const struct geostation_vector *v);
+void place_take(struct place *p, const struct geostation_vector *v, uint64_t now);
+bool place_age(struct place *p, uint64_t now); /* did the state of the fix change? */
+uint64_t place_ages_at(const struct place *p); /* when it changes if no fix comes */
 
-/* gpsd.c: fixes of gpsd, where the program was built with libgps. */
+/* json.c: reads the members of one JSON object, and nothing beyond its text. */
+struct json {
+    const char *at, *end;
+};
+struct json_member {
+    const char *key, *text; /* as written, without quotation marks */
+    size_t key_length, length;
+    enum { JSON_TEXT, JSON_NUMBER, JSON_OTHER } kind;
+};
+enum json_step { JSON_MEMBER, JSON_END, JSON_WRONG };
+bool json_open(struct json *j, const char *text, size_t length);
+enum json_step json_next(struct json *j, struct json_member *m);
+bool json_is_key(const struct json_member *m, const char *name);
+
+/* fix.c: a report of gpsd. A number that it lacks is NAN. */
+struct fix {
+    double mode, latitude, longitude, speed, track, eph, epx, epy;
+    bool timed;
+    uint64_t moment; /* if timed */
+};
+bool fix_read(struct fix *f, const char *line, size_t length); /* is it a TPV report? */
+bool fix_take(const struct fix *f, struct place *p, uint64_t now); /* did the position change? */
+
+/* gpsd.c: the connection to gpsd. */
 struct gpsd {
     int fd;
-    bool connecting, too_long;
-    struct sockaddr_in at;
-    uint64_t try_at; /* where there is no connection: when to try again; UINT64_MAX: never */
+    bool wanted, connecting, too_long, reported;
+    const struct address *at;
+    uint64_t try_at; /* without a connection: when to try again; UINT64_MAX: never */
     size_t length;
     char line[8192];
 };
-bool gpsd_is_built_in(void);
 void gpsd_start(struct gpsd *g, const struct options *o);
 void gpsd_try(struct gpsd *g, uint64_t now);
-bool gpsd_read(struct gpsd *g, struct place *p, uint64_t now); /* did the place change? */
+bool gpsd_read(struct gpsd *g, struct place *p, uint64_t now); /* did the position change? */
 
 /* events.c: lines that answer no request. */
 struct text {
@@ -94,54 +200,122 @@ struct text {
 };
 void event_ready(struct text *t, uint64_t now, uint64_t address);
 void event_link(struct text *t, uint64_t now, bool up);
+void event_mac(struct text *t, uint64_t now, const uint8_t mac[6]);
+void event_fix(struct text *t, uint64_t now, enum fix_state state);
 void event_lost(struct text *t, uint64_t now, uint64_t count);
-void event_delivered(struct text *t, uint64_t now, const struct geostation_reception *r,
+void event_closed(struct text *t, uint64_t now);
+void event_delivered(struct text *t, uint64_t at, const struct geostation_reception *r,
                      const uint8_t *payload);
 
-/* station.c: the proved station, and what it is asked. */
+/* station.c: the proved station. */
+struct clients;
 struct station {
     geostation_handle *handle;
-    geostation_handle *probe; /* a second one, that says what a line would do; nothing hears it */
+    geostation_handle *probe; /* a second one, that says what a line would do */
     uint64_t address;
+    uint64_t last;      /* the time of the last call */
     uint16_t jitter;    /* of the next beacon */
-    uint64_t beacon_at; /* the moment at which that is due with it */
+    uint64_t beacon_at; /* the time at which that is due */
     struct link *link;
+    struct forwards *forwards;
     struct place *place;
+    struct clients *clients;
     uint8_t frame[GEOSTATION_FRAME_MAX]; /* what a call writes */
 };
-struct clients;
 void station_open(struct station *s, const struct options *o, uint64_t now);
-void station_hear(struct station *s, const uint8_t *octets, size_t n, uint64_t now,
-                  struct clients *c);
+void station_hear(struct station *s, const struct received *r);
 void station_beacon(struct station *s, uint64_t now);
+void station_plan_beacon(struct station *s);
+void station_change_ports(struct station *s, const struct options *old, const struct options *new);
+void station_close(struct station *s);
+
+/* answers.c: what a line of an application asks for. */
 size_t station_answer(struct station *s, uint64_t now, uint64_t number, const uint8_t *line,
                       size_t n, uint8_t answer[GEOSTATION_ANSWER_MAX]);
 void station_print_counts(struct station *s, uint64_t now);
 
-/* clients.c: who sends requests and reads answers and events. */
+/* client.c: one application. */
 struct client {
-    int in, out;                       /* -1: ended */
-    uint64_t lines, lost;              /* lines that came; events that had no room */
-    size_t line_length, next, got;     /* of `line`; of what was read: from where, and its end */
-    size_t begin, end;                 /* of what waits in the queue */
+    int in, out;                   /* in is -1 once it ended */
+    bool deaf;                     /* no one reads what is written any more */
+    uint64_t lines, lost;          /* lines that came; events for which there was no free space */
+    uint64_t active_at;            /* when it last sent or took something */
+    size_t line_length, next, got; /* of `line`; of what was read: from where, and its end */
+    size_t begin, end;             /* of what waits in the queue */
     uint8_t chunk[4096];
     uint8_t line[GEOSTATION_LINE_MAX + 1];
     uint8_t queue[EVENTS_ROOM + GEOSTATION_ANSWER_MAX + 1];
 };
+size_t client_waiting(const struct client *c);
+struct client *client_new(int in, int out, uint64_t now); /* NULL: out of memory */
+void client_tell(struct clients *all, struct client *c, const struct text *t, uint64_t now);
+bool client_is_done(const struct client *c); /* no more comes, and what was answered is written */
+bool client_may_read(const struct client *c);
+void client_read(struct clients *all, struct client *c);
+void client_take_lines(struct clients *all, struct client *c);
+bool client_is_writing(const struct client *c);
+int client_write(struct client *c); /* 0, or why no one reads any more */
+
+/* clients.c: all applications. */
 struct clients {
     struct client *all[CLIENTS];
     int listening; /* or -1 */
+    int spare;     /* a descriptor that is given up to turn a client away */
     const char *path;
+    uint32_t timeout; /* an idle client is closed after this if others wait, in ms; 0: never */
+    uint64_t events_lost, closed_idle, turned_away;
+    int output_fault; /* the errno of standard output, or 0 */
     struct station *station;
 };
-void clients_start(struct clients *c, const char *path);
+void clients_start(struct clients *c, const struct options *o);
 void clients_tell(struct clients *c, const struct text *t, uint64_t now);
-void clients_poll(const struct clients *c, struct pollfd *on); /* fills 1 + 2 * CLIENTS */
+void clients_poll(const struct clients *c, struct pollfd *on, uint64_t now); /* 1 + 2 * CLIENTS */
 void clients_turn(struct clients *c, const struct pollfd *on);
+uint64_t clients_due(const struct clients *c, uint64_t now);
+size_t clients_count(const struct clients *c);
 bool clients_is_ended(const struct clients *c);
+void clients_drain(struct clients *c);
 void clients_end(struct clients *c);
 
-/* loop.c: waits for all of them, and hands on what comes, until it is to end. */
-void loop(struct station *s, struct gpsd *g, struct clients *c);
+/* counts.c: what was counted, as text. */
+size_t counts_print_link(const struct station *s, char *out, size_t room);
+size_t counts_print_metrics(const struct station *s, uint64_t now, char *out, size_t room);
+
+/* metrics.c: the counts for Prometheus, at a socket or in a file. */
+struct metrics {
+    const char *path;
+    int listening;     /* or -1 */
+    uint64_t write_at; /* when the file is written next; UINT64_MAX: there is none */
+    bool failed;       /* the last write failed, and was reported */
+};
+void metrics_start(struct metrics *m, const char *path);
+void metrics_serve(const struct metrics *m, const struct station *s, uint64_t now);
+void metrics_write(struct metrics *m, const struct station *s, uint64_t now);
+void metrics_end(const struct metrics *m);
+
+/* socket.c: a UNIX socket at a path. One at which no one listens any more is replaced. */
+int listen_at(const char *option, const char *path, int waiting);
+
+/* notify.c: tells a service manager, if there is one. */
+void notify_start(void);
+void notify(const char *state);
+void notify_alive(uint64_t now);
+uint64_t notify_due(void); /* when notify_alive sends next; UINT64_MAX: never */
+
+/* loop.c: waits for all of them, and passes on what comes, until it is to end. */
+struct program {
+    int argc;
+    char **argv;
+    struct options options;
+    struct link link;
+    struct forwards forwards;
+    struct place place;
+    struct gpsd gpsd;
+    struct clients clients;
+    struct station station;
+    struct metrics metrics;
+};
+void loop(struct program *p);
+void reload(struct program *p);
 
 #endif

@@ -1,8 +1,13 @@
-/* Where the station stands. A packet's time stamp is that of the place (EN 302 636-4-1), so a place
- * that is fixed is told again as time goes on: else no one would take its news for new. */
+/* Where the station is. A packet's time stamp is that of its position (EN 302 636-4-1), so a
+ * position that is fixed gets a new time stamp as time goes on: otherwise no one would take its
+ * packets for new. A fix of a receiver grows old: then it is no longer accurate, and later nothing
+ * is sent. */
 #include "parts.h"
 
-enum { TOLD_EACH = 1000 /* ms, at most */ };
+enum { TOLD_EACH = 1000 /* ms, at most */, OLD_AFTER = 5000 /* ms */ };
+
+/* May the station send? */
+bool place_is_usable(const struct place *p) { return p->known && p->fix != FIX_LOST; }
 
 void place_tell(struct place *p, geostation_handle *s, uint64_t now) {
     p->told_at = now;
@@ -18,13 +23,39 @@ void place_refresh(struct place *p, geostation_handle *s, uint64_t now) {
     }
 }
 
-/* An application moved the station: that is its place from then on, or until a fix comes. */
-void place_take(struct place *p, const struct geostation_vector *v) {
+/* An application moved the station: that is its position until a fix comes. */
+void place_take(struct place *p, const struct geostation_vector *v, uint64_t now) {
     p->known = true;
+    p->fix = FIX_CURRENT;
+    p->fix_at = now;
     p->timestamp = v->timestamp;
     p->latitude = v->latitude;
     p->longitude = v->longitude;
     p->accurate = v->accurate;
     p->speed = v->speed;
     p->heading = v->heading;
+}
+
+uint64_t place_ages_at(const struct place *p) {
+    if (p->fixed || p->fix == FIX_LOST) {
+        return UINT64_MAX;
+    }
+    bool old_next = p->fix == FIX_CURRENT && p->fix_timeout > OLD_AFTER;
+    return p->fix_at + (old_next ? OLD_AFTER : p->fix_timeout);
+}
+
+bool place_age(struct place *p, uint64_t now) {
+    enum fix_state was = p->fix;
+    if (p->fixed) {
+        return false;
+    }
+    if (now >= p->fix_at + p->fix_timeout) {
+        p->fix = FIX_LOST;
+    } else if (p->fix == FIX_CURRENT && now >= p->fix_at + OLD_AFTER) {
+        p->fix = FIX_OLD;
+    }
+    if (p->fix == FIX_OLD || p->fix == FIX_LOST) {
+        p->accurate = 0;
+    }
+    return p->fix != was;
 }

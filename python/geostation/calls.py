@@ -4,7 +4,7 @@ from __future__ import annotations
 
 from abc import ABC, abstractmethod
 from threading import get_ident
-from typing import Iterator, List, Optional, Tuple, TypeVar, Union
+from typing import Iterator, List, NoReturn, Optional, Tuple, TypeVar, Union
 
 from .errors import BadArgument
 from .values import Area, Counts, Reception, Vector, place, whole
@@ -47,12 +47,34 @@ def octets(name: str, value: bytes) -> bytes:
     return bytes(value)
 
 
+class _Guard:
+    """Lets one call at a time in, and only from the thread that made it."""
+
+    __slots__ = ("_owner", "_busy")
+
+    def __init__(self) -> None:
+        self._owner, self._busy = get_ident(), False
+
+    def __enter__(self) -> None:
+        if get_ident() != self._owner:
+            raise RuntimeError("a station is used by the thread that made it, and by no other")
+        if self._busy:
+            raise RuntimeError("a station is in one call at a time: this call is within another")
+        self._busy = True
+
+    def __exit__(self, *_: object) -> None:
+        self._busy = False
+
+
 class Calls(ABC):
-    """A station. The thread that makes it is the one that may use it.
+    """A station. Only the thread that makes it may use it, one call at a time: a call from a signal
+    handler within another call raises RuntimeError. A station can't be copied or pickled.
 
     A call that is refused raises `Refused` and changed nothing. `with` frees the station at its
     end; so does its last use.
     """
+
+    _calling: _Guard
 
     def __init__(
         self,
@@ -64,7 +86,9 @@ class Calls(ABC):
         capacity: int = 64,
         remember: int = 8,
     ):
-        self._owner = get_ident()
+        if "_calling" in self.__dict__:
+            raise RuntimeError("a station is made once: __init__ was called again")
+        self._calling = _Guard()
         self._make(
             address_of(address),
             *place(latitude, longitude, degrees),
@@ -78,14 +102,13 @@ class Calls(ABC):
     def __exit__(self, *_: object) -> None:
         self.free()
 
-    def _check_thread(self) -> None:
-        if get_ident() != self._owner:
-            raise RuntimeError("a station is used by the thread that made it, and by no other")
+    def __reduce_ex__(self, _: object) -> NoReturn:
+        raise TypeError("a station can't be copied or pickled")
 
     def free(self) -> None:
         """Ends the station; a call after it raises ValueError."""
-        self._check_thread()
-        self._end()
+        with self._calling:
+            self._end()
 
     def move(
         self,
@@ -99,48 +122,48 @@ class Calls(ABC):
         heading: int = 0,
     ) -> None:
         """The station stands there from now on; speed in 0.01 m/s, heading in 0.1 degree."""
-        self._check_thread()
-        self._move(
-            moment(now),
-            *place(latitude, longitude, degrees),
-            bool(accurate),
-            whole("speed", speed, -16384, 16383),
-            whole("heading", heading, 0, 65535),
-        )
+        with self._calling:
+            self._move(
+                moment(now),
+                *place(latitude, longitude, degrees),
+                bool(accurate),
+                whole("speed", speed, -16384, 16383),
+                whole("heading", heading, 0, 65535),
+            )
 
     def open_port(self, now: int, port: int) -> None:
         """Opens a port, at which payloads are delivered."""
-        self._check_thread()
-        self._open_port(moment(now), whole("port", port, 0, 65535))
+        with self._calling:
+            self._open_port(moment(now), whole("port", port, 0, 65535))
 
     def close_port(self, now: int, port: int) -> None:
         """Closes a port."""
-        self._check_thread()
-        self._close_port(moment(now), whole("port", port, 0, 65535))
+        with self._calling:
+            self._close_port(moment(now), whole("port", port, 0, 65535))
 
     def restart(self, now: int, number: int) -> None:
         """The station forgets what it heard and closes its ports; its next packet for an area has
         this sequence number."""
-        self._check_thread()
-        self._restart(moment(now), whole("number", number, 0, 65535))
+        with self._calling:
+            self._restart(moment(now), whole("number", number, 0, 65535))
 
     def tick(self, now: int, jitter: int = 0) -> Optional[bytes]:
         """The frame of a beacon, where one is due: the jitter is 0 to 750 ms."""
-        self._check_thread()
-        return self._tick(moment(now), whole("jitter", jitter, 0, 65535))
+        with self._calling:
+            return self._tick(moment(now), whole("jitter", jitter, 0, 65535))
 
     def send_shb(
         self, now: int, *, port: int, payload: bytes, info: int = 0, traffic_class: int = 0
     ) -> bytes:
         """The frame of a payload for all in reach."""
-        self._check_thread()
-        return self._send_shb(
-            moment(now),
-            whole("port", port, 0, 65535),
-            whole("info", info, 0, 65535),
-            whole("traffic_class", traffic_class, 0, 255),
-            octets("payload", payload),
-        )
+        with self._calling:
+            return self._send_shb(
+                moment(now),
+                whole("port", port, 0, 65535),
+                whole("info", info, 0, 65535),
+                whole("traffic_class", traffic_class, 0, 255),
+                octets("payload", payload),
+            )
 
     def send_gbc(
         self,
@@ -188,18 +211,20 @@ class Calls(ABC):
         area: Area,
         payload: bytes,
     ) -> bytes:
-        self._check_thread()
-        return self._send_area(
-            word,
-            moment(now),
-            whole("port", port, 0, 65535),
-            whole("info", info, 0, 65535),
-            whole("traffic_class", traffic_class, 0, 255),
-            whole("lifetime", lifetime, 0, 255),
-            whole("max_hops", max_hops, 0, 255),
-            area,
-            octets("payload", payload),
-        )
+        if not isinstance(area, Area):
+            raise TypeError(f"area is an Area, and {area!r} is none")
+        with self._calling:
+            return self._send_area(
+                word,
+                moment(now),
+                whole("port", port, 0, 65535),
+                whole("info", info, 0, 65535),
+                whole("traffic_class", traffic_class, 0, 255),
+                whole("lifetime", lifetime, 0, 255),
+                whole("max_hops", max_hops, 0, 255),
+                area,
+                octets("payload", payload),
+            )
 
     def next_beacon(self, jitter: int = 0) -> int:
         """The least moment at which `tick` with this jitter gives a beacon, in ms: never before the
@@ -208,14 +233,14 @@ class Calls(ABC):
         A program draws a jitter once for each beacon, hands it to each `tick` until that gave the
         beacon, and asks anew after a packet of its own and after `restart`, and not after a frame
         that came: a sleep begun anew with each of these may never end."""
-        self._check_thread()
-        return self._next_beacon(whole("jitter", jitter, 0, 65535))
+        with self._calling:
+            return self._next_beacon(whole("jitter", jitter, 0, 65535))
 
     def look_up(self, now: int, address: Address) -> Optional[Vector]:
         """The newest vector of the live source of an address. There is none at a moment before the
         last call's, nor at one over `LAST_MOMENT`."""
-        self._check_thread()
-        return self._look_up(moment(now), address_of(address))
+        with self._calling:
+            return self._look_up(moment(now), address_of(address))
 
     def neighbours(self, now: int) -> Iterator[Vector]:
         """The vectors of the live neighbours, which are heard directly, by ascending address. One
@@ -223,19 +248,19 @@ class Calls(ABC):
         moment(now)
         after: Optional[int] = 0
         while after is not None:
-            self._check_thread()
-            told, after = self._neighbours(now, after)
+            with self._calling:
+                told, after = self._neighbours(now, after)
             yield from told
 
     def counts(self) -> Counts:
         """What came, was ignored, refused and sent so far; `restart` keeps it."""
-        self._check_thread()
-        return self._counts()
+        with self._calling:
+            return self._counts()
 
     def receive(self, now: int, frame: bytes) -> Reception:
         """Takes a frame that came."""
-        self._check_thread()
-        return self._receive(moment(now), octets("frame", frame))
+        with self._calling:
+            return self._receive(moment(now), octets("frame", frame))
 
     @abstractmethod
     def _make(

@@ -5,6 +5,7 @@ from __future__ import annotations
 import re
 from dataclasses import dataclass
 from enum import IntEnum
+from typing import Any, Tuple
 
 
 class Status(IntEnum):
@@ -109,6 +110,9 @@ class Refused(Exception):
         super().__init__(TEXTS[status] if text is None else text)
         self.status = status
 
+    def __reduce__(self) -> Tuple[Any, ...]:
+        return Refused, (self.status, str(self))
+
     @property
     def code(self) -> str:
         """What logs show, as `S1` or `S8 B2`; of an argument nothing."""
@@ -122,6 +126,9 @@ class BadArgument(Refused, ValueError):
         super().__init__(Status.BAD_ARGUMENT, f"{name} is out of its range")
         self.name = name
 
+    def __reduce__(self) -> Tuple[Any, ...]:
+        return BadArgument, (self.name,)
+
 
 class BadFrame(Refused):
     """Octets that are no frame: `fault` says why."""
@@ -130,6 +137,9 @@ class BadFrame(Refused):
         super().__init__(Status.BAD_FRAME, str(fault))
         self.fault = fault
         self.received = received
+
+    def __reduce__(self) -> Tuple[Any, ...]:
+        return BadFrame, (self.fault, self.received)
 
     @property
     def code(self) -> str:

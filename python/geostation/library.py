@@ -270,10 +270,13 @@ def load() -> Library:
     try:
         shared = c.PyDLL(path)
     except OSError as error:
-        told = f"{error}: 'c/build PREFIX' makes it, GEOSTATION_PREFIX tells where"
+        told = f"{error}: 'c/build PREFIX' makes it, GEOSTATION_PREFIX says where it is"
         raise ImportError(told) from None
-    check_abi(shared)
-    return Library(shared)
+    try:
+        check_abi(shared)
+        return Library(shared)
+    except AttributeError as error:
+        raise ImportError(f"{path} is not this package's libgeostation: {error}") from None
 
 
 def fault_of(struct: Any) -> Fault:

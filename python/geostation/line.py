@@ -47,7 +47,10 @@ class Ended(Exception):
 
     def __init__(self, status: int, said: str):
         super().__init__(f"the program ended with status {status}: {said.strip()}")
-        self.status = status
+        self.status, self._said = status, said
+
+    def __reduce__(self) -> Tuple[Any, ...]:
+        return Ended, (self.status, self._said)
 
 
 class Line(Calls):
@@ -83,7 +86,10 @@ class Line(Calls):
 
     def ask(self, do: str, at: Optional[int] = None, **keys: Any) -> Dict[str, Any]:
         """The answer to a line, as the program gives it. What the station refuses is raised."""
-        self._check_thread()
+        with self._calling:
+            return self._ask(do, at, **keys)
+
+    def _ask(self, do: str, at: Optional[int] = None, **keys: Any) -> Dict[str, Any]:
         process = self._process
         if process is None:
             raise ValueError("the station was freed")
@@ -128,21 +134,21 @@ class Line(Calls):
     def _move(
         self, now: int, latitude: int, longitude: int, accurate: bool, speed: int, heading: int
     ) -> None:
-        self.ask(
+        self._ask(
             "move", now, lat=latitude, lon=longitude, pai=accurate, speed=speed, heading=heading
         )
 
     def _open_port(self, now: int, port: int) -> None:
-        self.ask("open", now, port=port)
+        self._ask("open", now, port=port)
 
     def _close_port(self, now: int, port: int) -> None:
-        self.ask("close", now, port=port)
+        self._ask("close", now, port=port)
 
     def _restart(self, now: int, number: int) -> None:
-        self.ask("restart", now, number=number)
+        self._ask("restart", now, number=number)
 
     def _tick(self, now: int, jitter: int) -> Optional[bytes]:
-        answer = self.ask("tick", now, jitter=jitter)
+        answer = self._ask("tick", now, jitter=jitter)
         return self._sent(answer) if answer["result"] == "sent" else None
 
     def _send_shb(
@@ -150,7 +156,7 @@ class Line(Calls):
     ) -> bytes:
         told = _short(payload, PAYLOAD_MAX).hex()
         return self._sent(
-            self.ask("shb", now, port=port, info=info, tc=traffic_class, payload=told)
+            self._ask("shb", now, port=port, info=info, tc=traffic_class, payload=told)
         )
 
     def _send_area(
@@ -165,7 +171,7 @@ class Line(Calls):
         area: Area,
         payload: bytes,
     ) -> bytes:
-        answer = self.ask(
+        answer = self._ask(
             word,
             now,
             port=port,
@@ -184,10 +190,10 @@ class Line(Calls):
         return self._sent(answer)
 
     def _next_beacon(self, jitter: int) -> int:
-        return int(self.ask("next_beacon", jitter=jitter)["moment"])
+        return int(self._ask("next_beacon", jitter=jitter)["moment"])
 
     def _counts(self) -> Counts:
-        told = self.ask("counts")
+        told = self._ask("counts")
         return Counts(
             received=told["received"],
             accepted=told["accepted"],
@@ -212,7 +218,7 @@ class Line(Calls):
     def _asked(self, do: str, at: int, **keys: Any) -> Dict[str, Any]:
         """What is asked of what the station heard: nothing where the moment is refused."""
         try:
-            return self.ask(do, at, **keys)
+            return self._ask(do, at, **keys)
         except Refused as refused:
             if refused.status in (Status.MOMENT_EARLIER, Status.MOMENT_TOO_LATE):
                 return {}
@@ -221,7 +227,7 @@ class Line(Calls):
     def read_frame(self, frame: bytes) -> Packet:
         """As `geostation.read_frame`, by the program: the station isn't asked."""
         frame = octets("frame", frame)
-        told = self.ask("read_frame", frame=_short(frame, FRAME_MAX).hex())
+        told = self._ask("read_frame", frame=_short(frame, FRAME_MAX).hex())
         kind = Kind[told["kind"].upper()]
         is_to_area = kind in (Kind.GBC, Kind.GAC)
         return Packet(
@@ -241,7 +247,7 @@ class Line(Calls):
         )
 
     def _receive(self, now: int, frame: bytes) -> Reception:
-        answer = self.ask("receive", now, frame=_short(frame, FRAME_MAX).hex())
+        answer = self._ask("receive", now, frame=_short(frame, FRAME_MAX).hex())
         if answer["result"] == "ignored":
             return Reception(ignored=_WHY[answer["why"]])
         delivered = _message(answer) if "payload" in answer else None

@@ -201,18 +201,18 @@ class Station(Calls):
     ) -> None:
         """As `move`, with the time stamp of the fix in place of that of `now`: milliseconds since
         2004-01-01 TAI, modulo 2^32."""
-        self._check_thread()
-        _done(
-            self._library.move_at(
-                self._open(),
-                moment(now),
-                whole("timestamp", timestamp, 0, (1 << 32) - 1),
-                *place(latitude, longitude, degrees),
-                bool(accurate),
-                whole("speed", speed, -16384, 16383),
-                whole("heading", heading, 0, 65535),
+        with self._calling:
+            _done(
+                self._library.move_at(
+                    self._open(),
+                    moment(now),
+                    whole("timestamp", timestamp, 0, (1 << 32) - 1),
+                    *place(latitude, longitude, degrees),
+                    bool(accurate),
+                    whole("speed", speed, -16384, 16383),
+                    whole("heading", heading, 0, 65535),
+                )
             )
-        )
 
     def send_shb_for(
         self,
@@ -226,41 +226,41 @@ class Station(Calls):
     ) -> bytes:
         """As `send_shb`, with this octet of a lifetime: a multiplier, then a base. That of
         `send_shb` is 0x1a, 60 s."""
-        self._check_thread()
-        request = library.ShbRequest(
-            whole("port", port, 0, 65535),
-            whole("info", info, 0, 65535),
-            whole("traffic_class", traffic_class, 0, 255),
-        )
-        told = octets("payload", payload)
-        octet = whole("lifetime", lifetime, 0, 255)
-        call = self._library.send_shb_for
-        return self._written(call, moment(now), request, octet, told, len(told))
+        with self._calling:
+            request = library.ShbRequest(
+                whole("port", port, 0, 65535),
+                whole("info", info, 0, 65535),
+                whole("traffic_class", traffic_class, 0, 255),
+            )
+            told = octets("payload", payload)
+            octet = whole("lifetime", lifetime, 0, 255)
+            call = self._library.send_shb_for
+            return self._written(call, moment(now), request, octet, told, len(told))
 
     def serve(self, now: int, line: bytes, *, number: int = 1) -> Tuple[bytes, bytes]:
         """Does what a line of JSON asks for, as the command `station`, at this moment: its answer,
         which is empty for a blank line, and the frame that is to be sent, if any. `number` is the
         line's, for the answer to one that can't be read."""
-        self._check_thread()
-        told = octets("line", line)
-        answer = c.create_string_buffer(ANSWER_MAX)
-        length = c.c_size_t()
-        frame = self._written(
-            self._library.serve,
-            moment(now),
-            whole("number", number, 0, (1 << 64) - 1),
-            told,
-            len(told),
-            answer,
-            ANSWER_MAX,
-            length,
-        )
-        return c.string_at(answer, length.value), frame
+        with self._calling:
+            told = octets("line", line)
+            answer = c.create_string_buffer(ANSWER_MAX)
+            length = c.c_size_t()
+            frame = self._written(
+                self._library.serve,
+                moment(now),
+                whole("number", number, 0, (1 << 64) - 1),
+                told,
+                len(told),
+                answer,
+                ANSWER_MAX,
+                length,
+            )
+            return c.string_at(answer, length.value), frame
 
     def next_number(self) -> int:
         """The sequence number of the station's next packet for an area."""
-        self._check_thread()
-        return int(self._library.next_number(self._open()))
+        with self._calling:
+            return int(self._library.next_number(self._open()))
 
     def _counts(self) -> Counts:
         told = library.Counts()

@@ -1,13 +1,19 @@
 """Two stations of the library. Moments of beacons are those of the standard, 3 s after the last
 packet; lengths those of its headers."""
 
+import copy
 import ctypes
+import ctypes.util
 import dataclasses
 import os
+import pickle
 import shutil
+import signal
 import subprocess
+import sys
 import tempfile
 import threading
+import time
 import unittest
 from pathlib import Path
 
@@ -207,6 +213,88 @@ class Stations(unittest.TestCase):
         thread.join()
         self.assertEqual(4, len(told), told)
         a.open_port(0, 1)
+
+
+class Misuse(unittest.TestCase):
+    def test_no_copies(self):
+        a = Station(A, latitude=0, longitude=0)
+        for make in (copy.copy, copy.deepcopy, pickle.dumps):
+            with self.assertRaisesRegex(TypeError, "can't be copied or pickled"):
+                make(a)
+        a.open_port(0, 1)
+
+    def test_made_once(self):
+        a = Station(A, latitude=0, longitude=0, number=7)
+        with self.assertRaisesRegex(RuntimeError, "made once"):
+            a.__init__(B, latitude=0, longitude=0)
+        self.assertEqual(7, a.next_number())
+        with self.assertRaises(BadArgument):
+            Station.__new__(Station).__init__(A, latitude=0, longitude=0, capacity=0)
+
+    def test_a_call_within_a_call(self):
+        a, told, found = Station(A, latitude=0, longitude=0), [], set()
+
+        def use(*_):
+            try:
+                told.append(a.send_shb(0, port=1, payload=b"handler"))
+            except RuntimeError as error:
+                told.append(str(error))
+
+        before = signal.signal(signal.SIGALRM, use)
+        signal.setitimer(signal.ITIMER_REAL, 0.0001, 0.0001)
+        try:
+            limit = time.monotonic() + 20
+            while not any("within another" in t for t in told if isinstance(t, str)):
+                found.add(a.send_shb(0, port=1, payload=b"outer"))
+                self.assertLess(time.monotonic(), limit)
+        finally:
+            signal.setitimer(signal.ITIMER_REAL, 0)
+            signal.signal(signal.SIGALRM, before)
+        self.assertEqual({b"outer"}, {read_frame(frame).message.payload for frame in found})
+        frames = [t for t in told if isinstance(t, bytes)]
+        self.assertTrue(all(read_frame(t).message.payload == b"handler" for t in frames))
+
+    def test_a_call_of_the_payload(self):
+        a = Station(A, latitude=0, longitude=0)
+
+        class Payload:
+            def __bytes__(self):
+                return a.send_shb(0, port=1, payload=b"inner")
+
+        with self.assertRaisesRegex(RuntimeError, "within another"):
+            a.send_shb(0, port=1, payload=Payload())
+        self.assertEqual(b"x", read_frame(a.send_shb(0, port=1, payload=b"x")).message.payload)
+
+    def test_refusals_are_pickled(self):
+        a = Station(A, latitude=0, longitude=0)
+        for call in (
+            lambda: a.send_shb(0, port=1, payload=bytes(1395)),
+            lambda: a.open_port(0, 70000),
+            lambda: a.receive(0, b""),
+            lambda: read_frame(b""),
+        ):
+            with self.assertRaises(Refused) as told:
+                call()
+            one = told.exception
+            for two in (pickle.loads(pickle.dumps(one)), copy.copy(one)):
+                self.assertIs(type(one), type(two))
+                self.assertEqual((str(one), one.code), (str(two), two.code))
+                self.assertEqual(vars(one), vars(two))
+
+    def test_an_area_of_another_type(self):
+        a = Station(A, latitude=0, longitude=0)
+        self.assertRaises(TypeError, a.send_gbc, 0, port=1, payload=b"", area=None)
+
+    def test_another_library_is_refused(self):
+        code = "import geostation; geostation.Station(1, latitude=0, longitude=0)"
+        other = ctypes.util.find_library("m") or "libm.so.6"
+        told = subprocess.run(
+            [sys.executable, "-c", code],
+            env={**os.environ, "GEOSTATION_LIBRARY": other},
+            capture_output=True,
+            text=True,
+        )
+        self.assertIn(f"ImportError: {other} is not this package's libgeostation", told.stderr)
 
 
 class Library(unittest.TestCase):

@@ -40,9 +40,10 @@ def shb(address, stamp, port, payload):
     return link(address) + headers(0x50, 1, len(body)) + vector(address, stamp) + bytes(4) + body
 
 
-def gbc(address, stamp, number, payload, port=2002):
+def gbc(address, stamp, number, payload, port=2002, lat=LAT):
+    """For a circle of 500 m around a place."""
     body = btp(port, payload)
-    area = struct.pack(">iiHHHH", LAT, LON, 500, 0, 0, 0)
+    area = struct.pack(">iiHHHH", lat, LON, 500, 0, 0, 0)
     extended = struct.pack(">HH", number & 0xFFFF, 0) + vector(address, stamp) + area
     return link(address) + headers(0x40, 10, len(body)) + extended + body
 

@@ -64,7 +64,7 @@ def echo(net):
 
 
 def relay(net):
-    d = net.station(0)
+    d = net.station(0, "--forward-spread", 0)
     took = ping(net)
     assert d.counts()["relayed"] == GBCS
     d.end()

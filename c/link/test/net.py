@@ -102,10 +102,10 @@ class Net(ExitStack):
 
 
 class Daemon:
-    def __init__(self, command):
+    def __init__(self, command, **more):
         pipe = subprocess.PIPE
-        self.process = subprocess.Popen(command, stdin=pipe, stdout=pipe, stderr=pipe)
-        self.rest, self.events, self.said = b"", [], b""
+        self.process = subprocess.Popen(command, stdin=pipe, stdout=pipe, stderr=pipe, **more)
+        self.rest, self.events, self.said, self.noted = b"", [], b"", []
         self.ready = self.line()
         assert self.ready is not None, self.end()
         assert self.ready["event"] == "ready", self.ready
@@ -156,9 +156,10 @@ class Daemon:
         while b"\n" not in self.said or b'"link"' not in self.said:
             assert select.select([self.process.stderr], [], [], PATIENCE)[0], "no counts"
             self.said += os.read(self.process.stderr.fileno(), 65536)
-        lines = self.said.splitlines()
+        *notes, last = self.said.splitlines()
         self.said = b""
-        return json.loads(lines[-1])
+        self.noted += notes
+        return json.loads(last)
 
     def until(self, test):
         """Asks for the counts until they are as wanted."""
@@ -180,4 +181,4 @@ class Daemon:
             out, err = self.process.communicate(timeout=PATIENCE)
         except ValueError:
             out, err = b"", b""
-        return self.process.returncode, out, err
+        return self.process.returncode, out, b"\n".join([*self.noted, err])

@@ -15,21 +15,14 @@ import traceback
 from pathlib import Path
 
 import frames
+import test_faults
+import test_fixes
+import test_service
 from air import Air
+from common import (OTHER, PROGRAM, connect, connect_once_it_listens, has, notes, stamp,
+                    udp)
 from frames import GBC
-from net import PATIENCE, Daemon, Net, inside, ip
-
-PROGRAM = sys.argv[1]
-OTHER = 0x1400020000000009
-notes = []
-
-
-def has(wanted, found):
-    assert wanted.items() <= found.items(), (wanted, found)
-
-
-def stamp():
-    return int((time.time() + 5 - 1072915200) * 1000)
+from net import PATIENCE, Daemon, Net, ip
 
 
 def write_pcap(found, path):
@@ -107,7 +100,9 @@ def test_padded():
                       beacon.ljust(61, b"\0")):
             end.send(frame)
         counts = d.until(lambda n: n["link"]["frames"] == 4)
-        assert counts["link"] == {"frames": 4, "padded": 1, "tagged": 0, "dropped": 0}, counts
+        assert counts["link"] == {"frames": 4, "padded": 1, "tagged": 0, "dropped": 0,
+                                  "kernel_dropped": 0, "forward_dropped": 0, "suppressed": 0,
+                                  "events_lost": 0}, counts
         assert (counts["accepted"], counts["refused"]["frame"]) == (2, 2), counts
 
 
@@ -134,26 +129,6 @@ def test_vlan():
         assert counts["received"] == 1, counts
 
 
-def test_down():
-    """Down, up and gone."""
-    with Net(PROGRAM, 1) as net:
-        d, (end,), name = net.station(0), net.ends(), net.names[0]
-        ip("-n", name, "link", "set", "v", "down")
-        assert d.event("link")["up"] is False
-        has({"result": "sent"}, d.ask(**GBC, payload="00"))
-        assert d.counts()["link"]["dropped"] == 1
-        ip("-n", name, "link", "set", "v", "up")
-        assert d.event("link")["up"] is True
-        has({"result": "sent"}, d.ask(**GBC, payload="5555"))
-        while not end.recv(2048).endswith(b"\x55\x55"):
-            pass
-        end.send(frames.beacon(OTHER, stamp()))
-        d.until(lambda n: n["accepted"] == 1)
-        ip("-n", name, "link", "del", "v")
-        assert d.process.wait(PATIENCE) == 3
-        assert b"v: the interface is gone" in d.end()[2]
-
-
 def test_starts_down():
     with Net(PROGRAM, 1) as net:
         ip("-n", net.names[0], "link", "set", "v", "down")
@@ -163,26 +138,8 @@ def test_starts_down():
         assert d.event("link")["up"] is True
 
 
-def connect(path):
-    s = socket.socket(socket.AF_UNIX)
-    s.connect(path)
-    s.settimeout(PATIENCE)
-    return s, s.makefile("rb")
-
-
-def connect_once_it_listens(path):
-    """A socket's name is there a little before anyone listens at it."""
-    latest = time.monotonic() + PATIENCE
-    while True:
-        try:
-            return connect(path)
-        except (FileNotFoundError, ConnectionRefusedError):
-            assert time.monotonic() < latest, f"no one listens at {path}"
-            time.sleep(0.01)
-
-
 def test_clients():
-    """One that reads has all; one that doesn't is told how many it lost; one asks without end."""
+    """One that reads has all; one that doesn't learns how many it lost; one asks without end."""
     with Net(PROGRAM, 1) as net, tempfile.TemporaryDirectory() as room:
         path = f"{room}/s"
         d, (end,) = net.station(0, "--port", 2002, "--listen", path), net.ends()
@@ -202,6 +159,7 @@ def test_clients():
             read += found["event"] == "delivered"
             lost += found.get("count", 0) if found["event"] == "lost" else 0
         assert lost > 0 and read + lost == 2000, (read, lost)
+        assert d.counts()["link"]["events_lost"] >= lost
         end.send(frames.gbc(OTHER, stamp(), 2000, b"last"))
         has({"event": "delivered", "payload": b"last".hex()}, json.loads(slow.readline()))
         ask = b'{"do":"shb","port":1,"info":0,"tc":0,"payload":"' + b"00" * 1000 + b'"}\n'
@@ -313,7 +271,7 @@ def flood(draws, beacon, gbc):
 
 
 def test_flood():
-    """Memory afterwards is as after the first frames and counts, and the station hears as before."""
+    """Memory afterwards is as after the first frames, and the station receives as before."""
     with Net(PROGRAM, 1) as net:
         d, (end,) = net.station(0, "--port", 2002), net.ends()
         made = frames.beacon(OTHER, stamp()), frames.gbc(OTHER, stamp(), 7, b"x" * 20)
@@ -391,12 +349,6 @@ def test_clock_and_flags():
             assert {**later, "stamp": 0} == {**first, "stamp": 0}
 
 
-def udp(number, port, *to, place=("--position", "51.47765,-0.001")):
-    peers = [x for t in to for x in ("--to", t)]
-    return Daemon([PROGRAM, "--udp", f"127.0.0.1:{port}", *peers, "--address",
-                   f"3c0002000000000{number}", *place, "--port", "2002"])
-
-
 def test_udp():
     a, b = udp(1, 47101, "127.0.0.1:47102"), udp(2, 47102, "127.0.0.1:47101")
     a.ask(**GBC, payload="01")
@@ -407,145 +359,6 @@ def test_udp():
     trio[0].ask(**GBC, payload="02")
     assert [d.event("delivered")["payload"] for d in trio[1:]] == ["02", "02"]
     assert all(d.end()[0] == 0 for d in (a, b, *trio))
-
-
-def gps_is_built_in():
-    said = subprocess.run([PROGRAM, "--gpsd", "127.0.0.1:1"], capture_output=True, text=True).stderr
-    return "without libgps" not in said
-
-
-def test_no_place():
-    """Before a fix nothing is sent, and requests that would send are refused."""
-    if not gps_is_built_in():
-        notes.append("built without libgps: no fixes")
-        return
-    d = udp(1, 47301, "127.0.0.1:47302", place=("--gpsd", "127.0.0.1:1"))
-    for keys in ({**GBC, "payload": "00"}, {"do": "tick", "jitter": 0},
-                 {"do": "shb", "port": 1, "info": 0, "tc": 0, "payload": ""},
-                 {"do": "receive", "frame": frames.beacon(OTHER, stamp()).hex()}):
-        answer = d.ask(id="x", **keys)
-        has({"id": "x", "result": "refused", "code": "no place"}, answer)
-        assert list(answer)[:3] == ["id", "at", "result"]
-    has({"result": "opened"}, d.ask(do="open", port=1))
-    has({"result": "refused", "code": "S8 B2"}, d.ask(do="open", port=1))
-    has({"line": 7, "error": "jitter"}, d.ask(do="tick"))
-    counts = d.counts()
-    assert counts["received"] == 0 and counts["link"]["frames"] == 0, counts
-    has({"result": "moved"}, d.ask(do="move", lat=1, lon=-2, pai=True, speed=0, heading=0))
-    told = frames.vector_of(bytes.fromhex(d.ask(**GBC, payload="")["frame"]))
-    has({"lat": 1, "lon": -2}, told)
-    assert d.end()[0] == 0
-
-
-def report(**keys):
-    return json.dumps({"class": "TPV", **keys}, separators=(",", ":")).encode() + b"\r\n"
-
-
-def until_sent(d, **wanted):
-    """What a packet says of its source, once it is as wanted."""
-    limit = time.monotonic() + PATIENCE
-    while True:
-        answer = d.ask(**GBC, payload="00")
-        told = {}
-        if answer["result"] == "sent":
-            told = frames.vector_of(bytes.fromhex(answer["frame"]))
-        if wanted.items() <= told.items():
-            return told
-        assert time.monotonic() < limit, (wanted, answer, told)
-        time.sleep(0.02)
-
-
-def test_fixes():
-    """Each report of a gpsd: its place, moment, motion and accuracy; and a connection that ends."""
-    if not gps_is_built_in():
-        return
-    server = socket.create_server(("127.0.0.1", 0))
-    server.settimeout(PATIENCE)
-    d = udp(1, 47601, "127.0.0.1:47602", place=("--gpsd", f"127.0.0.1:{server.getsockname()[1]}"))
-    gpsd, _ = server.accept()
-    assert gpsd.makefile("rb").readline().startswith(b'?WATCH={"enable":true')
-    fix = {"mode": 3, "time": "2026-11-25T12:00:00.250Z", "lat": -33.8567844, "lon": 151.2152967,
-           "speed": 13.886, "track": 359.96, "eph": 10.0}
-    # 2026-11-25T12:00:00.250Z is 722692800.25 s of UTC after 2004, and 5 s more of TAI
-    moment = 722692805250 % (1 << 32)
-    first = {"lat": -338567844, "lon": 1512152967, "speed": 1389, "heading": 0, "pai": 1,
-             "stamp": moment}
-    gpsd.sendall(b'{"class":"VERSION","release":"3.22"}\r\n' + report(**{**fix, "mode": 1}))
-    gpsd.sendall(b'{"class":"TPV",' + b" " * 20000 + b"}\r\n" + report(**fix)[:40])
-    time.sleep(0.05)
-    gpsd.sendall(report(**fix)[40:])
-    until_sent(d, **first)
-    gpsd.sendall(report(**{**fix, "eph": 10.1, "lat": 1}))
-    until_sent(d, lat=10000000, pai=0)
-    gpsd.sendall(report(**fix))
-    until_sent(d, **first)
-    gpsd.sendall(report(**{**fix, "mode": 2, "lat": 2}))
-    until_sent(d, lat=20000000, pai=0)
-    gpsd.sendall(report(**fix))
-    until_sent(d, **first)
-    gpsd.sendall(report(mode=1, time="2026-11-25T12:00:09.000Z"))
-    until_sent(d, **{**first, "pai": 0})
-    gpsd.close()
-    gpsd, _ = server.accept()
-    gpsd.sendall(report(**{**fix, "lat": 91}) + report(**{**fix, "lat": 3, "track": 90.04}))
-    until_sent(d, lat=30000000, heading=900, pai=1)
-    gpsd.close()
-    server.close()
-    assert d.end()[0] == 0
-
-
-def sentence(text):
-    total = 0
-    for octet in text.encode():
-        total ^= octet
-    return f"${text}*{total:02X}\r\n"
-
-
-def write_track(path):
-    """A receiver that moves north-east, as NMEA."""
-    with open(path, "w", encoding="ascii") as f:
-        for k in range(60):
-            lat, lon = 51.47765 + k * 1e-4, 0.001 + k * 2e-4
-            la = f"{int(lat):02d}{lat % 1 * 60:08.5f},N"
-            lo = f"{int(lon):03d}{lon % 1 * 60:08.5f},E"
-            t = f"1200{k:02d}.00"
-            f.write(sentence(f"GPRMC,{t},A,{la},{lo},27.21,049.3,251126,,,A"))
-            f.write(sentence(f"GPGGA,{t},{la},{lo},1,08,0.9,10.0,M,47.0,M,,"))
-            f.write(sentence("GPGSA,A,3,01,02,03,04,05,06,07,08,,,,,1.5,0.9,1.2"))
-
-
-def gpsfake_is_there():
-    """It needs gpsd and Python's gps too."""
-    if not shutil.which("gpsfake") or not shutil.which("gpsd"):
-        return False
-    return subprocess.run(["gpsfake", "-V"], capture_output=True).returncode == 0
-
-
-def test_gpsd():
-    """gpsfake moves a station; it connects again where gpsd comes late."""
-    if not gps_is_built_in() or not gpsfake_is_there():
-        notes.append("gpsd or libgps isn't installed: no fixes")
-        return
-    with Net(PROGRAM, 1) as net, tempfile.TemporaryDirectory() as room:
-        write_track(f"{room}/track.nmea")
-        d = net.station(0, place=("--gpsd",))
-        has({"code": "no place"}, d.ask(**GBC, payload="00"))
-        fake = subprocess.Popen(net.enter(0, "gpsfake", "-q", "-c", "0.2", "-P", "2947",
-                                          f"{room}/track.nmea"),
-                                stdout=subprocess.DEVNULL, stderr=subprocess.DEVNULL)
-        seen, limit = [], time.monotonic() + PATIENCE
-        while len({v["lat"] for v in seen}) < 3 and time.monotonic() < limit:
-            answer = d.ask(**GBC, payload="00")
-            if answer["result"] == "sent":
-                seen.append(frames.vector_of(bytes.fromhex(answer["frame"])))
-            time.sleep(0.1)
-        fake.terminate()
-        fake.wait(PATIENCE)
-        assert len({v["lat"] for v in seen}) >= 3, seen[:5]
-        last = seen[-1]
-        assert 514776500 <= last["lat"] <= 514836500 and last["speed"] in range(1390, 1410), last
-        assert last["heading"] == 493 and len({v["stamp"] for v in seen}) >= 3, last
-        notes.append("gpsfake moved a station")
 
 
 def test_rights():
@@ -574,14 +387,11 @@ def test_arguments():
         [*to[:2], *address, *place], [*to[2:], "--interface", "lo", *place],
         ["--udp", "127.0.0.1:0", "--to", "127.0.0.1", *place, *address],
         ["--interface", "lo", "--udp", "127.0.0.1:0", *place],
-        ["--interface", "lo", *place, "--station-type", "32"],
-        ["--interface", "lo", *place, "--capacity", "4097"],
-        ["--interface", "lo", *place, "--capacity", "0"],
-        ["--interface", "lo", *place, "--remember", "65"],
-        ["--interface", "lo", *place, "--port", "65536"],
         ["--interface", "lo", *place, "--port", "1", "--port", "1"],
-        ["--interface", "lo", *place, "--address", "3c00030000000000"],
-        ["--interface", "lo", *place, "--address", "3c0002000000000"],
+        *(["--interface", "lo", *place, *more.split()] for more in (
+            "--station-type 32", "--capacity 4097", "--capacity 0", "--remember 65",
+            "--port 65536", "--forward-spread 1001", "--gps-timeout 0", "--client-timeout 86401",
+            "--config /nosuch", "--address 3c00030000000000", "--address 3c0002000000000")),
         *(["--interface", "lo", "--position", p] for p in
           ("91,0", "x", "1,2x", "1", "0,180.0000001", "1.12345678,0", "1.,0", "+1,0", "-,0")),
     ]
@@ -604,7 +414,10 @@ def test_arguments():
 
 
 def main():
-    tests = {k: v for k, v in globals().items() if k.startswith("test_")}
+    tests = {}
+    for module in (sys.modules[__name__], test_fixes, test_faults, test_service):
+        named = ((k, v) for k, v in vars(module).items() if k.startswith("test_"))
+        tests.update((k, v) for k, v in named if callable(v))
     failed = []
     for name in sys.argv[2:] or tests:
         started = time.monotonic()

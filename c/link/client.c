@@ -1,0 +1,148 @@
+/* One application. No request is read before the answer to the one before has space, so none is
+ * lost. Events are lost if the client reads too slowly; an event reports how many. */
+#define _GNU_SOURCE
+#include "parts.h"
+#include <errno.h>
+#include <limits.h>
+#include <stdlib.h>
+#include <string.h>
+#include <unistd.h>
+
+size_t client_waiting(const struct client *c) { return c->end - c->begin; }
+
+struct client *client_new(int in, int out, uint64_t now) {
+    struct client *c = malloc(sizeof *c);
+    if (c != NULL) {
+        c->in = in;
+        c->out = out;
+        c->deaf = false;
+        c->active_at = now;
+        c->lines = c->lost = 0;
+        c->line_length = c->next = c->got = c->begin = c->end = 0;
+    }
+    return c;
+}
+
+/* Appends octets to what waits, if that makes no more than `most`. */
+static bool enqueue(struct client *c, const void *octets, size_t n, size_t most) {
+    if (client_waiting(c) + n > most) {
+        return false;
+    }
+    if (sizeof c->queue - c->end < n) {
+        memmove(c->queue, c->queue + c->begin, client_waiting(c));
+        c->end -= c->begin;
+        c->begin = 0;
+    }
+    memcpy(c->queue + c->end, octets, n);
+    c->end += n;
+    return true;
+}
+
+/* Once half of the space is free again, an event reports how many were lost. */
+static void tell_lost(struct client *c, uint64_t now) {
+    struct text t;
+    if (c->lost != 0) {
+        event_lost(&t, now, c->lost);
+        c->lost = enqueue(c, t.octets, t.length, EVENTS_ROOM / 2) ? 0 : c->lost;
+    }
+}
+
+void client_tell(struct clients *all, struct client *c, const struct text *t, uint64_t now) {
+    if (c == NULL || c->deaf) {
+        return;
+    }
+    tell_lost(c, now);
+    if (c->lost != 0 || !enqueue(c, t->octets, t->length, EVENTS_ROOM)) {
+        c->lost++;
+        all->events_lost++;
+    }
+}
+
+static bool is_blank(const struct client *c) {
+    size_t k = 0;
+    while (k < c->line_length && strchr(" \t\r", c->line[k]) != NULL && c->line[k] != 0) {
+        k++;
+    }
+    return k == c->line_length;
+}
+
+/* A line that is too long was kept up to one octet too many: the library says so of it. */
+static void end_line(struct clients *all, struct client *c) {
+    static uint8_t answer[GEOSTATION_ANSWER_MAX + 1];
+    c->lines++;
+    if (!is_blank(c)) {
+        size_t n = station_answer(all->station, clock_now(), c->lines, c->line, c->line_length,
+                                  answer);
+        answer[n] = '\n';
+        if (!c->deaf) {
+            (void)enqueue(c, answer, n + 1, sizeof c->queue);
+        }
+    }
+    c->line_length = 0;
+}
+
+/* Takes what was read, line by line, as long as an answer has space. */
+void client_take_lines(struct clients *all, struct client *c) {
+    while (c->next < c->got && client_waiting(c) <= EVENTS_ROOM) {
+        uint8_t octet = c->chunk[c->next++];
+        if (octet == '\n') {
+            end_line(all, c);
+        } else if (c->line_length < sizeof c->line) {
+            c->line[c->line_length++] = octet;
+        }
+    }
+}
+
+bool client_may_read(const struct client *c) {
+    return c->in >= 0 && c->next == c->got && client_waiting(c) <= EVENTS_ROOM;
+}
+
+void client_read(struct clients *all, struct client *c) {
+    ssize_t n = read(c->in, c->chunk, sizeof c->chunk);
+    if (n < 0 && (errno == EAGAIN || errno == EINTR)) {
+        return;
+    }
+    if (n <= 0) {
+        if (c->line_length != 0) {
+            end_line(all, c); /* the last line may lack its line feed */
+        }
+        c->in = -1;
+        return;
+    }
+    c->active_at = clock_now();
+    c->next = 0;
+    c->got = (size_t)n;
+    client_take_lines(all, c);
+}
+
+/* At most PIPE_BUF octets, which a pipe that is ready takes at once: standard output may be shared
+ * with other programs, so it isn't made non-blocking. */
+static ssize_t put(int fd, const uint8_t *octets, size_t n) {
+    ssize_t wrote = send(fd, octets, n, MSG_DONTWAIT | MSG_NOSIGNAL);
+    if (wrote < 0 && errno == ENOTSOCK) {
+        wrote = write(fd, octets, n < PIPE_BUF ? n : PIPE_BUF);
+    }
+    return wrote;
+}
+
+bool client_is_writing(const struct client *c) { return !c->deaf && client_waiting(c) != 0; }
+
+/* A client that closed its end may have sent requests before: these are read and done, though no
+ * one reads the answers. */
+int client_write(struct client *c) {
+    ssize_t wrote = put(c->out, c->queue + c->begin, client_waiting(c));
+    if (wrote > 0) {
+        c->active_at = clock_now();
+        c->begin += (size_t)wrote;
+        tell_lost(c, c->active_at);
+    } else if (wrote < 0 && errno != EAGAIN && errno != EINTR) {
+        c->deaf = true;
+        c->begin = c->end = 0;
+        return errno;
+    }
+    return 0;
+}
+
+bool client_is_done(const struct client *c) {
+    return c->in < 0 && c->next == c->got && (c->deaf || c->begin == c->end);
+}

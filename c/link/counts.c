@@ -1,0 +1,129 @@
+/* What was counted, as text: for an answer to `counts`, and for Prometheus. */
+#include "parts.h"
+#include <inttypes.h>
+#include <stdarg.h>
+#include <stdio.h>
+
+/* What follows the last key of an answer: a comma, the key `link`, and the end of the answer. */
+size_t counts_print_link(const struct station *s, char *out, size_t room) {
+    struct link *l = s->link;
+    int n = snprintf(out, room,
+                     ",\"link\":{\"frames\":%" PRIu64 ",\"padded\":%" PRIu64 ",\"tagged\":%" PRIu64
+                     ",\"dropped\":%" PRIu64 ",\"kernel_dropped\":%" PRIu64
+                     ",\"forward_dropped\":%" PRIu64 ",\"suppressed\":%" PRIu64
+                     ",\"events_lost\":%" PRIu64 "}}",
+                     l->frames, l->padded, l->tagged, l->dropped, link_kernel_dropped(l),
+                     s->forwards->dropped, l->suppressed, s->clients->events_lost);
+    return n > 0 && (size_t)n < room ? (size_t)n : 0;
+}
+
+struct page {
+    char *out;
+    size_t room, length;
+};
+
+__attribute__((format(printf, 2, 3))) static void put(struct page *p, const char *format, ...) {
+    va_list rest;
+    va_start(rest, format);
+    int n = vsnprintf(p->out + p->length, p->room - p->length, format, rest);
+    va_end(rest);
+    if (n > 0 && (size_t)n < p->room - p->length) {
+        p->length += (size_t)n;
+    }
+}
+
+static void head(struct page *p, const char *name, const char *type, const char *help) {
+    put(p, "# HELP geostation_%s %s\n# TYPE geostation_%s %s\n", name, help, name, type);
+}
+
+static void counter(struct page *p, const char *name, const char *help, uint64_t value) {
+    head(p, name, "counter", help);
+    put(p, "geostation_%s %" PRIu64 "\n", name, value);
+}
+
+static void gauge(struct page *p, const char *name, const char *help, double value) {
+    head(p, name, "gauge", help);
+    put(p, "geostation_%s %.3f\n", name, value);
+}
+
+struct labelled {
+    const char *label;
+    uint64_t value;
+};
+
+static void labelled(struct page *p, const char *name, const char *key, const char *help,
+                     const struct labelled *all, size_t count) {
+    head(p, name, "counter", help);
+    for (size_t k = 0; k < count; k++) {
+        put(p, "geostation_%s{%s=\"%s\"} %" PRIu64 "\n", name, key, all[k].label, all[k].value);
+    }
+}
+
+static void put_station(struct page *p, const struct geostation_counts *c) {
+    const struct labelled ignored[] = {
+        { "not-for-me", c->ignored.not_for_me },
+        { "own-source", c->ignored.own_source },
+        { "sender-mismatch", c->ignored.sender_mismatch },
+        { "duplicate", c->ignored.duplicate },
+    };
+    const struct labelled refused[] = {
+        { "moment_earlier", c->refused.moment_earlier },
+        { "moment_too_late", c->refused.moment_too_late },
+        { "frame", c->refused.frame },
+        { "table_full", c->refused.table_full },
+        { "no_memory", c->refused.no_memory },
+        { "other", c->refused.other },
+    };
+    const struct labelled sent[] = {
+        { "beacon", c->sent.beacons },
+        { "shb", c->sent.single_hop },
+        { "gbc", c->sent.geobroadcasts },
+        { "gac", c->sent.geoanycasts },
+    };
+    counter(p, "received_total", "Frames that the station received", c->received);
+    counter(p, "accepted_total", "Frames that it accepted", c->accepted);
+    counter(p, "delivered_total", "Payloads that it delivered", c->delivered);
+    counter(p, "forwarded_total", "Frames that it forwarded", c->relayed);
+    labelled(p, "ignored_total", "why", "Frames that it ignored", ignored, 4);
+    labelled(p, "refused_total", "why", "Frames and calls that it refused", refused, 6);
+    labelled(p, "sent_total", "kind", "Packets of its own", sent, 4);
+}
+
+static void put_link(struct page *p, const struct station *s) {
+    struct link *l = s->link;
+    counter(p, "link_frames_total", "Frames that the link brought", l->frames);
+    counter(p, "link_tagged_total", "Frames with a VLAN tag, which are skipped", l->tagged);
+    counter(p, "link_kernel_dropped_total", "Frames that found the receive buffer full",
+            link_kernel_dropped(l));
+    counter(p, "link_dropped_total", "Frames to send that the link did not take", l->dropped);
+    counter(p, "forward_dropped_total", "Frames to forward that found no free place",
+            s->forwards->dropped);
+    counter(p, "suppressed_total", "Frames that a limit kept from being forwarded", l->suppressed);
+    gauge(p, "link_up", "Whether the link is up", l->up);
+}
+
+static void put_clients(struct page *p, const struct clients *c) {
+    counter(p, "events_lost_total", "Events for which a client had no space", c->events_lost);
+    counter(p, "clients_closed_total", "Idle clients that were closed", c->closed_idle);
+    counter(p, "clients_turned_away_total", "Clients without memory or descriptor", c->turned_away);
+    gauge(p, "clients", "Clients that are connected", (double)clients_count(c));
+}
+
+/* A fixed position has no age. */
+static void put_position(struct page *p, const struct place *at, uint64_t now) {
+    gauge(p, "position_usable", "Whether the station knows its position", place_is_usable(at));
+    if (!at->fixed && at->known) {
+        gauge(p, "fix_age_seconds", "Age of the last fix", (double)(now - at->fix_at) / 1000);
+    }
+}
+
+size_t counts_print_metrics(const struct station *s, uint64_t now, char *out, size_t room) {
+    struct page p = { out, room, 0 };
+    struct geostation_counts counts;
+    geostation_counts(s->handle, &counts);
+    put_station(&p, &counts);
+    put_link(&p, s);
+    put_clients(&p, s->clients);
+    put_position(&p, s->place, now);
+    return p.length;
+}

@@ -1,0 +1,160 @@
+/* A report of gpsd (TPV): one line of JSON, read by json.c. */
+#define _GNU_SOURCE
+#include "parts.h"
+#include <math.h>
+#include <stdlib.h>
+#include <string.h>
+
+enum { ACCURATE_TO = 10 /* metres */, FASTEST = 16383 /* 0.01 m/s */ };
+enum { OLD_AFTER = 5000, AHEAD_AT_MOST = 5000 /* ms */ };
+enum { NO_FIX, FIX_2D = 2, FIX_3D = 3 };
+
+/* The number that the digits at `at` make; -1 if one of them is no digit. */
+static int digits_of(const char *at, size_t count) {
+    int value = 0;
+    for (size_t k = 0; k < count; k++) {
+        if (at[k] < '0' || at[k] > '9') {
+            return -1;
+        }
+        value = value * 10 + at[k] - '0';
+    }
+    return value;
+}
+
+/* Days since 1970-01-01 of a day in the Gregorian calendar. */
+static int64_t days_of(int year, int month, int day) {
+    int y = month > 2 ? year : year - 1;
+    int shifted = month > 2 ? month - 3 : month + 9; /* months since March */
+    int64_t days = (int64_t)y * 365 + y / 4 - y / 100 + y / 400;
+    return days + (153 * shifted + 2) / 5 + day - 1 - 719468;
+}
+
+/* YYYY-MM-DDTHH:MM:SS[.fff]Z */
+static bool time_of(const char *text, size_t length, uint64_t *moment) {
+    if (length < 20 || text[4] != '-' || text[7] != '-' || text[10] != 'T' || text[13] != ':'
+        || text[16] != ':' || text[length - 1] != 'Z') {
+        return false;
+    }
+    int year = digits_of(text, 4), month = digits_of(text + 5, 2), day = digits_of(text + 8, 2);
+    int hour = digits_of(text + 11, 2), minute = digits_of(text + 14, 2);
+    int second = digits_of(text + 17, 2);
+    if (year < 1970 || month < 1 || month > 12 || day < 1 || day > 31 || hour < 0 || hour > 23
+        || minute < 0 || minute > 59 || second < 0 || second > 60) {
+        return false;
+    }
+    long nanoseconds = 0, scale = 100000000;
+    if (length != 20 && (text[19] != '.' || length == 21 || digits_of(text + 20, 1) < 0)) {
+        return false;
+    }
+    for (size_t k = 20; k + 1 < length; k++, scale /= 10) {
+        if (digits_of(text + k, 1) < 0) {
+            return false;
+        }
+        nanoseconds += digits_of(text + k, 1) * scale;
+    }
+    int64_t seconds = days_of(year, month, day) * 86400 + hour * 3600 + minute * 60 + second;
+    *moment = clock_of_utc(seconds, nanoseconds);
+    return true;
+}
+
+/* strtod ends where the number does: what follows it in JSON is not a part of any number. */
+static void take_number(struct fix *f, const struct json_member *m) {
+    const struct {
+        const char *name;
+        double *value;
+    } all[] = {
+        { "mode", &f->mode },   { "lat", &f->latitude }, { "lon", &f->longitude },
+        { "speed", &f->speed }, { "track", &f->track },  { "eph", &f->eph },
+        { "epx", &f->epx },     { "epy", &f->epy },
+    };
+    for (size_t k = 0; k < sizeof all / sizeof *all; k++) {
+        if (json_is_key(m, all[k].name)) {
+            *all[k].value = strtod(m->text, NULL);
+        }
+    }
+}
+
+/* The line has a 0 after its end. If a key comes twice, the last one counts. */
+bool fix_read(struct fix *f, const char *line, size_t length) {
+    struct json j;
+    struct json_member m;
+    enum json_step step;
+    bool report = false;
+    *f = (struct fix){ .mode = 0, .latitude = NAN, .longitude = NAN, .speed = NAN, .track = NAN,
+                       .eph = NAN, .epx = NAN, .epy = NAN };
+    if (!json_open(&j, line, length)) {
+        return false;
+    }
+    while ((step = json_next(&j, &m)) == JSON_MEMBER) {
+        if (m.kind == JSON_NUMBER) {
+            take_number(f, &m);
+        } else if (m.kind == JSON_TEXT && json_is_key(&m, "class")) {
+            report = m.length == 3 && memcmp(m.text, "TPV", 3) == 0;
+        } else if (m.kind == JSON_TEXT && json_is_key(&m, "time")) {
+            f->timed = time_of(m.text, m.length, &f->moment);
+        }
+    }
+    return step == JSON_END && report;
+}
+
+/* Latitude 0 with longitude 0 is what receivers report that have no fix. */
+static bool is_position(const struct fix *f) {
+    return f->mode >= FIX_2D && fabs(f->latitude) <= 90 && fabs(f->longitude) <= 180
+        && (f->latitude != 0 || f->longitude != 0);
+}
+
+/* An error that the report lacks doesn't count. */
+static bool is_accurate(const struct fix *f) {
+    double error = isfinite(f->eph) ? f->eph : hypot(f->epx, f->epy);
+    return f->mode >= FIX_3D && !(error > ACCURATE_TO);
+}
+
+static void take_motion(struct place *p, const struct fix *f) {
+    p->speed = (int16_t)(isfinite(f->speed) ? fmin(round(fabs(f->speed) * 100), FASTEST) : 0);
+    if (f->track >= 0 && f->track <= 360) {
+        p->heading = (uint16_t)(lround(f->track * 10) % 3600);
+    }
+}
+
+/* Is the report's own time credible? One that is far in the future is not: others would take all
+ * later packets of this station for older ones. */
+static bool is_credible(const struct fix *f, const struct place *p, uint64_t now) {
+    return !f->timed
+        || (f->moment <= now + AHEAD_AT_MOST && now < f->moment + p->fix_timeout);
+}
+
+/* Once, until a report is credible again. */
+static void report_time(const struct fix *f, struct place *p, uint64_t now) {
+    bool ahead = f->moment > now;
+    uint64_t off = ahead ? f->moment - now : now - f->moment;
+    if (!p->time_reported) {
+        note("gpsd: the time of a report is %llu s %s the clock: it is ignored",
+             (unsigned long long)(off / 1000), ahead ? "ahead of" : "behind");
+    }
+    p->time_reported = true;
+}
+
+/* A report without a position, or of another time, only says that the old position isn't accurate
+ * any more. */
+bool fix_take(const struct fix *f, struct place *p, uint64_t now) {
+    bool credible = is_credible(f, p, now);
+    if (!credible) {
+        report_time(f, p, now);
+    }
+    if (!is_position(f) || !credible) {
+        bool changed = p->known && p->accurate;
+        p->accurate = 0;
+        return changed;
+    }
+    uint64_t moment = f->timed ? f->moment : now;
+    p->time_reported = false;
+    p->known = true;
+    p->fix_at = moment < now ? moment : now;
+    p->fix = now - p->fix_at < OLD_AFTER ? FIX_CURRENT : FIX_OLD;
+    p->timestamp = (uint32_t)moment;
+    p->accurate = p->fix == FIX_CURRENT && is_accurate(f);
+    p->latitude = (int32_t)lround(f->latitude * 1e7);
+    p->longitude = (int32_t)lround(f->longitude * 1e7);
+    take_motion(p, f);
+    return true;
+}

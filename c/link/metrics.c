@@ -1,0 +1,96 @@
+/* The counts for Prometheus. A file is for the textfile collector of node_exporter, which reads
+ * names that end in .prom; each is written whole and takes the old one's place. A socket gives the
+ * text to each that connects, and closes. */
+#define _GNU_SOURCE
+#include "parts.h"
+#include <errno.h>
+#include <fcntl.h>
+#include <limits.h>
+#include <stdio.h>
+#include <string.h>
+#include <unistd.h>
+
+enum { WRITE_EACH = 10000 /* ms */, TEXT_ROOM = 16384, WAITING = 4 };
+
+static char text[TEXT_ROOM];
+
+static bool is_file(const char *path) {
+    size_t length = strlen(path);
+    return length > 5 && strcmp(path + length - 5, ".prom") == 0;
+}
+
+void metrics_start(struct metrics *m, const char *path) {
+    *m = (struct metrics){ path, -1, UINT64_MAX, false };
+    if (path == NULL) {
+        return;
+    }
+    if (!is_file(path)) {
+        m->listening = listen_at("metrics", path, WAITING);
+    } else if (strlen(path) > PATH_MAX - 8) {
+        fail(BAD_ARGUMENTS, "--metrics %s: the path is too long", path);
+    } else {
+        m->write_at = 0;
+    }
+}
+
+/* One reader a turn. The text is shorter than a socket's buffer, so it is taken at once or not. */
+void metrics_serve(const struct metrics *m, const struct station *s, uint64_t now) {
+    char asked[512];
+    int fd = accept4(m->listening, NULL, NULL, SOCK_NONBLOCK | SOCK_CLOEXEC);
+    if (fd < 0) {
+        return;
+    }
+    size_t length = counts_print_metrics(s, now, text, sizeof text);
+    (void)!recv(fd, asked, sizeof asked, MSG_DONTWAIT);
+    (void)!send(fd, text, length, MSG_DONTWAIT | MSG_NOSIGNAL);
+    close(fd);
+}
+
+static bool write_whole(int fd, size_t length) {
+    size_t done = 0;
+    while (done < length) {
+        ssize_t n = write(fd, text + done, length - done);
+        if (n <= 0) {
+            return false;
+        }
+        done += (size_t)n;
+    }
+    return true;
+}
+
+/* The new file has a name of its own until it is whole. */
+static bool replace(const char *path, size_t length) {
+    char new_path[PATH_MAX];
+    snprintf(new_path, sizeof new_path, "%s.new", path);
+    int fd = open(new_path, O_WRONLY | O_CREAT | O_TRUNC | O_CLOEXEC | O_NOFOLLOW, 0644);
+    if (fd < 0) {
+        return false;
+    }
+    bool whole = write_whole(fd, length);
+    int why = errno;
+    whole = close(fd) == 0 && whole && rename(new_path, path) == 0;
+    errno = whole ? 0 : why != 0 ? why : errno;
+    if (!whole) {
+        unlink(new_path);
+    }
+    return whole;
+}
+
+void metrics_write(struct metrics *m, const struct station *s, uint64_t now) {
+    if (now < m->write_at) {
+        return;
+    }
+    m->write_at = now + WRITE_EACH;
+    bool written = replace(m->path, counts_print_metrics(s, now, text, sizeof text));
+    if (!written && !m->failed) {
+        note("--metrics %s: %s: trying again each %d s", m->path, strerror(errno),
+             WRITE_EACH / 1000);
+    }
+    m->failed = !written;
+}
+
+void metrics_end(const struct metrics *m) {
+    if (m->listening >= 0) {
+        unlink(m->path);
+    }
+}

@@ -1,0 +1,38 @@
+/* The options again, while the program runs. */
+#include "parts.h"
+
+static void take_position(struct program *p, const struct options *new) {
+    const struct options *old = &p->options;
+    if (!new->placed || !old->placed
+        || (new->latitude == old->latitude && new->longitude == old->longitude)) {
+        return;
+    }
+    uint64_t now = clock_now();
+    p->place.latitude = new->latitude;
+    p->place.longitude = new->longitude;
+    p->place.timestamp = (uint32_t)now;
+    p->station.last = now;
+    place_tell(&p->place, p->station.handle, now);
+}
+
+/* If something is wrong in the file, all stays as it was. Options other than ports and the position
+ * are those of the start. */
+void reload(struct program *p) {
+    static struct options new;
+    struct fault f;
+    notify("RELOADING=1");
+    if (!read_arguments(&new, p->argc, p->argv, &f)) {
+        note("%s: the options stay as they were", f.text);
+    } else {
+        station_change_ports(&p->station, &p->options, &new);
+        take_position(p, &new);
+        p->options.port_count = new.port_count;
+        for (size_t k = 0; k < new.port_count; k++) {
+            p->options.ports[k] = new.ports[k];
+        }
+        p->options.latitude = new.latitude;
+        p->options.longitude = new.longitude;
+        note("ports and position were read again");
+    }
+    notify("READY=1");
+}

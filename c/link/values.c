@@ -1,0 +1,130 @@
+/* The texts of values, on the command line and in a configuration file. */
+#define _GNU_SOURCE
+#include "parts.h"
+#include <errno.h>
+#include <netdb.h>
+#include <stdio.h>
+#include <stdlib.h>
+#include <string.h>
+
+/* Names the setting, where it is written, and what is wrong with it. */
+bool refuse_value(const struct setting *s, const char *why, struct fault *f) {
+    const char *space = s->value != NULL ? " " : "";
+    const char *value = s->value != NULL ? s->value : "";
+    if (s->file != NULL) {
+        return set_fault(f, BAD_ARGUMENTS, "%s:%d: %s%s%s: %s", s->file, s->line, s->name, space,
+                         value, why);
+    }
+    return set_fault(f, BAD_ARGUMENTS, "--%s%s%s: %s", s->name, space, value, why);
+}
+
+bool number_of(const struct setting *s, uint64_t least, uint64_t most, uint64_t *out,
+               struct fault *f) {
+    char why[64];
+    errno = 0;
+    *out = strtoull(s->value, NULL, 10);
+    size_t digits = strspn(s->value, "0123456789");
+    if (digits != 0 && s->value[digits] == 0 && errno == 0 && *out >= least && *out <= most) {
+        return true;
+    }
+    snprintf(why, sizeof why, "not a number from %llu to %llu", (unsigned long long)least,
+             (unsigned long long)most);
+    return refuse_value(s, why, f);
+}
+
+bool address_of(const struct setting *s, uint64_t *out, struct fault *f) {
+    if (strlen(s->value) != 16 || strspn(s->value, "0123456789abcdefABCDEF") != 16) {
+        return refuse_value(s, "not 16 hexadecimal digits", f);
+    }
+    *out = strtoull(s->value, NULL, 16);
+    return true;
+}
+
+/* Degrees with up to 7 decimals, exactly, in 0.1 microdegree; what follows is left in *text. */
+static bool degrees(const char **text, int64_t most, int32_t *out) {
+    bool negative = **text == '-';
+    const char *at = *text + negative;
+    size_t whole = strspn(at, "0123456789");
+    size_t decimals = at[whole] == '.' ? strspn(at + whole + 1, "0123456789") : 0;
+    if (whole == 0 || whole > 3 || decimals > 7 || (at[whole] == '.' && decimals == 0)) {
+        return false;
+    }
+    int64_t value = 0;
+    for (size_t k = 0; k < whole + 7; k++) {
+        size_t digit = k < whole ? k : k + 1;
+        value = value * 10 + (k < whole + decimals ? at[digit] - '0' : 0);
+    }
+    *text = at + whole + (decimals != 0 ? decimals + 1 : 0);
+    *out = (int32_t)(negative ? -value : value);
+    return value <= most * 10000000;
+}
+
+bool position_of(const struct setting *s, struct options *o, struct fault *f) {
+    const char *at = s->value;
+    bool good = degrees(&at, 90, &o->latitude) && *at++ == ',' && degrees(&at, 180, &o->longitude);
+    if (!good || *at != 0) {
+        return refuse_value(s, "not LAT,LON in degrees with up to 7 decimals", f);
+    }
+    o->placed = true;
+    return true;
+}
+
+/* The parts of HOST:PORT or [HOST]:PORT; `host` has 256 octets. */
+static bool split(const char *text, char *host, const char **port) {
+    const char *colon = strrchr(text, ':');
+    bool bracketed = text[0] == '[';
+    if (colon == NULL || (bracketed && (colon == text + 1 || colon[-1] != ']'))) {
+        return false;
+    }
+    const char *start = text + bracketed;
+    size_t length = (size_t)(colon - start) - bracketed;
+    if (length == 0 || length >= 256 || (!bracketed && memchr(start, ':', length) != NULL)) {
+        return false;
+    }
+    memcpy(host, start, length);
+    host[length] = 0;
+    *port = colon + 1;
+    return true;
+}
+
+/* Is it HOST:PORT? The host is looked up later, by resolve_addresses. */
+bool host_port_of(const struct setting *s, struct fault *f) {
+    char host[256];
+    const char *port;
+    uint64_t number;
+    if (!split(s->value, host, &port)) {
+        return refuse_value(s, "not HOST:PORT; an IPv6 address is written [ADDRESS]:PORT", f);
+    }
+    struct setting of_port = { s->file, s->line, s->name, port };
+    return number_of(&of_port, 0, 65535, &number, f);
+}
+
+static void resolve(const char *option, const char *text, int family, int type,
+                    struct address *out) {
+    char host[256] = "";
+    const char *port = "";
+    struct addrinfo hints = { .ai_family = family, .ai_socktype = type,
+                              .ai_flags = AI_NUMERICSERV }, *found;
+    (void)split(text, host, &port);
+    int why = getaddrinfo(host, port, &hints, &found);
+    if (why != 0) {
+        fail(why == EAI_NONAME ? BAD_ARGUMENTS : FAILED, "--%s %s: %s", option, text,
+             gai_strerror(why));
+    }
+    memcpy(&out->at, found->ai_addr, found->ai_addrlen);
+    out->length = found->ai_addrlen;
+    freeaddrinfo(found);
+}
+
+/* The link is IPv4, as its groups are; gpsd may be at an address of either kind. */
+void resolve_addresses(struct options *o) {
+    if (o->udp != NULL) {
+        resolve("udp", o->udp, AF_INET, SOCK_DGRAM, &o->local);
+    }
+    for (size_t k = 0; k < o->peer_count; k++) {
+        resolve("to", o->to[k], AF_INET, SOCK_DGRAM, &o->peers[k]);
+    }
+    if (o->gpsd != NULL) {
+        resolve("gpsd", o->gpsd, AF_UNSPEC, SOCK_STREAM, &o->gpsd_at);
+    }
+}
