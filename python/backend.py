@@ -58,10 +58,11 @@ def build_wheel(
     config_settings: Optional[Dict[str, Any]] = None,
     metadata_directory: Optional[str] = None,
 ) -> str:
-    """A wheel of the package; a library that stands beside its files goes with them."""
-    paths = sorted((HERE / PACKAGE).iterdir())
+    """Builds a wheel of the package and its subpackages. A library beside its files goes with
+    them."""
+    paths = sorted((HERE / PACKAGE).rglob("*"))
     files: List[Tuple[str, bytes]] = [
-        (f"{PACKAGE}/{path.name}", path.read_bytes())
+        (path.relative_to(HERE).as_posix(), path.read_bytes())
         for path in paths
         if path.is_file() and path.name.endswith(SUFFIXES)
     ]

@@ -1,0 +1,19 @@
+"""What a study reports when it can't go on."""
+
+from __future__ import annotations
+
+
+class StudyError(Exception):
+    """A study, a table or a figure can't be made. The text is a sentence.
+
+    `status` is the exit status of the command line: 2 for arguments, 3 for the system.
+    """
+
+    def __init__(self, text: str, status: int = 2):
+        super().__init__(text)
+        self.status = status
+
+
+def cannot(do: str, path: object, error: OSError) -> StudyError:
+    """Returns the error of a file that can't be read or written, with the system's reason."""
+    return StudyError(f"cannot {do} {path} ({(error.strerror or str(error)).lower()})", 3)

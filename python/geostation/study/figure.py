@@ -1,0 +1,166 @@
+"""Figures for a paper: as wide as a column, with units, intervals, and colours, marks and dashes
+that colour-blind readers and printers without colour can tell apart."""
+
+from __future__ import annotations
+
+from typing import TYPE_CHECKING, Any, Dict, List, Mapping, Optional
+
+from .errors import StudyError
+
+if TYPE_CHECKING:
+    from .results import Row, Runs
+
+# What an axis says of a parameter or column.
+LABELS = {
+    "range": "Radio range (m)",
+    "delay": "Delay of a hop (ms)",
+    "loss": "Frames lost (%)",
+    "until": "End of the run (ms)",
+    "beacons": "Beacons",
+    "penetration": "Vehicles with a station (%)",
+    "moves.capacity": "Size of the location table",
+    "moment": "Time of the warning (ms)",
+    "inside": "Stations in the area",
+    "reached": "Stations reached in the area",
+    "reach": "Stations reached in the area (%)",
+    "delivered": "Stations that delivered the warning",
+    "frames": "Frames per warning",
+    "heard": "Receptions per warning",
+    "lost": "Receptions lost per warning",
+    "duplicates": "Duplicates per warning",
+    "full": "Receptions refused by full tables",
+    "hops": "Hops",
+    "first": "Time to the first station (ms)",
+    "p50": "Time to half of the stations (ms)",
+    "p95": "Time to 95 % of the stations (ms)",
+    "last": "Time to the last station (ms)",
+    "stations": "Stations present",
+    "octets": "Bytes sent per second",
+    "busy_p50": "Channel busy, median station (ms/s)",
+    "busy_p95": "Channel busy, 95th percentile (ms/s)",
+    "busy_most": "Channel busy, busiest station (ms/s)",
+}
+# Okabe and Ito's colours, the yellow left out, which is too light on paper.
+_COLOURS = ("#0072B2", "#D55E00", "#009E73", "#CC79A7", "#E69F00", "#56B4E9", "#000000")
+_MARKS = ("o", "s", "^", "D", "v", "P", "X")
+_DASHES = ("-", "--", "-.", ":")
+_STYLE: Dict[str, Any] = {
+    "font.size": 8,
+    "axes.labelsize": 8,
+    "legend.fontsize": 7,
+    "legend.title_fontsize": 7,
+    "xtick.labelsize": 7,
+    "ytick.labelsize": 7,
+    "axes.linewidth": 0.6,
+    "axes.spines.top": False,
+    "axes.spines.right": False,
+    "lines.linewidth": 1.1,
+    "lines.markersize": 4,
+    "grid.linewidth": 0.4,
+    "grid.color": "#cccccc",
+    # The same file each time, and letters that a journal can embed.
+    "svg.hashsalt": "geostation",
+    "pdf.fonttype": 42,
+}
+_UNDATED: Dict[str, Dict[str, None]] = {"svg": {"Date": None}, "pdf": {"CreationDate": None}}
+_INCHES = (3.5, 2.5)
+
+
+def label(name: str) -> str:
+    """Returns what an axis says of a parameter or column: its meaning and unit, or its name."""
+    return LABELS.get(name, name)
+
+
+def _figure_class() -> Any:
+    try:
+        import matplotlib
+        from matplotlib.figure import Figure
+    except ImportError:
+        raise StudyError("figures need matplotlib: install python3-matplotlib", 3) from None
+
+    class PaperFigure(Figure):  # type: ignore[misc]
+        """A figure that is written without a date and with the style of a paper."""
+
+        def savefig(self, fname: Any, **options: Any) -> None:
+            """Writes the figure, as matplotlib's own call does."""
+            kind = options.get("format") or str(fname).rpartition(".")[2].lower()
+            options["metadata"] = {**_UNDATED.get(kind, {}), **(options.get("metadata") or {})}
+            with matplotlib.rc_context(_STYLE):
+                super().savefig(fname, **options)
+
+        def _repr_svg_(self) -> str:
+            """Shows the figure in a notebook."""
+            import io
+
+            text = io.BytesIO()
+            self.savefig(text, format="svg")
+            return text.getvalue().decode()
+
+    return PaperFigure
+
+
+def _is_number(value: Any) -> bool:
+    return isinstance(value, (int, float)) and not isinstance(value, bool)
+
+
+def _draw_line(axes: Any, rows: List["Row"], over: str, places: Dict[Any, float], n: int) -> None:
+    """Draws the line of one value, its intervals as bars, where there are values."""
+    shown = [row for row in rows if row["mean"] is not None]
+    x = [places[row[over]] for row in shown]
+    below = [0 if row["low"] is None else row["mean"] - row["low"] for row in shown]
+    above = [0 if row["high"] is None else row["high"] - row["mean"] for row in shown]
+    axes.errorbar(
+        x,
+        [row["mean"] for row in shown],
+        yerr=[[max(0, size) for size in below], [max(0, size) for size in above]],
+        color=_COLOURS[n % len(_COLOURS)],
+        marker=_MARKS[n % len(_MARKS)],
+        linestyle=_DASHES[n % len(_DASHES)],
+        capsize=2,
+        capthick=0.8,
+        elinewidth=0.8,
+        markeredgewidth=0,
+    )
+
+
+def draw(
+    runs: "Runs",
+    metric: str,
+    over: str,
+    by: Optional[str],
+    where: Optional[Mapping[str, Any]],
+    level: float,
+) -> Any:
+    """Returns the figure of `Runs.plot`."""
+    made = _figure_class()
+    import matplotlib
+
+    names = [over] if by is None else [by, over]
+    rows = runs.summary_rows(metric, names, where, level)
+    values = list(dict.fromkeys(row[over] for row in rows))
+    numbers = all(map(_is_number, values))
+    if numbers:
+        values.sort()
+        places = {value: float(value) for value in values}
+    else:
+        places = {value: float(place) for place, value in enumerate(values)}
+    with matplotlib.rc_context(_STYLE):
+        figure = made(figsize=_INCHES, layout="constrained")
+        axes = figure.add_subplot()
+        lines = list(dict.fromkeys(row[by] for row in rows)) if by is not None else [None]
+        for n, value in enumerate(lines):
+            part = [row for row in rows if by is None or row[by] == value]
+            part.sort(key=lambda row: places[row[over]])
+            _draw_line(axes, part, over, places, n)
+        if not numbers:
+            axes.set_xticks(list(places.values()), [str(value) for value in values])
+        elif len(values) <= 8:
+            axes.set_xticks(values)
+        axes.set_xlabel(label(over))
+        axes.set_ylabel(label(metric))
+        axes.set_ylim(bottom=0)
+        axes.grid(axis="y")
+        axes.set_axisbelow(True)
+        if by is not None:
+            axes.legend([str(value) for value in lines], title=label(by), frameon=False)
+    return figure

@@ -1,0 +1,50 @@
+"""The pool of processes that a sweep uses if it is given no executor."""
+
+from __future__ import annotations
+
+import ctypes
+import multiprocessing
+import os
+import signal
+from concurrent.futures import ProcessPoolExecutor
+from typing import Any
+
+from .jobs import RUNNING
+
+# Of prctl: the signal that a process gets when its parent ends.
+_SET_SIGNAL_OF_PARENTS_END = 1
+
+
+def processors() -> int:
+    """Returns how many processors this process may use."""
+    if hasattr(os, "sched_getaffinity"):
+        return len(os.sched_getaffinity(0))
+    return os.cpu_count() or 1
+
+
+def _end(*_: Any) -> None:
+    """Ends a worker and the program that it runs."""
+    for process in RUNNING:
+        process.kill()
+    os._exit(1)
+
+
+def _begin(parent: int) -> None:
+    """Lets a worker end with its parent, whatever ends that. Otherwise it would wait forever."""
+    signal.signal(signal.SIGTERM, _end)
+    if signal.getsignal(signal.SIGINT) is not signal.SIG_IGN:
+        signal.signal(signal.SIGINT, _end)
+    try:
+        ctypes.CDLL(None).prctl(_SET_SIGNAL_OF_PARENTS_END, signal.SIGTERM)
+    except (OSError, AttributeError):
+        pass  # not Linux
+    if os.getppid() != parent:
+        _end()
+
+
+def make_pool(workers: int) -> ProcessPoolExecutor:
+    """Returns a pool of processes that begin as copies of this one, so that a script needs no guard
+    around what it does."""
+    forks = "fork" in multiprocessing.get_all_start_methods()
+    context = multiprocessing.get_context("fork" if forks else None)
+    return ProcessPoolExecutor(workers, context, _begin, (os.getpid(),))

@@ -1,0 +1,170 @@
+"""A scenario of the program: a TOML document, and copies of it with other values."""
+
+from __future__ import annotations
+
+import datetime
+import difflib
+import json
+import re
+import sys
+from pathlib import Path
+from typing import Any, Dict, List, Mapping, Optional, Tuple
+
+from .errors import StudyError, cannot
+from .parameters import Value
+
+_BARE = re.compile(r"[A-Za-z0-9_-]+")
+# Tables that the program checks key by key, so that a new key can't be overlooked.
+_CHECKED = ("moves",)
+
+
+def loads(text: str) -> Dict[str, Any]:
+    """Reads a TOML document.
+
+    Raises `StudyError` if it is no TOML, and if this Python has no reader of TOML.
+    """
+    if sys.version_info >= (3, 11):
+        import tomllib as reader
+    else:
+        try:
+            import tomli as reader
+        except ImportError:
+            raise StudyError(
+                "penetration and keys of the scenario need Python 3.11, or the package tomli", 3
+            ) from None
+    try:
+        document: Dict[str, Any] = reader.loads(text)
+        return document
+    except reader.TOMLDecodeError as error:
+        raise StudyError(f"not TOML ({error})") from None
+
+
+def _key(name: str) -> str:
+    return name if _BARE.fullmatch(name) else _text(name)
+
+
+def _text(value: str) -> str:
+    # JSON's escapes are TOML's, but for the delete character, which TOML wants escaped.
+    return json.dumps(value, ensure_ascii=False).replace("\x7f", "\\u007f")
+
+
+def _inline(value: Any) -> str:
+    if isinstance(value, bool):
+        return "true" if value else "false"
+    if isinstance(value, str):
+        return _text(value)
+    if isinstance(value, (datetime.date, datetime.time)):
+        return value.isoformat()
+    if isinstance(value, list):
+        return f"[{', '.join(map(_inline, value))}]"
+    if isinstance(value, dict):
+        pairs = (f"{_key(name)} = {_inline(inner)}" for name, inner in value.items())
+        return f"{{{', '.join(pairs)}}}"
+    return repr(value)
+
+
+def _is_array_of_tables(value: Any) -> bool:
+    return isinstance(value, list) and bool(value) and all(isinstance(v, dict) for v in value)
+
+
+def dumps(document: Mapping[str, Any]) -> str:
+    """Writes a document as TOML: keys first, then a section for each table."""
+    lines: List[str] = []
+    sections: List[Tuple[str, Dict[str, Any]]] = []
+    for name, value in document.items():
+        if isinstance(value, dict):
+            sections.append((f"[{_key(name)}]", value))
+        elif _is_array_of_tables(value):
+            sections += [(f"[[{_key(name)}]]", table) for table in value]
+        else:
+            lines.append(f"{_key(name)} = {_inline(value)}")
+    for head, table in sections:
+        lines += ["", head] if lines else [head]
+        lines += [f"{_key(name)} = {_inline(value)}" for name, value in table.items()]
+    return "".join(line + "\n" for line in lines)
+
+
+def _step(path: str, place: Any, part: str) -> Any:
+    """Returns what a part of a path leads to."""
+    if isinstance(place, list):
+        if not (part.isascii() and part.isdigit()) or int(part) >= len(place):
+            raise StudyError(f"{path}: {part} is not a number from 0 to {len(place) - 1}")
+        return place[int(part)]
+    if not isinstance(place, dict) or part not in place:
+        keys = list(place) if isinstance(place, dict) else []
+        near = difflib.get_close_matches(part, keys, 1)
+        meant = f" (did you mean {near[0]}?)" if near else ""
+        raise StudyError(f"{path}: the scenario has no {part} there{meant}: write it there first")
+    return place[part]
+
+
+def value_at(document: Mapping[str, Any], path: str) -> Any:
+    """Returns the value at a path such as `event.0.hops`. Raises `StudyError` if it isn't there."""
+    place: Any = document
+    for part in path.split("."):
+        place = _step(path, place, part)
+    return place
+
+
+def _set(document: Dict[str, Any], path: str, value: Value) -> None:
+    *above, last = path.split(".")
+    if len(above) == 1 and above[0] in _CHECKED:
+        document.setdefault(above[0], {})[last] = value
+        return
+    place = value_at(document, ".".join(above))
+    _step(path, place, last)
+    place[int(last) if isinstance(place, list) else last] = value
+
+
+class Scenario:
+    """A scenario file, read once."""
+
+    def __init__(self, path: Path):
+        """Reads a file. Raises `StudyError` with status 3 if it can't be read."""
+        self.path = path
+        try:
+            self.octets = path.read_bytes()
+        except OSError as error:
+            raise cannot("read", path, error) from None
+        self._document: Optional[Dict[str, Any]] = None
+
+    def document(self) -> Dict[str, Any]:
+        """Returns the document. Raises `StudyError` if it is no TOML, or can't be read here."""
+        if self._document is None:
+            try:
+                self._document = loads(self.octets.decode("utf-8-sig"))
+            except UnicodeDecodeError:
+                raise StudyError(f"{self.path}: not TOML (not UTF-8)") from None
+            except StudyError as error:
+                raise StudyError(f"{self.path}: {error}", error.status) from None
+        return self._document
+
+    def with_values(self, changes: Mapping[str, Value]) -> bytes:
+        """Returns the scenario with other values at some paths: without any, to the octet.
+
+        A key has to be in the scenario already, but for those of `[moves]`, which the program
+        checks. Raises `StudyError` for a path that leads nowhere.
+        """
+        if not changes:
+            return self.octets
+        # A copy, by the writer that is checked below.
+        changed = loads(dumps(self.document()))
+        for path, value in changes.items():
+            _set(changed, path, value)
+        text = dumps(changed)
+        if loads(text) != changed:
+            raise StudyError(f"{self.path}: the scenario can't be written with {dict(changes)}")
+        return text.encode()
+
+    def air(self) -> Dict[str, Any]:
+        """Returns the keys of `[air]` as the scenario has them."""
+        air = self.document().get("air")
+        return dict(air) if isinstance(air, dict) else {}
+
+    def senders(self) -> List[str]:
+        """Returns the ids of vehicles that events name."""
+        events = self.document().get("event")
+        if not isinstance(events, list):
+            return []
+        ids = (event.get("id") for event in events if isinstance(event, dict))
+        return list(dict.fromkeys(name for name in ids if isinstance(name, str)))

@@ -1,0 +1,47 @@
+"""Means and their intervals, by the standard library, so that they are the same everywhere."""
+
+from __future__ import annotations
+
+import math
+import random
+from typing import List, Optional, Sequence, Tuple
+
+from .errors import StudyError
+
+RESAMPLES = 10_000
+LEVEL = 0.95
+
+
+def mean(values: Sequence[float]) -> float:
+    """Returns the mean of one value or more."""
+    return math.fsum(values) / len(values)
+
+
+def interval(
+    values: Sequence[float], level: float = LEVEL, resamples: int = RESAMPLES, seed: int = 1
+) -> Tuple[Optional[float], Optional[float]]:
+    """Returns the interval of the mean by the percentile bootstrap: the range that holds the means
+    of `level` of the resamples, as many of which lie below it as above. Of fewer than two values
+    there is none. Equal arguments give equal results.
+
+    Raises `StudyError` if `level` is not between 0 and 1, or `resamples` below 1.
+    """
+    if not 0 < level < 1 or resamples < 1:
+        raise StudyError(f"no interval of level {level} by {resamples} resamples")
+    if len(values) < 2:
+        return None, None
+    draws = random.Random(seed)
+    # The order in which runs ended doesn't count.
+    values = sorted(values)
+    means = sorted(mean(draws.choices(values, k=len(values))) for _ in range(resamples))
+    outside = int((1 - level) / 2 * resamples + 1e-9)
+    return means[outside], means[resamples - 1 - outside]
+
+
+def summarise(
+    values: Sequence[float], level: float, resamples: int, seed: int
+) -> List[Optional[float]]:
+    """Returns the mean and the two ends of its interval, of which any may be missing."""
+    if not values:
+        return [None, None, None]
+    return [mean(values), *interval(values, level, resamples, seed)]

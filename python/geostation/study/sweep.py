@@ -1,0 +1,390 @@
+"""A study: a scenario with traces, run over parameters and seeds."""
+
+from __future__ import annotations
+
+import json
+import os
+import platform
+import shlex
+import shutil
+import subprocess
+import sys
+import time
+from concurrent.futures import BrokenExecutor, CancelledError, Executor, as_completed
+from datetime import datetime, timezone
+from pathlib import Path
+from typing import Any, Dict, List, Mapping, Optional, Tuple, Union
+
+import geostation
+
+from .digests import digest, digest_of, short
+from .errors import StudyError, cannot
+from .files import remove_leftovers, write
+from .jobs import LOAD, SENDS, Feed, Input, Job, Outcome, execute, is_lasting, read_record
+from .parameters import (
+    AIR_KEYS,
+    PENETRATION,
+    SEED,
+    Point,
+    Value,
+    is_path,
+    points,
+    read_parameters,
+    read_seeds,
+)
+from .pool import make_pool, processors
+from .progress import Progress
+from .results import STUDY, Runs
+from .scenario import Scenario
+from .traces import is_plain_csv, open_trace, read_rows
+
+# What the name of a run's folder is made of has this form. Another form makes other folders.
+_FORM = 1
+_FILES_OF_SENDS = ("--sends", SENDS, "--load", LOAD)
+PathLike = Union[str, Path]
+
+
+class Program:
+    """The program `geostation` that does the runs."""
+
+    def __init__(self, name: Optional[PathLike]):
+        """Finds a program by its path or name, by GEOSTATION_PROGRAM, or as `geostation`.
+
+        Raises `StudyError` with status 3 if it can't be run.
+        """
+        wanted = str(name or os.environ.get("GEOSTATION_PROGRAM") or "geostation")
+        found = shutil.which(wanted)
+        if found is None:
+            raise StudyError(
+                f"{wanted}: there is no such program: name it with --program, or program=", 3
+            )
+        self.path = str(Path(found).resolve())
+        try:
+            asked = subprocess.run([self.path, "--version"], capture_output=True, text=True)
+        except OSError as error:
+            raise cannot("run", self.path, error) from None
+        self.version = asked.stdout.strip()
+        if asked.returncode != 0 or not self.version:
+            raise StudyError(f"{self.path} --version ended with status {asked.returncode}", 3)
+        self.sha256 = digest(Path(self.path))
+
+    def record(self) -> Dict[str, str]:
+        """Returns what a record says of the program."""
+        return {"path": self.path, "version": self.version, "sha256": self.sha256}
+
+
+class Study:
+    """A scenario, with traces of vehicles or without, that is run by a program.
+
+    `scenario` is the path of a scenario with an `[air]`. `moves` is that of the traces: CSV as the
+    program reads it, or SUMO's FCD output as XML, each as gzip or not. With `{seed}` in its name
+    each seed has traces of its own, such as `town-{seed}.csv`. `program` names the program, a path
+    or a name. Otherwise `GEOSTATION_PROGRAM` names it, or it is `geostation` on the path.
+    """
+
+    def __init__(
+        self,
+        scenario: PathLike,
+        moves: Optional[PathLike] = None,
+        *,
+        program: Optional[PathLike] = None,
+    ):
+        """Reads the scenario. Raises `StudyError` with status 3 if a file or the program is
+        missing."""
+        self.scenario = Scenario(Path(scenario).absolute())
+        self.moves = None if moves is None else str(Path(moves).absolute())
+        self.program = Program(program)
+
+    def sweep(
+        self,
+        *,
+        out: PathLike,
+        seeds: Any = 1,
+        executor: Optional[Executor] = None,
+        jobs: Optional[int] = None,
+        force: bool = False,
+        progress: Optional[bool] = None,
+        part: Tuple[int, int] = (0, 1),
+        **parameters: Any,
+    ) -> Runs:
+        """Runs each combination of values and seeds, and returns all runs.
+
+        Each other argument is a parameter with a value or several. Its name is a key of `[air]`,
+        `penetration`, or the path of a key in the scenario, such as `"moves.capacity"` or
+        `"event.0.hops"`. `penetration` is the percentage of vehicles that have a station, drawn by
+        the seed. Vehicles that events name have one anyhow.
+
+        `out` is the folder of the results. A run whose results are there is not done again, unless
+        `force` is true. `seeds` is a number of seeds, 1 to that number, or the seeds themselves.
+        `executor` is any executor of `concurrent.futures`. Without one it is a pool of `jobs`
+        processes, as many as there are processors if `jobs` isn't given. `progress` shows how far
+        the sweep is: on a terminal, if it isn't given. `part` is `(I, N)`, I from 0: then each Nth
+        run is done, from the Ith on, so that N sweeps into one folder share the work.
+
+        A run that fails is a run with its status and message, and the sweep goes on.
+
+        Raises `StudyError` for arguments that are wrong, and if `out` can't be written or a file
+        that is read changes meanwhile.
+        """
+        if jobs is not None and (executor is not None or jobs < 1):
+            raise StudyError("jobs is a number of at least 1, and goes without an executor")
+        index, count = part
+        if not 0 <= index < count:
+            raise StudyError(f"part {index}/{count} is not a part from 0/{count}")
+        plan = _Plan(self, Path(out).absolute(), read_parameters(parameters), read_seeds(seeds))
+        return plan.run(executor, jobs, force, progress, part)
+
+
+class _Plan:
+    """A sweep into a folder."""
+
+    def __init__(
+        self, study: Study, out: Path, parameters: Dict[str, List[Value]], seeds: List[int]
+    ):
+        self.study = study
+        self.out = out
+        self.parameters = parameters
+        self.seeds = seeds
+        self.points = points(parameters, seeds)
+        self._moves: Dict[int, Input] = {}
+        self._scenarios: Dict[str, str] = {}
+        if PENETRATION in parameters and study.moves is None:
+            raise StudyError("penetration is a share of the vehicles of moves: there are none")
+        self._always = tuple(study.scenario.senders()) if PENETRATION in parameters else ()
+        try:
+            out.mkdir(parents=True, exist_ok=True)
+        except OSError as error:
+            raise cannot("write", out, error) from None
+        self.traces = [self._prepare(seed) for seed in self._seeds_of_traces()]
+        self.jobs = [self._job(point) for point in self.points]
+
+    def _seeds_of_traces(self) -> List[int]:
+        """Returns the seeds whose traces are to be read: the first one, if all have the same."""
+        if self.study.moves is None:
+            return []
+        return self.seeds if "{seed}" in self.study.moves else self.seeds[:1]
+
+    def _prepare(self, seed: int) -> Input:
+        """Makes the traces of a seed ready, and returns the file that was named. The program reads
+        CSV: of another file a copy is kept as CSV beside the results."""
+        assert self.study.moves is not None
+        source = Path(self.study.moves.replace("{seed}", str(seed)))
+        given, read = Input.of(source), source
+        if not is_plain_csv(source):
+            read = self.out / "moves" / f"{short(given.sha256)}.csv"
+            if not read.exists():
+                with open_trace(source) as file:
+                    write(read, read_rows(file, str(source)))
+        self._moves[seed] = Input.of(read)
+        return given
+
+    def _scenario_file(self, point: Point) -> Tuple[Input, str]:
+        """Writes the scenario of some values beside the results, and returns it with its name as a
+        run's folder sees it."""
+        changes = {name: value for name, value in point.items() if is_path(name)}
+        key = digest_of([[name, repr(value)] for name, value in changes.items()])
+        if key not in self._scenarios:
+            octets = self.study.scenario.with_values(changes)
+            name = f"scenarios/{short(digest_of(octets.decode('latin-1')))}.toml"
+            path = self.out / name
+            if not path.exists() or path.read_bytes() != octets:
+                write(path, [octets])
+            self._scenarios[key] = name
+        name = self._scenarios[key]
+        return Input.of(self.out / name), f"../{name}"
+
+    def _job(self, point: Point) -> Job:
+        """Returns the run of some values."""
+        scenario, scenario_name = self._scenario_file(point)
+        air = {name: point[name] for name in (*AIR_KEYS, SEED) if name in point}
+        sets = [f"--set={name}={_digits(value)}" for name, value in air.items()]
+        program = self.study.program
+        inputs, moves, feed, traces = [scenario], [], None, ""
+        if self._moves:
+            read = self._moves.get(int(point[SEED])) or self._moves[self.seeds[0]]
+            inputs, traces = [scenario, read], read.sha256
+            moves = ["--moves", self._name(read)]
+            if PENETRATION in point:
+                share, seed = float(point[PENETRATION]), int(point[SEED])
+                feed, moves = Feed(read.path, share, seed, self._always), ["--moves", "-"]
+        words = ["--explain", "--summary", "--json", *_FILES_OF_SENDS, *moves, *sets]
+        key = {
+            "form": _FORM,
+            "program": [program.version, program.sha256],
+            "scenario": scenario.sha256,
+            "moves": traces,
+            "parameters": point,
+        }
+        return Job(
+            folder=str(self.out / short(digest_of(key))),
+            parameters=point,
+            command=(program.path, "sim", *words, scenario_name),
+            inputs=(Input(program.path, program.sha256), *inputs),
+            program=program.record(),
+            air={**(self._own_air() or {}), **air},
+            feed=feed,
+        )
+
+    def _own_air(self) -> Optional[Dict[str, Any]]:
+        """Returns the keys of `[air]`, or `None` if the scenario can't be read here."""
+        try:
+            return self.study.scenario.air()
+        except StudyError:
+            return None  # if it is no TOML, the program says so
+
+    def _name(self, file: Input) -> str:
+        """Returns the name of a file as a run's folder sees it."""
+        path = Path(file.path)
+        return f"../moves/{path.name}" if path.parent == self.out / "moves" else file.path
+
+    def run(
+        self,
+        executor: Optional[Executor],
+        jobs: Optional[int],
+        force: bool,
+        progress: Optional[bool],
+        part: Tuple[int, int],
+    ) -> Runs:
+        """Does the runs that are to be done, and writes the record before and after."""
+        remove_leftovers(self.out)
+        mine = {job.folder: job for job in self.jobs[part[0] :: part[1]]}
+        missing = [j for j in mine.values() if force or not is_lasting(read_record(Path(j.folder)))]
+        workers = min(jobs or processors(), max(len(missing), 1)) if executor is None else None
+        about: Dict[str, Any] = {
+            "command": shlex.join([sys.executable, *sys.argv]),
+            "executor": "processes" if executor is None else type(executor).__name__,
+            "processes": workers,
+            "part": list(part),
+            "begun": _now(),
+            "ended": None,
+            "found": len(mine) - len(missing),
+            "run": 0,
+            "failed": 0,
+            "seconds": None,
+        }
+        self._record(about)
+        shown = Progress(len(mine), len(mine) - len(missing), progress)
+        begun = time.perf_counter()
+        try:
+            outcomes = self._run_all(missing, executor, workers, shown)
+        finally:
+            shown.close()
+        seconds = time.perf_counter() - begun
+        about.update(_figures(outcomes, seconds, workers), ended=_now())
+        remove_leftovers(self.out)
+        return Runs(self.out, self._record(about))
+
+    def _run_all(
+        self,
+        missing: List[Job],
+        executor: Optional[Executor],
+        workers: Optional[int],
+        shown: Progress,
+    ) -> List[Outcome]:
+        if executor is not None:
+            return _collect(executor, missing, shown)
+        if not missing:
+            return []
+        pool = make_pool(workers or 1)
+        try:
+            outcomes = _collect(pool, missing, shown)
+        except BaseException:
+            pool.shutdown(wait=False, cancel_futures=True)
+            raise
+        pool.shutdown()
+        return outcomes
+
+    def _record(self, about: Mapping[str, Any]) -> Dict[str, Any]:
+        """Writes and returns the record of the study."""
+        study = self.study
+        record: Dict[str, Any] = {
+            "form": _FORM,
+            "program": study.program.record(),
+            "package": geostation.__version__,
+            "python": sys.version,
+            "kernel": " ".join(platform.uname()),
+            "processors": processors(),
+            "scenario": {
+                "path": str(study.scenario.path),
+                "sha256": digest(study.scenario.path),
+                "air": self._own_air(),
+            },
+            "moves": [{"path": file.path, "sha256": file.sha256} for file in self.traces],
+            "parameters": self.parameters,
+            "seeds": self.seeds,
+            "sweep": about,
+            "runs": [self._entry(job, bool(about["ended"])) for job in self.jobs],
+        }
+        write(self.out / STUDY, [json.dumps(record, indent=1).encode(), b"\n"])
+        return record
+
+    def _entry(self, job: Job, whole: bool) -> Dict[str, Any]:
+        """Returns what the record says of a run: once the sweep has ended, how it went too."""
+        folder = Path(job.folder)
+        entry: Dict[str, Any] = {
+            "folder": folder.name,
+            "parameters": job.parameters,
+            "command": job.command_line(),
+        }
+        kept = (read_record(folder) if whole else None) or {}
+        for name in ("status", "message", "started", "seconds", "cpu", "memory_kib", "host"):
+            entry[name] = kept.get(name)
+        return entry
+
+
+def _digits(value: Value) -> str:
+    return str(value).lower()
+
+
+def _now() -> str:
+    return datetime.now(timezone.utc).isoformat(timespec="milliseconds")
+
+
+def _collect(executor: Executor, jobs: List[Job], shown: Progress) -> List[Outcome]:
+    """Has an executor do all runs, and returns what became of them, in the order of the jobs.
+
+    What a worker could not do at all is an outcome without a status: its run stays missing.
+    """
+    try:
+        futures = [executor.submit(execute, job) for job in jobs]
+    except BrokenExecutor as error:
+        raise StudyError(f"the executor failed: {error}", 3) from None
+    outcomes: Dict[int, Outcome] = {}
+    places = {id(future): place for place, future in enumerate(futures)}
+    try:
+        for future in as_completed(futures):
+            outcome = _outcome(future)
+            outcomes[places[id(future)]] = outcome
+            shown.count(outcome.status != 0)
+    except BaseException:
+        for future in futures:
+            future.cancel()
+        raise
+    return [outcomes[place] for place in sorted(outcomes)]
+
+
+def _outcome(future: Any) -> Outcome:
+    try:
+        found: Outcome = future.result()
+    except StudyError:
+        raise
+    except (CancelledError, Exception) as error:
+        return Outcome(None, fault=f"{type(error).__name__}: {error}")
+    return found
+
+
+def _figures(outcomes: List[Outcome], seconds: float, workers: Optional[int]) -> Dict[str, Any]:
+    """Returns the figures of a sweep: `busy` is the runs' time over that of all processes, and
+    `cpu` the programs' own processor time."""
+    together = sum(outcome.seconds for outcome in outcomes)
+    figures: Dict[str, Any] = {
+        "run": len(outcomes),
+        "failed": sum(outcome.status != 0 for outcome in outcomes),
+        "seconds": round(seconds, 3),
+        "seconds_of_runs": round(together, 3),
+        "cpu": round(sum(outcome.cpu for outcome in outcomes), 3),
+        "faults": sorted({outcome.fault for outcome in outcomes if outcome.fault}),
+    }
+    if workers is not None and seconds > 0:
+        figures["busy"] = round(together / (seconds * workers), 3)
+    return figures

@@ -1,0 +1,576 @@
+"""Sweeps over a program that stands for the real one: what is run, kept, tabled and summed up.
+Expected numbers are counted by hand from what that program says of itself."""
+
+import contextlib
+import gzip
+import importlib.util
+import io
+import itertools
+import json
+import os
+import random
+import signal
+import subprocess
+import sys
+import tempfile
+import unittest
+from concurrent.futures import Executor, Future, ThreadPoolExecutor
+from pathlib import Path
+from unittest import mock
+
+from geostation.study import Study, StudyError, load
+from geostation.study import __main__ as command
+from geostation.study import files, jobs, parameters, scenario, statistics, traces
+
+HERE = Path(__file__).resolve().parent
+SAMPLES = Path(os.environ.get("GEOSTATION_SAMPLES", HERE.parents[1] / "cases/data"))
+SCENARIO = """# A comment.
+[air]
+range = 250
+
+[[event]]
+id = "5"
+at = 20000
+do = "gbc"
+hops = 10
+"""
+MOVES = "at,id,lat,lon\n" + "".join(f"0,{name},0,0\n" for name in range(100))
+XML = """<?xml version="1.0" encoding="UTF-8"?>
+<!-- generated -->
+<fcd-export xmlns:xsi="http://www.w3.org/2001/XMLSchema-instance">
+    <timestep time="0.00"/>
+    <timestep time="1.00">
+        <vehicle id="a" x="11.50" y="48.10" angle="90.00" type="t" speed="1.50" lane="b;c"/>
+        <person id="p" x="11.50" y="48.10" angle="0.00" speed="0.00"/>
+    </timestep>
+    <timestep time="2.00">
+        <vehicle id="b;&quot;&#252;" x="-11.5000001" y="-48.1" speed="0.00"/>
+    </timestep>
+</fcd-export>
+"""
+CSV = """timestep_time;vehicle_id;vehicle_x;vehicle_y;vehicle_speed;vehicle_angle
+1.00;a;11.50;48.10;1.50;90.00
+2.00;"b;""\u00fc";-11.5000001;-48.1;0.00;0
+"""
+
+
+def reads_toml():
+    try:
+        return scenario.loads("") == {}
+    except StudyError:
+        return False
+
+
+needs_toml = unittest.skipUnless(reads_toml(), "neither Python 3.11 nor tomli")
+
+
+def rows_of(octets, equipped=None):
+    stream = io.BufferedReader(io.BytesIO(octets))
+    return b"".join(traces.read_rows(stream, "town", equipped))
+
+
+class Shuffled(Executor):
+    """Does all runs once the last one was submitted, in an order of its own."""
+
+    def __init__(self, count, seed):
+        self._waiting, self._count, self._seed = [], count, seed
+
+    def submit(self, function, *arguments):
+        future = Future()
+        self._waiting.append((future, function, arguments))
+        if len(self._waiting) == self._count:
+            random.Random(self._seed).shuffle(self._waiting)
+            for waiting, job, given in self._waiting:
+                waiting.set_result(job(*given))
+        return future
+
+
+class Folder(unittest.TestCase):
+    """A folder with a scenario, traces and the program that stands for the real one."""
+
+    def setUp(self):
+        room = tempfile.TemporaryDirectory()
+        self.addCleanup(room.cleanup)
+        self.folder = Path(room.name).resolve()
+        self.program = self.folder / "program"
+        text = (HERE / "fake_program.py").read_text()
+        self.program.write_text(f"#!{sys.executable} -S\n{text}")
+        self.program.chmod(0o755)
+        self.scenario = self.folder / "warning.toml"
+        self.scenario.write_text(SCENARIO)
+        self.moves = self.folder / "moves.csv"
+        self.moves.write_text(MOVES)
+        self.out = self.folder / "runs"
+        self.log = self.folder / "log"
+        given = {"FAKE_LOG": str(self.log), "GEOSTATION_PROGRAM": str(self.program)}
+        patch = mock.patch.dict(os.environ, given)
+        patch.start()
+        self.addCleanup(patch.stop)
+
+    def study(self, moves=None):
+        return Study(self.scenario, moves)
+
+    def sweep(self, moves=None, **options):
+        options.setdefault("executor", ThreadPoolExecutor(1))
+        options.setdefault("out", self.out)
+        return self.study(moves).sweep(**options)
+
+    def count(self):
+        """How many runs the program did since the last call."""
+        done = len(self.log.read_text().splitlines()) if self.log.exists() else 0
+        self.log.unlink(missing_ok=True)
+        return done
+
+
+class Sweeps(Folder):
+    def test_rows_are_in_the_order_of_the_parameters(self):
+        runs = self.sweep(loss=[20, 0], range=[250, 400], seeds=2)
+        self.assertEqual(len(runs), 8)
+        rows = runs.rows()
+        points = [(row["loss"], row["range"], row["seed"]) for row in rows]
+        wanted = itertools.product((20, 0), (250, 400), (1, 2))
+        self.assertEqual(points, list(wanted))
+        self.assertEqual([row["reached"] for row in rows], [7, 6, 7, 6, 9, 8, 9, 8])
+        self.assertEqual(rows[0]["reach"], 70)
+
+    def test_each_run_is_done_once(self):
+        self.sweep(loss=[0, 20], seeds=2)
+        self.assertEqual(self.count(), 4)
+        runs = self.sweep(loss=[0, 20, 40], seeds=3)
+        self.assertEqual(self.count(), 5)
+        self.assertEqual(runs.record["sweep"]["found"], 4)
+        self.sweep(loss=[0, 20, 40], seeds=3, force=True)
+        self.assertEqual(self.count(), 9)
+        self.assertEqual(len(self.whole_folders()), 9)
+
+    def whole_folders(self):
+        """The folders of runs. Nothing else is left beside them."""
+        names = {path.name for path in self.out.iterdir()} - {"study.json", "scenarios", "moves"}
+        self.assertFalse([name for name in names if name.startswith(".")])
+        return names
+
+    def test_another_program_scenario_or_trace_is_another_run(self):
+        self.sweep(self.moves)
+        self.moves.write_text(MOVES + "1000,1,0,0\n")
+        self.sweep(self.moves)
+        self.scenario.write_text(SCENARIO + "# Changed.\n")
+        self.sweep(self.moves)
+        self.program.write_text(self.program.read_text() + "# Changed.\n")
+        self.sweep(self.moves)
+        self.assertEqual(self.count(), 4)
+        self.sweep(self.moves)
+        self.assertEqual(self.count(), 0)
+
+    def test_the_order_in_which_runs_end_changes_nothing(self):
+        first = self.sweep(loss=[0, 20, 90, 97], seeds=3).csv()
+        for seed in range(3):
+            executor = Shuffled(12, seed)
+            runs = self.sweep(loss=[0, 20, 90, 97], seeds=3, executor=executor, force=True)
+            self.assertEqual(runs.csv(), first)
+
+    def test_a_pool_of_processes_has_the_same_table(self):
+        one = self.sweep(loss=[0, 20], seeds=3).csv()
+        many = self.sweep(loss=[0, 20], seeds=3, executor=None, jobs=2, out=self.folder / "two")
+        self.assertEqual(many.csv(), one)
+        self.assertEqual(many.record["sweep"]["processes"], 2)
+        self.assertGreater(many.record["sweep"]["busy"], 0)
+
+    def test_parts_share_the_work(self):
+        for index in range(3):
+            runs = self.sweep(loss=[0, 20], seeds=5, part=(index, 3))
+        self.assertEqual(self.count(), 10)
+        self.assertFalse(runs.failed)
+        self.assertEqual(runs.csv(), self.sweep(loss=[0, 20], seeds=5).csv())
+        self.assertEqual(self.count(), 0)
+
+    def test_a_failed_run_is_a_row(self):
+        runs = self.sweep(loss=[0, 90, 96, 97, 98, 99])
+        self.assertEqual([run.status for run in runs], [0, 1, 1, 0, 3, -signal.SIGKILL])
+        rows = {row["loss"]: row for row in runs.rows()}
+        self.assertEqual(rows[90]["reached"], 0)
+        self.assertIn("reached 0 of 10", rows[90]["message"])
+        self.assertEqual(rows[96]["message"], "moves: line 7: lat")
+        self.assertIn("SIGKILL", rows[99]["message"])
+        for loss in (96, 97, 98, 99):
+            self.assertIsNone(rows[loss]["reached"])
+        self.assertEqual(len(runs.failed), 4)
+
+    def test_what_may_be_the_fault_of_the_machine_is_done_again(self):
+        self.sweep(loss=[0, 90, 96, 97, 98, 99])
+        self.count()
+        self.sweep(loss=[0, 90, 96, 97, 98, 99])
+        self.assertEqual(self.count(), 2)
+
+    def test_a_run_that_was_cut_off_is_missing(self):
+        runs = self.sweep(loss=[0, 20], seeds=2)
+        whole = runs.csv()
+        (list(runs)[1].folder / "run.json").write_text('{"status": 0')
+        left = load(self.out)
+        self.assertEqual([run.status for run in left], [0, None, 0, 0])
+        self.count()
+        self.assertEqual(self.sweep(loss=[0, 20], seeds=2).csv(), whole)
+        self.assertEqual(self.count(), 1)
+
+    def test_a_worker_that_fails_leaves_its_run_missing(self):
+        class Broken(ThreadPoolExecutor):
+            def submit(self, function, job):
+                if job.parameters["seed"] == 2:
+                    future = Future()
+                    future.set_exception(RuntimeError("the worker is gone"))
+                    return future
+                return super().submit(function, job)
+
+        runs = self.sweep(seeds=3, executor=Broken(1))
+        self.assertEqual([run.status for run in runs], [0, None, 0])
+        self.assertEqual(runs.record["sweep"]["failed"], 1)
+        self.assertEqual(runs.record["sweep"]["faults"], ["RuntimeError: the worker is gone"])
+        self.assertIn("start the sweep again", runs.rows()[1]["message"])
+
+    def test_an_input_that_changes_ends_the_sweep(self):
+        class Changing(ThreadPoolExecutor):
+            def submit(executor, function, job):
+                self.moves.write_text(MOVES + "5,5,5,5\n")
+                return super().submit(function, job)
+
+        with self.assertRaisesRegex(StudyError, "moves.csv is not what it was"):
+            self.sweep(self.moves, executor=Changing(1))
+        self.assertEqual(self.count(), 0)
+
+    def test_what_a_process_left_is_removed_once_it_has_ended(self):
+        ended = subprocess.Popen([sys.executable, "-c", ""])
+        self.addCleanup(ended.wait)
+        # It has ended, and nobody has waited for it yet.
+        os.waitid(os.P_PID, ended.pid, os.WEXITED | os.WNOWAIT)
+        self.out.mkdir()
+        with mock.patch("os.getpid", return_value=ended.pid):
+            old = files.scratch_path(self.out / "abc")
+        mine = files.scratch_path(self.out / "abc")
+        old.mkdir()
+        mine.mkdir()
+        self.sweep()
+        self.assertFalse(old.exists())
+        self.assertTrue(mine.exists())
+
+    @needs_toml
+    def test_the_record_says_what_was_run(self):
+        runs = self.sweep(self.moves, loss=[0, 20], seeds=[4])
+        record = json.loads((self.out / "study.json").read_text())
+        self.assertEqual(record["program"]["version"], "geostation 0.0.0")
+        self.assertEqual(record["seeds"], [4])
+        self.assertEqual(record["parameters"], {"loss": [0, 20]})
+        self.assertEqual(record["scenario"]["air"], {"range": 250})
+        run = json.loads((list(runs)[1].folder / "run.json").read_text())
+        self.assertEqual(run["air"], {"range": 250, "loss": 20, "seed": 4})
+        # The command is one that a shell runs, in the folder of the run.
+        again = list(runs)[1].folder
+        (again / "sends.csv").rename(self.folder / "sends.csv")
+        subprocess.run(["sh", "-c", run["command"]], cwd=again, check=True, capture_output=True)
+        self.assertEqual(
+            (again / "sends.csv").read_text(), (self.folder / "sends.csv").read_text()
+        )
+
+    @needs_toml
+    def test_a_path_changes_a_copy_of_the_scenario(self):
+        runs = self.sweep(**{"event.0.hops": [1, 5], "moves.capacity": 64})
+        self.assertEqual(self.scenario.read_text(), SCENARIO)
+        copies = [scenario.loads(p.read_text()) for p in (self.out / "scenarios").iterdir()]
+        self.assertEqual(sorted(c["event"][0]["hops"] for c in copies), [1, 5])
+        self.assertEqual([c["moves"] for c in copies], [{"capacity": 64}] * 2)
+        self.assertEqual([row["event.0.hops"] for row in runs.rows()], [1, 5])
+
+    @needs_toml
+    def test_a_share_of_the_vehicles_comes_through_a_pipe(self):
+        runs = self.sweep(self.moves, penetration=[0, 30, 100], seeds=2)
+        frames = [row["frames"] for row in runs.rows()]
+        # The sender has a station at any share.
+        self.assertEqual(frames[:2] + frames[4:], [1, 1, 100, 100])
+        self.assertTrue(all(15 <= count <= 45 for count in frames[2:4]), frames)
+
+    @needs_toml
+    def test_packed_traces_are_unpacked_once(self):
+        packed = self.folder / "moves.csv.gz"
+        packed.write_bytes(gzip.compress(MOVES.encode()))
+        plain = self.sweep(self.moves, penetration=50).csv()
+        self.assertEqual(self.sweep(packed, penetration=50).csv(), plain)
+        self.assertEqual([p.read_text() for p in (self.out / "moves").iterdir()], [MOVES])
+
+    @needs_toml
+    def test_each_seed_may_have_traces_of_its_own(self):
+        for seed in (1, 2):
+            rows = MOVES.splitlines(keepends=True)[: 1 + 10 * seed]
+            (self.folder / f"town-{seed}.csv").write_text("".join(rows))
+        runs = self.sweep(self.folder / "town-{seed}.csv", penetration=100, seeds=2)
+        self.assertEqual([row["frames"] for row in runs.rows()], [10, 20])
+
+    def test_wrong_arguments_are_named(self):
+        wrong = [
+            ({"rnage": 250}, "did you mean range"),
+            ({"loss": []}, "no value"),
+            ({"loss": [0, 0]}, "given twice"),
+            ({"loss": 0.5}, "not a whole number"),
+            ({"beacons": 1}, "not true or false"),
+            ({"penetration": 101}, "not a percentage"),
+            ({"seed": 1}, "use seeds"),
+            ({"seeds": 0}, "not a number of seeds"),
+            ({"seeds": [-1]}, "2\\^63"),
+            ({"air.loss": 1}, "without its table: loss"),
+            ({"penetration": 10}, "there are none"),
+            ({"jobs": 0, "executor": None}, "at least 1"),
+            ({"part": (3, 3)}, "part 3/3"),
+        ]
+        for options, text in wrong:
+            with self.subTest(options), self.assertRaisesRegex(StudyError, text):
+                self.sweep(**options)
+        self.assertEqual(self.count(), 0)
+
+    @needs_toml
+    def test_paths_that_lead_nowhere_are_named(self):
+        with self.assertRaisesRegex(StudyError, "not a number from 0 to 0"):
+            self.sweep(**{"event.1.hops": 1})
+        with self.assertRaisesRegex(StudyError, "did you mean hops"):
+            self.sweep(**{"event.0.hosp": 1})
+
+    def test_numbers_of_other_libraries_are_numbers(self):
+        class Whole:
+            def __index__(self):
+                return 20
+
+        self.assertEqual(self.sweep(loss=[Whole()]).rows()[0]["loss"], 20)
+
+
+class Summaries(Folder):
+    def test_the_mean_of_runs_with_its_interval(self):
+        runs = self.sweep(loss=[0, 20], seeds=3)
+        rows = runs.summary_rows("reached", by="loss")
+        # By seed 9, 8 and 10 of ten.
+        self.assertEqual([row["mean"] for row in rows], [9, 7])
+        self.assertEqual([row["n"] for row in rows], [3, 3])
+        # All three draws are 8 once in 27, which is more often than once in 40.
+        self.assertEqual([(row["low"], row["high"]) for row in rows], [(8, 10), (6, 8)])
+
+    def test_the_load_has_metrics_too(self):
+        runs = self.sweep(seeds=3)
+        self.assertEqual(runs.summary_rows("busy_most")[0]["mean"], 2)
+
+    def test_failed_runs_are_counted(self):
+        rows = self.sweep(loss=[0, 90, 98], seeds=3).summary_rows("reached", by=["loss"])
+        self.assertEqual([row["failed"] for row in rows], [0, 3, 3])
+        self.assertEqual([row["n"] for row in rows], [3, 3, 0])
+        self.assertIsNone(rows[2]["mean"])
+
+    def test_times_of_a_warning_that_nobody_had_are_no_zeros(self):
+        runs = self.sweep(loss=[0, 90], seeds=[1, 2, 3])
+        self.assertEqual([row["last"] for row in runs.rows()], [2, 2, 2, None, None, 2])
+        self.assertEqual([row["n"] for row in runs.summary_rows("last", by="loss")], [3, 1])
+
+    def test_a_mean_over_other_parameters_is_refused(self):
+        runs = self.sweep(loss=[0, 20], range=[250, 400])
+        with self.assertRaisesRegex(StudyError, "range has several values"):
+            runs.summary("reached", by="loss")
+        rows = runs.summary_rows("reached", by="loss", where={"range": 250})
+        self.assertEqual([row["n"] for row in rows], [1, 1])
+        self.assertEqual([row["low"] for row in rows], [None, None])
+
+    def test_names_that_are_none_are_refused(self):
+        runs = self.sweep()
+        with self.assertRaisesRegex(StudyError, "rechaed: no such column"):
+            runs.summary("rechaed")
+        with self.assertRaisesRegex(StudyError, "los: no such parameter"):
+            runs.summary("reached", by="los")
+        with self.assertRaisesRegex(StudyError, "a column of texts"):
+            runs.summary("kind")
+        with self.assertRaisesRegex(StudyError, "there is no such table"):
+            runs.rows("send")
+
+    @unittest.skipUnless(importlib.util.find_spec("matplotlib"), "matplotlib isn't installed")
+    def test_a_figure_is_the_same_each_time(self):
+        runs = self.sweep(loss=[0, 20, 98], range=[250, 400], seeds=3)
+        for kind in ("svg", "pdf"):
+            texts = []
+            for _ in range(2):
+                text = io.BytesIO()
+                runs.plot("reach", over="loss", by="range").savefig(text, format=kind)
+                texts.append(text.getvalue())
+            self.assertEqual(texts[0], texts[1])
+            self.assertNotIn(b"<dc:date>", texts[0])
+            self.assertNotIn(b"CreationDate", texts[0])
+
+
+class Statistics(unittest.TestCase):
+    def test_the_interval_of_two_values(self):
+        # Half of the draws are one of each; a quarter are twice the same.
+        self.assertEqual(statistics.interval([0, 1]), (0, 1))
+        self.assertEqual(statistics.interval([0, 1], level=0.4), (0.5, 0.5))
+
+    def test_the_interval_of_many_values(self):
+        # The mean of 0 to 99 has a standard error of 2.887: 1.96 of it to each side.
+        low, high = statistics.interval(list(range(100)))
+        self.assertAlmostEqual(low, 49.5 - 5.66, delta=0.3)
+        self.assertAlmostEqual(high, 49.5 + 5.66, delta=0.3)
+
+    def test_the_interval_hangs_on_the_values_alone(self):
+        draws = random.Random(1)
+        values = [draws.random() for _ in range(30)]
+        first = statistics.interval(values)
+        self.assertEqual(statistics.interval(values), first)
+        self.assertEqual(statistics.interval(values[::-1]), first)
+        self.assertNotEqual(statistics.interval(values, seed=2), first)
+
+    def test_equal_values_and_few(self):
+        self.assertEqual(statistics.interval([3, 3, 3]), (3, 3))
+        self.assertEqual(statistics.interval([3]), (None, None))
+        with self.assertRaises(StudyError):
+            statistics.interval([1, 2], level=1)
+
+
+class Scenarios(unittest.TestCase):
+    @needs_toml
+    def test_a_copy_has_the_same_values(self):
+        paths = [path for path in SAMPLES.rglob("*.toml")]
+        documents = [scenario.loads(path.read_text()) for path in paths]
+        documents.append({"a b": 'x"\\\n\x7f\u00e9', "n": [1, [2.5, True]], "t": {"u": {"v": -1}}})
+        documents.append({"event": [{}], "empty": [], "moves": {}})
+        self.assertGreater(len(documents), 3)
+        for document in documents:
+            self.assertEqual(scenario.loads(scenario.dumps(document)), document)
+
+    @needs_toml
+    def test_not_toml(self):
+        with self.assertRaisesRegex(StudyError, "not TOML"):
+            scenario.loads("a = ")
+
+
+class Traces(unittest.TestCase):
+    def test_fcd_output_as_csv(self):
+        self.assertEqual(rows_of(XML.encode()).decode(), CSV)
+        self.assertEqual(rows_of(gzip.compress(XML.encode())).decode(), CSV)
+        self.assertEqual(rows_of(CSV.encode()).decode(), CSV)
+
+    def test_what_is_no_fcd_output(self):
+        wrong = [
+            ("<routes/>", "line 1: not SUMO's FCD output"),
+            (XML.replace('x="11.50" y="48.10" angle="90.00"', 'x="691600" y="0"'), "in degrees"),
+            (XML.replace('id="a" ', ""), "line 6: a vehicle without id"),
+            (XML.replace('id="a"', 'id="&#10;"'), "can't be the id"),
+            (XML.replace('x="11.50"', 'x="east"'), "not a number"),
+            (XML[:-20], "line "),
+            (f'<!DOCTYPE x [<!ENTITY e "e">]>{XML[39:]}', "entities"),
+        ]
+        for text, why in wrong:
+            with self.subTest(why), self.assertRaisesRegex(StudyError, why):
+                rows_of(text.encode())
+        with self.assertRaisesRegex(StudyError, "damaged gzip"):
+            rows_of(gzip.compress(XML.encode())[:-20])
+
+    def test_rows_without_a_station_are_empty_lines(self):
+        none = traces.Equipped(0, 1, ["a"])
+        kept = rows_of(CSV.encode(), none).decode()
+        self.assertEqual(kept, "".join(CSV.splitlines(keepends=True)[:2]) + "\n")
+        self.assertEqual(rows_of(XML.encode(), none).decode(), kept)
+        other = traces.Equipped(0, 1, ['b;"\u00fc'])
+        self.assertIn('"b;', rows_of(CSV.encode(), other).decode())
+
+    def test_a_file_without_ids_is_the_programs_to_refuse(self):
+        self.assertEqual(rows_of(b"at,lat\n1,2\n", traces.Equipped(0, 1)), b"at,lat\n1,2\n")
+
+    def test_a_share_is_drawn_by_seed_and_id(self):
+        names = [b"%d" % number for number in range(10_000)]
+        for seed in (1, 2):
+            drawn = {
+                percent: {name for name in names if traces.Equipped(percent, seed)[name]}
+                for percent in (0, 10, 30, 100)
+            }
+            # Four standard deviations of a binomial draw: 120 and 183.
+            self.assertAlmostEqual(len(drawn[10]), 1000, delta=120)
+            self.assertAlmostEqual(len(drawn[30]), 3000, delta=183)
+            self.assertEqual((len(drawn[0]), len(drawn[100])), (0, 10_000))
+            self.assertLess(drawn[10], drawn[30])
+        self.assertNotEqual(
+            [traces.Equipped(50, 1)[name] for name in names],
+            [traces.Equipped(50, 2)[name] for name in names],
+        )
+
+
+class Commands(Folder):
+    def call(self, *words):
+        out, err = io.StringIO(), io.StringIO()
+        with contextlib.redirect_stdout(out), contextlib.redirect_stderr(err):
+            try:
+                status = command.main([str(word) for word in words])
+            except SystemExit as end:
+                status = end.code
+        return status, out.getvalue(), err.getvalue()
+
+    def test_a_sweep_and_its_tables(self):
+        words = ["--set", "loss=0,20", "--seeds", "2", "--out", self.out, "--jobs", "1"]
+        status, said, _ = self.call("sweep", self.scenario, *words)
+        self.assertEqual(status, 0)
+        wanted = ": 4 runs done, 0 kept from before, 0 failed, in .* s, processors busy "
+        self.assertRegex(said, wanted)
+        status, table, _ = self.call("table", self.out)
+        self.assertEqual((status, table), (0, load(self.out).csv()))
+        _, table, _ = self.call("table", self.out, "--metric", "reached", "--by", "loss")
+        wanted = "loss,mean,low,high,n,failed\n0,8.5,8.0,9.0,2,0\n20,6.5,6.0,7.0,2,0\n"
+        self.assertEqual(table, wanted)
+        _, table, _ = self.call("table", self.out, "--where", "loss=20")
+        self.assertEqual(len(table.splitlines()), 3)
+
+    def test_failed_runs_are_status_1(self):
+        words = ["--set", "loss=0,98", "--out", self.out, "--jobs", "1"]
+        status, _, said = self.call("sweep", self.scenario, *words)
+        self.assertEqual(status, 1)
+        self.assertIn("failed runs: 1; the first, loss=98 seed=1, in ", said)
+
+    @needs_toml
+    def test_a_text_of_the_scenario_stays_a_text(self):
+        words = ["--set", "event.0.id=7,8", "--out", self.out, "--jobs", "1"]
+        self.assertEqual(self.call("sweep", self.scenario, *words)[0], 0)
+        self.assertEqual([run.parameters["event.0.id"] for run in load(self.out)], ["7", "8"])
+
+    def test_seeds_and_parts(self):
+        self.assertEqual(command._seeds("30"), 30)
+        self.assertEqual(command._seeds("3-5"), [3, 4, 5])
+        self.assertEqual(command._seeds("7,9"), [7, 9])
+        self.assertEqual(command._part("2/10"), (2, 10))
+
+    def test_errors_are_sentences(self):
+        sweep = ["sweep", self.scenario, "--out", self.out]
+        calls = [
+            ([*sweep, "--set", "rnage=1"], 2, "rnage: unknown parameter (did you mean range?)"),
+            ([*sweep, "--set", "loss"], 2, "'loss' is not KEY=VALUE"),
+            ([*sweep, "--set", "loss=1", "--set", "loss=2"], 2, "given twice"),
+            ([*sweep, "--seeds", "x"], 2, "not a number of seeds"),
+            ([*sweep, "--program", "none"], 3, "there is no such program"),
+            ([*sweep, "--moves", "none.csv"], 3, "none.csv (no such file or directory)"),
+            (["sweep", "none.toml", "--out", self.out], 3, "none.toml (no such file"),
+            (["table", self.folder], 3, "study.json (no such file"),
+            (["table", self.out, "--by", "loss"], 3, "study.json"),
+            (["plot", self.out, "--metric", "x", "--over", "y", "-o", "x.doc"], 2, "x.doc"),
+            (["fcd", "none.xml"], 3, "none.xml (no such file"),
+            (["fcd", self.moves, "--penetration", "101"], 2, "not from 0 to 100"),
+            ([], 2, "required"),
+        ]
+        for words, status, text in calls:
+            with self.subTest(words):
+                ended, _, said = self.call(*words)
+                self.assertEqual((ended, text in said), (status, True), said)
+                self.assertTrue(said.startswith("geostation.study: "))
+
+
+class Values(unittest.TestCase):
+    def test_the_points_of_a_grid(self):
+        found = parameters.points({"a.b": [1, 2]}, [7, 8])
+        wanted = [(1, 7), (1, 8), (2, 7), (2, 8)]
+        self.assertEqual([tuple(point.values()) for point in found], wanted)
+
+    def test_a_message_is_one_line(self):
+        with tempfile.TemporaryDirectory() as folder:
+            path = Path(folder, "messages.txt")
+            path.write_text("geostation: a\ngeostation: b\n")
+            self.assertEqual(jobs._message(path, 0), "a; b")
+            path.write_text("x" * 1000)
+            self.assertLess(len(jobs._message(path, 0)), 600)
+
+
+if __name__ == "__main__":
+    unittest.main()
