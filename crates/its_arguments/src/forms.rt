@@ -272,7 +272,7 @@ static READERS: [Form; 3] = [
         example: "\
 Keys of --fields: moment, from, to, kind, address, tst, lat, lon, pai, speed, heading, lt, tc,
 mobile, hops, max_hops, number, shape, alat, alon, a, b, angle, port, info, payload, refused,
-record, length, vlan, rssi, rate, cut
+record, interface, length, vlan, rssi, rate, cut
 
 Example:
   geostation show first.cap",

@@ -67,6 +67,8 @@ pub enum Field {
     Refused,
     /// The number of the record in its file, from 0.
     Record,
+    /// The number of its interface, from 0.
+    Interface,
     /// How many octets of the record the file has.
     Length,
     /// The VLAN identifier of the first tag.
@@ -81,7 +83,7 @@ pub enum Field {
 
 /// All keys, in the order in which the object of a record has them; then that of a refusal, and those
 /// that an object has only if they are asked for.
-pub const FIELDS: [Field; 33] = [
+pub const FIELDS: [Field; 34] = [
     Field::Moment,
     Field::From,
     Field::To,
@@ -110,6 +112,7 @@ pub const FIELDS: [Field; 33] = [
     Field::Payload,
     Field::Refused,
     Field::Record,
+    Field::Interface,
     Field::Length,
     Field::Vlan,
     Field::Rssi,
@@ -154,6 +157,7 @@ impl Field {
             Field::Payload => "payload",
             Field::Refused => "refused",
             Field::Record => "record",
+            Field::Interface => "interface",
             Field::Length => "length",
             Field::Vlan => "vlan",
             Field::Rssi => "rssi",

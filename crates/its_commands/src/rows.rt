@@ -27,6 +27,7 @@ impl Row<'_> {
         match (field, &self.frame) {
             (Field::Moment, _) => self.moment.add_to(text),
             (Field::Record, _) => text.number("", self.place.number),
+            (Field::Interface, _) => text.number("", self.place.interface),
             (Field::Length, _) => text.number("", self.place.length),
             (Field::Vlan | Field::Rssi | Field::Rate, _) => self.add_fact_to(field, text),
             (Field::Refused, Err(fault)) => {
