@@ -164,10 +164,27 @@ def upgrade():
     return "upgrade"
 
 
+def survive(minutes):
+    """Faults in turn for so long, after each of which it sends again by itself."""
+    run("systemctl", "start", UNIT)
+    until(sends, "it doesn't start")
+    faults = []
+    end = time.monotonic() + minutes * 60
+    while time.monotonic() < end:
+        for fault in (crash, interface_back, hang):
+            faults.append(fault())
+            time.sleep(10)
+    run("systemctl", "stop", UNIT)
+    return f"{len(faults)} faults in {minutes:g} minutes"
+
+
 def main():
     steps = (start, journal_has_messages, crash, hang, interface_back, late_interface, bad_option,
              reload, upgrade)
     done = [step() for step in steps]
+    minutes = float(Path("/box/minutes").read_text())
+    if minutes:
+        done.append(survive(minutes))
     print(f"the service under systemd: {'; '.join(done)}")
     Path("/box/passed").touch()
 
