@@ -198,8 +198,10 @@ class Sweeps(Folder):
     def test_what_may_be_the_fault_of_the_machine_is_done_again(self):
         self.sweep(loss=[0, 90, 96, 97, 98, 99])
         self.count()
-        self.sweep(loss=[0, 90, 96, 97, 98, 99])
+        runs = self.sweep(loss=[0, 90, 96, 97, 98, 99])
         self.assertEqual(self.count(), 2)
+        # Those that failed before are counted too.
+        self.assertEqual(runs.record["sweep"]["failed"], 4)
 
     def test_a_run_that_was_cut_off_is_missing(self):
         runs = self.sweep(loss=[0, 20], seeds=2)

@@ -19,7 +19,7 @@ from .statistics import LEVEL
 from .traces import Equipped, open_trace, read_rows
 
 _NAME = "geostation.study"
-_FIGURES = (".svg", ".pdf", ".png", ".eps")
+_FIGURES = (".svg", ".pdf", ".png")
 
 
 class _Parser(argparse.ArgumentParser):

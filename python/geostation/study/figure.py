@@ -119,7 +119,6 @@ def _draw_line(axes: Any, rows: List["Row"], over: str, places: Dict[Any, float]
         capsize=2,
         capthick=0.8,
         elinewidth=0.8,
-        markeredgewidth=0,
     )
 
 

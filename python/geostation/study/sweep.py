@@ -271,6 +271,8 @@ class _Plan:
             shown.close()
         seconds = time.perf_counter() - begun
         about.update(_figures(outcomes, seconds, workers), ended=_now())
+        kept = (read_record(Path(folder)) or {} for folder in mine)
+        about["failed"] = sum(record.get("status") != 0 for record in kept)
         remove_leftovers(self.out)
         return Runs(self.out, self._record(about))
 
@@ -379,7 +381,6 @@ def _figures(outcomes: List[Outcome], seconds: float, workers: Optional[int]) ->
     together = sum(outcome.seconds for outcome in outcomes)
     figures: Dict[str, Any] = {
         "run": len(outcomes),
-        "failed": sum(outcome.status != 0 for outcome in outcomes),
         "seconds": round(seconds, 3),
         "seconds_of_runs": round(together, 3),
         "cpu": round(sum(outcome.cpu for outcome in outcomes), 3),
