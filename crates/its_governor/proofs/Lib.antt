@@ -2,4 +2,5 @@ pub mod Bounds
 pub mod Buckets
 pub mod Receptions
 pub mod Replies
+pub mod SourceBounds
 pub mod Runs

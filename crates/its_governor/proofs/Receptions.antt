@@ -7,7 +7,8 @@ use Rattle.its_model.specs.Packet.{Transmission}
 use Rattle.its_model.specs.Calls as model
 use Rattle.its_model.specs.Calls.{Answer, Call, Refusal}
 use Rattle.its_model.specs.Station.{Step}
-use Rattle.its_linkframe.specs.Frames.{EncodesFrame}
+use Rattle.its_linkframe.specs.Frames.{EncodesFrame, transmission_of}
+use Rattle.its_linkframe.specs.declared.frame.FrameView.{FrameView}
 use Rattle.its_linkframe.specs.FrameFaults.{IsFrameFault}
 use Rattle.its_station.specs.State.{StationState, RepresentsStation}
 use Rattle.its_station.specs.Steps.{refusal_of}
@@ -52,3 +53,11 @@ pub junk_call : (octets : List ℕ) → ((t : Transmission) → EncodesFrame t o
 junk_call octets none (model.Call.Own own) is = absurd is
 junk_call octets none (model.Call.Receive t) is = absurd (none t is)
 junk_call octets none (model.Call.Junk f) is = refl
+
+-- the source of a frame that was read
+pub view_source : (o : Option FrameView) (octets : List ℕ)
+    → IfSome o (λ v. EncodesFrame (transmission_of v) octets)
+    → IfSome o (λ v. (t : Transmission) × EncodesFrame t octets
+    × (v.packet.pdu.vector.address ≡ t.pdu.vector.address))
+view_source None octets is = tt
+view_source (Some v) octets is = (transmission_of v, is, refl)

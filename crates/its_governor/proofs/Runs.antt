@@ -1,6 +1,6 @@
 -- One more call after others.
 use Rattle.std.proofs.Common.{◌≡◌, ℕ, Bool, true, false, cond, List, [], ◌∷◌, ◌++◌}
-use Rattle.std.proofs.Common.{length, Option, Some, refl, sym, ap, ◌∙◌, subst, arith}
+use Rattle.std.proofs.Common.{take, length, Option, Some, refl, sym, ap, ◌∙◌, subst, arith}
 use Rattle.std.proofs.lemmas.List.{append-nil}
 use Rattle.its_model.specs.Station.{StationModel}
 use Rattle.its_station.specs.declared.run.Call.{Call}
@@ -8,9 +8,11 @@ use Rattle.its_governor.specs.declared.answer.GovernedReply.{GovernedReply}
 use Rattle.its_governor.specs.declared.bucket.Bucket.{Bucket}
 use Rattle.its_governor.specs.declared.governor.Governor.{Governor}
 use Rattle.its_governor.specs.Bucket.{MayPass, drawn_at}
-use Rattle.its_governor.specs.Governing.{IsDraw}
-use Rattle.its_governor.specs.Runs.{times_of, IsGovernedStep, IsGovernedRun}
+use Rattle.its_governor.specs.Governing.{IsDraw, IsDrawOf}
+use Rattle.its_governor.specs.Sources.{SourceState, Forwarded, SourcesMayPass, drawn_by}
+use Rattle.its_governor.specs.Runs.{IsSourceDraw, IsNext, AreForwarded, is_forwarded, times_of, IsGovernedStep, IsGovernedRun}
 use Rattle.its_governor.proofs.Bounds.{may_pass-more, drawn_at-more}
+use Rattle.its_governor.proofs.SourceBounds.{sources_more, drawn_by-more}
 
 -- a time, or none
 abbrev pub time_if : Bool → ℕ → List ℕ
@@ -99,3 +101,85 @@ ran_more s g calls replies g' P Q x r g'' ran step =
       is = next.1;
       run = run_last s g calls replies ran.after g' x r next.0 g'' ran.run next.2;
     }
+
+-- ---- the frames of sources
+
+forwarded_more : (xs : List (ℕ × Call)) (rs : List GovernedReply) (fs : List Forwarded)
+    (x : ℕ × Call) (r : GovernedReply) (gs : List Forwarded) → length xs ≡ length rs
+    → AreForwarded xs rs fs → IsNext (is_forwarded x.1 r) x gs (λ (l : List Forwarded). l ≡ [])
+    → AreForwarded (xs ++ x ∷ []) (rs ++ r ∷ []) (fs ++ gs)
+forwarded_more [] [] fs x r gs same are next =
+    subst (λ (l : List Forwarded). AreForwarded (x ∷ []) (r ∷ []) (l ++ gs)) (sym are)
+    next
+forwarded_more [] (q ∷ rs) fs x r gs same are next = absurd (omega (arith, same))
+forwarded_more (y ∷ xs) [] fs x r gs same are next = absurd (omega (arith, same))
+forwarded_more (y ∷ xs) (q ∷ rs) fs x r gs same are next =
+    by (is_forwarded y.1 q) fs
+    (λ l h. forwarded_more xs rs l x r gs (omega (arith, same)) h next) are
+  where
+    by : (p : Bool) (l : List Forwarded)
+        → ((k : List Forwarded) → AreForwarded xs rs k
+        → AreForwarded (xs ++ x ∷ []) (rs ++ r ∷ []) (k ++ gs))
+        → IsNext p y l (AreForwarded xs rs)
+        → IsNext p y (l ++ gs) (AreForwarded (xs ++ x ∷ []) (rs ++ r ∷ []))
+    by true [] more h = absurd h
+    by true (f ∷ l) more h = (h.0, h.1, more l h.2)
+    by false l more h = more l h
+
+-- the frames that were forwarded, and the buckets of sources after them
+pub record HasSources (s : SourceState) (calls : List (ℕ × Call)) (replies : List GovernedReply)
+    (now : Option SourceState) : Type 0 where
+  pub frames : List Forwarded
+  pub are : AreForwarded calls replies frames
+  pub pass : SourcesMayPass s frames
+  pub is : now ≡ Some (drawn_by s frames)
+
+pub sources_none : (s : SourceState) (now : Option SourceState) → now ≡ Some s
+    → HasSources s [] [] now
+sources_none s now e = record { frames = []; are = refl; pass = tt; is = e }
+
+pub has_sources_more : (s : SourceState) (xs : List (ℕ × Call)) (rs : List GovernedReply)
+    (old new : Option SourceState) (x : ℕ × Call) (r : GovernedReply) → length xs ≡ length rs
+    → HasSources s xs rs old → IsSourceDraw old x.1 (is_forwarded x.1 r) x.0 new
+    → HasSources s (xs ++ x ∷ []) (rs ++ r ∷ []) new
+has_sources_more s xs rs old new x r same has draw =
+    by (is_forwarded x.1 r) draw
+    (λ gs next. forwarded_more xs rs has.frames x r gs same has.are next)
+  where
+    by : (p : Bool) → IsSourceDraw old x.1 p x.0 new
+        → ((gs : List Forwarded) → IsNext p x gs (λ (l : List Forwarded). l ≡ [])
+        → AreForwarded (xs ++ x ∷ []) (rs ++ r ∷ []) (has.frames ++ gs))
+        → HasSources s (xs ++ x ∷ []) (rs ++ r ∷ []) new
+    by true d are =
+        let f : Forwarded = record { source = d.0; time = x.0 } in
+        let at : IsDrawOf (Some (drawn_by s has.frames)) d.0 true x.0 new =
+        subst (λ (o : Option SourceState). IsDrawOf o d.0 true x.0 new) has.is d.2 in
+        record {
+          frames = has.frames ++ f ∷ [];
+          are = are (f ∷ []) (refl, d.1, refl);
+          pass = sources_more s has.frames f has.pass at.0;
+          is = at.1
+              ∙ ap (λ (t : SourceState). Some t) (sym (drawn_by-more s has.frames f));
+        }
+    by false d are = record {
+      frames = has.frames ++ [];
+      are = are [] refl;
+      pass = subst (λ (l : List Forwarded). SourcesMayPass s l)
+          (sym (append-nil has.frames)) has.pass;
+      is = d ∙ has.is
+          ∙ ap (λ (l : List Forwarded). Some (drawn_by s l)) (sym (append-nil has.frames));
+    }
+
+-- what is told of the frames at the end
+pub sources_end : (s : SourceState) (calls : List (ℕ × Call)) (i : ℕ)
+    (rs rs' : List GovernedReply) (now : Option SourceState) → length rs ≡ i → rs' ≡ rs
+    → HasSources s (take i calls) rs now
+    → (x : List Forwarded) × AreForwarded (take (length rs') calls) rs' x × SourcesMayPass s x
+sources_end s calls i rs rs' now count same has =
+    subst (λ (l : List GovernedReply).
+    (x : List Forwarded) × AreForwarded (take (length l) calls) l x × SourcesMayPass s x)
+    (sym same) (
+      has.frames,
+      subst (λ (n : ℕ). AreForwarded (take n calls) rs has.frames) (sym count) has.are,
+      has.pass,
+    )

@@ -179,3 +179,9 @@ IsDraw old false now new = new ≡ old
 -- whether a request at a time that a station of this clock accepts finds no room
 abbrev pub is_over_rate : Governor → ℕ → ℕ → Bool
 is_over_rate g clock now = nat_le clock now && nat_le now (2 ^ 62) && not (room_in g.own now)
+
+-- A frame of a source passed its bucket, which had room for it, or none did.
+abbrev pub IsDrawOf : Option SourceState → ℕ → Bool → ℕ → Option SourceState → Type 0
+IsDrawOf old source true now new =
+    IsTrue (source_room old source now) × (new ≡ source_drawn old source now)
+IsDrawOf old source false now new = new ≡ old

@@ -1,6 +1,7 @@
 -- Many calls of a station behind a governor.
 use Rattle.std.specs.Prelude.{◌≡◌, ℕ, ◌≤◌, ◌^◌, Bool, true, false, ◌&&◌, if◌then◌else◌, IsTrue, IsFalse}
-use Rattle.std.specs.Prelude.{List, [], ◌∷◌, is_some}
+use Rattle.std.specs.Prelude.{Option, List, [], ◌∷◌, is_some}
+use Rattle.its_model.specs.Packet.{Transmission}
 use Rattle.its_model.specs.Calls.{Call as ModelCall}
 use Rattle.its_model.specs.Station.{StationModel, station_step}
 use Rattle.its_station.specs.declared.run.Call.{Call}
@@ -13,7 +14,9 @@ use Rattle.its_station.specs.Runs.{IsCall, TellsReply}
 use Rattle.its_governor.specs.declared.answer.GovernedReply.{GovernedReply}
 use Rattle.its_governor.specs.declared.answer.GovernedReply.TheVariants as governed
 use Rattle.its_governor.specs.declared.governor.Governor.{Governor}
-use Rattle.its_governor.specs.Governing.{room_in, frame_in, governed_step, after_call}
+use Rattle.its_linkframe.specs.Frames.{EncodesFrame}
+use Rattle.its_governor.specs.Sources.{SourceState, Forwarded}
+use Rattle.its_governor.specs.Governing.{IsDrawOf, room_in, frame_in, governed_step, after_call}
 use Rattle.its_governor.specs.Governing.{after_refusal}
 
 -- whether the call asks for an own packet that is no beacon
@@ -54,6 +57,32 @@ times_of such (call ∷ calls) (reply ∷ replies) =
     if such call.1 reply
     then call.0 ∷ times_of such calls replies
     else times_of such calls replies
+
+-- The octets of a call are a frame of this source.
+abbrev pub IsSourceOf : Call → ℕ → Type 0
+IsSourceOf (calls.Receive frame) source =
+    (t : Transmission) × EncodesFrame t frame.items × (source ≡ t.pdu.vector.address)
+IsSourceOf call source = ⊥
+
+-- The frame of a call passed the bucket of its source, which had room for it, or none did.
+abbrev pub IsSourceDraw : Option SourceState → Call → Bool → ℕ → Option SourceState → Type 0
+IsSourceDraw old call true now new =
+    (source : ℕ) × IsSourceOf call source × IsDrawOf old source true now new
+IsSourceDraw old call false now new = new ≡ old
+
+-- the first of these frames is that of the call, if one was forwarded, and the rest are such
+abbrev pub IsNext : Bool → ℕ × Call → List Forwarded → (List Forwarded → Type 0) → Type 0
+IsNext true call [] rest = ⊥
+IsNext true call (f ∷ frames) rest =
+    (f.time ≡ call.0) × IsSourceOf call.1 f.source × rest frames
+IsNext false call frames rest = rest frames
+
+-- These are the frames that were forwarded in the calls, by their replies.
+abbrev pub AreForwarded : List (ℕ × Call) → List GovernedReply → List Forwarded → Type 0
+AreForwarded [] replies frames = frames ≡ []
+AreForwarded (call ∷ calls) [] frames = frames ≡ []
+AreForwarded (call ∷ calls) (reply ∷ replies) frames =
+    IsNext (is_forwarded call.1 reply) call frames (AreForwarded calls replies)
 
 -- A step of a station behind a governor: the model's step, of whose answer that is kept which
 -- passes; or a request at a time that the station accepts is refused, as the bucket of own packets

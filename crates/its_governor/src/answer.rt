@@ -1,12 +1,13 @@
 //! A call of a station behind a governor.
 
 ghost use Rattle.std.specs.Prelude.{◌≡◌, ◌^◌, ◌&&◌, ◌||◌, nat_lt, Option, Some, None, IfOk, OnErr};
+ghost use Rattle.std.specs.Prelude.{IfSome};
 ghost use Rattle.std.specs.Prelude.{true, false, IsTrue, if◌then◌else◌};
 ghost use Rattle.std.specs.Option.{option_map};
 ghost use Rattle.its_model.specs.Packet.{Transmission};
 ghost use Rattle.its_model.specs.Calls.{Answer, Call as ModelCall};
 ghost use Rattle.its_model.specs.Station.{StationModel};
-ghost use Rattle.its_linkframe.specs.Frames.{transmission_of};
+ghost use Rattle.its_linkframe.specs.Frames.{EncodesFrame, transmission_of};
 ghost use Rattle.its_station.specs.State.{RepresentsStation};
 ghost use Rattle.its_station.specs.Receiving.{IsFrameCall};
 ghost use Rattle.its_station.specs.Runs.{IsCall, IsInRange, TellsReply};
@@ -14,7 +15,7 @@ ghost use Rattle.its_governor.specs.Governing.{room_in, draw_from, frame_in, gov
 ghost use Rattle.its_governor.specs.Governing.{after_accepted, after_call, after_refusal, IsDraw};
 ghost use Rattle.its_governor.specs.Governing.{is_over_rate};
 ghost use Rattle.its_governor.specs.Runs.{is_request, forwards, sends, is_forwarded, is_own_sent};
-ghost use Rattle.its_governor.specs.Runs.{IsGovernedStep};
+ghost use Rattle.its_governor.specs.Runs.{IsGovernedStep, IsSourceOf, IsSourceDraw};
 
 use crate::governor::{Governor, Passed};
 use its_gnvalue::NoMemory;
@@ -50,6 +51,8 @@ impl Governor {
             × IsGovernedStep s self.old moment call.now reply after self.new) }
         ensures forward { IfOk result (λ reply.
             IsDraw self.old.forward (is_forwarded call.now reply) moment self.new.forward) }
+        ensures source { IfOk result (λ reply. IsSourceDraw self.old.sources call.now
+            (is_forwarded call.now reply) moment self.new.sources) }
         ensures own { (s : StationModel) → RepresentsStation station.old s → IfOk result (λ reply.
             IsDraw self.old.own (is_own_sent call.now reply) moment self.new.own) }
         ensures unchanged { OnErr result ((self.new ≡ self.old) × (station.new ≡ station.old)) }
@@ -87,6 +90,8 @@ impl Governor {
             TellsReply reply answer → self.new
             ≡ after_call self.old moment (is_request call.now) (frame_in c) answer }
         ensures forward { IsDraw self.old.forward (forwards result) moment self.new.forward }
+        ensures source { IsSourceDraw self.old.sources call.now (forwards result) moment
+            self.new.sources }
         ensures sends { sends result ≡ sends reply }
         ensures own { self.new.own ≡ (if is_request call.now && sends reply
             then draw_from self.old.own moment else self.old.own) }
@@ -120,6 +125,8 @@ impl Governor {
         ensures state { (c : ModelCall) → IsCall call.now c →
             self.new ≡ after_accepted self.old moment (frame_in c) handed sent }
         ensures forward { IsDraw self.old.forward result.forwards moment self.new.forward }
+        ensures source { IsSourceDraw self.old.sources call.now result.forwards moment
+            self.new.sources }
         ensures only { IsTrue result.forwards → IsTrue sent }
         ensures own { self.new.own ≡ self.old.own }
     {
@@ -135,7 +142,9 @@ impl Governor {
 
 /// The frame that a call brought, if it did.
 fn frame_of(call: &Call) -> Option<FrameView<'_>>
-    ensures { (c : ModelCall) → IsCall call.now c → option_map transmission_of result ≡ frame_in c }
+    ensures frame { (c : ModelCall) → IsCall call.now c →
+        option_map transmission_of result ≡ frame_in c }
+    ensures source { IfSome result (λ v. IsSourceOf call.now v.packet.pdu.vector.address) }
 {
     match call {
         Call::Receive(octets) => view_of(octets.as_slice()),
@@ -145,8 +154,9 @@ fn frame_of(call: &Call) -> Option<FrameView<'_>>
 
 /// The frame that the octets are, if they are one.
 fn view_of(octets: &[u8]) -> Option<FrameView<'_>>
-    ensures { (c : ModelCall) → IsFrameCall octets.now c →
+    ensures frame { (c : ModelCall) → IsFrameCall octets.now c →
         option_map transmission_of result ≡ frame_in c }
+    ensures found { IfSome result (λ v. EncodesFrame (transmission_of v) octets.now) }
 {
     // A law, for the proof alone.
     one_frame_fault();

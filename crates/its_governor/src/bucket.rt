@@ -12,9 +12,9 @@ const FRAME: u64 = 1000;
 /// millisecond adds as many of them as the rate has frames per second. It begins full.
 #[derive(Clone, Copy, Debug, PartialEq, Eq)]
 pub struct Bucket {
-    rate: Rate,
-    parts: u64,
-    since: u64,
+    pub(crate) rate: Rate,
+    pub(crate) parts: u64,
+    pub(crate) since: u64,
 }
 
 impl Bucket {

@@ -6,7 +6,7 @@ ghost use Rattle.its_linkframe.specs.Frames.{transmission_of};
 ghost use Rattle.its_governor.specs.Governing.{IsNewGovernor, room_in, draw_from, source_room};
 ghost use Rattle.its_governor.specs.Governing.{source_drawn, is_echo, may_forward, passed_of};
 ghost use Rattle.its_governor.specs.Governing.{after_forwarding, after_delivery, after_judging};
-ghost use Rattle.its_governor.specs.Governing.{IsDraw};
+ghost use Rattle.its_governor.specs.Governing.{IsDraw, IsDrawOf};
 
 use crate::bucket::Bucket;
 use crate::memory::DeliveryMemory;
@@ -94,6 +94,8 @@ impl Governor {
             result ≡ record { delivers = handed; forwards = sent } }
         ensures deliveries { self.old.delivered ≡ None → result.delivers ≡ handed }
         ensures room { IsDraw self.old.forward result.forwards now self.new.forward }
+        ensures source { IsDrawOf self.old.sources (transmission_of frame.now).pdu.vector.address
+            result.forwards now self.new.sources }
     {
         let forwards = sent && self.may_forward(now, frame);
         let delivers = handed && !self.is_echo(now, frame);

@@ -1,16 +1,19 @@
 //! Many calls of a station behind a governor, one after the other.
 
+ghost use Rattle.std.specs.Prelude.{List};
 ghost use Rattle.std.specs.Prelude.{◌≡◌, ◌≤◌, ◌<◌, All, take, length, IsTrue, IsFalse, Some};
 ghost use Rattle.its_model.specs.Station.{StationModel};
 ghost use Rattle.its_station.specs.State.{RepresentsStation};
 ghost use Rattle.its_station.specs.Runs.{IsInRange};
 ghost use Rattle.its_governor.specs.declared.bucket.Bucket.{Bucket};
 ghost use Rattle.its_governor.specs.Bucket.{IsBounded, MayPass, drawn_at};
-ghost use Rattle.its_governor.specs.Runs.{times_of, is_forwarded, is_own_sent, IsGovernedRun};
+ghost use Rattle.its_governor.specs.Sources.{SourceState, Forwarded, SourcesAreBounded};
+ghost use Rattle.its_governor.specs.Sources.{SourcesMayPass};
+ghost use Rattle.its_governor.specs.Runs.{AreForwarded, times_of, is_forwarded, is_own_sent, IsGovernedRun};
 
 use crate::answer::GovernedReply;
 use crate::governor::Governor;
-use crate::laws::bucket_is_bounded;
+use crate::laws::{bucket_is_bounded, sources_are_bounded};
 use its_loctable::LocationStore;
 use its_station::{Call, Station};
 use std::alloc::Global;
@@ -30,7 +33,8 @@ impl Governor {
     ///
     /// Whatever the calls are, in each stretch of `t` milliseconds, its ends included, at most
     /// `burst + per_second * t / 1000` frames are forwarded; and as many own packets are sent that
-    /// are no beacons, by their own limit.
+    /// are no beacons, by their own limit. If at most 256 frames are forwarded in these calls, the
+    /// same holds of the frames of each source, by its limit.
     pub fn run<S: LocationStore>(
         &mut self,
         alloc: Global,
@@ -50,13 +54,18 @@ impl Governor {
         ensures forwarded { (b : Bucket) → self.old.forward ≡ Some b → IsBounded b.rate
             (times_of is_forwarded (take (length result.replies.items) calls.now)
             result.replies.items) }
+        ensures sources { (s : SourceState) → self.old.sources ≡ Some s →
+            (frames : List Forwarded)
+            × AreForwarded (take (length result.replies.items) calls.now)
+            result.replies.items frames × SourcesAreBounded s frames }
         ensures own { (s : StationModel) → RepresentsStation station.old s → (b : Bucket) →
             self.old.own ≡ Some b → IsBounded b.rate
             (times_of is_own_sent (take (length result.replies.items) calls.now)
             result.replies.items) }
     {
-        // A law, for the proof alone.
+        // Laws, for the proof alone.
         bucket_is_bounded();
+        sources_are_bounded();
         self.run_all(alloc, station, calls)
     }
 
@@ -80,6 +89,10 @@ impl Governor {
         ensures forwarded { (b : Bucket) → self.old.forward ≡ Some b → MayPass b
             (times_of is_forwarded (take (length result.replies.items) calls.now)
             result.replies.items) }
+        ensures sources { (s : SourceState) → self.old.sources ≡ Some s →
+            (frames : List Forwarded)
+            × AreForwarded (take (length result.replies.items) calls.now)
+            result.replies.items frames × SourcesMayPass s frames }
         ensures own { (s : StationModel) → RepresentsStation station.old s → (b : Bucket) →
             self.old.own ≡ Some b → MayPass b
             (times_of is_own_sent (take (length result.replies.items) calls.now)

@@ -13,11 +13,13 @@ use std::marker::Model;
 /// How many of the frames that were forwarded last are kept.
 const DRAWS: usize = 256;
 
-/// A frame that was forwarded: its source, and the bucket of the source after it.
+/// A frame that was forwarded: its source, what the bucket of the source held after it, in
+/// thousandths of a frame, and when it passed.
 #[derive(Clone, Copy, Debug, PartialEq, Eq)]
 pub struct SourceDraw {
     pub(crate) source: GnAddress,
-    pub(crate) bucket: Bucket,
+    pub(crate) parts: u64,
+    pub(crate) since: u64,
 }
 
 /// A token bucket per source of forwarded frames, all of one rate, in bounded memory: of the last
@@ -56,9 +58,9 @@ impl SourceBuckets {
         ensures { result ≡ bucket_of self.now.rate source self.now.draws }
     {
         let (newer, older) = self.draws.as_slices();
-        match latest(newer, source) {
+        match latest(self.rate, newer, source) {
             Some(bucket) => bucket,
-            None => match latest(older, source) {
+            None => match latest(self.rate, older, source) {
                 Some(bucket) => bucket,
                 None => Bucket::new(self.rate),
             },
@@ -72,17 +74,25 @@ impl SourceBuckets {
     {
         let mut bucket = self.bucket_of(source);
         bucket.draw(now);
-        self.draws.push_front(SourceDraw { source, bucket });
+        self.draws.push_front(SourceDraw {
+            source,
+            parts: bucket.parts,
+            since: bucket.since,
+        });
     }
 }
 
 /// The bucket of a source after its newest frame among these, if there is one.
-fn latest(draws: &[SourceDraw], source: GnAddress) -> Option<Bucket>
-    ensures { result ≡ latest source draws.now }
+fn latest(rate: Rate, draws: &[SourceDraw], source: GnAddress) -> Option<Bucket>
+    ensures { result ≡ latest rate source draws.now }
 {
     for draw in draws {
         if draw.source == source {
-            return Some(draw.bucket);
+            return Some(Bucket {
+                rate,
+                parts: draw.parts,
+                since: draw.since,
+            });
         }
     }
     None

@@ -1,11 +1,11 @@
-use Rattle.std.proofs.Common.{ℕ, ◌∙◌, ◌++◌, ◌∷◌, [], List, length, take, ap, arith, sym, subst}
+use Rattle.std.proofs.Common.{refl, ℕ, ◌∙◌, ◌++◌, ◌∷◌, [], List, length, take, ap, arith, sym, subst}
 use Rattle.std.proofs.Common.{length-append, ◌≡◌, Bool}
 use Rattle.std.proofs.lemmas.List.{take_more, length-take}
 use Rattle.its_station.specs.declared.run.Call.{Call}
 use Rattle.its_station.specs.State.{RepresentsStation}
 use Rattle.its_governor.specs.declared.answer.GovernedReply.{GovernedReply}
 use Rattle.its_governor.specs.Runs.{times_of, is_forwarded, is_own_sent}
-use Rattle.its_governor.proofs.Runs.{Has, Ran, has_more, ran_more, times_more}
+use Rattle.its_governor.proofs.Runs.{HasSources, sources_end, has_sources_more, Has, Ran, has_more, ran_more, times_more}
 use Rattle.its_governor.proofs.governor.Governor.run_all.Goals as goal
 
 pub loop-call-preserved : goal.loop-call-preserved
@@ -43,6 +43,13 @@ loop-call-preserved g c =
           (has_more b (times_of is_forwarded (take i calls) old) c.loop-call.self.forward
           c.answer.new.self.forward (is_forwarded x.1 c.in-Ok.reply) x.0
           (c.loop-call.invariant.forwarded b is) c.in-Ok.ensures.forward);
+      sources = λ s is.
+          subst (λ (l : List (ℕ × Call)). HasSources s l c.push.new.self.items
+          c.answer.new.self.sources) (sym front)
+          (subst (λ (l : List GovernedReply). HasSources s (take i calls ++ x ∷ []) l
+          c.answer.new.self.sources) (sym items)
+          (has_sources_more s (take i calls) old c.loop-call.self.sources c.answer.new.self.sources
+          x c.in-Ok.reply same (c.loop-call.invariant.sources s is) c.in-Ok.ensures.source));
       own = λ s rep b is.
           let ran = c.loop-call.invariant.run s rep in
           subst (λ (l : List ℕ). Has b l c.answer.new.self.own) (sym (times is_own_sent))
@@ -50,3 +57,21 @@ loop-call-preserved g c =
           c.answer.new.self.own (is_own_sent x.1 c.in-Ok.reply) x.0
           (c.loop-call.invariant.own s rep b is) (c.in-Ok.ensures.own ran.after ran.is));
     }
+
+pub returns-then-is_err-clause-sources : goal.returns-then-is_err-clause-sources
+returns-then-is_err-clause-sources g c = λ s is.
+    sources_end s c.args.calls.now c.loop-call.call-index c.loop-call.replies.items
+    c.reserve.new.self.items c.loop-call.self.sources c.loop-call.invariant.count
+    c.reserve.ensures.items (c.loop-call.invariant.sources s is)
+
+pub returns-in_default-clause-sources : goal.returns-in_default-clause-sources
+returns-in_default-clause-sources g c = λ s is.
+    sources_end s c.args.calls.now c.loop-call.call-index c.loop-call.replies.items
+    c.reserve.new.self.items c.loop-call.self.sources c.loop-call.invariant.count
+    c.reserve.ensures.items (c.loop-call.invariant.sources s is)
+
+pub returns-clause-sources : goal.returns-clause-sources
+returns-clause-sources g c = λ s is.
+    sources_end s c.args.calls.now c.loop-call.call-index c.loop-call.replies.items
+    c.loop-call.replies.items c.loop-call.self.sources c.loop-call.invariant.count refl
+    (c.loop-call.invariant.sources s is)
