@@ -68,8 +68,6 @@ impl FileEvent {
 /// its id, one that a row of a file of moves makes.
 #[derive(Debug, Drop, PartialEq, Eq)]
 pub struct AddressedEvent {
-    /// Its number among the events of the document, from 0.
-    pub number: usize,
     /// The id of its station: 1 to 64 octets of UTF-8, without control characters. There may be no
     /// row of it. `None` for an event of a station of the scenario's own.
     pub id: Option<String>,
@@ -156,14 +154,12 @@ pub fn read_event<F: Fields>(alloc: Global, fields: &F) -> Result<Event, KeyFaul
 
 /// Reads an event or a leave of a scenario of so many stations that is run with moves: `id`, where
 /// it is there, else `station`, which has to be one of these, then `at`, and then what is done,
-/// checked in this order. Nothing is delivered. `number` is that of the event in the document.
+/// checked in this order. Nothing is delivered.
 pub fn read_addressed<F: Fields>(
     alloc: Global,
     fields: &F,
-    number: usize,
     stations: usize,
 ) -> Result<AddressedEvent, KeyFault>
-    ensures number { IfOk result (λ event. event.number ≡ number) }
     ensures says { IfOk result (SaysAddressed (F.values fields.now)) }
     ensures range { IfOk result (λ event. FitsFileEvent event.filed) }
     ensures id { IfOk result (λ event. IfSome event.id (λ id. IsId (string_bytes id))) }
@@ -175,7 +171,6 @@ pub fn read_addressed<F: Fields>(
     }
     let read = read_filed(alloc, fields, station, moment, Verbs::WithMoves)?;
     Ok(AddressedEvent {
-        number,
         id,
         filed: read.filed,
         round_station: read.round_station,

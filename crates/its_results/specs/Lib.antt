@@ -1,4 +1,3 @@
 pub mod Audiences
-pub mod FailedEvents
 pub mod FullTables
 pub mod Results

@@ -6,7 +6,7 @@ ghost use Rattle.its_runs.specs.Runs.{EndsRun, IsMovedStatus, IsRunStatus};
 
 use crate::both::Both;
 use crate::course::Course;
-use crate::fault::{RunFault, fault_of_scenario, is_cut_short};
+use crate::fault::{RunFault, is_cut_short};
 use crate::findings::{Finding, Findings, SummaryDetails};
 use crate::frames::Frames;
 use crate::options::RunOptions;
@@ -15,7 +15,6 @@ use crate::progress::Progress;
 use crate::summary::print_summary;
 use crate::watched::Watched;
 use its_air::{AirFault, run_moves, run_scenario};
-use its_frame_text::Explanation;
 use its_moves::Rows;
 use its_reporting::{Fault, Io, OutputFormat, Status};
 use its_scenario::{Reading, Scenario};
@@ -102,7 +101,6 @@ pub(crate) fn run_into<'a, M: BufRead + Drop, F: Write + Drop, W: Write, E: Writ
         mut frames,
         results,
     } = outputs;
-    report_unknown(course.scenario, &mut io.err);
     let mut progress = Progress::of(course);
     let mut findings = Findings::new(alloc, course, io.format.explain, results)?;
     let finding = Finding {
@@ -293,15 +291,6 @@ fn run_moved<M: BufRead + Drop, S: EventSink>(
     Ok(watched.status(strict))
 }
 
-/// Reports on standard error each key of a scenario's document that is none of its words: a table
-/// of that name is ignored. A write that fails is ignored.
-pub fn report_unknown<E: Write>(scenario: &Scenario, err: &mut E) {
-    for key in &scenario.unknown {
-        let tip = Explanation(key.tip());
-        let _ = writeln!(err, "geostation: scenario: {key}{tip}");
-    }
-}
-
 /// Reads to the end of the reader, and what it gave as a scenario of at most so many stations, in
 /// this way. `file` is its name.
 ///
@@ -316,9 +305,7 @@ pub fn read_scenario<'a, R: Read + Drop>(
     ensures { IfOk result (λ scenario. vec_len scenario.stations ≤ most_stations) }
 {
     let text = read_text(alloc, file, reader)?;
-    Scenario::read(alloc, text.as_slice(), most_stations, reading).map_err(
-        |fault| fault_of_scenario(fault, file),
-    )
+    Ok(Scenario::read(alloc, text.as_slice(), most_stations, reading)?)
 }
 
 /// The same, but that whatever stands under `air` and `expect` is passed over. With `strict` a key
@@ -334,9 +321,7 @@ pub fn read_scenario_without_air<'a, R: Read + Drop>(
     ensures none { IfOk result (λ scenario. scenario.air ≡ None) }
 {
     let text = read_text(alloc, file, reader)?;
-    Scenario::read_without_air(alloc, text.as_slice(), most_stations, strict).map_err(
-        |fault| fault_of_scenario(fault, file),
-    )
+    Ok(Scenario::read_without_air(alloc, text.as_slice(), most_stations, strict)?)
 }
 
 /// All that the reader gives. `file` is its name.

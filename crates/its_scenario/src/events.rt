@@ -12,7 +12,6 @@ ghost use Rattle.toml.specs.View.{items_view, table_view};
 use crate::centre::centre_areas;
 use crate::fault::ScenarioFault;
 use crate::part::Part;
-use crate::table_keys::EVENT_KEYS;
 use its_events::{AddressedEvent, FileEvent, Filed, read_addressed, read_event, read_file_event};
 use its_world::{Config, Event};
 use std::alloc::Global;
@@ -43,9 +42,7 @@ fn read_numbered_event(alloc: Global, table: &Table, number: usize) -> Result<Ev
     ensures ranges { IfOk result FitsEvent }
     ensures refused { IfErr result IsPastToml }
 {
-    read_event(alloc, table).map_err(|fault| {
-        ScenarioFault::of_key(alloc, fault, Part::Event(number), table, &EVENT_KEYS)
-    })
+    read_event(alloc, table).map_err(|fault| ScenarioFault::of_key(fault, Part::Event(number)))
 }
 
 /// Reads what waits in an air of these stations. An area whose centre is left out lies round where
@@ -101,9 +98,7 @@ fn read_filed(alloc: Global, table: &Table, number: usize) -> Result<Filed, Scen
     ensures ranges { IfOk result (λ event. FitsFileEvent event.filed) }
     ensures refused { IfErr result IsPastToml }
 {
-    read_file_event(alloc, table).map_err(|fault| {
-        ScenarioFault::of_key(alloc, fault, Part::Event(number), table, &EVENT_KEYS)
-    })
+    read_file_event(alloc, table).map_err(|fault| ScenarioFault::of_key(fault, Part::Event(number)))
 }
 
 /// Reads what waits in an air with moves, of a scenario of so many stations.
@@ -140,7 +135,8 @@ fn read_numbered_addressed(
     ensures ranges { IfOk result (λ addressed. FitsFileEvent addressed.filed) }
     ensures refused { IfErr result IsPastToml }
 {
-    read_addressed(alloc, table, number, stations).map_err(|fault| {
-        ScenarioFault::of_key(alloc, fault, Part::Event(number), table, &EVENT_KEYS)
-    })
+    read_addressed(alloc, table, stations).map_err(|fault| ScenarioFault::of_key(
+        fault,
+        Part::Event(number),
+    ))
 }

@@ -26,12 +26,8 @@ pub(crate) fn read_known_air(alloc: Global, fields: SetAir<'_>) -> Result<Air, S
     ensures says { IfOk result (SaysAir (set_air_values fields.entry)) }
     ensures refused { IfErr result IsPastToml }
 {
-    let table = fields.table;
-    let part = Part::Air;
-    let air = read_air(&fields).map_err(|fault| {
-        ScenarioFault::of_key(alloc, fault, part, table, &AIR_KEYS)
-    })?;
-    refuse_unknown(alloc, table, &AIR_KEYS, part)?;
+    let air = read_air(&fields).map_err(|fault| ScenarioFault::of_key(fault, Part::Air))?;
+    refuse_unknown(alloc, fields.table, &AIR_KEYS, Part::Air)?;
     Ok(air)
 }
 
@@ -58,9 +54,7 @@ fn read_known_traffic(alloc: Global, table: &Table, number: usize) -> Result<Tra
     ensures refused { IfErr result IsPastToml }
 {
     let part = Part::Every(number);
-    let traffic = read_traffic(table).map_err(|fault| {
-        ScenarioFault::of_key(alloc, fault, part, table, &TRAFFIC_KEYS)
-    })?;
+    let traffic = read_traffic(table).map_err(|fault| ScenarioFault::of_key(fault, part))?;
     refuse_unknown(alloc, table, &TRAFFIC_KEYS, part)?;
     Ok(traffic)
 }
@@ -71,9 +65,7 @@ pub(crate) fn read_known_moves(alloc: Global, table: &Table) -> Result<Moves, Sc
     ensures refused { IfErr result IsPastToml }
 {
     let part = Part::Moves;
-    let moves = read_moves(alloc, table).map_err(|fault| {
-        ScenarioFault::of_key(alloc, fault, part, table, &MOVES_KEYS)
-    })?;
+    let moves = read_moves(alloc, table).map_err(|fault| ScenarioFault::of_key(fault, part))?;
     refuse_unknown(alloc, table, &MOVES_KEYS, part)?;
     Ok(moves)
 }
@@ -108,9 +100,7 @@ fn read_known_expectation(
     ensures refused { IfErr result IsPastToml }
 {
     let part = Part::Expectation(number);
-    let expectation = read_expectation(table).map_err(|fault| {
-        ScenarioFault::of_key(alloc, fault, part, table, &EXPECTATION_KEYS)
-    })?;
+    let expectation = read_expectation(table).map_err(|fault| ScenarioFault::of_key(fault, part))?;
     refuse_unknown(alloc, table, &EXPECTATION_KEYS, part)?;
     Ok(expectation)
 }

@@ -18,8 +18,6 @@ pub struct UnknownKey {
     /// The part of the scenario that has it. `None` for the scenario itself.
     part: Option<Part>,
     name: String,
-    /// The words of its table.
-    known: &'static [Key],
     nearest: Option<Key>,
 }
 
@@ -29,12 +27,11 @@ impl UnknownKey {
         alloc: Global,
         part: Option<Part>,
         name: &str,
-        known: &'static [Key],
+        known: &[Key],
     ) -> Result<UnknownKey, AllocError> {
         Ok(UnknownKey {
             part,
             name: String::from_str(alloc, name)?,
-            known,
             nearest: nearest(alloc, name, known)?,
         })
     }
@@ -45,28 +42,6 @@ impl UnknownKey {
         ensures { result ≡ self.now.nearest }
     {
         self.nearest
-    }
-
-    /// That word as a question to the reader. `None` if there is none.
-    pub fn tip(&self) -> Option<Tip> {
-        self.nearest().map(Tip)
-    }
-
-    /// The words of its table.
-    pub fn known(&self) -> &'static [Key]
-        ensures { result.now ≡ self.now.known.now }
-    {
-        self.known
-    }
-}
-
-/// The word that may be meant by a key. It prints as `did you mean 'event'?`.
-#[derive(Clone, Copy, Debug, PartialEq, Eq)]
-pub struct Tip(Key);
-
-impl fmt::Display for Tip {
-    fn fmt<W: fmt::Write>(&self, f: &mut fmt::Formatter<W>) -> fmt::Result {
-        write!(f, "did you mean '{}'?", self.0)
     }
 }
 
@@ -101,75 +76,12 @@ fn first_unknown<'a>(table: &'a Table, known: &[Key]) -> Option<&'a str> {
     None
 }
 
-/// The keys of the document itself that are none of its words, in the order of their octets.
-pub(crate) fn unknown_keys(alloc: Global, document: &Table) -> Result<Vec<UnknownKey>, AllocError> {
-    let mut unknown = Vec::new(alloc);
-    for name in document.keys() {
-        let name = name.as_str();
-        if !is_known(name, &SCENARIO_KEYS) {
-            unknown.push(UnknownKey::of(alloc, None, name, &SCENARIO_KEYS)?)?;
-        }
-    }
-    Ok(unknown)
-}
-
-/// A key that is missing from a part of the scenario, where a key that is none of its words is near.
-/// It prints as the missing one's place in the scenario: `air: range`.
-#[derive(Debug, Drop, PartialEq, Eq)]
-pub struct Misspelled {
-    /// The part of the scenario. `None` for the scenario itself.
-    part: Option<Part>,
-    missing: Key,
-    name: String,
-}
-
-impl Misspelled {
-    /// The name that stands there in place of the missing key. It prints as
-    /// `missing: did you mean 'range' by 'rnage'?`.
-    pub(crate) fn write_reason<W: fmt::Write>(&self, f: &mut fmt::Formatter<W>) -> fmt::Result {
-        let (key, name) = (self.missing, self.name.as_str());
-        write!(f, "missing: did you mean '{key}' by '{name}'?")
-    }
-
-    /// The first key of a table, by its octets, that is none of these words and may mean the one
-    /// that is missing. `None` if there is none.
-    pub(crate) fn find(
-        alloc: Global,
-        table: &Table,
-        known: &[Key],
-        missing: Key,
-        part: Option<Part>,
-    ) -> Result<Option<Misspelled>, AllocError> {
-        for name in table.keys() {
-            let name = name.as_str();
-            if !is_known(name, known) && nearest(alloc, name, &[missing])?.is_some() {
-                return Ok(Some(Misspelled {
-                    part,
-                    missing,
-                    name: String::from_str(alloc, name)?,
-                }));
-            }
-        }
-        Ok(None)
-    }
-}
-
-impl fmt::Display for Misspelled {
-    fn fmt<W: fmt::Write>(&self, f: &mut fmt::Formatter<W>) -> fmt::Result {
-        let key = self.missing;
-        match self.part {
-            Some(part) => write!(f, "{part}: {key}"),
-            None => write!(f, "{key}"),
-        }
-    }
-}
-
 /// Refuses a part of the scenario that has a key that is none of these words: the first, by its
 /// octets, is told.
 pub(crate) fn refuse_unknown(
     alloc: Global,
     table: &Table,
-    known: &'static [Key],
+    known: &[Key],
     part: Part,
 ) -> Result<(), ScenarioFault>
     ensures { IfErr result IsPastToml }
@@ -181,7 +93,7 @@ pub(crate) fn refuse_unknown(
 fn refuse_unknown_of(
     alloc: Global,
     table: &Table,
-    known: &'static [Key],
+    known: &[Key],
     part: Option<Part>,
 ) -> Result<(), ScenarioFault>
     ensures { IfErr result IsPastToml }
@@ -223,7 +135,7 @@ fn refuse_unknown_events(alloc: Global, events: &[Value]) -> Result<(), Scenario
 fn refuse_unknown_in(
     alloc: Global,
     item: &Value,
-    known: &'static [Key],
+    known: &[Key],
     part: Part,
 ) -> Result<(), ScenarioFault>
     ensures { IfErr result IsPastToml }
