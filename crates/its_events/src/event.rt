@@ -264,7 +264,7 @@ fn unknown_verb<F: Fields>(alloc: Global, fields: &F, verbs: Verbs) -> KeyFault 
     let word = fields.text(Key::Do.word()).unwrap_or("");
     match verbs.meant_by(alloc, word) {
         Ok(Some(meant)) => KeyFault::Refused(Key::Do, Wrong::Near(meant)),
-        Ok(None) => KeyFault::Refused(Key::Do, Wrong::Value),
+        Ok(None) => KeyFault::Refused(Key::Do, Wrong::Unlisted(verbs.all())),
         Err(_) => KeyFault::OutOfMemory,
     }
 }
