@@ -91,8 +91,7 @@ where
     ensures { IfOk result IsCommandStatus }
 {
     let inputs = read_inputs(rt, files, input, options)?;
-    let outputs: Outputs<'_, Vec<u8>> = Outputs::none();
-    Ok(run_inputs(rt.alloc(), inputs, options, outputs, io)?)
+    Ok(inputs.run(rt.alloc(), options, io)?)
 }
 
 /// Reads the scenario and the first line of the moves, and only then creates the files.
@@ -114,12 +113,32 @@ where
     Ok(run_inputs(rt.alloc(), inputs, options, outputs, io)?)
 }
 
-/// What is read before a run.
+/// What is read before a run: a scenario, and the first line of its moves.
 #[derive(Drop)]
-struct RunInputs<'a, M: BufRead + Drop> {
+pub struct RunInputs<'a, M: BufRead + Drop> {
     scenario: Scenario,
-    /// The file of moves, where there is one, with its first line read.
+    /// The file of moves, if there is one, with its first line read.
     moves: Option<MovesFile<'a, M>>,
+    ghost few: { vec_len scenario.stations ≤ 65535 },
+}
+
+impl<'a, M: BufRead + Drop> RunInputs<'a, M> {
+    /// Runs the scenario with its moves, prints its lines and writes no file. The status is
+    /// `Refused` if the scenario expects something that isn't met.
+    ///
+    /// `NoOutput` if a write failed, `CannotRead` or `NotRead` if a read of the moves failed,
+    /// `OutOfMemory` if an allocation failed.
+    pub fn run<W: Write, E: Write>(
+        self,
+        alloc: Global,
+        options: &RunOptions,
+        io: &mut Io<W, E>,
+    ) -> Result<Status, Fault<'a>>
+        ensures { IfOk result IsCommandStatus }
+    {
+        let outputs: Outputs<'_, Vec<u8>> = Outputs::none();
+        run_inputs(alloc, self, options, outputs, io)
+    }
 }
 
 /// Runs the scenario that was read, with its moves, and writes these files.
@@ -130,7 +149,6 @@ fn run_inputs<'a, M: BufRead + Drop, F: Write + Drop, W: Write, E: Write>(
     outputs: Outputs<'a, F>,
     io: &mut Io<W, E>,
 ) -> Result<Status, Fault<'a>>
-    requires { vec_len inputs.scenario.stations ≤ 65535 }
     ensures { IfOk result IsCommandStatus }
 {
     let RunInputs { scenario, moves } = inputs;
@@ -143,11 +161,12 @@ fn run_inputs<'a, M: BufRead + Drop, F: Write + Drop, W: Write, E: Write>(
 }
 
 /// The reader of a file of a run.
-type RunReader<F, I> = BufReader<Opened<F, Input<I>>>;
+pub type RunReader<F, I> = BufReader<Opened<F, Input<I>>>;
 
-/// Reads the scenario, and the first line of the moves, where there are any. `input` is standard
-/// input.
-fn read_inputs<'a, R: Files + AllocGlobal, I: Read + Drop>(
+/// Reads the scenario of these files, and the first line of the moves, if there are any. `input` is
+/// standard input. The fault is that the text is no scenario, that the line is bad, that a file
+/// can't be read, or that memory ran out.
+pub fn read_inputs<'a, R: Files + AllocGlobal, I: Read + Drop>(
     rt: &R,
     files: &RunFiles<'a>,
     input: I,
@@ -155,7 +174,6 @@ fn read_inputs<'a, R: Files + AllocGlobal, I: Read + Drop>(
 ) -> Result<RunInputs<'a, RunReader<R::File, I>>, RunFault<'a>>
 where
     R::File: Read + Drop,
-    ensures { IfOk result (λ inputs. vec_len inputs.scenario.stations ≤ 65535) }
 {
     let (for_scenario, for_moves) = Input::split(input, files.moves);
     let reader = open(rt, files.scenario, for_scenario)?;

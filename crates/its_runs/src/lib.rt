@@ -19,7 +19,8 @@ mod watched;
 
 pub use bad_row::BadRow;
 pub use fault::RunFault;
-pub use files::{RunFiles, simulate_file};
+pub use files::{RunFiles, RunInputs, RunReader, read_inputs, simulate_file};
+pub use input::Input;
 pub use its_results::ResultFiles;
 pub use options::RunOptions;
 pub use simulating::{read_scenario, read_scenario_without_air, simulate, simulate_scenario};
