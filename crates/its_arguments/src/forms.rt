@@ -377,6 +377,16 @@ Example:
                 "DIR",
                 "The folder of the page, in place of the one beside the program",
             ),
+            Argument::Value(
+                "moves",
+                "FILE",
+                "Run the scenario with the moves in this file: CSV, or - for standard input",
+            ),
+            Argument::Value(
+                "net",
+                "FILE",
+                "Draw the streets in this file beneath the run: net.xml of SUMO, or GeoJSON",
+            ),
             EXPLAIN,
             NO_EXPLAIN,
             QUIET,
