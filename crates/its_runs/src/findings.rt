@@ -1,6 +1,6 @@
 //! What is found out about a run beside its lines.
 
-ghost use Rattle.std.specs.Prelude.{IfOk};
+ghost use Rattle.std.specs.Prelude.{◌≡◌, ◌≢◌, IfOk, Ok};
 ghost use Rattle.its_reporting.specs.Statuses.{IsCommandStatus};
 
 use crate::course::Course;
@@ -89,7 +89,8 @@ impl<'s, 'a, W: Write + Drop> Findings<'s, 'a, W> {
         io: &mut Io<P, E>,
     ) -> Result<Status, Fault<'a>>
         requires { IfOk ran IsCommandStatus }
-        ensures { IfOk result IsCommandStatus }
+        ensures status { IfOk result IsCommandStatus }
+        ensures done { result ≡ Ok Status.Done → ran.entry ≡ Ok Status.Done }
     {
         let told = match ran {
             Ok(status) => Ok(self.tell(status, &mut io.err)),
@@ -103,7 +104,8 @@ impl<'s, 'a, W: Write + Drop> Findings<'s, 'a, W> {
     /// that is done.
     fn tell<E: Write>(&self, status: Status, err: &mut E) -> Status
         requires { IsCommandStatus status }
-        ensures { IsCommandStatus result }
+        ensures status { IsCommandStatus result }
+        ensures done { result ≡ Status.Done → status ≡ Status.Done }
     {
         self.tell_full(err);
         let are_met = self.report_unmet(err);
@@ -123,7 +125,8 @@ impl<'s, 'a, W: Write + Drop> Findings<'s, 'a, W> {
         moves: Option<&'a str>,
         io: &mut Io<P, E>,
     ) -> Result<Status, Fault<'a>>
-        ensures { IfOk result IsCommandStatus }
+        ensures status { IfOk result IsCommandStatus }
+        ensures done { result ≢ Ok Status.Done }
     {
         if is_cut_short(&fault) {
             self.tell_full(&mut io.err);
