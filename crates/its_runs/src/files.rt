@@ -1,9 +1,10 @@
 //! The command `sim` over named files. A file that is read is standard input where its name is `-`.
 
-ghost use Rattle.std.specs.Prelude.{◌≡◌, ◌≤◌, IfOk, IfSome, None, vec_len};
+ghost use Rattle.std.specs.Prelude.{◌≡◌, ◌≤◌, ◌++◌, IfOk, OnOk, IfSome, None, vec_len, option_to_list};
 ghost use Rattle.its_reporting.specs.FileNames.{format_of_file};
 ghost use Rattle.its_reporting.specs.Statuses.{IsCommandStatus};
 ghost use Rattle.its_results.specs.Results.{IsNoFile};
+ghost use Rattle.its_runs.specs.Files.{AreAllApart, names_of, names_read, names_written};
 
 use crate::course::{Course, MovesFile};
 use crate::fault::RunFault;
@@ -12,7 +13,7 @@ use crate::options::RunOptions;
 use crate::outputs::{Outputs, create_outputs};
 use crate::simulating::{MOST_STATIONS, read_scenario, run_into};
 use crate::target::{FrameTarget, frame_target};
-use its_reporting::{Fault, Io, Opened, Status, Target, WriterFault, open, refuse_same};
+use its_reporting::{Fault, Io, NamedFile, Opened, Status, Target, WriterFault, open, refuse_same};
 use its_results::ResultFiles;
 use its_scenario::{Reading, Scenario};
 use std::alloc::Global;
@@ -183,29 +184,59 @@ where
     Ok(Some(MovesFile::open(rt.alloc(), name, reader, scenario)?))
 }
 
-/// Refuses a file that would be written and is one that is read or another one.
+/// Refuses a file to be written that is one of those that are read, or another one to be written.
 fn keep_all_apart<'a, R: Files + AllocGlobal>(
     rt: &R,
     files: &RunFiles<'a>,
-) -> Result<(), WriterFault<'a, RunFault<'a>>> {
-    let results = files.results;
-    let frames = files.frames.map(|target| target.name);
-    let names = [frames, results.sends, results.stations, results.load];
-    let written = named_among(rt, &names)?;
-    let read = named_among(rt, &[Some(files.scenario), files.moves])?;
-    Ok(refuse_same(rt, written.as_slice(), read.as_slice())?)
+) -> Result<(), WriterFault<'a, RunFault<'a>>>
+    ensures { OnOk result (AreAllApart files.now) }
+{
+    let written = written_files(rt, files)?;
+    let read = read_files(rt, files)?;
+    Ok(refuse_same(written.as_slice(), read.as_slice())?)
 }
 
-/// The names that are there.
-fn named_among<'a, R: AllocGlobal>(
+/// Returns the files that a run writes.
+fn written_files<'a, R: Files + AllocGlobal>(
     rt: &R,
-    names: &[Option<&'a str>],
-) -> Result<Vec<&'a str>, Fault<'a>> {
+    files: &RunFiles<'a>,
+) -> Result<Vec<NamedFile<'a>>, Fault<'a>>
+    ensures { IfOk result (λ named. names_of named.items ≡ names_written files.now) }
+{
+    let frames = files.frames.map(|target| target.name);
     let mut named = Vec::new(rt.alloc());
-    for name in names {
-        if let Some(name) = name {
-            named.push(*name)?;
-        }
-    }
+    add_named(rt, frames, &mut named)?;
+    add_named(rt, files.results.sends, &mut named)?;
+    add_named(rt, files.results.stations, &mut named)?;
+    add_named(rt, files.results.load, &mut named)?;
     Ok(named)
+}
+
+/// Returns the files that a run reads.
+fn read_files<'a, R: Files + AllocGlobal>(
+    rt: &R,
+    files: &RunFiles<'a>,
+) -> Result<Vec<NamedFile<'a>>, Fault<'a>>
+    ensures { IfOk result (λ named. names_of named.items ≡ names_read files.now) }
+{
+    let mut named = Vec::new(rt.alloc());
+    add_named(rt, Some(files.scenario), &mut named)?;
+    add_named(rt, files.moves, &mut named)?;
+    Ok(named)
+}
+
+/// Adds the file of this name, if there is one.
+#[tactic(auto, using(crate::proofs::Named::names_last))]
+fn add_named<'a, R: Files + AllocGlobal>(
+    rt: &R,
+    name: Option<&'a str>,
+    files: &mut Vec<NamedFile<'a>>,
+) -> Result<(), Fault<'a>>
+    ensures { OnOk result
+        (names_of files.new.items ≡ names_of files.old.items ++ option_to_list name.entry) }
+{
+    if let Some(name) = name {
+        files.push(NamedFile::of(rt, name))?;
+    }
+    Ok(())
 }

@@ -23,11 +23,11 @@ returns-in-Ok-End g c = λ s log rep took.
     gone_none {S = g.row.S.Denot} g.S.RecordSource.GivesStep c.args.choice.now c.args.linked
     c.args.source.now s log c.next_into.new.self c.args.station.now (gone.End None)
     (g.K.HeardSink.Took c.args.sink.now) c.next_into.new.frame.items (Ok steps.End)
-    (rw c.in-Ok-End.field-0-is at c.in-Ok-End.ensures.step) (refl, refl, refl) (refl, refl) rep took
+    (rw c.in-Ok-End.field-0-is at c.in-Ok-End.ensures.step) (refl, refl, refl, refl) (refl, refl) rep took
 
 pub returns-in-Err : goal.returns-in-Err
 returns-in-Err g c = λ s log rep took.
     gone_none {S = g.row.S.Denot} g.S.RecordSource.GivesStep c.args.choice.now c.args.linked
     c.args.source.now s log c.next_into.new.self c.args.station.now (gone.End (Some c.in-Err.fault))
     (g.K.HeardSink.Took c.args.sink.now) c.next_into.new.frame.items (Err c.in-Err.fault)
-    c.in-Err.ensures.step (refl, refl, refl) (refl, refl) rep took
+    c.in-Err.ensures.step (refl, refl, refl, refl) (refl, refl) rep took
