@@ -582,7 +582,7 @@ class World:
         vector = Vector(
             0x1400 << 48 | self.next_mid(), 0, Place(row.keys["lat"], row.keys["lon"]), pai=False
         )
-        table = Table(self.making.get("capacity", 256), self.making.get("remember", 8))
+        table = Table(self.making.get("capacity", 1024), self.making.get("remember", 8))
         self.known[row.id] = len(self.stations)
         self.stations.append(Station(vector, table))
 

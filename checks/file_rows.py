@@ -25,8 +25,9 @@ LOW_PCAP = bytes.fromhex(
     "4d3cb2a1" "0200" "0400" "00000000" "00000000" "ffff0000" "01000000"
     "01000000" "ff933577" "00000000" "00000000"
 )
-# The header of classic pcap, as it is written.
+# The header of classic pcap, as it is written, in microseconds and in nanoseconds.
 PCAP_HEADER = bytes.fromhex("d4c3b2a1" "0200" "0400" "00000000" "00000000" "00000400" "01000000")
+NANO_HEADER = bytes.fromhex("4d3cb2a1") + PCAP_HEADER[4:]
 
 # pcapng, the lowest octet first. A section header of 28 octets, version 1.0, of no known length; an
 # interface of 44, of Ethernet with thousandths (3) and an offset of one second taken, and the end
@@ -71,12 +72,38 @@ def record(moment: int, frame: bytes) -> bytes:
     return struct.pack(">QH", moment, len(frame)) + frame
 
 
-def packet(moment: int, frame: bytes) -> bytes:
-    """The block of a frame of the first interface, as it is written."""
+def packet(ticks: int, frame: bytes, interface: int = 0) -> bytes:
+    """The block of a frame of an interface, as it is written."""
     size, padded = len(frame), frame + bytes(-len(frame) % 4)
     length = 32 + len(padded)
-    head = struct.pack("<7I", 6, length, 0, moment >> 32, moment & 0xFFFFFFFF, size, size)
+    head = struct.pack("<7I", 6, length, interface, ticks >> 32, ticks & 0xFFFFFFFF, size, size)
     return head + padded + struct.pack("<I", length)
+
+
+def option(code: int, value: bytes) -> bytes:
+    """An option, with its padding."""
+    return struct.pack("<HH", code, len(value)) + value + bytes(-len(value) % 4)
+
+
+def interface(
+    resolution: int, link: int = 1, name: bytes = b"", offset: int = 0, other: bytes = b""
+) -> bytes:
+    """The block of an interface, as it is written; `other` are options that are left out."""
+    options = option(2, name) if name else b""
+    options += option(9, bytes([resolution]))
+    options += option(14, struct.pack("<q", offset)) if offset else b""
+    options += other + option(0, b"")
+    length = 20 + len(options)
+    head = struct.pack("<IIHHI", 1, length, link, 0, MOST)
+    return head + options + struct.pack("<I", length)
+
+
+def classic(nano: bool, *records: tuple[int, int, bytes]) -> bytes:
+    """A file of classic pcap, as it is written: records of a second, a fraction and octets."""
+    file = NANO_HEADER if nano else PCAP_HEADER
+    for second, fraction, octets in records:
+        file += struct.pack("<IIII", second, fraction, len(octets), len(octets)) + octets
+    return file
 
 
 TWO_RECORDS = record(1000, LINK + GBC) + record(0, LINK + BEACON)
@@ -175,17 +202,19 @@ FILES = [pcap_files, pcapng_files, capture_files]
 
 @dataclass(frozen=True)
 class Converted:
-    """A file, the format that it is written in, what that is then, and what is said."""
+    """A file, the format that it is written in, what that is then, what is said of records that are
+    left out, and of what is lost of the others."""
 
     name: str
     octets: bytes
     to: str
     wanted: bytes
     said: str = ""
+    lost: str = ""
 
 
 THREE = with_put(HIGH_PCAP, (39, b"\3"))
-OF_THREE = bytes.fromhex("02000000" "581b0000" "03000000" "03000000" "616263")
+OF_THREE = bytes.fromhex("02000000" "3f1f0000" "03000000" "03000000" "616263")
 SEVENS = b"\7" * MOST
 # The record has the longest frame, which is told to have 5 octets on the wire.
 LONG_HEAD = with_put(HIGH_PCAP[:40], (32, MOST.to_bytes(4, "big")))
@@ -193,20 +222,33 @@ LAST = bytes.fromhex("ffffffff" "583e0f00" "03000000" "03000000" "78797a")
 CUT_SECOND = "geostation: record 1: cut\n"
 LATE_FIRST = "geostation: record 0: moment\n"
 
+MICROS = interface(6, name=b"cv2x0")
+NANOS = interface(9, name=b"eth0")
+TWO_INTERFACES = SECTION + MICROS + NANOS + packet(1_500_001, b"x") + packet(1_500_001_002, b"y", 1)
+FINE_TICKS = (
+    SECTION
+    + interface(12)
+    + interface(128 + 20)
+    + interface(128 + 6, offset=1000)
+    + packet(1_000_000_001_500, b"x")
+    + packet(1, b"y", 1)
+    + packet(130, b"z", 2)
+)
+
 CONVERTED = [
     Converted("three octets to pcap", THREE, "pcap", PCAP_HEADER + OF_THREE),
-    Converted("three octets", THREE, "pcapng", SECTION + PLAIN + packet(2007, b"abc")),
+    Converted("three octets", THREE, "pcapng", SECTION + interface(6) + packet(2_007_999, b"abc")),
     Converted(
         "the longest frame",
         LONG_HEAD + SEVENS,
         "pcapng",
-        SECTION + PLAIN + packet(2007, SEVENS),
+        SECTION + interface(6) + packet(2_007_999, SEVENS),
     ),
     Converted(
         "sections of both orders",
         SECTIONS,
         "pcapng",
-        SECTION + PLAIN + packet(1, b"abc"),
+        SECTION + interface(3, offset=-1) + packet(1001, b"abc") + interface(6),
         CUT_SECOND,
     ),
     Converted(
@@ -217,8 +259,88 @@ CONVERTED = [
         LATE_FIRST,
     ),
     Converted("a late moment", record(2**32 + 5, b"xyz"), "pcapng", SECTION + PLAIN + LATE),
-    Converted("a late moment again", SECTION + NAMED + LATE, "pcapng", SECTION + PLAIN + LATE),
+    Converted("a late moment again", SECTION + NAMED + LATE, "pcapng", SECTION + NAMED + LATE),
     Converted("two octets", record(5, b"ab"), "pcapng", SECTION + PLAIN + packet(5, b"ab")),
     Converted("two records", TWO_RECORDS, "capture", TWO_RECORDS),
     Converted("the longest record", record(7, LONGEST), "capture", record(7, LONGEST)),
+    # A fraction of a second and more counts on.
+    Converted("nanoseconds", LOW_PCAP, "pcap", classic(True, (2, 999_999_999, b""))),
+    Converted(
+        "nanoseconds to pcapng",
+        LOW_PCAP,
+        "pcapng",
+        SECTION + interface(9) + packet(2_999_999_999, b""),
+    ),
+    Converted(
+        "microseconds to a capture",
+        THREE,
+        "capture",
+        record(2007, b"abc"),
+        lost="geostation: 1 time cut to milliseconds\n",
+    ),
+    Converted(
+        "two interfaces",
+        TWO_INTERFACES,
+        "pcapng",
+        SECTION + MICROS + NANOS + packet(1_500_001, b"x") + packet(1_500_001_002, b"y", 1),
+    ),
+    Converted(
+        "two interfaces to nanoseconds",
+        TWO_INTERFACES,
+        "pcap",
+        classic(True, (1, 500_001_000, b"x"), (1, 500_001_002, b"y")),
+        lost="geostation: 2 interfaces joined\n",
+    ),
+    Converted(
+        "two interfaces to a capture",
+        TWO_INTERFACES,
+        "capture",
+        record(1500, b"x") + record(1500, b"y"),
+        lost="geostation: 2 times cut to milliseconds\ngeostation: 2 interfaces joined\n",
+    ),
+    # The second interface, of nanoseconds, comes behind the first record.
+    Converted(
+        "a finer interface later",
+        SECTION + MICROS + packet(1_500_001, b"x") + NANOS + packet(1_500_001_002, b"y", 1),
+        "pcap",
+        classic(False, (1, 500_001, b"x"), (1, 500_001, b"y")),
+        lost="geostation: 1 time cut to microseconds\ngeostation: 2 interfaces joined\n",
+    ),
+    # Interfaces count on in the next section.
+    Converted(
+        "two sections",
+        (SECTION + NANOS + packet(7, b"x")) * 2,
+        "pcapng",
+        SECTION + NANOS + packet(7, b"x") + NANOS + packet(7, b"x", 1),
+    ),
+    # Ticks of 10^-12 s, 2^-20 s and 2^-6 s, 1000 s added.
+    Converted("fine ticks", FINE_TICKS, "pcapng", FINE_TICKS),
+    Converted(
+        "fine ticks to nanoseconds",
+        FINE_TICKS,
+        "pcap",
+        classic(True, (1, 1, b"x"), (0, 953, b"y"), (1002, 31_250_000, b"z")),
+        lost="geostation: 2 times cut to nanoseconds\ngeostation: 3 interfaces joined\n",
+    ),
+    # Names: the longest that is kept, and one that is too long.
+    Converted(
+        "names",
+        SECTION + interface(6, name=b"n" * 128) + interface(6, name=b"n" * 129),
+        "pcapng",
+        SECTION + interface(6, name=b"n" * 128) + interface(6),
+    ),
+    Converted(
+        "options that are left out",
+        SECTION + interface(3, name=b"eth0", other=option(1, b"a comment")),
+        "pcapng",
+        SECTION + interface(3, name=b"eth0"),
+    ),
+    # A link layer that is not read keeps its place.
+    Converted(
+        "another link layer",
+        SECTION + interface(3, link=147) + interface(3) + packet(1, b"x") + packet(2, b"y", 1),
+        "pcapng",
+        SECTION + interface(3, link=147) + interface(3) + packet(2, b"y", 1),
+        "geostation: record 0: link type\n",
+    ),
 ]

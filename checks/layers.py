@@ -1,11 +1,12 @@
 """Captures of frames behind the link layers that the program reads, to be read by Wireshark too.
 
-    geostation show --json FILE | .. | python3 checks/layers.py FOLDER
+    geostation show --json FILE | .. | python3 checks/layers.py FOLDER COOKED
 
 Takes lines of a moment in milliseconds and the hexadecimal digits of a frame, and writes files to
 the folder, pcap and pcapng in both orders of octets: of Ethernet without a tag, with one and with
-two; of IEEE 802.11 with LLC and SNAP, by each pair of the DS bits, with QoS and without; and of
-radiotap, with a check sequence and without, with a time and without, and a header that is filled up.
+two, and one of protocol 9100; of IEEE 802.11 with LLC and SNAP, by each pair of the DS bits, with QoS and without; and of
+radiotap, with a check sequence and without, with a time and without, a header that is filled up, and
+a rate, a channel, hopping and a signal or not. Linux cooked captures of both versions go to COOKED.
 """
 
 from __future__ import annotations
@@ -17,8 +18,15 @@ from itertools import cycle
 from pathlib import Path
 from typing import Iterator
 
-TAGS = {"plain": b"", "vlan": bytes.fromhex("81000005"), "tags": bytes.fromhex("88a8000681000005")}
-ETHERNET, WLAN, RADIOTAP = 1, 105, 127
+TAGS = {
+    "plain": b"",
+    "vlan": bytes.fromhex("81000005"),
+    "tags": bytes.fromhex("88a8000681000005"),
+    "old": bytes.fromhex("91006fff"),
+}
+ETHERNET, WLAN, RADIOTAP, COOKED, COOKED_2 = 1, 105, 127, 113, 276
+BROADCAST = bytes.fromhex("ffffffffffff")
+RATE, CHANNEL, HOPPING, SIGNAL = 0x4, 0x8, 0x10, 0x20
 SNAP = bytes.fromhex("aaaa03000000")
 OTHER = bytes.fromhex("02000000aa01")
 TO_DS, FROM_DS, QOS = 1, 2, 0x80
@@ -52,9 +60,11 @@ def wlan(frame: bytes, bits: int, qos: bool, padded: bool = False) -> bytes:
     return header + fill + SNAP + frame[12:]
 
 
-def radiotap(inner: bytes, flags: int, timed: bool, words: int) -> bytes:
-    """A record of radiotap with these flags, with so many empty words behind the first."""
-    present = 0x2 | (0x1 if timed else 0)
+def radiotap(inner: bytes, flags: int, timed: bool, words: int, number: int) -> bytes:
+    """A record of radiotap with these flags, with so many empty words behind the first. Which further
+    fields it has, and their values, follow from its number."""
+    more = number * 5 // 3 % 16 * RATE
+    present = 0x2 | (0x1 if timed else 0) | more
     masks = [present] + [0] * words
     masks = [mask | (0x80000000 if place < words else 0) for place, mask in enumerate(masks)]
     fields = b"".join(struct.pack("<I", mask) for mask in masks)
@@ -62,6 +72,14 @@ def radiotap(inner: bytes, flags: int, timed: bool, words: int) -> bytes:
     if timed:
         fields += bytes(-start % 8) + struct.pack("<Q", 5000)
     fields += bytes([flags])
+    if more & RATE:
+        fields += bytes([2 + number % 107])
+    if more & CHANNEL:
+        fields += bytes(len(fields) % 2) + struct.pack("<HH", 5900, 0x140)
+    if more & HOPPING:
+        fields += bytes(len(fields) % 2) + bytes([1, 2])
+    if more & SIGNAL:
+        fields += struct.pack("b", -1 - number % 128)
     check = struct.pack("<I", zlib.crc32(inner)) if flags & CHECKED else b""
     return struct.pack("<BBH", 0, 0, 4 + len(fields)) + fields + inner + check
 
@@ -76,8 +94,9 @@ def radiotaps(frames: list[bytes]) -> Iterator[bytes]:
         for bits in (0, TO_DS, FROM_DS, TO_DS | FROM_DS)
         for qos in (False, True)
     ]
-    for frame, (flags, timed, words, bits, qos) in zip(frames, cycle(kinds)):
-        yield radiotap(wlan(frame, bits, qos, bool(flags & PADDED)), flags, timed, words)
+    for number, (frame, kind) in enumerate(zip(frames, cycle(kinds))):
+        flags, timed, words, bits, qos = kind
+        yield radiotap(wlan(frame, bits, qos, bool(flags & PADDED)), flags, timed, words, number)
 
 
 def wlans(frames: list[bytes]) -> Iterator[bytes]:
@@ -85,6 +104,19 @@ def wlans(frames: list[bytes]) -> Iterator[bytes]:
     kinds = [(bits, qos) for bits in range(4) for qos in (False, True)]
     for frame, (bits, qos) in zip(frames, cycle(kinds)):
         yield wlan(frame, bits, qos)
+
+
+def cooked(frame: bytes) -> bytes:
+    """A record of a Linux cooked capture, version 1, of a frame that came."""
+    kind = 1 if frame[:6] == BROADCAST else 0
+    return struct.pack(">HHH", kind, 1, 6) + frame[6:12] + bytes(2) + frame[12:]
+
+
+def cooked_2(frame: bytes) -> bytes:
+    """The same of version 2."""
+    kind = 1 if frame[:6] == BROADCAST else 0
+    return frame[12:14] + bytes(2) + struct.pack(">IHBB", 3, 1, kind, 6) + frame[6:12] + bytes(2) \
+        + frame[14:]
 
 
 def pcap(order: str, link: int, moments: list[int], records: list[bytes]) -> bytes:
@@ -122,11 +154,16 @@ def main() -> None:
     links = {name: (ETHERNET, [tagged(f, tags) for f in frames]) for name, tags in TAGS.items()}
     links["wlan"] = (WLAN, list(wlans(frames)))
     links["radiotap"] = (RADIOTAP, list(radiotaps(frames)))
-    for name, (link, records) in links.items():
-        for order, word in (("<", "little"), (">", "big")):
-            for write in (pcap, pcapng):
-                path = Path(sys.argv[1]) / f"{name}-{word}.{write.__name__}"
-                path.write_bytes(write(order, link, moments, records))
+    others = {
+        "cooked": (COOKED, [cooked(frame) for frame in frames]),
+        "cooked2": (COOKED_2, [cooked_2(frame) for frame in frames]),
+    }
+    for folder, files in ((sys.argv[1], links), (sys.argv[2], others)):
+        for name, (link, records) in files.items():
+            for order, word in (("<", "little"), (">", "big")):
+                for write in (pcap, pcapng):
+                    path = Path(folder) / f"{name}-{word}.{write.__name__}"
+                    path.write_bytes(write(order, link, moments, records))
 
 
 main()

@@ -104,6 +104,18 @@ test('the name of a run stands in the page as a text', {skip}, () => {
   fs.rmSync(room, {recursive: true});
 });
 
+test('a street net is put into the page after the run', {skip}, () => {
+  const room = fs.mkdtempSync(path.join(os.tmpdir(), 'inside-'));
+  const net = path.join(room, 'town.net.xml');
+  fs.writeFileSync(net, '<net>\n</net>\n');
+  const element = '<script type="text/plain" id="net" data-name="town.net.xml">\n' +
+    '\\u003cnet>\n\\u003c/net>\n</script>';
+  const run = '{"stations":[]}\n';
+  assert.equal(print(run, 'view', '--quiet', '--viewer', TOP, '--net', net, '-'),
+    whole(`${elementOf('standard input', run)}\n${element}`));
+  fs.rmSync(room, {recursive: true});
+});
+
 for (const name of fs.readdirSync(DATA).filter((file) => file.endsWith('.toml'))) {
   test(`${name} is run with its notes for the page`, {skip}, () => {
     const file = path.join(DATA, name);

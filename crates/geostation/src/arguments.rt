@@ -3,7 +3,7 @@
 use crate::subcommand::{Subcommand, matched_format, subcommand_of};
 use clap::error::ErrorKind;
 use clap::{Command, Error};
-use its_arguments::{BadArgument, add_commands};
+use its_arguments::{BadArgument, add_commands, command_named};
 use its_reporting::OutputFormat;
 use its_terminal::Console;
 use std::alloc::{AllocError, Global};
@@ -11,9 +11,12 @@ use std::alloc::{AllocError, Global};
 /// The version of the program, as the head of the change log has it.
 const VERSION: &str = "0.1.0";
 
+/// The name of the program.
+const PROGRAM: &str = "geostation";
+
 /// The program with its commands, in the order of its help.
 fn whole<'a>(alloc: Global) -> Result<Command<'a>, AllocError> {
-    let program = Command::new(alloc, "geostation")
+    let program = Command::new(alloc, PROGRAM)
         .about("Shows, checks and makes captures of GeoNetworking frames, and runs scenarios")
         .version(VERSION)
         .subcommand_required(true);
@@ -33,13 +36,23 @@ pub fn read<'a>(
     match subcommand_of(&matches, console) {
         Ok(Some(subcommand)) => Ok((subcommand, format)),
         Ok(None) => Err(program.error(ErrorKind::MissingSubcommand, "no command was given")?),
-        Err(bad) => Err(refusal(alloc, &mut program, bad)?),
+        Err(bad) => Err(refusal(alloc, &mut program, matches.subcommand_name(), bad)?),
     }
 }
 
-/// The refusal of an argument's value.
-fn refusal(alloc: Global, program: &mut Command<'_>, bad: BadArgument<'_>) -> Result<Error, Error> {
+/// The refusal of an argument's value, with the usage of the command that was matched.
+fn refusal(
+    alloc: Global,
+    program: &mut Command<'_>,
+    name: Option<&str>,
+    bad: BadArgument<'_>,
+) -> Result<Error, Error> {
     let sentence = sentence_of(alloc, bad)?;
+    if let Some(name) = name
+        && let Some(mut command) = command_named(alloc, PROGRAM, name)?
+    {
+        return Ok(command.error(ErrorKind::InvalidValue, sentence.as_str())?);
+    }
     Ok(program.error(ErrorKind::InvalidValue, sentence.as_str())?)
 }
 

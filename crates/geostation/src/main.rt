@@ -4,6 +4,7 @@
 
 mod arguments;
 mod fault;
+mod pipe;
 mod program;
 mod subcommand;
 
@@ -21,7 +22,7 @@ fn main(rt: HostRuntime) -> ExitCode {
         colors: has_colors(&rt),
     };
     let status = program::run(&rt, arguments, rt.stdin(), out, &mut err, console);
-    ExitCode::from(status.code())
+    ExitCode::from(status)
 }
 
 /// Whether nothing in the environment speaks against colours: `NO_COLOR` is empty or isn't there,

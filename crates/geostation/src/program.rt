@@ -6,6 +6,7 @@ ghost use Rattle.its_world.specs.Events.{IsConfig};
 
 use crate::arguments;
 use crate::fault::ArgumentFault;
+use crate::pipe::{CLOSED_STATUS, Pipe};
 use crate::subcommand::{Convert, Import, Replay, Show, Subcommand};
 use its_arguments::StationArguments;
 use its_commands::{check_file, convert_file, import_file, show_file};
@@ -29,7 +30,8 @@ use std::rt::{Clock, Files};
 
 /// Runs the command that the arguments name, the program's own name being the first of them, and
 /// writes out all that it prints. `input` is standard input, which is read where a file is `-`.
-/// `console` says who looks at what `out` and `err` take. Gives the exit status.
+/// `console` says who looks at what `out` and `err` take. Returns the exit status: that of the
+/// command, or 141 if the reader of standard output has closed it.
 ///
 /// Arguments that could not be taken are refused where one is not UTF-8; else memory ran out.
 pub fn run<
@@ -37,13 +39,22 @@ pub fn run<
     I: Read + Drop,
     W: Write + Drop,
     E: Write,
->(rt: &R, arguments: io::Result<Args>, input: I, out: W, err: &mut E, console: Console) -> Status
+>(rt: &R, arguments: io::Result<Args>, input: I, out: W, err: &mut E, console: Console) -> u8
 where
     R::File: Read + Write + Drop,
 {
     match collected(rt, arguments) {
-        Ok(arguments) => { run_buffered(rt, arguments.as_slice(), input, out, err, console) }
-        Err(fault) => refuse(fault, err),
+        Ok(arguments) => {
+            let mut pipe = Pipe::new(out);
+            let arguments = arguments.as_slice();
+            let status = run_buffered(rt, arguments, input, &mut pipe, err, console);
+            if pipe.is_closed() && status == Status::Failed {
+                CLOSED_STATUS
+            } else {
+                status.code()
+            }
+        }
+        Err(fault) => refuse(fault, err).code(),
     }
 }
 

@@ -166,6 +166,7 @@ pub(crate) fn subcommand_of<'a>(
         "station" => Ok(StationArguments::of(inner).map(Subcommand::Station)),
         "replay" => replaying(inner),
         "sim" => simulating(inner, console),
+        "view" => viewing(inner, console),
         _ => Ok(other(name, inner, console)),
     }
 }
@@ -316,7 +317,6 @@ fn other<'a>(name: &str, inner: &ArgMatches<'a>, console: Console) -> Option<Sub
     let file = file_of(inner)?;
     match name {
         "import" => importing(file, inner, console).map(Subcommand::Import),
-        "view" => Some(Subcommand::View(viewing_of(inner, file, console))),
         "mesh" => Some(Subcommand::Mesh(Mesh {
             file,
             frames,
@@ -329,19 +329,45 @@ fn other<'a>(name: &str, inner: &ArgMatches<'a>, console: Console) -> Option<Sub
     }
 }
 
-/// `view`.
-fn viewing_of<'a>(matches: &ArgMatches<'a>, file: &'a str, console: Console) -> Viewing<'a> {
+/// `view`. The street net is a file, and at most one of the others is standard input.
+fn viewing<'a>(
+    matches: &ArgMatches<'a>,
+    console: Console,
+) -> Result<Option<Subcommand<'a>>, BadArgument<'a>> {
+    let Some(file) = file_of(matches) else {
+        return Ok(None);
+    };
+    let net = matches.get_str("net");
+    if net.is_some_and(|name| is_standard(name)) {
+        return Err(BadArgument::Value("net", "-", "a file"));
+    }
     let target = matches.get_str("output").unwrap_or("-");
-    Viewing {
+    Ok(Some(Subcommand::View(Viewing {
         file,
         target,
         viewer: matches.get_str("viewer"),
+        moves: moves_of(matches, file, "a file, as RUN is standard input")?,
+        net,
         options: RunOptions {
             progress: shows_progress(matches, console, target),
             quiet: matches.get_flag("quiet"),
             ..RunOptions::default()
         },
+    })))
+}
+
+/// The file of moves, if there is one. Either it or the file that is run is standard input, not
+/// both: `wanted` says so.
+fn moves_of<'a>(
+    matches: &ArgMatches<'a>,
+    file: &str,
+    wanted: &'static str,
+) -> Result<Option<&'a str>, BadArgument<'a>> {
+    let moves = matches.get_str("moves");
+    if is_standard(file) && moves.is_some_and(|name| is_standard(name)) {
+        return Err(BadArgument::Value("moves", "-", wanted));
     }
+    Ok(moves)
 }
 
 /// `sim`, or the refusal of the first bad value of its air. Of the scenario and the moves one at
@@ -353,10 +379,7 @@ fn simulating<'a>(
     let Some(scenario) = file_of(matches) else {
         return Ok(None);
     };
-    let moves = matches.get_str("moves");
-    if is_standard(scenario) && moves.is_some_and(|name| is_standard(name)) {
-        return Err(BadArgument::Value("moves", "-", "a file, as SCENARIO is standard input"));
-    }
+    let moves = moves_of(matches, scenario, "a file, as SCENARIO is standard input")?;
     Ok(Some(match settings_of(matches) {
         Ok(settings) => Subcommand::Sim(Sim {
             files: files_of(matches, scenario, moves),

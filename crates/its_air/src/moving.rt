@@ -585,7 +585,13 @@ impl<'a> MovingRun<'a> {
             Some(id) => match self.present_station(id.as_str()) {
                 Some(station) => do_at(self.alloc, &mut self.run, event, station, sink),
                 None => {
-                    let absent = Note::Absent { id: id.as_str() };
+                    let id = id.as_str();
+                    let has_left = self.number_of(id).is_some();
+                    let absent = Note::Absent {
+                        id,
+                        event,
+                        has_left,
+                    };
                     sink.note(&self.run.world, event.filed.moment(), &absent)?;
                     Ok(())
                 }

@@ -1,6 +1,7 @@
 -- What the options of a command say: their values as texts, and what a text spells.
 use Rattle.std.specs.Prelude.{ℕ, List, [], ◌∷◌, Option, Some, None, Result, Ok, Err, ⊤}
-use Rattle.std.specs.Prelude.{◌≡◌, ◌<◌, ◌^◌, ◌⊎◌, cond, codes, nat_eq, true}
+use Rattle.std.specs.Prelude.{◌≡◌, ◌<◌, ◌^◌, cond, codes, nat_eq, true, false, Bool, ◌==◌}
+use Rattle.std.specs.Prelude.{◌&&◌, ◌||◌, length, slice_index}
 use Rattle.std.specs.Option.{option_map_or}
 use Rattle.std.specs.Cmp.Lexicographic.{pointwise}
 use Rattle.std.specs.Str.Parse.{IsNumeral, digits_value, without_leading_plus}
@@ -16,7 +17,7 @@ use Rattle.clap.specs.declared.parser.matches.ArgMatches.{ArgMatches}
 use Rattle.its_commands.specs.declared.moment.Time.{Time}
 use Rattle.its_commands.specs.declared.moment.Time.TheVariants as times
 use Rattle.its_arguments.specs.declared.bad_argument.BadArgument.{BadArgument}
-use Rattle.its_arguments.specs.declared.bad_argument.BadArgument.TheVariants.{Value, Together}
+use Rattle.its_arguments.specs.declared.bad_argument.BadArgument.TheVariants.{Value}
 
 -- the first value of an option, where it is given
 abbrev pub value_in : ArgMatches → List ℕ → Option (List ℕ)
@@ -37,10 +38,31 @@ IsWhole bits text n =
 abbrev pub IsCount : List ℕ → ℕ → Type 0
 IsCount text n = IsWhole 64 text n × (0 < n)
 
--- the text is the hexadecimal digits of this link address
+-- six pairs of digits, with this mark between them
+abbrev pub has_marks : ℕ → List ℕ → Bool
+has_marks mark text =
+    (length text == 17) && (slice_index text 2 == mark) && (slice_index text 5 == mark)
+    && (slice_index text 8 == mark) && (slice_index text 11 == mark) && (slice_index text 14 == mark)
+
+abbrev pub paired : List ℕ → List ℕ
+paired text =
+    slice_index text 0 ∷ slice_index text 1 ∷ slice_index text 3 ∷ slice_index text 4
+    ∷ slice_index text 6 ∷ slice_index text 7 ∷ slice_index text 9 ∷ slice_index text 10
+    ∷ slice_index text 12 ∷ slice_index text 13 ∷ slice_index text 15 ∷ slice_index text 16 ∷ []
+
+-- the digits of a link address, without the colons or hyphens between each two
+abbrev pub bare_digits : List ℕ → List ℕ
+bare_digits text =
+    cond (has_marks 58 text || has_marks 45 text) (paired text) text
+
+-- the text is the hexadecimal digits of this link address, with colons or hyphens or without
 abbrev pub IsMac : List ℕ → ℕ → Type 0
-IsMac text mac = (octets : List ℕ) × (decode_sized text 6 ≡ Ok octets)
+IsMac text mac = (octets : List ℕ) × (decode_sized (bare_digits text) 6 ≡ Ok octets)
     × (mac ≡ big_number 6 octets)
+
+-- a moment: where the text is a whole number, that number
+abbrev pub IsMoment : List ℕ → ℕ → Type 0
+IsMoment text moment = (n : ℕ) → IsWhole 64 text n → moment ≡ n
 
 -- and of this station's address, of which the MID isn't that of a group
 abbrev pub IsAddress : List ℕ → ℕ → Type 0
@@ -61,7 +83,6 @@ IsGivenOr Spells other (Some text) value = Spells text value
 -- the fault names this option, and this text as its value
 abbrev pub NamesValue : List ℕ → List ℕ → BadArgument → Type 0
 NamesValue option text (Value name value wanted) = (name.now ≡ option) × (value.now ≡ text)
-NamesValue option text (Together name other) = ⊥
 
 -- the fault names this option with its text, which spells no value
 abbrev pub IsBadValue : {T : Type 0} → (List ℕ → T → Type 0) → List ℕ → Option (List ℕ)
@@ -103,16 +124,15 @@ abbrev pub time_named : Option (List ℕ) → Time
 time_named None = times.Raw
 time_named (Some word) = time_of_word word
 
--- two options that can't be given together
-abbrev pub AreTogether : List ℕ → List ℕ → BadArgument → Type 0
-AreTogether option other (Value name value wanted) = ⊥
-AreTogether option other (Together first second) = (first.now ≡ option) × (second.now ≡ other)
-
--- the fault of `--fields`, where it is given: it stands beside `--json`, or lists no keys
+-- the fault of `--fields`, where it is given: it lists no keys
 abbrev pub IsFieldsFault : Option (List ℕ) → BadArgument → Type 0
 IsFieldsFault None fault = ⊥
-IsFieldsFault (Some names) fault =
-    AreTogether (codes "fields") (codes "json") fault ⊎ NamesValue (codes "fields") names fault
+IsFieldsFault (Some names) fault = NamesValue (codes "fields") names fault
+
+-- whether records of another protocol are skipped, by the value of an option
+abbrev pub is_skipping : Option (List ℕ) → Bool
+is_skipping None = false
+is_skipping (Some word) = pointwise nat_eq word (codes "skip")
 
 -- the flag is given
 abbrev pub IsFlagged : ArgMatches → List ℕ → Type 0
@@ -123,10 +143,12 @@ IsFlagged matches flag = one_text (found_of matches) flag ≡ Some (codes "true"
 pub record IsChoice (matches : ArgMatches) (choice : Choice) : Type 0 where
   pub source : IsGiven IsAddress (value_in matches (codes "source")) choice.source
   pub from : IsGiven IsMac (value_in matches (codes "from-mac")) choice.from
-  pub since : IsGivenOr (IsWhole 64) 0 (value_in matches (codes "since")) choice.since
-  pub until : IsGivenOr (IsWhole 64) 18446744073709551615
+  pub since : IsGivenOr IsMoment 0 (value_in matches (codes "since")) choice.since
+  pub until : IsGivenOr IsMoment 18446744073709551615
       (value_in matches (codes "until")) choice.until
   pub refused : IsFlagged matches (codes "refused") → choice.refused ≡ true
+  pub others : choice.skips_others
+      ≡ is_skipping (value_in matches (codes "not-geonetworking"))
 
 -- the same of a file of this format, and how many of them at most
 pub record IsSelection (matches : ArgMatches) (file : Option Format) (selection : Selection)

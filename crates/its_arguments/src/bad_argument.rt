@@ -11,8 +11,6 @@ use std::fmt;
 pub enum BadArgument<'a> {
     /// An option, its value, and what that has to be and isn't.
     Value(&'a str, &'a str, &'a str),
-    /// Two options can't be given together.
-    Together(&'a str, &'a str),
 }
 
 impl BadArgument<'_> {
@@ -22,7 +20,10 @@ impl BadArgument<'_> {
         match self {
             BadArgument::Value("kind", list, _) => {
                 match list.split(',').find(|word| Kind::named(word).is_none()) {
-                    Some(word) => nearest(alloc, word, &KINDS.map(Kind::word)),
+                    Some(word) => {
+                        let near = nearest(alloc, word, &KINDS.map(Kind::word))?;
+                        Ok(near.filter(|kind| is_near(word, kind)))
+                    }
                     None => Ok(None),
                 }
             }
@@ -43,12 +44,21 @@ impl fmt::Display for BadArgument<'_> {
             BadArgument::Value(option, value, wanted) => {
                 write!(f, "invalid value '{value}' for '--{option}': not {wanted}")
             }
-            BadArgument::Together(option, other) => {
-                write!(
-                    f,
-                    "the argument '--{option}' cannot be used with '--{other}'"
-                )
-            }
         }
     }
+}
+
+/// Whether a kind may be meant by this word: of a word as short as most kinds only one letter may be
+/// another one.
+fn is_near(word: &str, kind: &str) -> bool {
+    if word.len() > 3 || word.len() != kind.len() {
+        return true;
+    }
+    let mut others: u32 = 0;
+    for (letter, other) in word.bytes().zip(kind.bytes()) {
+        if letter != other {
+            others = others.saturating_add(1);
+        }
+    }
+    others <= 1
 }

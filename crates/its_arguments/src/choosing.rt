@@ -1,15 +1,18 @@
 //! What the options of a command choose: records of a capture, ports, how moments are told.
 
-ghost use Rattle.std.specs.Prelude.{◌≡◌, MatchResult, IfOk, IfErr, None, codes, map};
+ghost use Rattle.std.specs.Prelude.{◌≡◌, ℕ, List, Ok, MatchResult, IfOk, IfErr, None, codes, map};
+ghost use Rattle.hex.specs.Hex.{decode_sized};
 ghost use Rattle.std.specs.Option.{option_map};
 ghost use Rattle.its_arguments.specs.Options.{ArePorts, IsBadValue, IsCount, IsFieldsFault};
-ghost use Rattle.its_arguments.specs.Options.{IsChoice, IsFlagged, IsGiven, IsRead, IsSelection};
-ghost use Rattle.its_arguments.specs.Options.{IsUnread, IsWhole, texts_in, time_named, value_in};
+ghost use Rattle.its_arguments.specs.Options.{IsChoice, IsGiven, IsGivenOr, IsMoment, IsRead};
+ghost use Rattle.its_arguments.specs.Options.{IsSelection, IsUnread, IsWhole, is_skipping};
+ghost use Rattle.its_arguments.specs.Options.{bare_digits, has_marks, texts_in, time_named};
+ghost use Rattle.its_arguments.specs.Options.{value_in};
 ghost use Rattle.its_replay.specs.Units.{listed};
 
 use crate::bad_argument::BadArgument;
 use clap::ArgMatches;
-use its_commands::{Choice, Field, Kinds, Selection, Time};
+use its_commands::{Choice, Field, Kinds, Selection, Time, utc_moment};
 use its_gnvalue::{GnAddress, Mac};
 use its_headers::Kind;
 use its_pcap::Format;
@@ -75,17 +78,70 @@ impl FromStr for MacDigits {
 
     ghost from_str_gives = { Parses (λ text digits. IsMac text digits.0) };
 
-    fn from_str(digits: &str) -> Result<MacDigits, ()> {
-        let mut octets = [0; 6];
-        hex::decode_to_slice(digits, &mut octets).map_err(|_| ())?;
+    fn from_str(text: &str) -> Result<MacDigits, ()> {
+        let octets = decode(text.as_bytes())?;
         Ok(MacDigits(Mac::from_octets(octets)))
     }
 }
 
+/// The octets of the digits of a link address, between each two of which a colon or a hyphen may
+/// stand.
+fn decode(text: &[u8]) -> Result<[u8; 6], ()>
+    ensures { MatchResult result
+        (λ octets. decode_sized (bare_digits text.now) 6 ≡ Ok octets)
+        (λ _. (octets : List ℕ) → ¬ (decode_sized (bare_digits text.now) 6 ≡ Ok octets)) }
+{
+    let mut octets = [0; 6];
+    if has_marks(text, b':') || has_marks(text, b'-') {
+        let digits = [
+            text[0], text[1], text[3], text[4], text[6], text[7], text[9], text[10], text[12],
+            text[13], text[15], text[16],
+        ];
+        hex::decode_to_slice(digits, &mut octets).map_err(|_| ())?;
+    } else {
+        hex::decode_to_slice(text, &mut octets).map_err(|_| ())?;
+    }
+    Ok(octets)
+}
+
+/// Whether six pairs of digits have this mark between them.
+fn has_marks(text: &[u8], mark: u8) -> bool
+    ensures { result ≡ has_marks mark text.now }
+{
+    text.len() == 17
+        && text[2] == mark
+        && text[5] == mark
+        && text[8] == mark
+        && text[11] == mark
+        && text[14] == mark
+}
+
+/// A moment: a number of milliseconds, or date and time of UTC.
+#[derive(Clone, Copy)]
+struct MomentText(u64);
+
+impl FromStr for MomentText {
+    type Err = ();
+
+    ghost use Rattle.std.specs.Prelude.{IfOk};
+    ghost use Rattle.its_arguments.specs.Options.{IsMoment};
+
+    ghost from_str_gives = { λ text result. IfOk result (λ moment. IsMoment text moment.0) };
+
+    fn from_str(text: &str) -> Result<MomentText, ()> {
+        match text.parse() {
+            Ok(moment) => Ok(MomentText(moment)),
+            Err(_) => utc_moment(text).map(MomentText).ok_or(()),
+        }
+    }
+}
+
 /// What an option has to be.
-const MOMENT: &str = "a whole number of milliseconds";
+const MOMENT: &str = "a whole number of milliseconds, or a time of UTC as 2023-11-14T22:13:20.123Z";
 
 const COUNT: &str = "a whole number from 1 on";
+
+const MAC: &str = "12 hexadecimal digits, with a colon or a hyphen between each two or without";
 
 const PORT: &str = "a whole number in 0..=65535";
 
@@ -143,6 +199,7 @@ pub fn selection_to_any_port<'a>(
         format,
         choice: choice_of(matches)?,
         count: count_of(matches, "count")?,
+        partial: matches.get_flag("partial"),
     })
 }
 
@@ -194,18 +251,44 @@ fn choice_of<'a>(matches: &ArgMatches<'a>) -> Result<Choice, BadArgument<'a>>
     let kinds = value_of::<KindList>(matches, "kind", wanted)?;
     let wanted = "the 16 hexadecimal digits of a station's address";
     let source = value_of::<AddressDigits>(matches, "source", wanted)?;
-    let from = value_of::<MacDigits>(matches, "from-mac", "12 hexadecimal digits")?;
-    let since = value_of(matches, "since", MOMENT)?;
-    let until = value_of(matches, "until", MOMENT)?;
+    let from = value_of::<MacDigits>(matches, "from-mac", MAC)?;
+    let since = moment_of(matches, "since", 0)?;
+    let until = moment_of(matches, "until", u64::MAX)?;
     Ok(Choice {
         kinds: kinds.map(|list| list.0),
         source: source.map(|digits| digits.0),
         from: from.map(|digits| digits.0),
         port: None,
-        since: since.unwrap_or(0),
-        until: until.unwrap_or(u64::MAX),
+        since,
+        until,
         refused: matches.get_flag("refused"),
+        skips_others: skips_others(matches),
     })
+}
+
+/// The moment that an option says, or another one if it isn't given.
+fn moment_of<'a>(
+    matches: &ArgMatches<'a>,
+    option: &'a str,
+    other: u64,
+) -> Result<u64, BadArgument<'a>>
+    ensures { IfOk result (IsGivenOr IsMoment other (value_in matches.now option.now)) }
+{
+    match value_of::<MomentText>(matches, option, MOMENT)? {
+        Some(moment) => Ok(moment.0),
+        None => Ok(other),
+    }
+}
+
+/// Whether records are skipped that are of another protocol, by the word of
+/// `--not-geonetworking`.
+fn skips_others(matches: &ArgMatches<'_>) -> bool
+    ensures { result ≡ is_skipping (value_in matches.now (codes "not-geonetworking")) }
+{
+    match matches.get_str("not-geonetworking") {
+        Some("skip") => true,
+        _ => false,
+    }
 }
 
 /// How moments are told: by the word of `--time`, or as milliseconds.
@@ -220,23 +303,18 @@ pub fn time_of(matches: &ArgMatches<'_>) -> Time
     }
 }
 
-/// The keys whose values are shown, where `--fields` lists them, parted by commas. Refused beside
-/// `--json`, and where one is no key.
+/// The keys whose values are shown, if `--fields` lists them, separated by commas. Refused if one is
+/// no key.
 pub fn fields_of<'a>(matches: &ArgMatches<'a>) -> Result<Option<&'a str>, BadArgument<'a>>
     ensures names { IfOk result (λ names.
         option_map (λ names. names.now) names ≡ value_in matches.now (codes "fields")) }
-    ensures alone { IfOk result (λ names.
-        IsFlagged matches.now (codes "json") → names ≡ None) }
     ensures fault { IfErr result (IsFieldsFault (value_in matches.now (codes "fields"))) }
 {
     let Some(names) = matches.get_str("fields") else {
         return Ok(None);
     };
-    if matches.get_flag("json") {
-        return Err(BadArgument::Together("fields", "json"));
-    }
     if names.split(',').any(|name| Field::named(name).is_none()) {
-        let wanted = "a list of keys of --json, or refused";
+        let wanted = "a list of keys, which show --help names";
         return Err(BadArgument::Value("fields", names, wanted));
     }
     Ok(Some(names))

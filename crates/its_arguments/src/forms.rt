@@ -96,16 +96,36 @@ const SOURCE: Argument = Argument::Value(
 const FROM_MAC: Argument = Argument::Value(
     "from-mac",
     "HEX12",
-    "Chooses frames from this link address",
+    "Choose frames from this link address; it may have colons or hyphens",
 );
 
 const PORT: Argument = Argument::Value("port", "N", "Chooses frames to this destination port");
 
-const SINCE: Argument = Argument::Value("since", "N", "Chooses records of this moment and later");
+const SINCE: Argument = Argument::Value(
+    "since",
+    "MOMENT",
+    "Choose records of this moment and later: milliseconds, or a time of UTC",
+);
 
-const UNTIL: Argument = Argument::Value("until", "N", "Chooses records of this moment and before");
+const UNTIL: Argument = Argument::Value(
+    "until",
+    "MOMENT",
+    "Choose records of this moment and before: milliseconds, or a time of UTC",
+);
 
 const REFUSED: Argument = Argument::Flag("refused", "Chooses refused records");
+
+const NOT_GEONETWORKING: Argument = Argument::Choice(
+    "not-geonetworking",
+    "WHAT",
+    &["refuse", "skip"],
+    "Refuse or skip records of other protocols and of link layers that are not read [default: refuse]",
+);
+
+const PARTIAL: Argument = Argument::Flag(
+    "partial",
+    "Read frames that a snap length cut off as far as they go",
+);
 
 const COUNT: Argument = Argument::Value(
     "count",
@@ -123,7 +143,7 @@ const TIME: Argument = Argument::Choice(
 const FIELDS: Argument = Argument::Value(
     "fields",
     "NAMES",
-    "Prints the values of these keys of --json, parted by commas, as CSV",
+    "Print the values of these keys, separated by commas: as CSV, or as objects with --json",
 );
 
 const FRAMES_ONLY: Argument = Argument::Flag(
@@ -170,7 +190,17 @@ const OUTPUT: Argument = Argument::LetterValue(
 );
 
 /// By which records are chosen.
-const CHOOSING: &[Argument] = &[KIND, SOURCE, FROM_MAC, PORT, SINCE, UNTIL, REFUSED, COUNT];
+const CHOOSING: &[Argument] = &[
+    KIND,
+    SOURCE,
+    FROM_MAC,
+    PORT,
+    SINCE,
+    UNTIL,
+    REFUSED,
+    NOT_GEONETWORKING,
+    COUNT,
+];
 
 /// The same where `--port` says something else.
 const CHOOSING_TO_ANY_PORT: &[Argument] = &[KIND, SOURCE, FROM_MAC, SINCE, UNTIL, REFUSED, COUNT];
@@ -181,6 +211,23 @@ pub fn add_commands<'a>(alloc: Global, program: Command<'a>) -> Result<Command<'
     let program = add_forms(alloc, program, makers())?;
     let program = add_forms(alloc, program, runners())?;
     add_forms(alloc, program, stations())
+}
+
+/// The command of this name by itself, whose errors show its own usage, if there is one.
+pub fn command_named<'a>(
+    alloc: Global,
+    program: &str,
+    name: &str,
+) -> Result<Option<Command<'a>>, AllocError> {
+    for forms in [readers(), makers(), runners(), stations()] {
+        for form in forms {
+            if form.name == name {
+                let called = format!(in alloc; "{program} {name}")?;
+                return Ok(Some(form.command(alloc)?.bin_name(called.as_str())?));
+            }
+        }
+    }
+    Ok(None)
 }
 
 fn add_forms<'a>(
@@ -219,10 +266,14 @@ static READERS: [Form; 3] = [
         name: "show",
         about: "Prints a line for each record of a capture",
         arguments: &[
-            CAPTURE, FORMAT, JSON, EXPLAIN, NO_EXPLAIN, COLOR, TIME, FIELDS,
+            CAPTURE, FORMAT, JSON, EXPLAIN, NO_EXPLAIN, COLOR, TIME, FIELDS, PARTIAL,
         ],
         choosing: CHOOSING,
         example: "\
+Keys of --fields: moment, from, to, kind, address, tst, lat, lon, pai, speed, heading, lt, tc,
+mobile, hops, max_hops, number, shape, alat, alon, a, b, angle, port, info, payload, refused,
+record, interface, length, vlan, rssi, rate, cut
+
 Example:
   geostation show first.cap",
     },
@@ -377,6 +428,16 @@ Example:
                 "DIR",
                 "The folder of the page, in place of the one beside the program",
             ),
+            Argument::Value(
+                "moves",
+                "FILE",
+                "Run the scenario with the moves in this file: CSV, or - for standard input",
+            ),
+            Argument::Value(
+                "net",
+                "FILE",
+                "Draw the streets in this file beneath the run: net.xml of SUMO, or GeoJSON",
+            ),
             EXPLAIN,
             NO_EXPLAIN,
             QUIET,
@@ -484,6 +545,7 @@ fn option<'a>(
     Arg::new(alloc, name)
         .long(name)
         .value_name(value)
+        .allow_negative_numbers(true)
         .help(help)
 }
 

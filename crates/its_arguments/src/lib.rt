@@ -9,5 +9,5 @@ mod station;
 
 pub use bad_argument::BadArgument;
 pub use choosing::{count_of, fields_of, ports_of, selection_of, selection_to_any_port, time_of};
-pub use forms::add_commands;
+pub use forms::{add_commands, command_named};
 pub use station::StationArguments;

@@ -49,3 +49,9 @@ is_chosen_frame choice None = asks_nothing choice
 abbrev pub is_chosen : Choice → ℕ → Option Traits → Bool
 is_chosen choice moment frame = is_chosen_frame choice frame && nat_le choice.since moment
     && nat_le moment choice.until
+
+-- the same of a record of which it is known whether it is of another protocol than GeoNetworking, or of
+-- a link layer that is not read
+abbrev pub selects : Choice → ℕ → Option Traits → Bool → Bool
+selects choice moment frame is_other =
+    not (choice.skips_others && is_other) && is_chosen choice moment frame

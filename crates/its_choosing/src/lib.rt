@@ -4,7 +4,7 @@
 ghost use Rattle.std.specs.Prelude.{◌≡◌, ◌<◌, ◌^◌, ℕ, Option, true};
 ghost use Rattle.its_choosing.specs.declared.Traits.{Traits};
 ghost use Rattle.its_choosing.specs.Choosing.{allows, allows_port, has_kind, has_kind_of, holds as all_holds};
-ghost use Rattle.its_choosing.specs.Choosing.{is_chosen as chosen};
+ghost use Rattle.its_choosing.specs.Choosing.{is_chosen as chosen, selects};
 
 use its_gnvalue::{GnAddress, Mac};
 use its_headers::Kind;
@@ -66,6 +66,9 @@ pub struct Choice {
     pub until: u64,
     /// Refused records alone.
     pub refused: bool,
+    /// Only records of GeoNetworking: those of another protocol or of a link layer that is not read
+    /// are skipped.
+    pub skips_others: bool,
 }
 
 impl Choice {
@@ -82,6 +85,7 @@ impl Choice {
             since: 0,
             until: u64::MAX,
             refused: false,
+            skips_others: false,
         }
     }
 
@@ -100,6 +104,14 @@ impl Choice {
             }
         };
         is_chosen && self.since <= moment && moment <= self.until
+    }
+
+    /// Whether a record of this moment is chosen, of which this is said beside its frame: that it is
+    /// of another protocol than GeoNetworking, or of a link layer that is not read.
+    pub fn selects(&self, moment: u64, frame: Option<Traits>, is_other: bool) -> bool
+        ensures { result ≡ selects self.now moment frame is_other }
+    {
+        !(self.skips_others && is_other) && self.is_chosen(moment, frame)
     }
 
     /// Whether all holds of a frame that is asked of frames.

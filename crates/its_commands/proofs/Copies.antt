@@ -26,6 +26,12 @@ use Rattle.its_reporting.specs.declared.status.Status.{Status}
 use Rattle.its_commands.specs.Conversions.{Target, IsFileFault, IsLeftOut, HasText}
 use Rattle.its_commands.specs.Conversions.{WritesText, PutsRecord, WritesMet, WritesSteps, Went}
 use Rattle.its_commands.specs.Conversions.{start_octets, first_interface, header_octets}
+use Rattle.its_commands.specs.Conversions.{Said, MeetsIn, MeetsNewest}
+use Rattle.its_pcap.specs.InterfaceHeads.{millis_head}
+use Rattle.its_pcap.specs.declared.info.InterfaceHead.{InterfaceHead}
+use Rattle.its_pcap.specs.declared.info.InterfaceInfo.{InterfaceInfo}
+use Rattle.its_pcap.specs.declared.pcap.Unit.{Unit as TimeUnit}
+use Rattle.its_pcap.specs.declared.stamp.Stamp.{Stamp}
 use Rattle.its_commands.specs.Conversions.{any_told, any_end, chosen_in, is_told, is_end, chosen_of}
 use Rattle.its_commands.specs.Conversions.{told_status, after_met, AreAll, IsCopied, IsCopying, IsStep}
 use Rattle.its_commands.specs.declared.converting.Copied.TheVariants as copies
@@ -35,55 +41,56 @@ use Rattle.its_commands.specs.declared.converting.Progress.{Progress}
 
 -- ---- headers
 
-pub starts : (f : Format) (l : LinkLayer) (old new : RecordFile) → StartsOn l f old new (Ok tt)
-    → Appends old.contents new.contents (start_octets f l) × (new.format ≡ old.format)
-starts formats.Capture l old new p =
+pub starts : (u : TimeUnit) (f : Format) (l : LinkLayer) (old new : RecordFile)
+    → StartsOn u l f old new (Ok tt)
+    → Appends old.contents new.contents (start_octets f u l) × (new.format ≡ old.format)
+starts u formats.Capture l old new p =
     subst (λ (x : RecordFile). Appends old.contents x.contents [] × (x.format ≡ old.format)) (sym p.1)
     (Appends-nil old.contents, refl)
-starts formats.Pcap l old new p = (p.2, p.3)
-starts formats.Pcapng l old new p = (p.2, p.3)
+starts u formats.Pcap l old new p = (p.2, p.3)
+starts u formats.Pcapng l old new p = (p.2, p.3)
 
-pub adds : (f : Format) (l : LinkLayer) (old new : RecordFile)
-    → AddsInterfaceOn l f [] old new (Ok tt)
-    → Appends old.contents new.contents (first_interface f l) × (new.format ≡ old.format)
-adds formats.Capture l old new p =
+pub adds : (f : Format) (old new : RecordFile) → AddsInterfaceOn millis_head f [] old new (Ok tt)
+    → Appends old.contents new.contents (first_interface f) × (new.format ≡ old.format)
+adds formats.Capture old new p =
     subst (λ (x : RecordFile). Appends old.contents x.contents [] × (x.format ≡ old.format)) (sym p.1)
     (Appends-nil old.contents, refl)
-adds formats.Pcap l old new p =
+adds formats.Pcap old new p =
     subst (λ (x : RecordFile). Appends old.contents x.contents [] × (x.format ≡ old.format)) (sym p.1)
     (Appends-nil old.contents, refl)
-adds formats.Pcapng l old new p = (p.2, p.3)
+adds formats.Pcapng old new p = (p.2, p.3)
 
-pub begins : (l : LinkLayer) (old mid new : RecordFile)
-    → StartsOn l old.format old mid (Ok tt) → AddsInterfaceOn l mid.format [] mid new (Ok tt)
-    → Appends old.contents new.contents (header_octets old.format l) × (new.format ≡ old.format)
-begins l old mid new p q =
-    let first = starts old.format l old mid p in
-    let later = adds mid.format l mid new q in
-    let at = subst (λ (f : Format). Appends mid.contents new.contents (first_interface f l)) first.1
+pub begins : (u : TimeUnit) (l : LinkLayer) (old mid new : RecordFile)
+    → StartsOn u l old.format old mid (Ok tt)
+    → AddsInterfaceOn millis_head mid.format [] mid new (Ok tt)
+    → Appends old.contents new.contents (header_octets old.format u l) × (new.format ≡ old.format)
+begins u l old mid new p q =
+    let first = starts u old.format l old mid p in
+    let later = adds mid.format mid new q in
+    let at = subst (λ (f : Format). Appends mid.contents new.contents (first_interface f)) first.1
     later.0 in (
-      Appends-trans old.contents mid.contents new.contents (start_octets old.format l)
-          (first_interface old.format l) first.0 at,
+      Appends-trans old.contents mid.contents new.contents (start_octets old.format u l)
+          (first_interface old.format) first.0 at,
       later.1 ∙ first.1,
     )
 
-pub start_fault : (f : Format) (l : LinkLayer) (old new : RecordFile) (fault : PutFault)
-    → StartsOn l f old new (Err fault) → IsFileFault fault
-start_fault formats.Capture l old new fault p = absurd (true≢false (sym (ap is_ok p.0)))
-start_fault formats.Pcap l old new puts.Length p = absurd p.1
-start_fault formats.Pcap l old new puts.Moment p = absurd p.1
-start_fault formats.Pcap l old new puts.Interface p = tt
-start_fault formats.Pcap l old new puts.Name p = tt
-start_fault formats.Pcap l old new puts.Io p = tt
-start_fault formats.Pcap l old new puts.Failed p = tt
-start_fault formats.Pcapng l old new puts.Length p = absurd p.1
-start_fault formats.Pcapng l old new puts.Moment p = absurd p.1
-start_fault formats.Pcapng l old new puts.Interface p = tt
-start_fault formats.Pcapng l old new puts.Name p = tt
-start_fault formats.Pcapng l old new puts.Io p = tt
-start_fault formats.Pcapng l old new puts.Failed p = tt
+pub start_fault : (u : TimeUnit) (f : Format) (l : LinkLayer) (old new : RecordFile)
+    (fault : PutFault) → StartsOn u l f old new (Err fault) → IsFileFault fault
+start_fault u formats.Capture l old new fault p = absurd (true≢false (sym (ap is_ok p.0)))
+start_fault u formats.Pcap l old new puts.Length p = absurd p.1
+start_fault u formats.Pcap l old new puts.Moment p = absurd p.1
+start_fault u formats.Pcap l old new puts.Interface p = tt
+start_fault u formats.Pcap l old new puts.Name p = tt
+start_fault u formats.Pcap l old new puts.Io p = tt
+start_fault u formats.Pcap l old new puts.Failed p = tt
+start_fault u formats.Pcapng l old new puts.Length p = absurd p.1
+start_fault u formats.Pcapng l old new puts.Moment p = absurd p.1
+start_fault u formats.Pcapng l old new puts.Interface p = tt
+start_fault u formats.Pcapng l old new puts.Name p = tt
+start_fault u formats.Pcapng l old new puts.Io p = tt
+start_fault u formats.Pcapng l old new puts.Failed p = tt
 
-pub adds_fault : (f : Format) (l : LinkLayer) (name : List ℕ) (old new : RecordFile)
+pub adds_fault : (f : Format) (l : InterfaceHead) (name : List ℕ) (old new : RecordFile)
     (fault : PutFault) → AddsInterfaceOn l f name old new (Err fault) → IsFileFault fault
 adds_fault formats.Capture l name old new fault p = absurd (true≢false (sym (ap is_ok p.0)))
 adds_fault formats.Pcap l name old new fault p = absurd (true≢false (sym (ap is_ok p.0)))
@@ -97,67 +104,67 @@ adds_fault formats.Pcapng l name old new puts.Failed p = tt
 -- ---- a record
 
 -- where the file has a place for a record, only the file itself fails
-refused_no_place : (f : Format) (n moment : ℕ) (text : List ℕ) (fault : PutFault)
-    → HasPlace f 1 0 moment text → RefusesFrame f n 0 moment text fault → IsFileFault fault
-refused_no_place formats.Capture n moment text puts.Length place p = absurd (p place)
-refused_no_place formats.Capture n moment text puts.Moment place p = absurd p
-refused_no_place formats.Capture n moment text puts.Interface place p = tt
-refused_no_place formats.Capture n moment text puts.Name place p = tt
-refused_no_place formats.Capture n moment text puts.Io place p = tt
-refused_no_place formats.Capture n moment text puts.Failed place p = tt
-refused_no_place formats.Pcap n moment text puts.Length place p = absurd (omega (arith, place.0, p))
-refused_no_place formats.Pcap n moment text puts.Moment place p = absurd (omega (arith, place.1, p.1))
-refused_no_place formats.Pcap n moment text puts.Interface place p = tt
-refused_no_place formats.Pcap n moment text puts.Name place p = tt
-refused_no_place formats.Pcap n moment text puts.Io place p = tt
-refused_no_place formats.Pcap n moment text puts.Failed place p = tt
-refused_no_place formats.Pcapng n moment text puts.Length place p =
+refused_no_place : (f : Format) (n i moment : ℕ) (text : List ℕ) (fault : PutFault)
+    → HasPlace f 1 0 moment text → RefusesFrame f n i moment text fault → IsFileFault fault
+refused_no_place formats.Capture n i moment text puts.Length place p = absurd (p place)
+refused_no_place formats.Capture n i moment text puts.Moment place p = absurd p
+refused_no_place formats.Capture n i moment text puts.Interface place p = tt
+refused_no_place formats.Capture n i moment text puts.Name place p = tt
+refused_no_place formats.Capture n i moment text puts.Io place p = tt
+refused_no_place formats.Capture n i moment text puts.Failed place p = tt
+refused_no_place formats.Pcap n i moment text puts.Length place p = absurd (omega (arith, place.0, p))
+refused_no_place formats.Pcap n i moment text puts.Moment place p = absurd (omega (arith, place.1, p.1))
+refused_no_place formats.Pcap n i moment text puts.Interface place p = tt
+refused_no_place formats.Pcap n i moment text puts.Name place p = tt
+refused_no_place formats.Pcap n i moment text puts.Io place p = tt
+refused_no_place formats.Pcap n i moment text puts.Failed place p = tt
+refused_no_place formats.Pcapng n i moment text puts.Length place p =
     absurd (omega (arith, place.1, p.1))
-refused_no_place formats.Pcapng n moment text puts.Moment place p = absurd p
-refused_no_place formats.Pcapng n moment text puts.Interface place p = tt
-refused_no_place formats.Pcapng n moment text puts.Name place p = tt
-refused_no_place formats.Pcapng n moment text puts.Io place p = tt
-refused_no_place formats.Pcapng n moment text puts.Failed place p = tt
+refused_no_place formats.Pcapng n i moment text puts.Moment place p = absurd p
+refused_no_place formats.Pcapng n i moment text puts.Interface place p = tt
+refused_no_place formats.Pcapng n i moment text puts.Name place p = tt
+refused_no_place formats.Pcapng n i moment text puts.Io place p = tt
+refused_no_place formats.Pcapng n i moment text puts.Failed place p = tt
 
-pub put_fault : (format : Format) (moment : ℕ) (text : List ℕ) (old new : RecordFile)
-    (fault : PutFault) → old.format ≡ format → HasPlace format 1 0 moment text
-    → PutsFrame 0 moment text old new (Err fault) → IsFileFault fault
-put_fault format moment text old new puts.Length is place p =
-    refused_no_place old.format old.interfaces moment text puts.Length
-    (subst (λ (f : Format). HasPlace f 1 0 moment text) (sym is) place) p.1
-put_fault format moment text old new puts.Moment is place p =
-    refused_no_place old.format old.interfaces moment text puts.Moment
-    (subst (λ (f : Format). HasPlace f 1 0 moment text) (sym is) place) p.1
-put_fault format moment text old new puts.Interface is place p = tt
-put_fault format moment text old new puts.Name is place p = tt
-put_fault format moment text old new puts.Io is place p = tt
-put_fault format moment text old new puts.Failed is place p = tt
+pub put_fault : (format : Format) (i : ℕ) (stamp : Stamp) (text : List ℕ) (old new : RecordFile)
+    (fault : PutFault) → old.format ≡ format → HasPlace format 1 0 stamp.moment text
+    → PutsFrame i stamp text old new (Err fault) → IsFileFault fault
+put_fault format i stamp text old new puts.Length is place p =
+    refused_no_place old.format old.interfaces i stamp.moment text puts.Length
+    (subst (λ (f : Format). HasPlace f 1 0 stamp.moment text) (sym is) place) p.1
+put_fault format i stamp text old new puts.Moment is place p =
+    refused_no_place old.format old.interfaces i stamp.moment text puts.Moment
+    (subst (λ (f : Format). HasPlace f 1 0 stamp.moment text) (sym is) place) p.1
+put_fault format i stamp text old new puts.Interface is place p = tt
+put_fault format i stamp text old new puts.Name is place p = tt
+put_fault format i stamp text old new puts.Io is place p = tt
+put_fault format i stamp text old new puts.Failed is place p = tt
 
 -- of a fault of the file itself no more is said
-pub text_fault : (l : LinkLayer) (moment : ℕ) (text : List ℕ) (t next : Target) (fault : PutFault)
-    → IsFileFault fault → WritesText l moment text t next (Err (faults.Put fault))
-text_fault l moment text t next puts.Length p = absurd p
-text_fault l moment text t next puts.Moment p = absurd p
-text_fault l moment text t next puts.Interface p = tt
-text_fault l moment text t next puts.Name p = tt
-text_fault l moment text t next puts.Io p = tt
-text_fault l moment text t next puts.Failed p = tt
+pub text_fault : (l : LinkLayer) (h : RecordHeader) (text : List ℕ) (t next : Target) (fault : PutFault)
+    → IsFileFault fault → WritesText l h text t next (Err (faults.Put fault))
+text_fault l h text t next puts.Length p = absurd p
+text_fault l h text t next puts.Moment p = absurd p
+text_fault l h text t next puts.Interface p = tt
+text_fault l h text t next puts.Name p = tt
+text_fault l h text t next puts.Io p = tt
+text_fault l h text t next puts.Failed p = tt
 
 -- a text that the file has no place for
-pub text_refused : (l : LinkLayer) (moment : ℕ) (text : List ℕ) (t : Target) (fault : PutFault)
-    → RefusesFrame t.file.format 1 0 moment text fault
-    → WritesText l moment text t t (Err (faults.Put fault))
-text_refused l moment text t puts.Length p = (p, refl)
-text_refused l moment text t puts.Moment p = (p, refl)
-text_refused l moment text t puts.Interface p = tt
-text_refused l moment text t puts.Name p = tt
-text_refused l moment text t puts.Io p = tt
-text_refused l moment text t puts.Failed p = tt
+pub text_refused : (l : LinkLayer) (h : RecordHeader) (text : List ℕ) (t : Target) (fault : PutFault)
+    → RefusesFrame t.file.format 1 0 h.moment text fault
+    → WritesText l h text t t (Err (faults.Put fault))
+text_refused l h text t puts.Length p = (p, refl)
+text_refused l h text t puts.Moment p = (p, refl)
+text_refused l h text t puts.Interface p = tt
+text_refused l h text t puts.Name p = tt
+text_refused l h text t puts.Io p = tt
+text_refused l h text t puts.Failed p = tt
 
 -- what becomes of the octets of a record becomes of the record
 pub puts_text : (linked : Bool) (h : RecordHeader) (w : List ℕ) (t next : Target)
     (r : Result (Unit {0}) SinkFault) (l : LinkLayer) (text : List ℕ)
-    → HasText t.frames_only t.layer linked h w l text → WritesText l h.moment text t next r
+    → HasText t.frames_only t.layer linked h w l text → WritesText l h text t next r
     → PutsRecord linked h w t next r
 puts_text linked h w t next (Ok _) l text has p = (l, text, p.0, has, p.1)
 puts_text linked h w t next (Err (faults.Put puts.Length)) l text has p = ((l, text, has, p.0), p.1)
@@ -195,8 +202,22 @@ none_added t next added none same =
 contents_of : (t next : Target) → next ≡ t → next.file.contents ≡ t.file.contents
 contents_of t next e = ap (λ (x : Target). x.file.contents) e
 
+newest_appends : (newest : Option InterfaceInfo) (t : Target) (added : List ℕ) (next : Target)
+    → MeetsNewest newest t added next → Appends t.file.contents next.file.contents added
+newest_appends None t added next p = none_added t next added p.0 (contents_of t next p.1)
+newest_appends (Some info) t added next p = p.appends
+
+interface_appends : (f : Format) (said : Said) (t : Target) (added : List ℕ) (next : Target)
+    → MeetsIn f said t added next → Appends t.file.contents next.file.contents added
+interface_appends formats.Capture said t added next p =
+    none_added t next added p.0 (ap (λ (x : Target). x.file.contents) p.1)
+interface_appends formats.Pcap said t added next p =
+    none_added t next added p.0 (ap (λ (x : Target). x.file.contents) p.1)
+interface_appends formats.Pcapng said t added next p =
+    newest_appends said.newest t added next p
+
 -- what a step writes stands behind what there was
-met_appends : (choice : Choice) (linked : Bool) (said : Option LinkLayer) (w : List ℕ)
+met_appends : (choice : Choice) (linked : Bool) (said : Said) (w : List ℕ)
     (step : Result Step SourceFault) (met : Met) (t : Target) (added : List ℕ) (next : Target)
     → WritesMet choice linked said w step met t added next
     → Appends t.file.contents next.file.contents added
@@ -210,9 +231,14 @@ met_appends choice linked said w (Ok (steps.Record h)) (mets.Record (copies.Left
 met_appends choice linked said w (Ok (steps.Record h)) mets.NoRecord t added next p = absurd p
 met_appends choice linked said w (Ok (steps.Record h)) (mets.End None) t added next p = absurd p
 met_appends choice linked said w (Ok (steps.Record h)) (mets.End (Some f)) t added next p = absurd p
+met_appends choice linked said w (Ok steps.Interface) (mets.Record copied) t added next p = absurd p
+met_appends choice linked said w (Ok steps.Interface) mets.NoRecord t added next p =
+    interface_appends t.file.format said t added next p
+met_appends choice linked said w (Ok steps.Interface) (mets.End None) t added next p = absurd p
+met_appends choice linked said w (Ok steps.Interface) (mets.End (Some f)) t added next p = absurd p
 met_appends choice linked said w (Ok steps.Passed) (mets.Record copied) t added next p = absurd p
 met_appends choice linked said w (Ok steps.Passed) mets.NoRecord t added next p =
-    none_added t next added p.0 (ap (λ (x : Target). x.file.contents) p.1)
+    none_added t next added p.0 (contents_of t next p.1)
 met_appends choice linked said w (Ok steps.Passed) (mets.End None) t added next p = absurd p
 met_appends choice linked said w (Ok steps.Passed) (mets.End (Some f)) t added next p = absurd p
 met_appends choice linked said w (Ok steps.End) (mets.Record copied) t added next p = absurd p
@@ -227,25 +253,25 @@ met_appends choice linked said w (Err g) (mets.End (Some f)) t added next p =
     none_added t next added p.1 (contents_of t next p.2)
 
 writes_last : {S : Type 0} (gives : S → S → List ℕ → Result Step SourceFault → Type 0)
-    (layer : S → Option LinkLayer) (choice : Choice) (linked : Bool) (file : S) (t : Target)
+    (said : S → Said) (choice : Choice) (linked : Bool) (file : S) (t : Target)
     (went : List Went) (added : List ℕ) (left : S) (end : Target) (one : Went) (new : List ℕ)
     (later : S) (next : Target)
-    → WritesSteps gives layer choice linked file t went added left end
+    → WritesSteps gives said choice linked file t went added left end
     → gives left later one.octets one.step
-    → WritesMet choice linked (layer later) one.octets one.step one.met end new next
-    → WritesSteps gives layer choice linked file t (went ++ one ∷ []) (added ++ new) later next
-writes_last gives layer choice linked file t [] added left end one new later next before gave writes = (
+    → WritesMet choice linked (said later) one.octets one.step one.met end new next
+    → WritesSteps gives said choice linked file t (went ++ one ∷ []) (added ++ new) later next
+writes_last gives said choice linked file t [] added left end one new later next before gave writes = (
   new,
   [],
   later,
   next,
   ap (λ l. l ++ new) before.0 ∙ sym (append-nil new),
   subst (λ f. gives f later one.octets one.step) before.1 gave,
-  subst (λ (m : Target). WritesMet choice linked (layer later) one.octets one.step one.met m new next)
+  subst (λ (m : Target). WritesMet choice linked (said later) one.octets one.step one.met m new next)
       before.2 writes,
   (refl, refl, refl),
 )
-writes_last gives layer choice linked file t (g ∷ gs) added left end one new later next before gave
+writes_last gives said choice linked file t (g ∷ gs) added left end one new later next before gave
     writes =
     let (first, rest, mid, m, is, was, tell, more) = before in (
       first,
@@ -255,7 +281,7 @@ writes_last gives layer choice linked file t (g ∷ gs) added left end one new l
       ap (λ k. k ++ new) is ∙ append_assoc first rest new,
       was,
       tell,
-      writes_last gives layer choice linked mid m gs rest left end one new later next more gave writes,
+      writes_last gives said choice linked mid m gs rest left end one new later next more gave writes,
     )
 
 chosen_last : (went : List Went) (one : Went)
@@ -289,10 +315,10 @@ end_last (g ∷ gs) one is =
     ap (λ b. is_end g.met || b) (end_last gs one is) ∙ or_true (is_end g.met)
 
 pub copying_none : {S : Type 0} (gives : S → S → List ℕ → Result Step SourceFault → Type 0)
-    (layer : S → Option LinkLayer) (choice : Choice) (linked : Bool) (file : S) (t : Target)
+    (said : S → Said) (choice : Choice) (linked : Bool) (file : S) (t : Target)
     (p : Progress) → p.chosen ≡ 0 → p.refused ≡ false
-    → IsCopying gives layer choice linked file t file t p 0
-copying_none gives layer choice linked file t p chosen refused =
+    → IsCopying gives said choice linked file t file t p 0
+copying_none gives said choice linked file t p chosen refused =
     record {
       went = [];
       added = [];
@@ -304,21 +330,21 @@ copying_none gives layer choice linked file t p chosen refused =
     }
 
 pub copying_more : {S : Type 0} (gives : S → S → List ℕ → Result Step SourceFault → Type 0)
-    (layer : S → Option LinkLayer) (choice : Choice) (linked : Bool) (file : S) (t : Target)
+    (said : S → Said) (choice : Choice) (linked : Bool) (file : S) (t : Target)
     (left : S) (end : Target) (p : Progress) (n : ℕ) (later : S) (next : Target) (met : Met)
     (after : Progress)
-    → IsCopying gives layer choice linked file t left end p n
-    → IsStep gives layer choice linked left end later next met → after ≡ after_met p met
-    → IsCopying gives layer choice linked file t later next after (n + 1)
-copying_more gives layer choice linked file t left end p n later next met after before step is =
+    → IsCopying gives said choice linked file t left end p n
+    → IsStep gives said choice linked left end later next met → after ≡ after_met p met
+    → IsCopying gives said choice linked file t later next after (n + 1)
+copying_more gives said choice linked file t left end p n later next met after before step is =
     let one : Went = record { octets = step.octets; step = step.step; met = met } in
     record {
       went = before.went ++ one ∷ [];
       added = before.added ++ step.added;
-      writes = writes_last gives layer choice linked file t before.went before.added left end one
+      writes = writes_last gives said choice linked file t before.went before.added left end one
           step.added later next before.writes step.gave step.writes;
       contents = Appends-trans t.file.contents end.file.contents next.file.contents before.added
-          step.added before.contents (met_appends choice linked (layer later) step.octets step.step
+          step.added before.contents (met_appends choice linked (said later) step.octets step.step
           met end step.added next step.writes);
       gone = omega (arith, before.gone, length-append before.went (one ∷ []));
       chosen = omega (
@@ -332,12 +358,12 @@ copying_more gives layer choice linked file t left end p n later next met after 
     }
 
 pub copied : {S : Type 0} (gives : S → S → List ℕ → Result Step SourceFault → Type 0)
-    (layer : S → Option LinkLayer) (choice : Choice) (count : Option ℕ) (linked : Bool) (file : S)
+    (said : S → Said) (choice : Choice) (count : Option ℕ) (linked : Bool) (file : S)
     (t : Target) (left : S) (end : Target) (p : Progress) (n : ℕ) (status : Status)
-    (k : IsCopying gives layer choice linked file t left end p n) → AreAll count k.went
+    (k : IsCopying gives said choice linked file t left end p n) → AreAll count k.went
     → status ≡ told_status p.refused
-    → IsCopied gives layer choice count linked file t left end status
-copied gives layer choice count linked file t left end p n status k all is =
+    → IsCopied gives said choice count linked file t left end status
+copied gives said choice count linked file t left end p n status k all is =
     record {
       went = k.went;
       added = k.added;
@@ -349,20 +375,20 @@ copied gives layer choice count linked file t left end p n status k all is =
 
 -- after its last step
 pub copied_end : {S : Type 0} (gives : S → S → List ℕ → Result Step SourceFault → Type 0)
-    (layer : S → Option LinkLayer) (choice : Choice) (count : Option ℕ) (linked : Bool) (file : S)
+    (said : S → Said) (choice : Choice) (count : Option ℕ) (linked : Bool) (file : S)
     (t : Target) (left : S) (end : Target) (p : Progress) (n : ℕ) (later : S) (next : Target)
     (met : Met) (after : Progress) (status : Status)
-    → IsCopying gives layer choice linked file t left end p n
-    → IsStep gives layer choice linked left end later next met → after ≡ after_met p met
+    → IsCopying gives said choice linked file t left end p n
+    → IsStep gives said choice linked left end later next met → after ≡ after_met p met
     → is_end met ≡ true → status ≡ told_status after.refused
-    → IsCopied gives layer choice count linked file t later next status
+    → IsCopied gives said choice count linked file t later next status
 unfolding copying_more
-copied_end gives layer choice count linked file t left end p n later next met after status before step
+copied_end gives said choice count linked file t left end p n later next met after status before step
     is last told =
-    let k = copying_more gives layer choice linked file t left end p n later next met after before step
+    let k = copying_more gives said choice linked file t left end p n later next met after before step
     is in
     let one : Went = record { octets = step.octets; step = step.step; met = met } in
-    copied gives layer choice count linked file t later next after (n + 1) status k
+    copied gives said choice count linked file t later next after (n + 1) status k
     (inl (end_last before.went one last)) told
 
 -- no more records are read than steps are gone, and no more of them chosen

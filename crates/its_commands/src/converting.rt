@@ -1,10 +1,10 @@
 //! The command `convert`.
 
 ghost use Rattle.std.specs.Prelude.{◌≡◌, ◌-◌, ◌^◌, ◌<◌, ℕ, List, IfOk, false};
-ghost use Rattle.its_pcap.specs.Sources.{Gives, format_of_source, layer_of_source};
+ghost use Rattle.its_pcap.specs.Sources.{Gives, format_of_source};
 ghost use Rattle.its_reporting.specs.Statuses.{IsCommandStatus};
 ghost use Rattle.its_commands.specs.Conversions.{Copies, IsCopied, IsStep, after_met, has_links};
-ghost use Rattle.its_commands.specs.Conversions.{is_end, told_status};
+ghost use Rattle.its_commands.specs.Conversions.{is_end, told_status, said_by};
 
 use crate::written::Written;
 use its_linkframe::{Counted, Source};
@@ -93,11 +93,13 @@ pub(crate) fn convert_records<'a, R: Read + Drop, W: Write + Drop, E: Write>(
         Err(fault) => telling.end_file(fault, 0, err),
     };
     let is_whole = written.end();
+    let losses = written.losses();
     let flushed = written.into_writer().flush();
     let status = ended?;
     if !is_whole || flushed.is_err() {
         return Err(Fault::of_target(conversion.target.name));
     }
+    losses.report(err);
     Ok(status)
 }
 
@@ -112,7 +114,7 @@ fn copy<'a, S: Source + Drop, W: Write + Drop, E: Write>(
     err: &mut E,
 ) -> Result<Status, Fault<'a>>
     ensures command { IfOk result IsCommandStatus }
-    ensures copied { IfOk result (IsCopied Gives layer_of_source selection.now.choice
+    ensures copied { IfOk result (IsCopied Gives said_by selection.now.choice
         selection.now.count (has_links (format_of_source source.old)) source.old written.old
         source.new written.new) }
 {
@@ -251,7 +253,7 @@ fn go_on<'a, S: Source + Drop, W: Write + Drop>(
     room: &mut Vec<u8>,
     written: &mut Written<W>,
 ) -> Result<Met, Fault<'a>>
-    ensures { IfOk result (IsStep Gives layer_of_source selection.now.choice linked source.old
+    ensures { IfOk result (IsStep Gives said_by selection.now.choice linked source.old
         written.old source.new written.new) }
 {
     match source.next_into(octets) {
@@ -259,10 +261,11 @@ fn go_on<'a, S: Source + Drop, W: Write + Drop>(
             let copied = copy_record(selection, target, &head, octets, linked, room, written)?;
             Ok(Met::Record(copied))
         }
-        Ok(Step::Passed) => {
-            written.expect(source.layer());
-            Ok(Met::NoRecord)
-        }
+        Ok(Step::Interface) => match written.meet(source.layer(), source.newest()) {
+            Ok(()) => Ok(Met::NoRecord),
+            Err(_) => Err(Fault::of_target(target)),
+        },
+        Ok(Step::Passed) => Ok(Met::NoRecord),
         Ok(Step::End) => Ok(Met::End(None)),
         Err(fault) => Ok(Met::End(Some(fault))),
     }

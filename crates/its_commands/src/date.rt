@@ -28,6 +28,23 @@ pub(crate) struct Date {
 }
 
 impl Date {
+    /// How many days this date is after the first of January of 1970; `None` if it is before it, or
+    /// if the year has more than nine digits. Month and day are counted from 1.
+    pub(crate) fn days_of(year: u64, month: u64, day: u64) -> Option<u64> {
+        if year == 0 || year > 999_999_999 || month == 0 || month > 12 || day > 31 {
+            return None;
+        }
+        // Counted from March on, January and February are of the year before.
+        let (years, months) = if month > 2 {
+            (year, month - 3)
+        } else {
+            (year - 1, month + 9)
+        };
+        let leaps = years / 4 - years / 100 + years / 400;
+        let in_year = (153 * months + 2) / 5 + day;
+        (YEAR * years + leaps + in_year).checked_sub(EPOCH + 1)
+    }
+
     /// The day that is so many after the first of January of 1970, at most 2^40 of them. Years are
     /// counted from March on here, so that a leap day is the last of its year.
     pub(crate) fn of(days: u64) -> Date
@@ -56,6 +73,18 @@ impl Date {
                 day,
             }
         }
+    }
+}
+
+/// How many days a month has, which is counted from 1; none if there is no such month.
+pub(crate) fn days_in_month(year: u64, month: u64) -> u64 {
+    let is_leap = year % 4 == 0 && (year % 100 != 0 || year % 400 == 0);
+    match month {
+        1 | 3 | 5 | 7 | 8 | 10 | 12 => 31,
+        4 | 6 | 9 | 11 => 30,
+        2 if is_leap => 29,
+        2 => 28,
+        _ => 0,
     }
 }
 

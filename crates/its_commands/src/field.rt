@@ -1,7 +1,12 @@
-//! Keys of what `show` tells of a record, as columns.
+//! Keys of what `show` prints of a record, as columns or as keys of an object.
 
 ghost use Rattle.std.specs.Prelude.{◌≡◌, IfSome};
 ghost use Rattle.its_commands.specs.Fields.{field_word};
+
+use its_headers::Kind;
+
+/// Where a packet begins in a frame.
+const PACKET: usize = 14;
 
 /// A key of the object of a record.
 #[derive(Clone, Copy, Debug, PartialEq, Eq)]
@@ -60,10 +65,25 @@ pub enum Field {
     Payload,
     /// Why the record is refused, as a code.
     Refused,
+    /// The number of the record in its file, from 0.
+    Record,
+    /// The number of its interface, from 0.
+    Interface,
+    /// How many octets of the record the file has.
+    Length,
+    /// The VLAN identifier of the first tag.
+    Vlan,
+    /// The signal at the antenna, in dBm.
+    Rssi,
+    /// The rate, in Mbit/s.
+    Rate,
+    /// Whether the record was cut and is read as far as it goes.
+    Cut,
 }
 
-/// All keys, in the order in which the object of a record has them; behind them that of a refusal.
-pub const FIELDS: [Field; 27] = [
+/// All keys, in the order in which the object of a record has them; then that of a refusal, and those
+/// that an object has only if they are asked for.
+pub const FIELDS: [Field; 34] = [
     Field::Moment,
     Field::From,
     Field::To,
@@ -91,7 +111,17 @@ pub const FIELDS: [Field; 27] = [
     Field::Info,
     Field::Payload,
     Field::Refused,
+    Field::Record,
+    Field::Interface,
+    Field::Length,
+    Field::Vlan,
+    Field::Rssi,
+    Field::Rate,
+    Field::Cut,
 ];
+
+/// How many of these the object of a frame has, which come first.
+pub(crate) const FRAME_FIELDS: usize = 26;
 
 impl Field {
     /// Its name.
@@ -126,6 +156,53 @@ impl Field {
             Field::Info => "info",
             Field::Payload => "payload",
             Field::Refused => "refused",
+            Field::Record => "record",
+            Field::Interface => "interface",
+            Field::Length => "length",
+            Field::Vlan => "vlan",
+            Field::Rssi => "rssi",
+            Field::Rate => "rate",
+            Field::Cut => "cut",
+        }
+    }
+
+    /// Whether its value is a text, which has quotation marks in an object.
+    pub(crate) fn is_text(self) -> bool {
+        matches!(
+            self,
+            Field::From
+                | Field::To
+                | Field::Kind
+                | Field::Address
+                | Field::Shape
+                | Field::Payload
+                | Field::Refused
+        )
+    }
+
+    /// How many octets a frame of this kind has at least whose value of this key is there: the
+    /// octets up to its end (EN 302 636-4-1 clause 9), of a payload up to its beginning. A key that
+    /// isn't of frames needs none.
+    pub(crate) fn octets_needed(self, kind: Kind) -> usize {
+        let (vector, payload) = match kind {
+            Kind::Beacon | Kind::Shb => (PACKET + 12, PACKET + 40),
+            Kind::Gbc | Kind::Gac => (PACKET + 16, PACKET + 56),
+        };
+        match self {
+            Field::Tst => vector + 12,
+            Field::Lat => vector + 16,
+            Field::Lon => vector + 20,
+            Field::Pai | Field::Speed => vector + 22,
+            Field::Heading => vector + 24,
+            Field::Alat => PACKET + 44,
+            Field::Alon => PACKET + 48,
+            Field::A => PACKET + 50,
+            Field::B => PACKET + 52,
+            Field::Angle => PACKET + 54,
+            Field::Port => payload + 2,
+            Field::Info | Field::Payload => payload + 4,
+            // What comes before the source's address is there in each frame that was read.
+            _ => vector + 8,
         }
     }
 

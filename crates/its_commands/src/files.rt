@@ -10,6 +10,7 @@ ghost use Rattle.its_reporting.specs.Statuses.{IsCommandStatus};
 use crate::checking::check_records;
 use crate::converting::{Conversion, Converting, convert_records};
 use crate::importing::{LinesFault, read_lines, write_records};
+use crate::prompt::Prompt;
 use crate::showing::{ShowFault, Showing, show_records};
 use its_records::Selection;
 use its_reporting::{
@@ -192,7 +193,7 @@ where
     io.status_of(ended)
 }
 
-/// Writes the records to standard output.
+/// Writes the records to standard output, each at once if they come from standard input.
 fn convert_to_output<'a, R: Files + AllocGlobal, I: Read + Drop, W: Write, E: Write>(
     rt: &R,
     converting: Converting<'a>,
@@ -205,7 +206,18 @@ where
     R::File: Read + Write + Drop,
     ensures { IfOk result IsCommandStatus }
 {
-    let reader = open(rt, converting.conversion.file, input)?;
+    let file = converting.conversion.file;
+    let reader = open(rt, file, input)?;
+    if is_standard(file) {
+        return convert_records(
+            rt.alloc(),
+            converting,
+            selection,
+            reader,
+            Prompt::new(out),
+            err,
+        );
+    }
     convert_records(rt.alloc(), converting, selection, reader, out, err)
 }
 

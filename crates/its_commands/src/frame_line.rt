@@ -4,6 +4,8 @@ use crate::field::Field;
 use crate::moment::Moment;
 use crate::text::Text;
 use its_frame_text::{FrameKeys, MessageKeys, TargetKeys};
+use its_headers::Kind;
+use its_json::Octets;
 use its_linkframe::FrameView;
 use serde::Serialize;
 use std::alloc::AllocError;
@@ -15,14 +17,47 @@ pub(crate) struct FrameLine<'a> {
     moment: Moment,
     #[serde(flatten)]
     keys: FrameKeys<'a>,
+    #[serde(skip)]
+    kind: Kind,
+    /// How many octets of the frame there are, if it was cut.
+    #[serde(skip)]
+    known: Option<usize>,
 }
 
 impl<'a> FrameLine<'a> {
-    pub(crate) fn of(moment: Moment, frame: &FrameView<'a>) -> FrameLine<'a> {
+    /// What is printed of a frame, of which so many octets are there if it was cut.
+    pub(crate) fn of(moment: Moment, frame: &FrameView<'a>, known: Option<usize>) -> FrameLine<'a> {
+        let kind = frame.packet.kind();
+        let keys = FrameKeys::of(frame);
         FrameLine {
             moment,
-            keys: FrameKeys::of(frame),
+            keys: FrameKeys {
+                message: keys
+                    .message
+                    .map(|message| message_within(message, kind, known)),
+                ..keys
+            },
+            kind,
+            known,
         }
+    }
+
+    /// Whether the value of this key is there.
+    pub(crate) fn has(&self, field: Field) -> bool {
+        match self.known {
+            Some(known) => field.octets_needed(self.kind) <= known,
+            None => true,
+        }
+    }
+
+    /// Whether its payload is there, or the beginning of it.
+    pub(crate) fn has_payload(&self) -> bool {
+        self.keys.message.is_some() && self.has(Field::Payload)
+    }
+
+    /// Whether it was cut.
+    pub(crate) fn is_cut(&self) -> bool {
+        self.known.is_some()
     }
 
     /// Adds its words to a text, with a line feed after them.
@@ -33,15 +68,49 @@ impl<'a> FrameLine<'a> {
         text.digits(" ", &keys.to.0)?;
         text.word(" ")?;
         text.word(keys.kind)?;
-        add_vector(keys, text)?;
+        text.digits(" ", &keys.address.0)?;
+        self.add_vector(text)?;
         add_header(keys, text)?;
-        if let Some(target) = &keys.target {
-            add_target(target, text)?;
+        self.add_body(text)?;
+        text.word(if self.is_cut() { " cut\n" } else { "\n" })
+    }
+
+    /// Adds where the source was, how fast and in what direction it moved, and when.
+    fn add_vector(&self, text: &mut Text) -> Result<(), AllocError> {
+        let keys = &self.keys;
+        if self.has(Field::Tst) {
+            text.number(" tst ", keys.tst)?;
         }
-        if let Some(message) = &keys.message {
+        if self.has(Field::Lat) {
+            text.number(" lat ", keys.lat)?;
+        }
+        if self.has(Field::Lon) {
+            text.number(" lon ", keys.lon)?;
+        }
+        if self.has(Field::Speed) {
+            text.number(" pai ", keys.pai as u8)?;
+            text.number(" speed ", keys.speed)?;
+        }
+        if self.has(Field::Heading) {
+            text.number(" heading ", keys.heading)?;
+        }
+        Ok(())
+    }
+
+    /// Adds what only some kinds have.
+    fn add_body(&self, text: &mut Text) -> Result<(), AllocError> {
+        if let Some(target) = &self.keys.target {
+            text.number(" number ", target.number)?;
+            if self.has(Field::Angle) {
+                add_area(target, text)?;
+            }
+        }
+        if let Some(message) = &self.keys.message
+            && self.has(Field::Info)
+        {
             add_message(message, text)?;
         }
-        text.word("\n")
+        Ok(())
     }
 
     /// Its moment.
@@ -49,9 +118,12 @@ impl<'a> FrameLine<'a> {
         self.moment
     }
 
-    /// Adds the value of a key to a text, as JSON has it without quotation marks; nothing where it
-    /// has no such key.
+    /// Adds the value of a key to a text, as JSON has it without quotation marks; nothing if it has
+    /// no such key, or if that was cut off.
     pub(crate) fn add_value_to(&self, field: Field, text: &mut Text) -> Result<(), AllocError> {
+        if !self.has(field) {
+            return Ok(());
+        }
         let keys = &self.keys;
         match field {
             Field::Moment => self.moment.add_to(text),
@@ -70,6 +142,7 @@ impl<'a> FrameLine<'a> {
             Field::Mobile => text.word(truth_word(keys.mobile)),
             Field::Hops => text.number("", keys.hops),
             Field::MaxHops => text.number("", keys.max_hops),
+            Field::Cut if self.is_cut() => text.word("true"),
             _ => self.add_part_to(field, text),
         }
     }
@@ -86,15 +159,21 @@ impl<'a> FrameLine<'a> {
     }
 }
 
-/// Adds where the source was, how fast and in what direction it moved, and when.
-fn add_vector(keys: &FrameKeys<'_>, text: &mut Text) -> Result<(), AllocError> {
-    text.digits(" ", &keys.address.0)?;
-    text.number(" tst ", keys.tst)?;
-    text.number(" lat ", keys.lat)?;
-    text.number(" lon ", keys.lon)?;
-    text.number(" pai ", keys.pai as u8)?;
-    text.number(" speed ", keys.speed)?;
-    text.number(" heading ", keys.heading)
+/// What is there of a message whose frame was cut, if it was: the payload ends where the frame does.
+fn message_within<'a>(
+    message: MessageKeys<'a>,
+    kind: Kind,
+    known: Option<usize>,
+) -> MessageKeys<'a> {
+    let Some(known) = known else {
+        return message;
+    };
+    let octets = message.payload.0;
+    let there = known.saturating_sub(Field::Payload.octets_needed(kind));
+    MessageKeys {
+        payload: Octets(&octets[..there.min(octets.len())]),
+        ..message
+    }
 }
 
 /// Adds what the headers before that say of every packet.
@@ -106,9 +185,8 @@ fn add_header(keys: &FrameKeys<'_>, text: &mut Text) -> Result<(), AllocError> {
     text.number("/", keys.max_hops)
 }
 
-/// Adds where a packet for an area goes, and its number.
-fn add_target(target: &TargetKeys, text: &mut Text) -> Result<(), AllocError> {
-    text.number(" number ", target.number)?;
+/// Adds where a packet for an area goes.
+fn add_area(target: &TargetKeys, text: &mut Text) -> Result<(), AllocError> {
     text.word(" ")?;
     text.word(target.shape)?;
     text.number(" ", target.alat)?;

@@ -21,15 +21,36 @@ pub enum Time {
     Delta,
 }
 
+/// The time of a record.
+#[derive(Clone, Copy)]
+pub(crate) struct Instant {
+    millis: u64,
+    /// Nanoseconds below the millisecond.
+    nanos: u32,
+}
+
+impl Instant {
+    /// In nanoseconds.
+    fn in_nanos(self) -> u128 {
+        u128::from(self.millis) * NANOS_OF_MILLI + u128::from(self.nanos)
+    }
+}
+
+/// The nanoseconds of a millisecond.
+const NANOS_OF_MILLI: u128 = 1_000_000;
+
+/// The nanoseconds of a second.
+const NANOS_OF_SECOND: u128 = 1_000_000_000;
+
 /// A moment as it is told.
 #[derive(Clone, Copy)]
 pub(crate) enum Moment {
     /// Milliseconds.
     Raw(u64),
-    /// Milliseconds since 1970, as date and time.
-    Utc(u64),
-    /// Seconds from one moment to another, which may be before it.
-    Between(u64, u64),
+    /// The time since 1970, as date and time.
+    Utc(Instant),
+    /// Seconds from one time to another, which may be before it.
+    Between(Instant, Instant),
 }
 
 impl Moment {
@@ -51,29 +72,48 @@ impl fmt::Display for Moment {
     fn fmt<W: fmt::Write>(&self, f: &mut fmt::Formatter<W>) -> fmt::Result {
         match *self {
             Moment::Raw(moment) => write!(f, "{moment}"),
-            Moment::Utc(moment) => write_utc(moment, f),
-            Moment::Between(from, to) if to < from => {
-                write!(f, "-")?;
-                write_seconds(from - to, f)
-            }
-            Moment::Between(from, to) => write_seconds(to - from, f),
+            Moment::Utc(time) => write_utc(time, f),
+            Moment::Between(from, to) => write_between(from.in_nanos(), to.in_nanos(), f),
         }
     }
 }
 
-/// Date and time of a moment, as RFC 3339 has them.
-fn write_utc<W: fmt::Write>(moment: u64, f: &mut fmt::Formatter<W>) -> fmt::Result {
-    let (seconds, millis) = (moment / 1000, moment % 1000);
+/// Date and time, as RFC 3339 has them.
+fn write_utc<W: fmt::Write>(time: Instant, f: &mut fmt::Formatter<W>) -> fmt::Result {
+    let seconds = time.millis / 1000;
+    let millis = (time.millis % 1000) as u32;
     let (minutes, second) = (seconds / 60, seconds % 60);
     let (hours, minute) = (minutes / 60, minutes % 60);
     let (date, hour) = (Date::of(hours / 24), hours % 24);
-    write!(f, "{date}T{hour:02}:{minute:02}:{second:02}.{millis:03}Z")
+    write!(f, "{date}T{hour:02}:{minute:02}:{second:02}.")?;
+    write_fraction(millis * 1_000_000 + time.nanos % 1_000_000, f)?;
+    write!(f, "Z")
 }
 
-/// Milliseconds, in seconds.
-fn write_seconds<W: fmt::Write>(millis: u64, f: &mut fmt::Formatter<W>) -> fmt::Result {
-    let (seconds, fraction) = (millis / 1000, millis % 1000);
-    write!(f, "{seconds}.{fraction:03}")
+/// The seconds between two times in nanoseconds, with a sign if the second is before the first.
+fn write_between<W: fmt::Write>(from: u128, to: u128, f: &mut fmt::Formatter<W>) -> fmt::Result {
+    if to < from {
+        write!(f, "-")?;
+        return write_seconds(from - to, f);
+    }
+    write_seconds(to - from, f)
+}
+
+/// Nanoseconds, in seconds.
+fn write_seconds<W: fmt::Write>(nanos: u128, f: &mut fmt::Formatter<W>) -> fmt::Result {
+    write!(f, "{}.", nanos / NANOS_OF_SECOND)?;
+    write_fraction((nanos % NANOS_OF_SECOND) as u32, f)
+}
+
+/// The nanoseconds below a second, in three, six or nine decimals: the fewest that lose nothing.
+fn write_fraction<W: fmt::Write>(nanos: u32, f: &mut fmt::Formatter<W>) -> fmt::Result {
+    if nanos % 1_000_000 == 0 {
+        write!(f, "{:03}", nanos / 1_000_000)
+    } else if nanos % 1000 == 0 {
+        write!(f, "{:06}", nanos / 1000)
+    } else {
+        write!(f, "{nanos:09}")
+    }
 }
 
 impl Described for Moment {}
@@ -91,8 +131,8 @@ impl Serialize for Moment {
 #[derive(Clone, Copy)]
 pub(crate) struct Clock {
     time: Time,
-    /// The moment of the record before.
-    last: Option<u64>,
+    /// The time of the record before.
+    last: Option<Instant>,
 }
 
 impl Clock {
@@ -103,13 +143,21 @@ impl Clock {
 
     /// The moment of the next record.
     pub(crate) fn next(&mut self, place: Place) -> Moment {
-        let last = self.last.unwrap_or(place.moment);
-        self.last = Some(place.moment);
+        let time = Instant {
+            millis: place.moment,
+            nanos: place.nanos,
+        };
+        let first = Instant {
+            millis: place.first,
+            nanos: place.first_nanos,
+        };
+        let last = self.last.unwrap_or(time);
+        self.last = Some(time);
         match self.time {
             Time::Raw => Moment::Raw(place.moment),
-            Time::Utc => Moment::Utc(place.moment),
-            Time::Relative => Moment::Between(place.first, place.moment),
-            Time::Delta => Moment::Between(last, place.moment),
+            Time::Utc => Moment::Utc(time),
+            Time::Relative => Moment::Between(first, time),
+            Time::Delta => Moment::Between(last, time),
         }
     }
 }

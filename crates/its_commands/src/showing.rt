@@ -5,10 +5,11 @@ ghost use Rattle.its_commands.specs.Faults.{show_fault_status};
 ghost use Rattle.its_commands.specs.declared.moment.Time.TheVariants as times;
 ghost use Rattle.its_reporting.specs.Statuses.{IsCommandStatus};
 
+use crate::field::{FIELDS, FRAME_FIELDS, Field};
 use crate::frame_line::FrameLine;
 use crate::moment::{Clock, Time};
 use crate::output::Output;
-use crate::rows::Rows;
+use crate::rows::{RowForm, Rows};
 use crate::told::RefusedAt;
 use its_linkframe::{FrameView, Source};
 use its_pcap::{AnySource, Format};
@@ -16,7 +17,7 @@ use its_records::{
     Place, RecordFault, RecordVisitor, RefusedCapture, Selection, each_record, open_records,
 };
 use its_reporting::{CommandFault, Fault, Io, OutputFormat, Status};
-use std::alloc::Global;
+use std::alloc::{AllocError, Global};
 use std::io::{Read, Write};
 use thiserror::Error;
 
@@ -25,8 +26,9 @@ use thiserror::Error;
 pub struct Showing<'a> {
     /// How moments are told.
     pub time: Time,
-    /// The names of the keys, parted by commas, whose values are a row for each record, behind a
-    /// row of the names. Without them each record has a line.
+    /// The names of the keys, separated by commas, whose values are printed for each record: as a
+    /// row of CSV after a row of the names, or as an object in JSON. Without them each record has a
+    /// line.
     pub names: Option<&'a str>,
 }
 
@@ -91,6 +93,8 @@ impl<'a> From<Fault<'a>> for ShowFault<'a> {
 struct AllRecords {
     output: Output,
     clock: Clock,
+    /// Objects of frames that were cut, in JSON.
+    cut: Option<Rows>,
 }
 
 impl RecordVisitor for AllRecords {
@@ -101,9 +105,14 @@ impl RecordVisitor for AllRecords {
         out: &mut W,
     ) -> Result<(), Fault<'f>> {
         let moment = self.clock.next(place);
+        if place.known.is_some()
+            && let Some(rows) = &mut self.cut
+        {
+            return rows.print(place, moment, frame, out);
+        }
         let output = &mut self.output;
         match frame {
-            Ok(frame) => output.frame(&FrameLine::of(moment, &frame), out),
+            Ok(frame) => output.frame(&FrameLine::of(moment, &frame, place.known), out),
             Err(fault) => {
                 let told = RefusedAt::new(moment, fault, output.explain);
                 output.refused(&told, out)
@@ -167,7 +176,11 @@ fn show_opened<'a, S: Source + Drop, W: Write, E: Write>(
     let Some(names) = showing.names else {
         return show_lines(alloc, file, source, selection, clock, io);
     };
-    let rows = Rows::new(alloc, names, clock)?;
+    if io.format.json {
+        let rows = Rows::new(alloc, names, RowForm::Object, clock)?;
+        return show_objects(alloc, file, source, selection, rows, io);
+    }
+    let rows = Rows::new(alloc, names, RowForm::Csv, clock)?;
     writeln!(io.out, "{names}")?;
     show_rows(alloc, file, source, selection, rows, io)
 }
@@ -186,9 +199,40 @@ fn show_lines<'a, S: Source + Drop, W: Write, E>(
     let mut visitor = AllRecords {
         output: Output::new(alloc, io.format)?,
         clock,
+        cut: if selection.partial && io.format.json {
+            Some(rows_of_cut(alloc, clock)?)
+        } else {
+            None
+        },
     };
     let walked = each_record(alloc, file, selection, source, &mut visitor, &mut io.out)?;
     visitor.output.end(&walked, &mut io.out)?;
+    Ok(walked.status())
+}
+
+/// The objects of frames that were cut: the keys of a frame that are there, and that it was cut.
+fn rows_of_cut(alloc: Global, clock: Clock) -> Result<Rows, AllocError> {
+    let mut fields = Vec::new(alloc);
+    fields.extend_from_slice(&FIELDS[..FRAME_FIELDS])?;
+    fields.push(Field::Cut)?;
+    Rows::of(alloc, fields, RowForm::Object, clock)
+}
+
+/// An object for each record, and one of what is wrong with the file.
+fn show_objects<'a, S: Source + Drop, W: Write, E: Write>(
+    alloc: Global,
+    file: &'a str,
+    source: &mut AnySource<S>,
+    selection: &Selection,
+    rows: Rows,
+    io: &mut Io<W, E>,
+) -> Result<Status, Fault<'a>>
+    ensures { IfOk result IsCommandStatus }
+{
+    let mut visitor = rows;
+    let mut output = Output::new(alloc, io.format)?;
+    let walked = each_record(alloc, file, selection, source, &mut visitor, &mut io.out)?;
+    output.end(&walked, &mut io.out)?;
     Ok(walked.status())
 }
 

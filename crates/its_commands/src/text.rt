@@ -37,6 +37,11 @@ impl Text {
         self.octets.extend_from_slice(word.as_bytes())
     }
 
+    /// Octets of a text, as they stand.
+    pub(crate) fn octets(&mut self, octets: &[u8]) -> Result<(), AllocError> {
+        self.octets.extend_from_slice(octets)
+    }
+
     /// A number, after the word that names it.
     pub(crate) fn number<I: Integer>(&mut self, name: &str, number: I) -> Result<(), AllocError> {
         self.word(name)?;

@@ -68,6 +68,8 @@ impl FileEvent {
 /// its id, one that a row of a file of moves makes.
 #[derive(Debug, Drop, PartialEq, Eq)]
 pub struct AddressedEvent {
+    /// Its number among the events of the document, from 0.
+    pub number: usize,
     /// The id of its station: 1 to 64 octets of UTF-8, without control characters. There may be no
     /// row of it. `None` for an event of a station of the scenario's own.
     pub id: Option<String>,
@@ -154,12 +156,14 @@ pub fn read_event<F: Fields>(alloc: Global, fields: &F) -> Result<Event, KeyFaul
 
 /// Reads an event or a leave of a scenario of so many stations that is run with moves: `id`, where
 /// it is there, else `station`, which has to be one of these, then `at`, and then what is done,
-/// checked in this order. Nothing is delivered.
+/// checked in this order. Nothing is delivered. `number` is that of the event in the document.
 pub fn read_addressed<F: Fields>(
     alloc: Global,
     fields: &F,
+    number: usize,
     stations: usize,
 ) -> Result<AddressedEvent, KeyFault>
+    ensures number { IfOk result (λ event. event.number ≡ number) }
     ensures says { IfOk result (SaysAddressed (F.values fields.now)) }
     ensures range { IfOk result (λ event. FitsFileEvent event.filed) }
     ensures id { IfOk result (λ event. IfSome event.id (λ id. IsId (string_bytes id))) }
@@ -171,6 +175,7 @@ pub fn read_addressed<F: Fields>(
     }
     let read = read_filed(alloc, fields, station, moment, Verbs::WithMoves)?;
     Ok(AddressedEvent {
+        number,
         id,
         filed: read.filed,
         round_station: read.round_station,
@@ -259,7 +264,7 @@ fn unknown_verb<F: Fields>(alloc: Global, fields: &F, verbs: Verbs) -> KeyFault 
     let word = fields.text(Key::Do.word()).unwrap_or("");
     match verbs.meant_by(alloc, word) {
         Ok(Some(meant)) => KeyFault::Refused(Key::Do, Wrong::Near(meant)),
-        Ok(None) => KeyFault::Refused(Key::Do, Wrong::Value),
+        Ok(None) => KeyFault::Refused(Key::Do, Wrong::Unlisted(verbs.all())),
         Err(_) => KeyFault::OutOfMemory,
     }
 }

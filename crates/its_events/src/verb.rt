@@ -37,7 +37,7 @@ pub(crate) enum Verbs {
 
 impl Verbs {
     /// Those that it takes.
-    fn all(self) -> &'static [Verb] {
+    pub(crate) fn all(self) -> &'static [Verb] {
         match self {
             Verbs::Alone => &VERBS[..9],
             Verbs::InAir => &VERBS,

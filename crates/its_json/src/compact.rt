@@ -1,6 +1,6 @@
 //! The tokens of a value, in compact form.
 
-ghost use Rattle.std.specs.Prelude.{◌≡◌, []};
+ghost use Rattle.std.specs.Prelude.{◌≡◌, [], IfOk};
 ghost use Rattle.its_json.specs.Lines.{IsCompact};
 
 use crate::fault::JsonFault;
@@ -68,12 +68,16 @@ impl<'a> Compact<'a> {
         }
     }
 
-    /// The text of what was written.
-    pub(crate) fn into_octets(self) -> Vec<u8>
-        ensures { IsCompact result.items }
+    /// Returns the text of what was written. `Kind` if nothing was: a line has a value.
+    pub(crate) fn into_octets(self) -> Result<Vec<u8>, JsonFault>
+        ensures { IfOk result (λ octets. IsCompact octets.items) }
     {
         let Compact { out, .. } = self;
-        out.into_inner()
+        let octets = out.into_inner();
+        if octets.is_empty() {
+            return Err(JsonFault::Kind);
+        }
+        Ok(octets)
     }
 }
 

@@ -13,7 +13,7 @@ pub enum JsonFault {
     #[error("out of memory")]
     OutOfMemory,
     /// It has a part of a kind that no line has: a float, a character, an integer of 128 bits, a
-    /// variant with fields, or a key that is no field's name as it stands.
+    /// variant with fields, or a key that is no field's name as it stands. Or it prints nothing.
     #[error("a value of a kind that no line has")]
     Kind,
 }

@@ -45,7 +45,8 @@ impl JsonLine {
 
     /// The line of a value: its JSON in compact form, and a line feed. No other line feed is in it.
     ///
-    /// `OutOfMemory` where an allocation failed, `Kind` for a value that no line has.
+    /// `OutOfMemory` if an allocation failed. `Kind` for a value that no line has, and for one that
+    /// prints nothing.
     pub fn of<T: Serialize>(&mut self, value: &T) -> Result<&[u8], JsonFault>
         ensures { IfOk result (λ line. IsLine line.now) }
     {
@@ -53,7 +54,7 @@ impl JsonLine {
         octets.clear();
         let mut compact = Compact::new(octets, &mut self.room);
         value.serialize(&mut compact)?;
-        self.octets = compact.into_octets();
+        self.octets = compact.into_octets()?;
         self.octets.push(b'\n')?;
         Ok(self.octets.as_slice())
     }

@@ -1,11 +1,12 @@
 -- Words that are a few changes of a letter apart.
-use Rattle.std.specs.Prelude.{◌≡◌, ◌≤◌, ◌<◌, ℕ, List, Some, length, map, nat_eq, slice_get}
+use Rattle.std.specs.Prelude.{◌≡◌, ◌≤◌, ◌<◌, ℕ, List, Some, length, map, slice_get}
 use Rattle.std.specs.Str.{chars}
-use Rattle.strsim.specs.Edits.{levenshtein_row}
+use Rattle.strsim.specs.Edits.{osa_table}
 
--- how many changes of a letter lead from one word to another
+-- how many changes of a letter lead from one word to another, where an exchange of two neighbouring
+-- letters is one: the optimal string alignment distance
 abbrev pub changes : List ℕ → List ℕ → ℕ
-changes from to = levenshtein_row nat_eq (chars from) (chars to) (length (chars to))
+changes from to = (osa_table (chars from) (chars to)).last_row (length (chars to))
 
 -- The word at this place is one of the first so many that are known, at most two changes away, and
 -- none of these is fewer; none before it is as few.

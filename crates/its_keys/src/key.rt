@@ -222,6 +222,14 @@ impl Key {
             Key::Lat | Key::Lon | Key::Alat | Key::Alon => {
                 "a whole number of tenths of a microdegree: 481000000 is 48.1 degrees"
             }
+            Key::Range | Key::A | Key::B => "a whole number of metres",
+            Key::At | Key::Until | Key::Delay | Key::Jitter => "a whole number of milliseconds",
+            Key::Period | Key::Gone | Key::Begin | Key::Within => "a whole number of milliseconds",
+            Key::Loss => "a whole number of percent, from 0 to 100",
+            Key::Speed => "a whole number of 0.01 m/s: 1390 is 13.9 m/s",
+            Key::Heading => "a whole number of 0.1 degree: 900 is east",
+            Key::Angle => "a whole number of degrees",
+            Key::Octets => "a whole number of octets",
             Key::Air | Key::Moves => "a table",
             Key::Ports => "an array",
             Key::Event | Key::Every | Key::Expect => "an array of tables",
@@ -232,9 +240,11 @@ impl Key {
     /// What a text is not that it doesn't take; nothing where its value is no text.
     pub(crate) fn form(self) -> Option<&'static str> {
         match self {
-            Key::Address => Some("16 hexadecimal digits of an address that is no group's"),
+            Key::Address => {
+                Some("16 hexadecimal digits without colons, and not the address of a group")
+            }
             Key::Do => Some("a word for what a station does"),
-            Key::Payload => Some("an even number of hexadecimal digits"),
+            Key::Payload => Some("an even number of hexadecimal digits: 6869 is 'hi'"),
             Key::Shape => Some("circle, rectangle or ellipse"),
             Key::Mid => Some("12 hexadecimal digits of a MID that is no group's"),
             Key::Id => Some("1 to 64 octets without control characters"),

@@ -4,7 +4,7 @@ ghost use Rattle.std.specs.Prelude.{◌≡◌, ℕ, List, IfNone, IfOk, IfSome, 
 ghost use Rattle.its_keys.specs.Nearest.{IsFar, IsMeant, IsNearest};
 
 use std::alloc::{AllocError, Global};
-use strsim::levenshtein;
+use strsim::osa_distance;
 
 /// What is named by one word of a list.
 pub trait Spelled {
@@ -24,7 +24,8 @@ impl Spelled for &'static str {
     }
 }
 
-/// How many changes of a letter there are at most from a word to the one that was meant.
+/// How many changes of a letter there are at most from a word to the one that was meant. An
+/// exchange of two neighbouring letters is one change.
 const MOST_CHANGES: usize = 2;
 
 /// Which of these may be meant by a word that is that of none of them: the first of those whose
@@ -59,7 +60,7 @@ fn nearest_place<T: Spelled + Copy>(
     let mut found = None;
     let mut fewest = MOST_CHANGES + 1;
     for (place, meant) in known.iter().enumerate() {
-        let changes = levenshtein(alloc, word, meant.spelling())?;
+        let changes = osa_distance(alloc, word, meant.spelling())?;
         if changes < fewest {
             found = Some(place);
             fewest = changes;

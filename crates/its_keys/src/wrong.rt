@@ -19,6 +19,8 @@ pub enum Wrong {
     OfCircle,
     /// It is a word that the key doesn't take, at most two changes of a letter from this one.
     Near(Verb),
+    /// It is a word that the key doesn't take: it takes these.
+    Unlisted(&'static [Verb]),
     /// It is the number of no station of the scenario's own.
     NoStation,
 }
@@ -39,6 +41,7 @@ fn explain<W: fmt::Write>(f: &mut fmt::Formatter<W>, key: Key, wrong: Wrong) -> 
         Wrong::Kind => write!(f, "not {}", key.kind()),
         Wrong::OfCircle => f.write_str("not 0, as it is of a circle"),
         Wrong::Near(verb) => write!(f, "did you mean '{verb}'?"),
+        Wrong::Unlisted(verbs) => list_verbs(f, verbs),
         Wrong::NoStation => f.write_str("the scenario has no such station"),
         Wrong::Range(number) => { write!(f, "{number} is not in {}..={}", key.least(), key.most()) }
         Wrong::Value => match key.form() {
@@ -46,4 +49,14 @@ fn explain<W: fmt::Write>(f: &mut fmt::Formatter<W>, key: Key, wrong: Wrong) -> 
             None => write!(f, "not in {}..={}", key.least(), key.most()),
         },
     }
+}
+
+/// Writes the words that a key takes.
+fn list_verbs<W: fmt::Write>(f: &mut fmt::Formatter<W>, verbs: &[Verb]) -> fmt::Result {
+    f.write_str("not one of")?;
+    for (place, verb) in verbs.iter().enumerate() {
+        let before = if place == 0 { "" } else { "," };
+        write!(f, "{before} {verb}")?;
+    }
+    Ok(())
 }

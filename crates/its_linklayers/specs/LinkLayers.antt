@@ -3,6 +3,7 @@ use Rattle.std.specs.Prelude.{◌≡◌, ℕ, ◌+◌, ◌-◌, ◌<◌, ◌≤�
 use Rattle.std.specs.Prelude.{List, [], ◌∷◌, ◌++◌, length, take, drop}
 use Rattle.std.specs.Prelude.{Option, None, Some, ◌==◌, if◌then◌else◌}
 use Rattle.its_linkframe.specs.Frames.{IsFrame}
+use Rattle.its_linklayers.specs.Cooked.{IsSll, IsSllFault, IsSll2, IsSll2Fault}
 use Rattle.its_linklayers.specs.Ethernet.{IsTypeAt, EndsInTag}
 use Rattle.its_linklayers.specs.Ieee80211.{IsHeader, IsHeaderFault, has_bit}
 use Rattle.its_linklayers.specs.Radiotap.{IsRadiotap, IsRadiotapFault}
@@ -18,13 +19,17 @@ abbrev pub layer_number : LinkLayer → ℕ
 layer_number layers.Ethernet = 1
 layer_number layers.Ieee80211 = 105
 layer_number layers.Radiotap = 127
+layer_number layers.Sll = 113
+layer_number layers.Sll2 = 276
 
 -- the link layer of a number, of those that are read
 abbrev pub layer_of : ℕ → Option LinkLayer
 layer_of number =
     if number == 1 then Some layers.Ethernet
     else if number == 105 then Some layers.Ieee80211
+    else if number == 113 then Some layers.Sll
     else if number == 127 then Some layers.Radiotap
+    else if number == 276 then Some layers.Sll2
     else None
 
 -- L1 and L2, as ASCII text
@@ -72,6 +77,8 @@ abbrev pub IsFrameIn : LinkLayer → List ℕ → List ℕ → Type 0
 IsFrameIn layers.Ethernet w f = (at : ℕ) × IsTypeAt w at × (f ≡ take 12 w ++ drop at w)
 IsFrameIn layers.Ieee80211 w f = IsUncheckedData false 0 w f
 IsFrameIn layers.Radiotap w f = (r : RadiotapHeader) × IsRadiotap w r × IsFrameBehind r w f
+IsFrameIn layers.Sll w f = IsSll w f
+IsFrameIn layers.Sll2 w f = IsSll2 w f
 
 abbrev pub IsFaultBehind : RadiotapHeader → List ℕ → LinkFault → Type 0
 IsFaultBehind r w f =
@@ -86,3 +93,5 @@ IsLinkFault layers.Ethernet w f = (f ≡ faults.Short) × EndsInTag w
 IsLinkFault layers.Ieee80211 w f = IsHeaderFault false w 0 f
 IsLinkFault layers.Radiotap w f =
     IsRadiotapFault w f ⊎ ((r : RadiotapHeader) × IsRadiotap w r × IsFaultBehind r w f)
+IsLinkFault layers.Sll w f = IsSllFault w f
+IsLinkFault layers.Sll2 w f = IsSll2Fault w f

@@ -1,6 +1,7 @@
 -- Radiotap: version, filling, length (2), present words (4 each, the lowest octet first), fields.
 use Rattle.std.specs.Prelude.{◌≡◌, ◌≢◌, ℕ, ◌+◌, ◌*◌, ◌/◌, ◌<◌, ◌≤◌, ◌⊎◌, Bool, true, false}
-use Rattle.std.specs.Prelude.{if◌then◌else◌, List, length, drop, slice_index}
+use Rattle.std.specs.Prelude.{if◌then◌else◌, List, length, drop, slice_index, Option, Some, None, ℤ}
+use Rattle.std.specs.Int.{w8, cast_signed}
 use Rattle.byteorder.specs.Endian.{little_number}
 use Rattle.its_linklayers.specs.Ieee80211.{has_bit}
 use Rattle.its_linklayers.specs.declared.radiotap.RadiotapHeader.{RadiotapHeader}
@@ -65,3 +66,56 @@ IsRadiotapFault w faults.Kind =
     ((1 ≤ length w) × (slice_index w 0 ≢ 0))
     ⊎ (IsVersioned w × (4 ≤ length w) × (length_of w < 8))
     ⊎ (IsThere w × (has_flags w ≡ true) × ((place : ℕ) → ¬ HasFlagsAt w place))
+
+-- ---- the rate and the signal
+
+-- the first present word says whether there is a rate (bit 2), a channel (3), hopping (4) and the
+-- signal at the antenna in dBm (5)
+abbrev pub has_rate : List ℕ → Bool
+has_rate w = has_bit 4 (slice_index w 4)
+
+abbrev pub has_channel : List ℕ → Bool
+has_channel w = has_bit 8 (slice_index w 4)
+
+abbrev pub has_hopping : List ℕ → Bool
+has_hopping w = has_bit 16 (slice_index w 4)
+
+abbrev pub has_signal : List ℕ → Bool
+has_signal w = has_bit 32 (slice_index w 4)
+
+-- behind the last word n: the rate stands behind the flags, an octet; the channel (4 octets) and
+-- hopping (2) begin at even octets behind that; then the signal stands
+abbrev pub rate_at : List ℕ → ℕ → ℕ
+rate_at w n = flags_at w n + (if has_flags w then 1 else 0)
+
+abbrev pub rate_end : List ℕ → ℕ → ℕ
+rate_end w n = rate_at w n + (if has_rate w then 1 else 0)
+
+abbrev pub channel_end : List ℕ → ℕ → ℕ
+channel_end w n =
+    if has_channel w then (rate_end w n + 1) / 2 * 2 + 4 else rate_end w n
+
+abbrev pub signal_at : List ℕ → ℕ → ℕ
+signal_at w n =
+    if has_hopping w then (channel_end w n + 1) / 2 * 2 + 2 else channel_end w n
+
+-- The octet of a field, whose place is this behind the last word, is inside the header, which says
+-- that it is there.
+pub record HasOctet (has : List ℕ → Bool) (at : List ℕ → ℕ → ℕ) (w : List ℕ) (octet : ℕ) : Type 0 where
+  pub there : IsThere w
+  pub said : has w ≡ true
+  pub word : ℕ
+  pub last : IsLastWord w word
+  pub inside : at w word < length_of w
+  pub is : octet ≡ slice_index w (at w word)
+
+-- the rate, in units of 500 kbit/s, where there is one
+abbrev pub IsRate : List ℕ → Option ℕ → Type 0
+IsRate w None = (octet : ℕ) → ¬ HasOctet has_rate rate_at w octet
+IsRate w (Some octet) = HasOctet has_rate rate_at w octet
+
+-- the signal, in dBm, where there is one
+abbrev pub IsSignal : List ℕ → Option ℤ → Type 0
+IsSignal w None = (octet : ℕ) → ¬ HasOctet has_signal signal_at w octet
+IsSignal w (Some dbm) =
+    (octet : ℕ) × HasOctet has_signal signal_at w octet × (dbm ≡ cast_signed w8 octet)

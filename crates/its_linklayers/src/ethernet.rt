@@ -1,7 +1,7 @@
 //! Ethernet (IEEE 802.3), with the tags that IEEE 802.1Q puts before the type.
 
 ghost use Rattle.std.specs.Prelude.{◌≡◌, ◌↔◌, ◌≤◌, IfOk, IfErr, IsTrue};
-ghost use Rattle.its_linklayers.specs.Ethernet.{IsTag, IsTypeAt, EndsInTag};
+ghost use Rattle.its_linklayers.specs.Ethernet.{IsTag, IsTypeAt, EndsInTag, IsIdentifier};
 ghost use Rattle.its_linklayers.specs.declared.link.LinkFault.TheVariants as faults;
 
 use crate::link::LinkFault;
@@ -24,6 +24,15 @@ const CUSTOMER: u16 = 0x8100;
 
 /// The protocol of a tag of a service.
 const SERVICE: u16 = 0x88a8;
+
+/// The protocol that tags of services had before IEEE 802.1ad.
+const OLD_SERVICE: u16 = 0x9100;
+
+/// The control of the first tag, whose lowest bits are the VLAN identifier.
+const CONTROL: usize = 14;
+
+/// One more than the greatest VLAN identifier.
+const IDENTIFIERS: u16 = 4096;
 
 /// Where the type of the frame begins, behind two tags at most. `Short` where the record ends
 /// before the type behind a tag; without a tag the record may end anywhere.
@@ -55,5 +64,15 @@ fn is_tag(octets: &[u8], at: usize) -> bool
         return false;
     }
     let protocol = BigEndian::read_u16(&octets[at..]);
-    protocol == CUSTOMER || protocol == SERVICE
+    protocol == CUSTOMER || protocol == SERVICE || protocol == OLD_SERVICE
+}
+
+/// Returns the VLAN identifier of the first tag, 0 to 4095, if the record has a whole tag.
+pub(crate) fn vlan_of(octets: &[u8]) -> Option<u16>
+    ensures { IsIdentifier octets.now result }
+{
+    if octets.len() < ONE_TAG || !is_tag(octets, UNTAGGED) {
+        return None;
+    }
+    Some(BigEndian::read_u16(&octets[CONTROL..]) % IDENTIFIERS)
 }

@@ -7,6 +7,7 @@ ghost use Rattle.its_linklayers.specs.LinkLayers.{IsUnchecked, IsFrameBehind, Is
 ghost use Rattle.its_linklayers.specs.LinkLayers.{IsData, IsUncheckedData, link_code_of};
 ghost use Rattle.its_linklayers.specs.Ieee80211.{IsHeaderFault};
 
+use crate::cooked::{sll_start, sll2_start};
 use crate::ethernet::type_at;
 use crate::ieee80211::{DataHeader, has, read_header};
 use crate::radiotap::{CHECK_SEQUENCE, FILLED, RadiotapHeader, read_radiotap};
@@ -37,6 +38,10 @@ pub enum LinkLayer {
     Ieee80211,
     /// IEEE 802.11 behind a radiotap header: link type 127.
     Radiotap,
+    /// A Linux cooked capture, version 1: link type 113.
+    Sll,
+    /// A Linux cooked capture, version 2: link type 276.
+    Sll2,
 }
 
 /// Why a record of a link layer holds no frame that could be checked.
@@ -55,7 +60,9 @@ pub fn link_layer(number: u32) -> Option<LinkLayer>
     match number {
         1 => Some(LinkLayer::Ethernet),
         105 => Some(LinkLayer::Ieee80211),
+        113 => Some(LinkLayer::Sll),
         127 => Some(LinkLayer::Radiotap),
+        276 => Some(LinkLayer::Sll2),
         _ => None,
     }
 }
@@ -69,6 +76,8 @@ impl LinkLayer {
             LinkLayer::Ethernet => 1,
             LinkLayer::Ieee80211 => 105,
             LinkLayer::Radiotap => 127,
+            LinkLayer::Sll => 113,
+            LinkLayer::Sll2 => 276,
         }
     }
 }
@@ -100,8 +109,9 @@ impl Error for LinkFault {}
 /// Brings the frame of a record together in the record's own buffer, and returns where it begins
 /// there; it goes to the buffer's end. It is the addresses of target and source, the type, and what
 /// follows that: without tags of Ethernet, without a radiotap header and that of IEEE 802.11, and,
-/// of these two, without a check sequence behind a whole frame. Octets that fill a frame up stay.
-/// No memory is taken.
+/// of these two, without a check sequence behind a whole frame. Octets that fill a frame up stay. A
+/// cooked capture has no target: the broadcast address stands for it where the packet type is 1 or
+/// 2 (broadcast, multicast), else the address 0. No memory is taken.
 ///
 /// `Short` or `Kind` by the first rule of the link layer that doesn't hold; what the buffer has then
 /// isn't said.
@@ -118,6 +128,8 @@ pub fn frame_start(layer: LinkLayer, octets: &mut Vec<u8>) -> Result<usize, Link
             let radiotap = read_radiotap(octets.as_slice())?;
             behind_radiotap(octets, radiotap)
         }
+        LinkLayer::Sll => sll_start(octets),
+        LinkLayer::Sll2 => sll2_start(octets),
     }
 }
 

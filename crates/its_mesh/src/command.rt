@@ -12,7 +12,7 @@ use crate::mesh::Mesh;
 use crate::sockets::Sockets;
 use crate::udp::UdpSockets;
 use its_reporting::{FrameFile, Io, Status, Target, WriterFault, create, keep_apart, open};
-use its_runs::{FrameTarget, frame_target, read_scenario_without_air};
+use its_runs::{FrameTarget, frame_target, read_scenario_without_air, report_unknown};
 use its_scenario::Scenario;
 use std::alloc::Global;
 use std::io::{Read, Write};
@@ -102,6 +102,7 @@ where
 {
     let reader = open(rt, file, input)?;
     let scenario = read(rt.alloc(), file, reader, options)?;
+    report_unknown(&scenario, &mut io.err);
     keep_apart(rt, target.name, file)?;
     let created = create(rt, target.name)?;
     let mut sockets = UdpSockets::new(rt, rt.alloc());
@@ -138,6 +139,7 @@ fn mesh_read<'a, R: Read + Drop, S: Sockets, W: Write, E: Write>(
     ensures { IfOk result IsCommandStatus }
 {
     let scenario = read(alloc, file, reader, options)?;
+    report_unknown(&scenario, &mut io.err);
     run_mesh(alloc, scenario, options, sockets, io)
 }
 

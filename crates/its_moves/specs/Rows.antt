@@ -90,7 +90,7 @@ MayHaveNumber c column fields place =
 
 abbrev pub IsFirstWord : Columns → List (List ℕ) → ℕ → Word → Type 0
 IsFirstWord c fields before words.Length = ⊥
-IsFirstWord c fields before words.Header = ⊥
+IsFirstWord c fields before (words.Header why) = ⊥
 IsFirstWord c fields before words.TooManyStations = ⊥
 IsFirstWord c fields before words.Fields = length fields ≢ c.count
 IsFirstWord c fields before words.At =

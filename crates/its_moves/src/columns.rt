@@ -127,7 +127,7 @@ pub(crate) enum Found {
 }
 
 /// How often a column's name stands among these.
-fn find(names: &[Vec<u8>], word: &str) -> Found
+pub(crate) fn find(names: &[Vec<u8>], word: &str) -> Found
     ensures { IsFound (texts names.now) word.now result }
 {
     let mut found = Found::Nowhere;
@@ -175,7 +175,7 @@ fn optional(names: &[Vec<u8>], notation: Notation, column: Column) -> Option<Opt
 }
 
 /// Whether no column of this notation is named.
-fn names_none(names: &[Vec<u8>], notation: Notation) -> bool
+pub(crate) fn names_none(names: &[Vec<u8>], notation: Notation) -> bool
     ensures { IsTrue result ↔ HasNoName (texts names.now) notation }
 {
     is_absent(names, notation, Column::At)

@@ -1,8 +1,45 @@
 //! Why moves can't be read on.
 
+use crate::columns::{Column, Notation};
 use std::alloc::{AllocError, AllocFailed};
 use std::error::Error;
 use std::{fmt, io};
+
+/// Why a first line doesn't name the columns.
+#[derive(Clone, Copy, Debug, PartialEq, Eq)]
+pub enum HeaderFault {
+    /// It begins a gzip file.
+    Gzip,
+    /// It names no column that has a meaning.
+    NoColumn,
+    /// It has names of both notations.
+    BothNotations,
+    /// It names this column of this notation twice.
+    Twice(Notation, Column),
+    /// It lacks this column of this notation.
+    Missing(Notation, Column),
+}
+
+impl fmt::Display for HeaderFault {
+    fn fmt<W: fmt::Write>(&self, f: &mut fmt::Formatter<W>) -> fmt::Result {
+        match self {
+            HeaderFault::Gzip => f.write_str("a gzip file: use zcat FILE | geostation sim --moves -"),
+            HeaderFault::NoColumn => f.write_str(
+                "it names no columns, which are at, id, lat and lon, \
+                or SUMO's timestep_time, vehicle_id, vehicle_y and vehicle_x",
+            ),
+            HeaderFault::BothNotations => {
+                f.write_str("it has names of SUMO's columns and of the own ones")
+            }
+            HeaderFault::Twice(notation, column) => {
+                write!(f, "column {} stands twice", column.word(*notation))
+            }
+            HeaderFault::Missing(notation, column) => {
+                write!(f, "column {} is missing", column.word(*notation))
+            }
+        }
+    }
+}
 
 /// The first that is wrong with a line, in the order in which it is judged.
 #[derive(Clone, Copy, Debug, PartialEq, Eq)]
@@ -11,7 +48,7 @@ pub enum Word {
     Length,
     /// It is the first, and a name of the columns stands twice or is missing, or there are names of
     /// both notations.
-    Header,
+    Header(HeaderFault),
     /// It has more fields than the first line, or fewer.
     Fields,
     /// Its moment is no number in its range, or is below that of the row before.
@@ -35,7 +72,7 @@ impl fmt::Display for Word {
     fn fmt<W: fmt::Write>(&self, f: &mut fmt::Formatter<W>) -> fmt::Result {
         f.write_str(match self {
             Word::Length => "length",
-            Word::Header => "header",
+            Word::Header(_) => "header",
             Word::Fields => "fields",
             Word::At => "at",
             Word::Id => "id",
@@ -56,15 +93,18 @@ impl fmt::Display for WordReason {
     fn fmt<W: fmt::Write>(&self, f: &mut fmt::Formatter<W>) -> fmt::Result {
         f.write_str(match self.0 {
             Word::Length => "more than 4096 octets",
-            Word::Header =>
-                "a name of the columns is missing or stands twice, or names are of both kinds",
+            Word::Header(fault) => return write!(f, "{fault}"),
             Word::Fields => "more or fewer fields than the first line has",
-            Word::At => "no moment in its range, or below that of the row before",
+            Word::At => "not a time from the row before on: whole milliseconds, or SUMO's seconds, \
+                up to 2^62 ms",
             Word::Id => "not 1 to 64 octets of UTF-8 without control characters",
-            Word::Lat => "no latitude in its range",
-            Word::Lon => "no longitude in its range",
-            Word::Speed => "no speed in its range",
-            Word::Heading => "no heading in its range",
+            Word::Lat => "not a latitude: whole tenths of a microdegree, or SUMO's degrees, \
+                up to 90 degrees",
+            Word::Lon => "not a longitude: whole tenths of a microdegree, or SUMO's degrees, \
+                up to 180 degrees",
+            Word::Speed => "not a speed: whole 0.01 m/s, or SUMO's m/s, from -163.84 to 163.83 m/s",
+            Word::Heading =>
+                "not a heading: whole tenths of a degree, or SUMO's degrees, from 0 to 360 degrees",
             Word::TooManyStations => "no place or no address is left for the station of a new id",
         })
     }

@@ -5,8 +5,8 @@ ghost use Rattle.its_moves.specs.Fields.{cut};
 ghost use Rattle.its_moves.specs.Rows.{IsId, IsRow, IsRowBetween, ReachesBetween, ReachesRow};
 ghost use Rattle.its_moves.specs.Rows.{field_at};
 
-use crate::columns::{Columns, Notation, columns_of};
-use crate::fault::{LineFault, MovesFault, Word};
+use crate::columns::{Column, Columns, Found, Notation, columns_of, find, names_none};
+use crate::fault::{HeaderFault, LineFault, MovesFault, Word};
 use crate::fields::{Bound, find_bounds, join, split};
 use crate::row::{Row, field, numbers_of};
 use std::alloc::Global;
@@ -15,6 +15,9 @@ use std::{io, str};
 
 /// The most octets of a line before its line feed.
 pub const LONGEST_LINE: usize = 4096;
+
+/// The octets with which each gzip file begins.
+const GZIP: &[u8] = b"\x1f\x8b";
 
 /// The byte order mark in UTF-8.
 const BYTE_ORDER_MARK: &[u8] = b"\xef\xbb\xbf";
@@ -281,6 +284,53 @@ fn header_of(alloc: Global, line: &[u8]) -> Result<(u8, Columns), LineFault> {
     let names = split(alloc, separator, octets)?;
     match columns_of(&names) {
         Some(columns) => Ok((separator, columns)),
-        None => Err(LineFault::Refused(Word::Header)),
+        None => Err(LineFault::Refused(Word::Header(header_fault(octets, &names)))),
+    }
+}
+
+/// What is wrong with a first line, which has these fields and names the columns of no notation.
+fn header_fault(octets: &[u8], names: &[Vec<u8>]) -> HeaderFault {
+    if octets.starts_with(GZIP) {
+        return HeaderFault::Gzip;
+    }
+    match (
+        names_none(names, Notation::Own),
+        names_none(names, Notation::Sumo),
+    ) {
+        (true, true) => HeaderFault::NoColumn,
+        (false, false) => HeaderFault::BothNotations,
+        (false, true) => fault_in(names, Notation::Own),
+        (true, false) => fault_in(names, Notation::Sumo),
+    }
+}
+
+/// What is wrong with the names of a notation: the first column that is missing, else one that
+/// stands twice.
+fn fault_in(names: &[Vec<u8>], notation: Notation) -> HeaderFault {
+    let needed = [Column::At, Column::Id, Column::Lat, Column::Lon];
+    let missing = needed.iter().find(|column| {
+        matches!(find(names, column.word(notation)), Found::Nowhere)
+    });
+    match missing {
+        Some(column) => HeaderFault::Missing(notation, *column),
+        None => HeaderFault::Twice(notation, twice_in(names, notation)),
+    }
+}
+
+/// A column of a notation that stands twice among these names; the heading, if no other does.
+fn twice_in(names: &[Vec<u8>], notation: Notation) -> Column {
+    let others = [
+        Column::At,
+        Column::Id,
+        Column::Lat,
+        Column::Lon,
+        Column::Speed,
+    ];
+    let twice = others.iter().find(|column| {
+        matches!(find(names, column.word(notation)), Found::Twice)
+    });
+    match twice {
+        Some(column) => *column,
+        None => Column::Heading,
     }
 }

@@ -3,7 +3,9 @@
 
 use crate::vectors::RECORD;
 use its_linkframe::{CaptureFault, Counted, Sink, Source};
-use its_pcap::{AnySink, AnySource, Format, PutFault, RecordSink, RecordSource, SourceFault, Step};
+use its_pcap::{
+    AnySink, AnySource, Format, PutFault, RecordSink, RecordSource, SourceFault, Stamp, Step,
+};
 use its_test_support::{MOST, STEP, Shortage};
 use std::alloc::Global;
 use std::io;
@@ -83,7 +85,7 @@ fn eight_of<S: RecordSource + Drop>(alloc: Global, mut source: S) -> [Answer; 8]
 fn end_of(answers: &[Answer; 8]) -> [Answer; 2] {
     for place in 0..7usize {
         match answers[place] {
-            Ok(Step::Passed | Step::Record(_)) => {}
+            Ok(Step::Interface | Step::Passed | Step::Record(_)) => {}
             end => return [end, answers[place + 1]],
         }
     }
@@ -153,7 +155,7 @@ fn memory_that_ends_is_told(rt: HostRuntime) {
 fn write_file<S: RecordSink>(sink: &mut S, name: &str, frame: &[u8]) -> Result<(), PutFault> {
     sink.start()?;
     sink.add_interface(name)?;
-    sink.put_frame(0, 5, frame)
+    sink.put_frame(0, Stamp::of_millis(5), frame)
 }
 
 /// What is answered to a file in this format, and to one more frame, on a device that takes so many
@@ -162,7 +164,7 @@ fn write_failing(format: Format, calls: u64, errs: bool) -> [Result<(), PutFault
     let mut sink = AnySink::new(Counted::new(Slot { calls, errs }), format);
     [
         write_file(&mut sink, "station 0", b"xyz"),
-        sink.put_frame(0, 5, b"xyz"),
+        sink.put_frame(0, Stamp::of_millis(5), b"xyz"),
     ]
 }
 
@@ -200,7 +202,7 @@ fn write_long(alloc: Global, size: usize, has_interface: bool) -> Option<Result<
     Some(if has_interface {
         write_file(&mut sink, "", &frame)
     } else {
-        sink.put_frame(0, 5, &frame)
+        sink.put_frame(0, Stamp::of_millis(5), &frame)
     })
 }
 

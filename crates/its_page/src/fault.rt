@@ -1,5 +1,6 @@
 //! Why the page is not written.
 
+use crate::limit::TooLarge;
 use its_frame_text::Explanation;
 use its_reporting::{Cause, CommandFault, Fault, OutputFormat, Status, WriterFault};
 use its_runs::RunFault;
@@ -17,6 +18,9 @@ pub(crate) enum PageFault<'a> {
     /// A style or a script of the page could not be read, and why, where the system told it.
     #[error("geostation: cannot read {0}")]
     PartNotRead(String, Option<Cause>),
+    /// A run or a street net is larger than a page holds.
+    #[error("geostation: {0}")]
+    TooLarge(TooLarge<'a>),
     /// The scenario is not run, or what ends any command.
     #[error("{0}")]
     Run(RunFault<'a>),
@@ -37,9 +41,11 @@ impl CommandFault for PageFault<'_> {
 
     ghost status_of = { page_fault_status };
 
-    /// `Failed`, but that of a run's fault.
+    /// `Refused` for a file that is too large, the status of a run's fault for that, otherwise
+    /// `Failed`.
     fn status(&self) -> Status {
         match self {
+            PageFault::TooLarge(_) => Status::Refused,
             PageFault::NoPage | PageFault::PartNotRead(..) => Status::Failed,
             PageFault::Run(fault) => fault.status(),
         }
@@ -65,6 +71,12 @@ impl From<AllocError> for PageFault<'_> {
 impl<'a> From<Fault<'a>> for PageFault<'a> {
     fn from(fault: Fault<'a>) -> PageFault<'a> {
         PageFault::Run(RunFault::Stopped(fault))
+    }
+}
+
+impl<'a> From<TooLarge<'a>> for PageFault<'a> {
+    fn from(fault: TooLarge<'a>) -> PageFault<'a> {
+        PageFault::TooLarge(fault)
     }
 }
 

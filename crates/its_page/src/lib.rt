@@ -4,7 +4,9 @@
 mod fault;
 mod folder;
 mod inside;
+mod limit;
 mod name;
+mod net;
 mod page;
 mod part;
 mod run;

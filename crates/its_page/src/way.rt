@@ -1,5 +1,6 @@
 //! From where the page is read, and to where it is written.
 
+use crate::limit::{Content, TooLarge};
 use its_reporting::{Fault, OutputFormat, is_standard};
 use std::io;
 use std::io::{BufRead, ErrorKind, Write};
@@ -13,6 +14,10 @@ pub(crate) struct Way<'a> {
     pub(crate) index: &'a str,
     /// The name of the run, or of the scenario.
     pub(crate) file: &'a str,
+    /// The name of the moves with which the scenario is run, if there are any.
+    pub(crate) moves: Option<&'a str>,
+    /// The name of the street net, if there is one.
+    pub(crate) net: Option<&'a str>,
     /// The file that is written. `-` is standard output.
     pub(crate) target: &'a str,
     /// How lines on standard error are printed: only `explain` counts.
@@ -20,6 +25,21 @@ pub(crate) struct Way<'a> {
 }
 
 impl<'a> Way<'a> {
+    /// The fault of a file with more content than a page holds. It can be dropped on the page that
+    /// is written, or on the empty one if that is standard output.
+    pub(crate) fn too_large(self, content: Content, file: &'a str) -> TooLarge<'a> {
+        let page = if is_standard(self.target) {
+            self.index
+        } else {
+            self.target
+        };
+        TooLarge {
+            content,
+            file,
+            page,
+        }
+    }
+
     /// What a write gave, or its fault: for standard output there is no line.
     pub(crate) fn told<T: Drop>(self, written: io::Result<T>) -> Result<T, Fault<'a>> {
         written.map_err(|error| fault_of(&error, self.target))

@@ -9,33 +9,40 @@ use Rattle.its_pcap.specs.declared.interface.Interface.{Interface}
 use Rattle.its_pcap.specs.declared.octets.Endianness.{Endianness}
 use Rattle.its_pcap.specs.declared.options.OptionStep.{OptionStep}
 use Rattle.its_pcap.specs.declared.options.OptionKind.{OptionKind}
-use Rattle.its_pcap.specs.Interfaces.{AreOptions, one_option, options, HasTicks, HasOffset, IsTurn}
-use Rattle.its_pcap.specs.Interfaces.{is_end}
-use Rattle.its_pcap.specs.Moments.{added_of, taken_of}
+use Rattle.its_pcap.specs.Interfaces.{AreOptions, one_option, options, HasResolution, HasOffset}
+use Rattle.its_pcap.specs.Interfaces.{HasName, IsNamed, IsTurn, is_end, resolved, offset_by}
+use Rattle.its_pcap.specs.Moments.{ticks_of}
 use Rattle.its_pcap.specs.Layouts.{Reads, IsFaultOf, gives_that}
 use Rattle.its_pcap.proofs.Layouts.{reads, reads-as, reads-joined, prefix-behind, gives-read}
 
-pub has-ticks : (i : Interface) (n : ℕ) (j : Interface) (b : Option (List ℕ)) → j.ticks ≡ n
-    → j.layer ≡ i.layer → j.snap ≡ i.snap → j.offset_added ≡ i.offset_added → j.offset_taken ≡ i.offset_taken
-    → Reads ((gives_that (HasTicks i n)).Is j) b b
-has-ticks i n j b ticks layer snap offset_added offset_taken = gives-read (HasTicks i n) j b (record {
+pub has-resolution : (i : Interface) (r : ℕ) (j : Interface) (b : Option (List ℕ))
+    → j.ticks ≡ ticks_of r → j.info ≡ resolved i.info r → j.snap ≡ i.snap → j.number ≡ i.number
+    → Reads ((gives_that (HasResolution i r)).Is j) b b
+has-resolution i r j b ticks info snap number = gives-read (HasResolution i r) j b (record {
   ticks = ticks;
-  layer = layer;
+  info = info;
   snap = snap;
-  offset_added = offset_added;
-  offset_taken = offset_taken;
+  number = number;
 })
 
 pub has-offset : (i : Interface) (n : ℕ) (j : Interface) (b : Option (List ℕ))
-    → j.offset_added ≡ added_of n → j.offset_taken ≡ taken_of n → j.layer ≡ i.layer
-    → j.snap ≡ i.snap → j.ticks ≡ i.ticks
+    → j.info ≡ offset_by i.info n → j.snap ≡ i.snap → j.ticks ≡ i.ticks → j.number ≡ i.number
     → Reads ((gives_that (HasOffset i n)).Is j) b b
-has-offset i n j b offset_added offset_taken layer snap ticks = gives-read (HasOffset i n) j b (record {
-  offset_added = offset_added;
-  offset_taken = offset_taken;
-  layer = layer;
+has-offset i n j b info snap ticks number = gives-read (HasOffset i n) j b (record {
+  info = info;
   snap = snap;
   ticks = ticks;
+  number = number;
+})
+
+pub has-name : (i : Interface) (w : List ℕ) (j : Interface) (b : Option (List ℕ))
+    → IsNamed i.info w j.info → j.snap ≡ i.snap → j.ticks ≡ i.ticks → j.number ≡ i.number
+    → Reads ((gives_that (HasName i w)).Is j) b b
+has-name i w j b info snap ticks number = gives-read (HasName i w) j b (record {
+  info = info;
+  snap = snap;
+  ticks = ticks;
+  number = number;
 })
 
 pub is-turn : (room : ℕ) (head : OptionKind × ℕ) (i : Interface) (t : OptionStep)

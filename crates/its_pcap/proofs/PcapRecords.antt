@@ -16,7 +16,7 @@ use Rattle.its_pcap.specs.declared.pcap.TheConstants.{LONGEST_CAPTURED}
 use Rattle.its_pcap.specs.declared.record.RecordHeader.{RecordHeader}
 use Rattle.its_pcap.specs.Octets.{number_in}
 use Rattle.its_pcap.specs.Reading.{IsCutShort, IsFrameFault, EndsWhere}
-use Rattle.its_pcap.specs.Pcap.{captured_of, moment_of, AnnouncesRecord, EndsInRecord}
+use Rattle.its_pcap.specs.Pcap.{captured_of, moment_of, fine_of, AnnouncesRecord, EndsInRecord}
 use Rattle.its_pcap.specs.Pcap.{IsRecordFault, HasRecord}
 use Rattle.its_pcap.proofs.Cuts.{ConsumesPrefix-after}
 use Rattle.its_pcap.proofs.Parts.{IfSome-of, EndsWhere-after, number_in-front, number_in-behind}
@@ -130,10 +130,11 @@ pub HasRecord-parts : (f : FileHeader) (keep : ℕ) (h : RecordHeader) (frame p 
     → length q ≡ 4 → length r ≡ h.captured → h.captured ≡ number_in f.magic.order 4 (drop 8 p)
     → h.captured ≤ LONGEST_CAPTURED
     → h.moment ≡ moment_of f.magic.unit (number_in f.magic.order 4 (drop 0 p)) (number_in f.magic.order 4 (drop 4 p))
-    → h.wire ≡ number_in f.magic.order 4 (drop 0 q) → h.layer ≡ Some f.layer
+    → h.fine ≡ fine_of f.magic.unit (number_in f.magic.order 4 (drop 0 p)) (number_in f.magic.order 4 (drop 4 p))
+    → h.interface ≡ 0 → h.wire ≡ number_in f.magic.order 4 (drop 0 q) → h.layer ≡ Some f.layer
     → frame ≡ take (min h.captured keep) r
     → HasRecord f keep h frame (((p ++ q) ++ r) ++ v)
-HasRecord-parts f keep h frame p q r v twelve four size captured fits moment wire layer kept =
+HasRecord-parts f keep h frame p q r v twelve four size captured fits moment fine interface wire layer kept =
     let w = (p ++ q) ++ (r ++ v) in
     let same : ((p ++ q) ++ r) ++ v ≡ w = append_assoc (p ++ q) r v in
     let sixteen : length (p ++ q) ≡ 16 = omega (arith, twelve, four, length-append p q) in
@@ -155,6 +156,11 @@ HasRecord-parts f keep h frame p q r v twelve four size captured fits moment wir
             ∙ ap (λ (n : ℕ). moment_of f.magic.unit n (number_in f.magic.order 4 (drop 4 p)))
             (sym (at 0 (omega arith)))
             ∙ ap (moment_of f.magic.unit (number_in f.magic.order 4 w)) (sym (at 4 (omega arith)));
+        fine = fine
+            ∙ ap (λ (n : ℕ). fine_of f.magic.unit n (number_in f.magic.order 4 (drop 4 p)))
+            (sym (at 0 (omega arith)))
+            ∙ ap (fine_of f.magic.unit (number_in f.magic.order 4 w)) (sym (at 4 (omega arith)));
+        interface = interface;
         captured = captured ∙ sym (at 8 (omega arith));
         wire = wire ∙ sym last;
         layer = layer;

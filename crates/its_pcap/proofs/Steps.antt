@@ -19,22 +19,22 @@ use Rattle.its_pcap.specs.declared.record.Step.{Step}
 -- a block was read and taken
 pub taken : (o : Option Endianness) (was now : PcapngReading) (frame : List ℕ) (b : Block)
     (answer : Result Step SourceFault)
-    → Reads ((next_block o was.interfaces was.keep frame).Is b) was.rest now.rest
-    → IsTaken b was.stage now.stage was.interfaces now.interfaces answer
+    → Reads ((next_block o was.next was.interfaces was.keep frame).Is b) was.rest now.rest
+    → IsTaken b was.stage now.stage was.next now.next was.interfaces now.interfaces answer
     → IsNext o was now frame answer
 taken o was now frame (blocks.Section s) answer reads t =
     subst (IsNext o was now frame) (sym t.0)
-    (record { block = blocks.Section s; reads = reads; taken = (refl, t.1, t.2) })
+    (record { block = blocks.Section s; reads = reads; taken = (refl, t.1, t.2, t.3) })
 taken o was now frame (blocks.Interface i) (Ok step) reads t =
     subst (λ (s : Step). IsNext o was now frame (Ok s)) (sym t.0)
-    (record { block = blocks.Interface i; reads = reads; taken = (refl, t.1, t.2) })
+    (record { block = blocks.Interface i; reads = reads; taken = (refl, t.1, t.2, t.3) })
 taken o was now frame (blocks.Interface i) (Err f) reads t = (t.1, inr (t.0, i, reads))
 taken o was now frame (blocks.Record h) answer reads t =
     subst (IsNext o was now frame) (sym t.0)
-    (record { block = blocks.Record h; reads = reads; taken = (refl, t.1, t.2) })
+    (record { block = blocks.Record h; reads = reads; taken = (refl, t.1, t.2, t.3) })
 taken o was now frame blocks.Other answer reads t =
     subst (IsNext o was now frame) (sym t.0)
-    (record { block = blocks.Other; reads = reads; taken = (refl, t.1, t.2) })
+    (record { block = blocks.Other; reads = reads; taken = (refl, t.1, t.2, t.3) })
 
 -- what is next is the answer where blocks are read
 pub at_stage : (stage : Stage) (o : Option Endianness) (was now : PcapngReading) (frame : List ℕ)
@@ -52,8 +52,8 @@ at_stage stage o was now frame answer (inr p) next =
 -- where memory was wanting for what was read, that is an interface
 pub taken_memory : (o : Option Endianness) (was now : PcapngReading) (frame : List ℕ) (b : Block)
     (answer : Result Step SourceFault)
-    → Reads ((next_block o was.interfaces was.keep frame).Is b) was.rest now.rest
-    → IsTaken b was.stage now.stage was.interfaces now.interfaces answer
+    → Reads ((next_block o was.next was.interfaces was.keep frame).Is b) was.rest now.rest
+    → IsTaken b was.stage now.stage was.next now.next was.interfaces now.interfaces answer
     → answer ≡ Err (faults.Capture captures.NoMemory) → ReadsInterface o was now
 taken_memory o was now frame (blocks.Section s) answer reads t e = absurd (true≢false (sym (ap is_ok t.0) ∙ ap is_ok e))
 taken_memory o was now frame (blocks.Interface i) (Ok step) reads t e = absurd (true≢false (ap is_ok e))

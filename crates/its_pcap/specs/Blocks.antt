@@ -1,7 +1,7 @@
 -- The blocks of a pcapng file. Each begins with its type and its length, which stands at its end
 -- again; a section header says the order of octets for the blocks behind it.
 use Rattle.std.specs.Prelude.{◌≡◌, ◌≢◌, ℕ, ◌+◌, ◌-◌, ◌*◌, ◌^◌, ◌%◌, ◌≤◌, ◌⊎◌, ◌==◌, min}
-use Rattle.std.specs.Prelude.{List, drop, if◌then◌else◌, Some, None}
+use Rattle.std.specs.Prelude.{List, drop, if◌then◌else◌, Some, None, false}
 use Rattle.std.specs.List.{slice_get}
 use Rattle.byteorder.specs.Endian.{big_number}
 use Rattle.its_pcap.specs.declared.blocks.Block.{Block}
@@ -15,7 +15,8 @@ use Rattle.its_pcap.specs.declared.octets.Endianness.TheVariants as orders
 use Rattle.its_pcap.specs.declared.pcap.TheConstants.{LONGEST_CAPTURED}
 use Rattle.its_pcap.specs.Layouts.{Layout, behind, field, frame, gives, number, number_that, octets}
 use Rattle.its_pcap.specs.Interfaces.{plain, options}
-use Rattle.its_pcap.specs.Moments.{IsMoment, IsNoMoment}
+use Rattle.its_pcap.specs.Moments.{IsMoment, IsNoMoment, added_of, taken_of, fine_in}
+use Rattle.its_pcap.specs.declared.record.FineTime.{FineTime}
 use Rattle.its_pcap.specs.Octets.{number_in}
 
 -- a length that a block may have, of which its type always has `least` octets
@@ -68,10 +69,11 @@ section =
 
 -- ---- an interface, behind its type
 
-unfoldable pub interface : Endianness → Layout Block
-interface o =
+-- the interface of this number
+unfoldable pub interface : Endianness → ℕ → Layout Block
+interface o next =
     behind (block_length o 20)
-    (λ n. behind (plain o)
+    (λ n. behind (plain o next)
     (λ i. behind (options o (n - 20) i)
     (λ known. behind (closing o known.0 n) (λ _. gives (blocks.Interface known.1)))))
 
@@ -87,10 +89,20 @@ named o is =
 abbrev pub timestamp_in : Endianness → List ℕ → ℕ
 timestamp_in o w = number_in o 4 w * 2 ^ 32 + number_in o 4 (drop 4 w)
 
-abbrev pub moment : Endianness → Interface → Layout ℕ
+-- the seconds that an interface adds to each moment, and those that it takes
+abbrev pub added : Interface → ℕ
+added i = added_of i.info.head.offset
+
+abbrev pub taken : Interface → ℕ
+taken i = taken_of i.info.head.offset
+
+-- the moment, and the time below its milliseconds
+abbrev pub moment : Endianness → Interface → Layout (ℕ × FineTime)
 moment o i =
-    field 8 (λ m w. IsMoment i.ticks i.offset_added i.offset_taken (timestamp_in o w) m)
-    (λ w. IsNoMoment i.ticks i.offset_added i.offset_taken (timestamp_in o w))
+    field 8
+    (λ m w. IsMoment i.ticks (added i) (taken i) (timestamp_in o w) m.0
+    × (m.1 ≡ fine_in i.ticks (timestamp_in o w)))
+    (λ w. IsNoMoment i.ticks (added i) (taken i) (timestamp_in o w))
 
 -- a captured length that a record may have, and for which the block has room
 abbrev pub FitsRecord : ℕ → ℕ → Type 0
@@ -106,10 +118,12 @@ packet o is keep kept =
     (λ wire. behind (frame c keep kept)
     (λ _. behind (closing o (n - 32 - c) n)
     (λ _. gives (blocks.Record (record {
-      moment = m;
+      moment = m.0;
+      fine = m.1;
+      interface = i.number;
       captured = c;
       wire = wire;
-      layer = i.layer;
+      layer = i.info.layer;
     })))))))))
 
 -- the first interface of a section: no octet says it
@@ -142,9 +156,11 @@ simple o is keep kept =
     (λ _. behind (closing o (n - 16 - lengths.1) n)
     (λ _. gives (blocks.Record (record {
       moment = 0;
+      fine = record { nanos = 0; finer = false; ticks = 0 };
+      interface = i.number;
       captured = lengths.1;
       wire = lengths.0;
-      layer = i.layer;
+      layer = i.info.layer;
     })))))))
 
 -- ---- a block of another kind, behind its type: it is passed over
@@ -163,10 +179,11 @@ kind_of_block number =
     else if number == 6 then kinds.Packet
     else kinds.Other
 
--- a block of this type, in a section of this order with these interfaces
-abbrev pub block_of : Endianness → List Interface → ℕ → List ℕ → Kind → Layout Block
-block_of o is keep kept kinds.Section = section
-block_of o is keep kept kinds.Interface = interface o
-block_of o is keep kept kinds.Simple = simple o is keep kept
-block_of o is keep kept kinds.Packet = packet o is keep kept
-block_of o is keep kept kinds.Other = other o
+-- a block of this type, in a section of this order with these interfaces: a further one has the
+-- number `next`
+abbrev pub block_of : Endianness → ℕ → List Interface → ℕ → List ℕ → Kind → Layout Block
+block_of o next is keep kept kinds.Section = section
+block_of o next is keep kept kinds.Interface = interface o next
+block_of o next is keep kept kinds.Simple = simple o is keep kept
+block_of o next is keep kept kinds.Packet = packet o is keep kept
+block_of o next is keep kept kinds.Other = other o

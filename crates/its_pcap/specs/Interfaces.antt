@@ -1,6 +1,6 @@
 -- Interface blocks of pcapng: link type, snap length, and the options that tell the moments.
 use Rattle.std.specs.Prelude.{◌≡◌, ℕ, ◌+◌, ◌-◌, ◌%◌, ◌<◌, ◌≤◌, ◌⊎◌, ◌==◌, ◌&&◌, zero, suc}
-use Rattle.std.specs.Prelude.{Bool, true, false, List, [], drop, if◌then◌else◌}
+use Rattle.std.specs.Prelude.{Bool, true, false, List, [], drop, if◌then◌else◌, nat_lt, None}
 use Rattle.its_pcap.specs.declared.interface.Interface.{Interface}
 use Rattle.its_pcap.specs.declared.octets.Endianness.{Endianness}
 use Rattle.its_pcap.specs.declared.octets.Endianness.TheVariants as orders
@@ -10,43 +10,77 @@ use Rattle.its_pcap.specs.declared.options.OptionStep.{OptionStep}
 use Rattle.its_pcap.specs.Layouts.{Layout, Joined, behind, field, gives, gives_that, number}
 use Rattle.its_pcap.specs.Layouts.{number_that, octets}
 use Rattle.its_linklayers.specs.LinkLayers.{layer_of}
-use Rattle.its_pcap.specs.Moments.{IsTooFine, ticks_of, added_of, taken_of}
+use Rattle.its_pcap.specs.Moments.{IsTooFine, ticks_of}
+use Rattle.its_pcap.specs.InterfaceHeads.{name_in}
+use Rattle.its_pcap.specs.declared.info.InterfaceInfo.{InterfaceInfo}
 use Rattle.its_pcap.specs.Octets.{number_in}
 
 -- what the 8 octets before the options say: link type, two octets that are not read, snap length;
 -- without options a tick is a millionth of a second, and nothing is added to a moment
-pub record IsPlain (o : Endianness) (i : Interface) (w : List ℕ) : Type 0 where
-  pub layer : i.layer ≡ layer_of (number_in o 2 w)
+pub record IsPlain (o : Endianness) (next : ℕ) (i : Interface) (w : List ℕ) : Type 0 where
+  pub number : i.number ≡ next
+  pub link : i.info.head.link ≡ number_in o 2 w
+  pub resolution : i.info.head.resolution ≡ 6
+  pub offset : i.info.head.offset ≡ 0
+  pub layer : i.info.layer ≡ layer_of (number_in o 2 w)
+  pub name : i.info.name ≡ None
   pub snap : i.snap ≡ number_in o 4 (drop 4 w)
   pub ticks : i.ticks ≡ 1000000
-  pub offset_added : i.offset_added ≡ 0
-  pub offset_taken : i.offset_taken ≡ 0
 
-abbrev pub plain : Endianness → Layout Interface
-plain o = field 8 (IsPlain o) (λ _. ⊥)
+abbrev pub plain : Endianness → ℕ → Layout Interface
+plain o next = field 8 (IsPlain o next) (λ _. ⊥)
 
--- the same interface, with these ticks of a second
-pub record HasTicks (i : Interface) (n : ℕ) (j : Interface) : Type 0 where
-  pub ticks : j.ticks ≡ n
-  pub layer : j.layer ≡ i.layer
+-- the same interface, with this octet of `if_tsresol`
+abbrev pub resolved : InterfaceInfo → ℕ → InterfaceInfo
+resolved info r = record {
+  head = record { link = info.head.link; resolution = r; offset = info.head.offset };
+  layer = info.layer;
+  name = info.name;
+}
+
+pub record HasResolution (i : Interface) (r : ℕ) (j : Interface) : Type 0 where
+  pub ticks : j.ticks ≡ ticks_of r
+  pub info : j.info ≡ resolved i.info r
   pub snap : j.snap ≡ i.snap
-  pub offset_added : j.offset_added ≡ i.offset_added
-  pub offset_taken : j.offset_taken ≡ i.offset_taken
+  pub number : j.number ≡ i.number
 
 -- the same interface, with these seconds, signed, added to each moment
+abbrev pub offset_by : InterfaceInfo → ℕ → InterfaceInfo
+offset_by info offset = record {
+  head = record { link = info.head.link; resolution = info.head.resolution; offset = offset };
+  layer = info.layer;
+  name = info.name;
+}
+
 pub record HasOffset (i : Interface) (offset : ℕ) (j : Interface) : Type 0 where
-  pub offset_added : j.offset_added ≡ added_of offset
-  pub offset_taken : j.offset_taken ≡ taken_of offset
-  pub layer : j.layer ≡ i.layer
+  pub info : j.info ≡ offset_by i.info offset
   pub snap : j.snap ≡ i.snap
   pub ticks : j.ticks ≡ i.ticks
+  pub number : j.number ≡ i.number
+
+-- the same interface, with this name
+pub record IsNamed (was : InterfaceInfo) (w : List ℕ) (now : InterfaceInfo) : Type 0 where
+  pub name : name_in now.name ≡ w
+  pub head : now.head ≡ was.head
+  pub layer : now.layer ≡ was.layer
+
+pub record HasName (i : Interface) (w : List ℕ) (j : Interface) : Type 0 where
+  pub info : IsNamed i.info w j.info
+  pub snap : j.snap ≡ i.snap
+  pub ticks : j.ticks ≡ i.ticks
+  pub number : j.number ≡ i.number
 
 -- ---- one option: a code, the size of its value, the value, and padding to a multiple of 4
 
--- `if_tsresol` is 9, of one octet, `if_tsoffset` 14, of 8; 0 ends the options, whatever its size
+-- `if_name` is 2, of 1 to 128 octets, `if_tsresol` 9, of one octet, `if_tsoffset` 14, of 8; 0 ends
+-- the options, whatever its size
+abbrev pub is_name_size : ℕ → Bool
+is_name_size size = nat_lt 0 size && nat_lt size 129
+
 abbrev pub kind_of_option : ℕ → ℕ → OptionKind
 kind_of_option code size =
     if code == 0 then kinds.End
+    else if code == 2 && is_name_size size then kinds.Name size
     else if code == 9 && size == 1 then kinds.Resolution
     else if code == 14 && size == 8 then kinds.Offset
     else kinds.Other
@@ -72,11 +106,29 @@ abbrev pub option_head : Endianness → ℕ → Layout (OptionKind × ℕ)
 option_head o left =
     field 4 (IsOptionHead o left) (λ w. left < option_room (code_in o w) (size_in o w))
 
+-- a name that is kept is short enough
+abbrev pub FitsName : OptionKind → Type 0
+FitsName kinds.End = Unit {0}
+FitsName (kinds.Name size) = size ≤ 128
+FitsName kinds.Resolution = Unit {0}
+FitsName kinds.Offset = Unit {0}
+FitsName kinds.Other = Unit {0}
+
+-- any octets, so many of them
+abbrev pub text : ℕ → Layout (List ℕ)
+text size = field size (λ x w. x ≡ w) (λ _. ⊥)
+
+-- a name, and padding
+unfoldable pub name : ℕ → Interface → Layout Interface
+name size i =
+    behind (text size)
+    (λ w. behind (octets ((4 - size % 4) % 4)) (λ _. gives_that (HasName i w)))
+
 -- ticks that are not too fine, and padding
 unfoldable pub resolution : Interface → Layout Interface
 resolution i =
     behind (number_that orders.Big 1 (λ r. ¬ IsTooFine r))
-    (λ r. behind (octets 3) (λ _. gives_that (HasTicks i (ticks_of r))))
+    (λ r. behind (octets 3) (λ _. gives_that (HasResolution i r)))
 
 unfoldable pub offset : Endianness → Interface → Layout Interface
 offset o i = behind (number o 8) (λ s. gives_that (HasOffset i s))
@@ -88,12 +140,14 @@ passed room i = behind (octets room) (λ _. gives i)
 -- the value of an option
 abbrev pub option_value : Endianness → Interface → OptionKind → ℕ → Layout Interface
 option_value o i kinds.End room = gives i
+option_value o i (kinds.Name size) room = name size i
 option_value o i kinds.Resolution room = resolution i
 option_value o i kinds.Offset room = offset o i
 option_value o i kinds.Other room = passed room i
 
 abbrev pub is_end : OptionKind → Bool
 is_end kinds.End = true
+is_end (kinds.Name size) = false
 is_end kinds.Resolution = false
 is_end kinds.Offset = false
 is_end kinds.Other = false

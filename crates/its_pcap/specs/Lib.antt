@@ -2,6 +2,7 @@ pub mod Peeked
 pub mod Blocks
 pub mod Codes
 pub mod Formats
+pub mod InterfaceHeads
 pub mod Interfaces
 pub mod Layouts
 pub mod Moments
@@ -16,5 +17,6 @@ pub mod RecordFiles
 pub mod Records
 pub mod Sinks
 pub mod Sources
+pub mod Stamps
 pub mod Words
 pub mod Writing

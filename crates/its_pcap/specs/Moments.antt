@@ -1,5 +1,7 @@
 -- The moments of a pcapng file: ticks of an interface, and seconds that are added to each.
-use Rattle.std.specs.Prelude.{◌≡◌, ℕ, ◌+◌, ◌-◌, ◌*◌, ◌/◌, ◌^◌, ◌<◌, ◌≤◌, ◌⊎◌, nat_lt, if◌then◌else◌}
+use Rattle.std.specs.Prelude.{◌≡◌, ℕ, ◌+◌, ◌-◌, ◌*◌, ◌/◌, ◌%◌, ◌^◌, ◌<◌, ◌≤◌, ◌⊎◌}
+use Rattle.std.specs.Prelude.{nat_lt, if◌then◌else◌}
+use Rattle.its_pcap.specs.declared.record.FineTime.{FineTime}
 
 -- the ticks of a second, by the octet of `if_tsresol`: a power of 10, or of 2 where it is 128 and
 -- more
@@ -32,3 +34,12 @@ abbrev pub IsNoMoment : ℕ → ℕ → ℕ → ℕ → Type 0
 IsNoMoment ticks offset_added offset_taken timestamp =
     (milliseconds ticks offset_added timestamp < 1000 * offset_taken)
     ⊎ (2 ^ 64 + 1000 * offset_taken ≤ milliseconds ticks offset_added timestamp)
+
+-- The time below the millisecond: nanoseconds, whether there is a fraction of one too, and the
+-- timestamp itself. Whole seconds that are added count nothing here.
+abbrev pub fine_in : ℕ → ℕ → FineTime
+fine_in ticks timestamp = record {
+  nanos = timestamp * 1000000000 / ticks % 1000000;
+  finer = nat_lt 0 (timestamp * 1000000000 % ticks);
+  ticks = timestamp;
+}

@@ -24,7 +24,10 @@ use Rattle.its_pcap.specs.declared.record.RecordHeader.{RecordHeader}
 use Rattle.its_pcap.specs.declared.record.Step.{Step}
 use Rattle.its_pcap.specs.declared.record.Step.TheVariants as steps
 use Rattle.its_linklayers.specs.LinkLayers.{layer_of}
+use Rattle.its_pcap.specs.InterfaceHeads.{classic_info}
 use Rattle.its_pcap.specs.Octets.{number_in}
+use Rattle.its_pcap.specs.declared.info.InterfaceInfo.{InterfaceInfo}
+use Rattle.its_pcap.specs.declared.record.FineTime.{FineTime}
 use Rattle.its_pcap.specs.Reading.{Passes, MeetsEnd, EndsWhere}
 
 -- The four marks, as numbers read with the highest octet first: a1b2c3d4 and a1b23c4d where the
@@ -97,6 +100,19 @@ abbrev pub moment_of : Unit → ℕ → ℕ → ℕ
 moment_of units.Micro seconds fraction = 1000 * seconds + fraction / 1000
 moment_of units.Nano seconds fraction = 1000 * seconds + fraction / 1000000
 
+-- the same below the millisecond, and as a count of the fractions of a second
+abbrev pub fine_of : Unit → ℕ → ℕ → FineTime
+fine_of units.Micro seconds fraction = record {
+  nanos = fraction % 1000 * 1000;
+  finer = false;
+  ticks = 1000000 * seconds + fraction;
+}
+fine_of units.Nano seconds fraction = record {
+  nanos = fraction % 1000000;
+  finer = false;
+  ticks = 1000000000 * seconds + fraction;
+}
+
 -- the captured length of the record at the head of the octets
 abbrev pub captured_of : Magic → List ℕ → ℕ
 captured_of m w = number_in m.order 4 (drop 8 w)
@@ -109,6 +125,9 @@ AnnouncesRecord m w = (12 ≤ length w) × (captured_of m w ≤ LONGEST_CAPTURED
 pub record IsHead (f : FileHeader) (w : List ℕ) (h : RecordHeader) : Type 0 where
   pub moment : h.moment ≡ moment_of f.magic.unit (number_in f.magic.order 4 w)
       (number_in f.magic.order 4 (drop 4 w))
+  pub fine : h.fine ≡ fine_of f.magic.unit (number_in f.magic.order 4 w)
+      (number_in f.magic.order 4 (drop 4 w))
+  pub interface : h.interface ≡ 0
   pub captured : h.captured ≡ captured_of f.magic w
   pub wire : h.wire ≡ number_in f.magic.order 4 (drop 12 w)
   pub layer : h.layer ≡ Some f.layer
@@ -173,18 +192,27 @@ layer_at (stages.Records head) = Some head.layer
 layer_at stages.Ended = None
 layer_at stages.Failed = None
 
+-- what the header says of the file's one interface
+abbrev pub info_at : Stage → Option InterfaceInfo
+info_at stages.Start = None
+info_at (stages.Records head) = Some (classic_info head)
+info_at stages.Ended = None
+info_at stages.Failed = None
+
 -- What a step says of a file that has a record next: a record, or the end.
 abbrev pub IsRecordStep : FileHeader → ℕ → List ℕ → Option (List ℕ) → Option (List ℕ) → Step
     → Type 0
 IsRecordStep f keep frame old new (steps.Record h) = ReadsRecord f keep h frame old new
+IsRecordStep f keep frame old new steps.Interface = ⊥
 IsRecordStep f keep frame old new steps.Passed = ⊥
 IsRecordStep f keep frame old new steps.End = MeetsEnd old new
 
--- What an answer says, by the stage: at the start the header is passed over, and says what the
--- records of the file are; after the end the end is answered, and after a fault C5, and nothing is read.
+-- What an answer says, by the stage: at the start the header is read, and says what the records of
+-- the file are; after the end the end is answered, and after a fault C5, and nothing is read.
 abbrev pub IsAnswer : Stage → Stage → ℕ → List ℕ → Option (List ℕ) → Option (List ℕ)
     → Result Step SourceFault → Type 0
-IsAnswer stages.Start after keep frame old new (Ok steps.Passed) =
+IsAnswer stages.Start after keep frame old new (Ok steps.Passed) = ⊥
+IsAnswer stages.Start after keep frame old new (Ok steps.Interface) =
     (h : FileHeader) × (after ≡ stages.Records h) × ReadsHeader h old new
 IsAnswer stages.Start after keep frame old new (Ok (steps.Record h)) = ⊥
 IsAnswer stages.Start after keep frame old new (Ok steps.End) = ⊥
@@ -192,6 +220,7 @@ IsAnswer stages.Start after keep frame old new (Err f) =
     (after ≡ stages.Failed) × IsHeaderFault old new f
 IsAnswer (stages.Records head) after keep frame old new (Ok (steps.Record h)) =
     (after ≡ stages.Records head) × ReadsRecord head keep h frame old new
+IsAnswer (stages.Records head) after keep frame old new (Ok steps.Interface) = ⊥
 IsAnswer (stages.Records head) after keep frame old new (Ok steps.Passed) = ⊥
 IsAnswer (stages.Records head) after keep frame old new (Ok steps.End) =
     (after ≡ stages.Ended) × MeetsEnd old new

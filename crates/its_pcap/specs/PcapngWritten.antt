@@ -1,11 +1,9 @@
--- pcapng as it is written: numbers with their lowest octet first, one section, and interfaces
--- whose ticks are milliseconds.
+-- pcapng as it is written: numbers with their lowest octet first, and one section.
 use Rattle.std.specs.Prelude.{◌≡◌, ℕ, ◌+◌, ◌-◌, ◌/◌, ◌%◌, ◌^◌, ◌<◌, ◌≤◌, Bool}
-use Rattle.std.specs.Prelude.{List, [], ◌∷◌, ◌++◌, length, take, Option}
+use Rattle.std.specs.Prelude.{List, [], ◌∷◌, ◌++◌, length, take, Option, ◌==◌, if◌then◌else◌}
 use Rattle.byteorder.specs.Endian.{little_bytes}
 use Rattle.its_linkframe.specs.Devices.{AppendsPrefix}
-use Rattle.its_linklayers.specs.LinkLayers.{layer_number}
-use Rattle.its_linklayers.specs.declared.link.LinkLayer.{LinkLayer}
+use Rattle.its_pcap.specs.declared.info.InterfaceHead.{InterfaceHead}
 use Rattle.its_pcap.specs.declared.pcap.TheConstants.{LONGEST_CAPTURED}
 use Rattle.its_pcap.specs.declared.put_fault.PutFault.{PutFault}
 use Rattle.its_pcap.specs.declared.put_fault.PutFault.TheVariants as faults
@@ -27,53 +25,69 @@ section_octets =
     10 ∷ 13 ∷ 13 ∷ 10 ∷ 28 ∷ 0 ∷ 0 ∷ 0 ∷ 77 ∷ 60 ∷ 43 ∷ 26 ∷ 1 ∷ 0 ∷ 0 ∷ 0
     ∷ 255 ∷ 255 ∷ 255 ∷ 255 ∷ 255 ∷ 255 ∷ 255 ∷ 255 ∷ 28 ∷ 0 ∷ 0 ∷ 0 ∷ []
 
--- an interface up to its options: block type 1, the block's length, the link layer, snap length
+-- an interface up to its options: block type 1, the block's length, the link type, snap length
 -- 262144
-unfoldable pub interface_front : LinkLayer → ℕ → List ℕ
-interface_front l size =
-    little_bytes 4 1 ++ little_bytes 4 size ++ little_bytes 2 (layer_number l)
+unfoldable pub interface_front : ℕ → ℕ → List ℕ
+interface_front link size =
+    little_bytes 4 1 ++ little_bytes 4 size ++ little_bytes 2 link
     ++ little_bytes 2 0 ++ little_bytes 4 262144
 
--- the options `if_tsresol` 3 and end of options, and the block's length
-unfoldable pub interface_end : ℕ → List ℕ
-interface_end size =
-    (9 ∷ 0 ∷ 1 ∷ 0 ∷ 3 ∷ 0 ∷ 0 ∷ 0 ∷ 0 ∷ 0 ∷ 0 ∷ 0 ∷ []) ++ little_bytes 4 size
-
--- the option `if_name`
+-- the option `if_name` up to the name, whole and where there is one
 unfoldable pub name_head : ℕ → List ℕ
 name_head size = little_bytes 2 2 ++ little_bytes 2 size
 
--- how many octets an interface with a name has
-abbrev pub named_size : ℕ → ℕ
-named_size n = 36 + (n + padding_size n)
+abbrev pub name_head_room : ℕ → ℕ
+name_head_room size = if size == 0 then 0 else 4
 
--- an interface with this name
-abbrev pub named_octets : LinkLayer → List ℕ → List ℕ
-named_octets l name =
-    ((interface_front l (named_size (length name)) ++ name_head (length name)) ++ name)
-    ++ (padding_of name ++ interface_end (named_size (length name)))
+abbrev pub name_head_of : ℕ → List ℕ
+name_head_of size = take (name_head_room size) (name_head size)
 
--- an interface, which has the option only where the name isn't empty
-abbrev pub interface_octets : LinkLayer → List ℕ → List ℕ
-interface_octets l [] = interface_front l 32 ++ interface_end 32
-interface_octets l (c ∷ cs) = named_octets l (c ∷ cs)
+-- the option `if_tsresol`, of one octet, and padding
+unfoldable pub resolution_octets : ℕ → List ℕ
+resolution_octets r = little_bytes 2 9 ++ little_bytes 2 1 ++ little_bytes 4 r
+
+-- the option `if_tsoffset`, whole and where there are seconds
+unfoldable pub offset_octets : ℕ → List ℕ
+offset_octets seconds = little_bytes 2 14 ++ little_bytes 2 8 ++ little_bytes 8 seconds
+
+abbrev pub offset_room : ℕ → ℕ
+offset_room seconds = if seconds == 0 then 0 else 12
+
+abbrev pub offset_of : ℕ → List ℕ
+offset_of seconds = take (offset_room seconds) (offset_octets seconds)
+
+-- the end of options, and the block's length
+unfoldable pub interface_end : ℕ → List ℕ
+interface_end size = little_bytes 4 0 ++ little_bytes 4 size
+
+-- how many octets an interface has, with a name of so many and these seconds
+abbrev pub interface_size : ℕ → ℕ → ℕ
+interface_size n seconds = 32 + (name_head_room n + n + padding_size n) + offset_room seconds
+
+-- an interface, which has a name only where that isn't empty, and seconds only where they aren't 0
+abbrev pub interface_octets : InterfaceHead → List ℕ → List ℕ
+interface_octets h name =
+    interface_front h.link (interface_size (length name) h.offset)
+    ++ (name_head_of (length name) ++ (name ++ (padding_of name
+    ++ (resolution_octets h.resolution ++ (offset_of h.offset
+    ++ interface_end (interface_size (length name) h.offset))))))
 
 -- how many octets a packet with a frame of so many has
 abbrev pub packet_size : ℕ → ℕ
 packet_size n = 32 + (n + padding_size n)
 
--- a packet before its frame: block type 6, the block's length, the interface, the moment's upper
+-- a packet before its frame: block type 6, the block's length, the interface, the timestamp's upper
 -- and lower 32 bits, the frame's length twice: captured and on the wire
 unfoldable pub packet_head : ℕ → ℕ → ℕ → List ℕ
-packet_head interface moment n =
+packet_head interface ticks n =
     little_bytes 4 6 ++ little_bytes 4 (packet_size n) ++ little_bytes 4 interface
-    ++ little_bytes 4 (moment / 2 ^ 32) ++ little_bytes 4 (moment % 2 ^ 32)
+    ++ little_bytes 4 (ticks / 2 ^ 32) ++ little_bytes 4 (ticks % 2 ^ 32)
     ++ little_bytes 4 n ++ little_bytes 4 n
 
 -- a packet
 abbrev pub packet_octets : ℕ → ℕ → List ℕ → List ℕ
-packet_octets interface moment frame =
-    (packet_head interface moment (length frame) ++ frame)
+packet_octets interface ticks frame =
+    (packet_head interface ticks (length frame) ++ frame)
     ++ (padding_of frame ++ little_bytes 4 (packet_size (length frame)))
 
 -- A writer: whether a call of its device failed, how many interfaces it wrote, what octets its sink
@@ -109,7 +123,7 @@ IsSectionFault old new faults.Failed = new ≡ old
 
 -- what a fault says of an interface: a name of over 65535 octets has no place in an option, and a
 -- file has fewer interfaces than 2^32
-abbrev pub IsInterfaceFault : LinkLayer → List ℕ → Writing → Writing → PutFault → Type 0
+abbrev pub IsInterfaceFault : InterfaceHead → List ℕ → Writing → Writing → PutFault → Type 0
 IsInterfaceFault l name old new faults.Length = ⊥
 IsInterfaceFault l name old new faults.Moment = ⊥
 IsInterfaceFault l name old new faults.Interface = (2 ^ 32 - 1 ≤ old.interfaces) × (new ≡ old)

@@ -5,11 +5,16 @@ use Rattle.std.specs.Io.KnownBytes.{Appends}
 use Rattle.its_linkframe.specs.Captures.{IsFrameLength, captured_at, record_octets}
 use Rattle.its_linkframe.specs.Devices.{AppendsPrefix}
 use Rattle.its_linkframe.specs.Writing as captures
+use Rattle.its_pcap.specs.InterfaceHeads.{millis_head}
 use Rattle.its_pcap.specs.PcapWritten.{file_header, record_of, IsLate}
 use Rattle.its_pcap.specs.PcapngWritten.{section_octets, interface_octets, packet_octets}
 use Rattle.its_pcap.specs.PcapngWritten as sections
 use Rattle.its_pcap.specs.Writing as outputs
 use Rattle.its_pcap.specs.declared.format.Format.{Format}
+use Rattle.its_pcap.specs.declared.info.InterfaceHead.{InterfaceHead}
+use Rattle.its_pcap.specs.declared.pcap.Unit.{Unit as TimeUnit}
+use Rattle.its_pcap.specs.declared.pcap.Unit.TheVariants as units
+use Rattle.its_pcap.specs.declared.stamp.Stamp.{Stamp}
 use Rattle.its_pcap.specs.declared.format.Format.TheVariants as formats
 use Rattle.its_linklayers.specs.declared.link.LinkLayer.{LinkLayer}
 use Rattle.its_linklayers.specs.declared.link.LinkLayer.TheVariants as layers
@@ -82,16 +87,16 @@ Writes text more Fits Refuses old new (Err faults.Failed) = (old.failed ≡ true
 abbrev pub WritesNothing : RecordFile → RecordFile → Result (Unit {0}) PutFault → Type 0
 WritesNothing old new r = (r ≡ Ok tt) × (new ≡ old)
 
--- what a file begins with, of records of a link layer
-abbrev pub StartsOn : LinkLayer → Format → RecordFile → RecordFile → Result (Unit {0}) PutFault
-    → Type 0
-StartsOn l formats.Capture old new r = WritesNothing old new r
-StartsOn l formats.Pcap old new r = Writes (file_header l) 0 (Unit {0}) (λ _. ⊥) old new r
-StartsOn l formats.Pcapng old new r = Writes section_octets 0 (Unit {0}) (λ _. ⊥) old new r
+-- what a file begins with, of records of a link layer, with times in a unit
+abbrev pub StartsOn : TimeUnit → LinkLayer → Format → RecordFile → RecordFile
+    → Result (Unit {0}) PutFault → Type 0
+StartsOn u l formats.Capture old new r = WritesNothing old new r
+StartsOn u l formats.Pcap old new r = Writes (file_header u l) 0 (Unit {0}) (λ _. ⊥) old new r
+StartsOn u l formats.Pcapng old new r = Writes section_octets 0 (Unit {0}) (λ _. ⊥) old new r
 
--- the same of frames
+-- the same of frames, with times in milliseconds
 abbrev pub Starts : Format → RecordFile → RecordFile → Result (Unit {0}) PutFault → Type 0
-Starts format old new r = StartsOn layers.Ethernet format old new r
+Starts format old new r = StartsOn units.Micro layers.Ethernet format old new r
 
 -- what speaks against a further interface, where there are so many: their number comes first
 abbrev pub RefusesInterface : ℕ → List ℕ → PutFault → Type 0
@@ -102,26 +107,27 @@ RefusesInterface n name faults.Name = (n < 2 ^ 32 - 1) × (65535 < length name)
 RefusesInterface n name faults.Io = ⊥
 RefusesInterface n name faults.Failed = ⊥
 
--- an interface of a link layer, with this name
-abbrev pub AddsInterfaceOn : LinkLayer → Format → List ℕ → RecordFile → RecordFile
+-- an interface with this head and this name
+abbrev pub AddsInterfaceOn : InterfaceHead → Format → List ℕ → RecordFile → RecordFile
     → Result (Unit {0}) PutFault → Type 0
-AddsInterfaceOn l formats.Capture name old new r = WritesNothing old new r
-AddsInterfaceOn l formats.Pcap name old new r = WritesNothing old new r
-AddsInterfaceOn l formats.Pcapng name old new r =
-    Writes (interface_octets l name) 1
+AddsInterfaceOn h formats.Capture name old new r = WritesNothing old new r
+AddsInterfaceOn h formats.Pcap name old new r = WritesNothing old new r
+AddsInterfaceOn h formats.Pcapng name old new r =
+    Writes (interface_octets h name) 1
     ((old.interfaces < 2 ^ 32 - 1) × (length name ≤ 65535))
     (RefusesInterface old.interfaces name) old new r
 
--- the same of Ethernet
+-- the same of Ethernet in milliseconds
 abbrev pub AddsInterface : Format → List ℕ → RecordFile → RecordFile
     → Result (Unit {0}) PutFault → Type 0
-AddsInterface format name old new r = AddsInterfaceOn layers.Ethernet format name old new r
+AddsInterface format name old new r = AddsInterfaceOn millis_head format name old new r
 
--- the octets of a record of a frame at a moment, as one of an interface
-abbrev pub frame_octets : Format → ℕ → ℕ → List ℕ → List ℕ
-frame_octets formats.Capture interface moment frame = record_octets (captured_at moment frame)
-frame_octets formats.Pcap interface moment frame = record_of moment frame
-frame_octets formats.Pcapng interface moment frame = packet_octets interface moment frame
+-- the octets of a record of a frame at a time, as one of an interface
+abbrev pub frame_octets : Format → ℕ → Stamp → List ℕ → List ℕ
+frame_octets formats.Capture interface stamp frame =
+    record_octets (captured_at stamp.moment frame)
+frame_octets formats.Pcap interface stamp frame = record_of stamp.moment stamp.fraction frame
+frame_octets formats.Pcapng interface stamp frame = packet_octets interface stamp.ticks frame
 
 -- a file of so many interfaces has a place for it
 abbrev pub HasPlace : Format → ℕ → ℕ → ℕ → List ℕ → Type 0
@@ -148,9 +154,9 @@ RefusesFrame formats.Pcapng n interface moment frame faults.Length =
 RefusesFrame formats.Pcapng n interface moment frame fault = ⊥
 
 -- such a record
-abbrev pub PutsFrame : ℕ → ℕ → List ℕ → RecordFile → RecordFile → Result (Unit {0}) PutFault
-    → Type 0
-PutsFrame interface moment frame old new r =
-    Writes (frame_octets old.format interface moment frame) 0
-    (HasPlace old.format old.interfaces interface moment frame)
-    (RefusesFrame old.format old.interfaces interface moment frame) old new r
+abbrev pub PutsFrame : ℕ → Stamp → List ℕ → RecordFile → RecordFile
+    → Result (Unit {0}) PutFault → Type 0
+PutsFrame interface stamp frame old new r =
+    Writes (frame_octets old.format interface stamp frame) 0
+    (HasPlace old.format old.interfaces interface stamp.moment frame)
+    (RefusesFrame old.format old.interfaces interface stamp.moment frame) old new r

@@ -15,6 +15,7 @@ use Rattle.its_pcap.specs.Pcapng as blocks
 use Rattle.its_pcap.specs.Reading.{is_io}
 use Rattle.its_pcap.specs.declared.fault.SourceFault.{SourceFault}
 use Rattle.its_pcap.specs.declared.fault.SourceFault.TheVariants as faults
+use Rattle.its_pcap.specs.declared.info.InterfaceInfo.{InterfaceInfo}
 use Rattle.its_pcap.specs.declared.format.Format.{Format}
 use Rattle.its_pcap.specs.declared.format.Format.TheVariants as formats
 use Rattle.its_linklayers.specs.declared.link.LinkLayer.{LinkLayer}
@@ -34,8 +35,10 @@ abbrev pub StepsCapture : captures.Reading → captures.Reading → List ℕ →
     → Type 0
 StepsCapture was now frame (Ok (steps.Record h)) =
     (h.captured ≡ length frame) × (h.wire ≡ length frame) × (h.layer ≡ Some layers.Ethernet)
+    × (h.fine ≡ record { nanos = 0; finer = false; ticks = h.moment }) × (h.interface ≡ 0)
     × IsCaptured (captured_at h.moment frame)
     × Consumes was.rest now.rest (record_octets (captured_at h.moment frame))
+StepsCapture was now frame (Ok steps.Interface) = ⊥
 StepsCapture was now frame (Ok steps.Passed) = ⊥
 StepsCapture was now frame (Ok steps.End) =
     captures.MeetsEnd was.rest now.rest × (now.ended ≡ true)
@@ -102,6 +105,14 @@ layer_of_source (sources.Capture _) = None
 layer_of_source (sources.Pcap reader) = classic.layer_at reader.stage
 layer_of_source (sources.Pcapng _) = None
 
+-- what it says of the interface that began last
+abbrev pub newest_of_source :
+    {S : Type 0} {s : sources_of.Ghosts S} {r : reads.Ghosts S} → AnySource S s r
+    → Option InterfaceInfo
+newest_of_source (sources.Capture _) = None
+newest_of_source (sources.Pcap reader) = classic.info_at reader.stage
+newest_of_source (sources.Pcapng reader) = blocks.newest_in reader.interfaces
+
 -- one call, which leaves the file one of its format
 abbrev pub Gives :
     {S : Type 0} {s : sources_of.Ghosts S} {r : reads.Ghosts S} → AnySource S s r → AnySource S s r
@@ -143,6 +154,7 @@ IsAtStart keep rest failures (sources.Pcapng r) =
     r ≡ record {
       stage = block_stages.Start;
       interfaces = [];
+      next = 0;
       keep = keep;
       rest = rest;
       failures = failures;

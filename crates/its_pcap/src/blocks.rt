@@ -14,11 +14,12 @@ ghost use Rattle.its_linkframe.specs.declared.record.CaptureFault.TheVariants as
 
 use crate::fault::SourceFault;
 use crate::field::{block_length, end_block, is_block_length, read_u16, read_u32};
-use crate::interface::{Interface, MICROS, moment_of};
+use crate::info::{InterfaceHead, InterfaceInfo};
+use crate::interface::{Interface, MICRO_TICKS, MICROS, fine_time_of, moment_of};
 use crate::octets::{Endianness, u16_at, u32_at};
 use crate::options::read_options;
 use crate::pcap::LONGEST_CAPTURED;
-use crate::record::RecordHeader;
+use crate::record::{FineTime, RecordHeader};
 use crate::transfer::{read_exact, read_record_octets};
 use byteorder::{BigEndian, ByteOrder};
 use its_linkframe::Source;
@@ -104,18 +105,19 @@ pub(crate) fn kind_of(number: u32) -> Kind
     }
 }
 
-/// A block behind its type, in a section of this order with these interfaces. The frame of a packet
-/// goes into the buffer.
+/// A block behind its type, in a section of this order with these interfaces. `next` is the number
+/// of a further interface. The frame of a packet goes into the buffer.
 pub(crate) fn read_block<S: Source>(
     source: &mut S,
     kind: Kind,
     order: Endianness,
+    next: u32,
     interfaces: &[Interface],
     keep: usize,
     frame: &mut Vec<u8>,
 ) -> Result<Block, SourceFault>
     requires { S.failed source.old < 2 ^ 64 - 1 }
-    ensures answer { IsAnswerOf (block_of order interfaces.now keep frame.new.items kind)
+    ensures answer { IsAnswerOf (block_of order next interfaces.now keep frame.new.items kind)
         (S.remaining source.old) (S.remaining source.new) result }
     ensures counts { S.failed source.new ≡ S.failed source.old + (if is_io result then 1 else 0) }
     ensures memory { keep ≤ vec_capacity frame.old
@@ -123,7 +125,7 @@ pub(crate) fn read_block<S: Source>(
 {
     match kind {
         Kind::Section => section_block(source),
-        Kind::Interface => interface_block(source, order),
+        Kind::Interface => interface_block(source, order, next),
         Kind::Simple => simple_block(source, order, interfaces, keep, frame),
         Kind::Packet => packet_block(source, order, interfaces, keep, frame),
         Kind::Other => other_block(source, order),
@@ -191,35 +193,51 @@ fn section_block<S: Source>(source: &mut S) -> Result<Block, SourceFault>
     Ok(Block::Section(order))
 }
 
-/// The link type and the snap length of an interface.
-fn read_plain<S: Source>(source: &mut S, order: Endianness) -> Result<Interface, SourceFault>
+/// The link type and the snap length of the interface of this number.
+fn read_plain<S: Source>(
+    source: &mut S,
+    order: Endianness,
+    next: u32,
+) -> Result<Interface, SourceFault>
     requires { S.failed source.old < 2 ^ 64 - 1 }
-    ensures answer { IsAnswerOf (plain order) (S.remaining source.old) (S.remaining source.new)
+    ensures answer { IsAnswerOf (plain order next) (S.remaining source.old) (S.remaining source.new)
         result }
     ensures counts { S.failed source.new ≡ S.failed source.old + (if is_io result then 1 else 0) }
     ensures memory { result ≢ Err (faults.Capture captures.NoMemory) }
 {
     let mut head = [0; 8];
     read_exact(source, &mut head)?;
+    let link = u16_at(order, &head, 0);
     Ok(Interface {
-        layer: link_layer(u32::from(u16_at(order, &head, 0))),
+        number: next,
+        info: InterfaceInfo {
+            head: InterfaceHead {
+                link,
+                resolution: MICROS,
+                offset: 0,
+            },
+            layer: link_layer(u32::from(link)),
+            name: None,
+        },
         snap: u32_at(order, &head, 4),
-        ticks: MICROS,
-        offset_added: 0,
-        offset_taken: 0,
+        ticks: MICRO_TICKS,
     })
 }
 
-/// An interface block, behind its type.
-fn interface_block<S: Source>(source: &mut S, order: Endianness) -> Result<Block, SourceFault>
+/// An interface block, behind its type: the interface of this number.
+fn interface_block<S: Source>(
+    source: &mut S,
+    order: Endianness,
+    next: u32,
+) -> Result<Block, SourceFault>
     requires { S.failed source.old < 2 ^ 64 - 1 }
-    ensures answer { IsAnswerOf (interface order) (S.remaining source.old) (S.remaining source.new)
+    ensures answer { IsAnswerOf (interface order next) (S.remaining source.old) (S.remaining source.new)
         result }
     ensures counts { S.failed source.new ≡ S.failed source.old + (if is_io result then 1 else 0) }
     ensures memory { result ≢ Err (faults.Capture captures.NoMemory) }
 {
     let length = block_length(source, order, LEAST_INTERFACE)?;
-    let plain = read_plain(source, order)?;
+    let plain = read_plain(source, order, next)?;
     let (left, interface) = read_options(
         source,
         order,
@@ -249,12 +267,12 @@ fn read_interface<S: Source>(
     }
 }
 
-/// The moment of a packet, in milliseconds. P2 where it is below 0 or of 2^64 and more.
+/// The moment of a packet, in milliseconds, and its time below that. P2 where it is below 0 or of 2^64 and more.
 fn read_moment<S: Source>(
     source: &mut S,
     order: Endianness,
     interface: &Interface,
-) -> Result<u64, SourceFault>
+) -> Result<(u64, FineTime), SourceFault>
     requires { S.failed source.old < 2 ^ 64 - 1 }
     ensures answer { IsAnswerOf (moment order interface.now) (S.remaining source.old)
         (S.remaining source.new) result }
@@ -265,7 +283,7 @@ fn read_moment<S: Source>(
     read_exact(source, &mut octets)?;
     let timestamp = timestamp_of(u32_at(order, &octets, 0), u32_at(order, &octets, 4));
     match moment_of(interface, timestamp) {
-        Some(moment) => Ok(moment),
+        Some(moment) => Ok((moment, fine_time_of(interface, timestamp))),
         None => Err(SourceFault::Malformed),
     }
 }
@@ -323,16 +341,18 @@ fn packet_block<S: Source>(
     let length = block_length(source, order, LEAST_PACKET)?;
     let room = length - LEAST_PACKET;
     let interface = read_interface(source, order, interfaces)?;
-    let moment = read_moment(source, order, &interface)?;
+    let (moment, fine) = read_moment(source, order, &interface)?;
     let captured = read_captured(source, order, room)?;
     let wire = read_u32(source, order)?;
     read_record_octets(source, captured as usize, keep, frame)?;
     end_block(source, order, (room - captured) as usize, length)?;
     Ok(Block::Record(RecordHeader {
         moment,
+        fine,
+        interface: interface.number,
         captured,
         wire,
-        layer: interface.layer,
+        layer: interface.info.layer,
     }))
 }
 
@@ -393,9 +413,15 @@ fn simple_block<S: Source>(
     end_block(source, order, (room - captured) as usize, length)?;
     Ok(Block::Record(RecordHeader {
         moment: 0,
+        fine: FineTime {
+            nanos: 0,
+            finer: false,
+            ticks: 0,
+        },
+        interface: interface.number,
         captured,
         wire,
-        layer: interface.layer,
+        layer: interface.info.layer,
     }))
 }
 

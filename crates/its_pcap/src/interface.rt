@@ -2,28 +2,30 @@
 
 ghost use Rattle.std.specs.Prelude.{◌≡◌, ◌^◌, ◌<◌, ◌≤◌, MatchOption, IfSome};
 ghost use Rattle.its_pcap.specs.Moments.{ticks_of, IsTooFine, IsMoment, IsNoMoment, added_of};
-ghost use Rattle.its_pcap.specs.Moments.{taken_of};
+ghost use Rattle.its_pcap.specs.Moments.{taken_of, fine_in};
 
-use its_linklayers::LinkLayer;
+use crate::info::InterfaceInfo;
+use crate::record::FineTime;
 
-/// What is known of an interface that packets were taken from.
+/// What is known of an interface of a pcapng file.
 #[derive(Clone, Copy)]
 pub(crate) struct Interface {
-    /// Its link layer, where that is one that is read.
-    pub(crate) layer: Option<LinkLayer>,
+    /// How many interfaces the file has before it.
+    pub(crate) number: u32,
+    /// What its block says.
+    pub(crate) info: InterfaceInfo,
     /// The most octets that are captured of a frame; 0 is no limit.
     pub(crate) snap: u32,
-    /// How many ticks a second has: `if_tsresol`.
+    /// How many ticks a second has, by `if_tsresol`.
     pub(crate) ticks: u64,
-    /// Seconds to be added to each moment: `if_tsoffset` where it is not negative, else 0.
-    pub(crate) offset_added: u64,
-    /// Seconds to be taken from each moment: `if_tsoffset` where it is negative, else 0.
-    pub(crate) offset_taken: u64,
     ghost positive: { 0 < ticks },
 }
 
-/// Without the option a tick is a millionth of a second.
-pub(crate) const MICROS: u64 = 1_000_000;
+/// `if_tsresol` if there is no such option: a tick is a millionth of a second.
+pub(crate) const MICROS: u8 = 6;
+
+/// The ticks of a second then.
+pub(crate) const MICRO_TICKS: u64 = 1_000_000;
 
 /// The ticks of a second by the octet of `if_tsresol`: a power of 10, or of 2 where its highest bit
 /// is set. Nothing where they are finer than 10^-19 or 2^-63.
@@ -88,14 +90,15 @@ pub(crate) fn seconds_of(offset: u64) -> (u64, u64)
 /// The moment of a timestamp, in milliseconds. Nothing where it is below 0 or of 2^64 and more.
 pub(crate) fn moment_of(interface: &Interface, timestamp: u64) -> Option<u64>
     ensures { MatchOption result
-        (IsNoMoment interface.now.ticks interface.now.offset_added
-        interface.now.offset_taken timestamp)
-        (IsMoment interface.now.ticks interface.now.offset_added
-        interface.now.offset_taken timestamp) }
+        (IsNoMoment interface.now.ticks (added_of interface.now.info.head.offset)
+        (taken_of interface.now.info.head.offset) timestamp)
+        (IsMoment interface.now.ticks (added_of interface.now.info.head.offset)
+        (taken_of interface.now.info.head.offset) timestamp) }
 {
+    let (added, taken) = seconds_of(interface.info.head.offset);
     let whole = u128::from(timestamp) * 1000 / u128::from(interface.ticks);
-    let sum = whole + 1000 * u128::from(interface.offset_added);
-    let less = 1000 * u128::from(interface.offset_taken);
+    let sum = whole + 1000 * u128::from(added);
+    let less = 1000 * u128::from(taken);
     if sum < less {
         return None;
     }
@@ -104,4 +107,17 @@ pub(crate) fn moment_of(interface: &Interface, timestamp: u64) -> Option<u64>
         return None;
     }
     Some(moment as u64)
+}
+
+/// The same below the millisecond, where seconds that are added count nothing.
+pub(crate) fn fine_time_of(interface: &Interface, timestamp: u64) -> FineTime
+    ensures { result ≡ fine_in interface.now.ticks timestamp }
+{
+    let ticks = u128::from(interface.ticks);
+    let scaled = u128::from(timestamp) * 1_000_000_000;
+    FineTime {
+        nanos: (scaled / ticks % 1_000_000) as u32,
+        finer: scaled % ticks > 0,
+        ticks: timestamp,
+    }
 }

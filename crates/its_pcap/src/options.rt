@@ -1,18 +1,22 @@
 //! The options of an interface block.
 
 ghost use Rattle.std.specs.Prelude.{◌≡◌, ◌-◌, ◌+◌, ◌^◌, ◌<◌, ◌≤◌, IfOk, MatchResult, false};
-ghost use Rattle.std.specs.Prelude.{if◌then◌else◌, Err, ◌≢◌};
+ghost use Rattle.std.specs.Prelude.{if◌then◌else◌, Err, ◌≢◌, OnOk, IfErr, length, take};
+ghost use Rattle.std.specs.Io.KnownBytes.{Consumes};
 ghost use Rattle.its_pcap.specs.Moments.{ticks_of, IsTooFine};
 ghost use Rattle.its_pcap.specs.declared.fault.SourceFault.TheVariants as faults;
 ghost use Rattle.its_pcap.specs.Interfaces.{kind_of_option, option_room, option_head, one_option};
 ghost use Rattle.its_pcap.specs.Interfaces.{options, resolution, offset, passed, is_end};
-ghost use Rattle.its_pcap.specs.Interfaces.{option_value};
+ghost use Rattle.its_pcap.specs.Interfaces.{option_value, name, FitsName, IsNamed, resolved};
+ghost use Rattle.its_pcap.specs.Interfaces.{offset_by};
 ghost use Rattle.its_pcap.specs.Layouts.{IsAnswerOf};
-ghost use Rattle.its_pcap.specs.Reading.{is_io};
+ghost use Rattle.its_pcap.specs.Reading.{is_io, IsCutShort};
 ghost use Rattle.its_linkframe.specs.declared.record.CaptureFault.TheVariants as captures;
 
 use crate::fault::SourceFault;
-use crate::interface::{Interface, seconds_of, ticks_in};
+use crate::info::{InterfaceHead, InterfaceInfo};
+use crate::interface::{Interface, ticks_in};
+use crate::name::{InterfaceName, LONGEST_NAME};
 use crate::octets::{Endianness, u16_at, u64_at};
 use crate::transfer::{read_exact, skip};
 use its_linkframe::Source;
@@ -22,6 +26,9 @@ const HEAD: usize = 4;
 
 /// The end of options.
 const END: u16 = 0;
+
+/// `if_name`.
+const NAME: u16 = 2;
 
 /// `if_tsresol`.
 const RESOLUTION: u16 = 9;
@@ -34,6 +41,8 @@ const OFFSET: u16 = 14;
 enum OptionKind {
     /// The end of options.
     End,
+    /// The name of the interface, of so many octets.
+    Name(usize),
     /// How many ticks a second has, in one octet.
     Resolution,
     /// Seconds that are added to each moment, in 8 octets.
@@ -110,7 +119,8 @@ fn ends(kind: OptionKind) -> bool
 {
     match kind {
         OptionKind::End => true,
-        OptionKind::Resolution | OptionKind::Offset | OptionKind::Other => false,
+        OptionKind::Name(_) | OptionKind::Resolution | OptionKind::Offset | OptionKind::Other =>
+            false,
     }
 }
 
@@ -122,7 +132,8 @@ fn read_value<S: Source>(
     room: usize,
     interface: Interface,
 ) -> Result<Interface, SourceFault>
-    requires { S.failed source.old < 2 ^ 64 - 1 }
+    requires ready { S.failed source.old < 2 ^ 64 - 1 }
+    requires fits { FitsName kind }
     ensures answer { IsAnswerOf (option_value order interface kind room)
         (S.remaining source.old) (S.remaining source.new) result }
     ensures counts { S.failed source.new ≡ S.failed source.old + (if is_io result then 1 else 0) }
@@ -130,6 +141,7 @@ fn read_value<S: Source>(
 {
     match kind {
         OptionKind::End => Ok(interface),
+        OptionKind::Name(size) => read_name(source, size, interface),
         OptionKind::Resolution => read_resolution(source, interface),
         OptionKind::Offset => read_offset(source, order, interface),
         OptionKind::Other => pass_value(source, room, interface),
@@ -163,6 +175,7 @@ fn read_head<S: Source>(
     ensures answer { IsAnswerOf (option_head order left) (S.remaining source.old)
         (S.remaining source.new) result }
     ensures fits { IfOk result (λ head. head.1 ≤ left) }
+    ensures name { IfOk result (λ head. FitsName head.0) }
     ensures counts { S.failed source.new ≡ S.failed source.old + (if is_io result then 1 else 0) }
     ensures memory { result ≢ Err (faults.Capture captures.NoMemory) }
 {
@@ -179,10 +192,12 @@ fn read_head<S: Source>(
 
 /// What an option is, by its code and its size: one of a wrong size is passed over.
 fn kind_of(code: u16, size: u16) -> OptionKind
-    ensures { result ≡ kind_of_option code size }
+    ensures kind { result ≡ kind_of_option code size }
+    ensures name { FitsName result }
 {
     match (code, size) {
         (END, _) => OptionKind::End,
+        (NAME, 1..=128) => OptionKind::Name(size as usize),
         (RESOLUTION, 1) => OptionKind::Resolution,
         (OFFSET, 8) => OptionKind::Offset,
         _ => OptionKind::Other,
@@ -199,6 +214,44 @@ fn room_of(code: u16, size: u16) -> usize
     }
     let size = size as usize;
     size + (4 - size % 4) % 4
+}
+
+/// Reads so many octets to the front of the buffer.
+fn fill_front<S: Source>(source: &mut S, buf: &mut [u8], size: usize) -> Result<(), SourceFault>
+    requires ready { S.failed source.old < 2 ^ 64 - 1 }
+    requires room { size ≤ length buf.old }
+    ensures front { OnOk result
+        (Consumes (S.remaining source.old) (S.remaining source.new) (take size buf.new)) }
+    ensures fault { IfErr result
+        (IsCutShort size (S.remaining source.old) (S.remaining source.new)) }
+    ensures counts { S.failed source.new ≡ S.failed source.old + (if is_io result then 1 else 0) }
+    ensures memory { result ≢ Err (faults.Capture captures.NoMemory) }
+{
+    read_exact(source, &mut buf[..size])
+}
+
+/// A name of so many octets, with its padding.
+fn read_name<S: Source>(
+    source: &mut S,
+    size: usize,
+    interface: Interface,
+) -> Result<Interface, SourceFault>
+    requires ready { S.failed source.old < 2 ^ 64 - 1 }
+    requires short { size ≤ 128 }
+    ensures answer { IsAnswerOf (name size interface) (S.remaining source.old)
+        (S.remaining source.new) result }
+    ensures counts { S.failed source.new ≡ S.failed source.old + (if is_io result then 1 else 0) }
+    ensures memory { result ≢ Err (faults.Capture captures.NoMemory) }
+{
+    let mut octets = [0; LONGEST_NAME];
+    fill_front(source, &mut octets, size)?;
+    skip(source, (4 - size % 4) % 4)?;
+    Ok(Interface {
+        number: interface.number,
+        info: named(interface.info, octets, size),
+        snap: interface.snap,
+        ticks: interface.ticks,
+    })
 }
 
 /// The ticks of a second, by the octet of `if_tsresol`. P2 where they are too fine.
@@ -232,11 +285,10 @@ fn read_resolution<S: Source>(
     let ticks = ticks_said(octet[0])?;
     skip(source, 3)?;
     Ok(Interface {
-        layer: interface.layer,
+        number: interface.number,
+        info: with_resolution(interface.info, octet[0]),
         snap: interface.snap,
         ticks,
-        offset_added: interface.offset_added,
-        offset_taken: interface.offset_taken,
     })
 }
 
@@ -254,12 +306,52 @@ fn read_offset<S: Source>(
 {
     let mut octets = [0; 8];
     read_exact(source, &mut octets)?;
-    let (offset_added, offset_taken) = seconds_of(u64_at(order, &octets));
     Ok(Interface {
-        layer: interface.layer,
+        number: interface.number,
+        info: with_offset(interface.info, u64_at(order, &octets)),
         snap: interface.snap,
         ticks: interface.ticks,
-        offset_added,
-        offset_taken,
     })
+}
+
+/// The same information, with a name of so many octets.
+fn named(info: InterfaceInfo, octets: [u8; LONGEST_NAME], size: usize) -> InterfaceInfo
+    requires { size ≤ 128 }
+    ensures { IsNamed info (take size octets) result }
+{
+    InterfaceInfo {
+        head: info.head,
+        layer: info.layer,
+        name: Some(InterfaceName { octets, size }),
+    }
+}
+
+/// The same information, with this octet of `if_tsresol`.
+fn with_resolution(info: InterfaceInfo, resolution: u8) -> InterfaceInfo
+    ensures { result ≡ resolved info resolution }
+{
+    InterfaceInfo {
+        head: InterfaceHead {
+            link: info.head.link,
+            resolution,
+            offset: info.head.offset,
+        },
+        layer: info.layer,
+        name: info.name,
+    }
+}
+
+/// The same information, with these seconds of `if_tsoffset`.
+fn with_offset(info: InterfaceInfo, offset: u64) -> InterfaceInfo
+    ensures { result ≡ offset_by info offset }
+{
+    InterfaceInfo {
+        head: InterfaceHead {
+            link: info.head.link,
+            resolution: info.head.resolution,
+            offset,
+        },
+        layer: info.layer,
+        name: info.name,
+    }
 }

@@ -5,13 +5,15 @@ ghost use Rattle.std.specs.Prelude.{IfOk, IfErr, MatchOption, Err, if◌then◌e
 ghost use Rattle.its_linkframe.specs.declared.record.CaptureFault.TheVariants as captures;
 ghost use Rattle.its_pcap.specs.Reading.{is_io};
 ghost use Rattle.its_pcap.specs.Pcap.{mark_number, ReadsHeader, IsHeaderFault, IsRecordStep};
-ghost use Rattle.its_pcap.specs.Pcap.{IsRecordFault, moment_of, IsAnswer, layer_at};
+ghost use Rattle.its_pcap.specs.Pcap.{IsRecordFault, moment_of, fine_of, IsAnswer, layer_at};
+ghost use Rattle.its_pcap.specs.Pcap.{info_at};
 ghost use Rattle.its_pcap.specs.declared.fault.SourceFault.TheVariants as faults;
 ghost use Rattle.its_pcap.specs.declared.pcap.Stage.TheVariants as stages;
 
 use crate::fault::SourceFault;
+use crate::info::InterfaceInfo;
 use crate::octets::{Endianness, u16_at, u32_at};
-use crate::record::{RecordHeader, Step};
+use crate::record::{FineTime, RecordHeader, Step};
 use crate::transfer::{read_exact, read_record_octets};
 use byteorder::{BigEndian, ByteOrder};
 use its_linkframe::{CaptureFault, Source, fill};
@@ -151,7 +153,7 @@ impl<R: Source> PcapReader<R> {
             Stage::Start => match read_header(&mut self.source) {
                 Ok(head) => {
                     self.stage = Stage::Records(head);
-                    return Ok(Step::Passed);
+                    return Ok(Step::Interface);
                 }
                 Err(fault) => Err(fault),
             },
@@ -174,6 +176,17 @@ impl<R: Source> PcapReader<R> {
         match self.stage {
             Stage::Records(head) => Some(head.layer),
             Stage::Start | Stage::Ended | Stage::Failed => None,
+        }
+    }
+
+    /// Returns what the header of the file says of its one interface, between the header and the end
+    /// or a fault.
+    pub fn newest(&self) -> Option<InterfaceInfo>
+        ensures { result ≡ info_at self.now.stage }
+    {
+        match self.stage {
+            Stage::Records(head) => Some(InterfaceInfo::of_file(head)),
+            _ => None,
         }
     }
 
@@ -265,6 +278,8 @@ fn read_record<S: Source>(
     let fraction = u32_at(magic.order, &head, FRACTION);
     Ok(Step::Record(RecordHeader {
         moment: moment_at(magic.unit, seconds, fraction),
+        fine: fine_time_at(magic.unit, seconds, fraction),
+        interface: 0,
         captured,
         wire: u32_at(magic.order, &wire, 0),
         layer: Some(file.layer),
@@ -280,4 +295,19 @@ fn moment_at(unit: Unit, seconds: u32, fraction: u32) -> u64
         Unit::Nano => 1_000_000,
     };
     1000 * u64::from(seconds) + u64::from(fraction / parts)
+}
+
+/// The same below the millisecond.
+fn fine_time_at(unit: Unit, seconds: u32, fraction: u32) -> FineTime
+    ensures { result ≡ fine_of unit seconds fraction }
+{
+    let (nanos, second) = match unit {
+        Unit::Micro => (fraction % 1000 * 1000, 1_000_000),
+        Unit::Nano => (fraction % 1_000_000, 1_000_000_000),
+    };
+    FineTime {
+        nanos,
+        finer: false,
+        ticks: second * u64::from(seconds) + u64::from(fraction),
+    }
 }

@@ -4,7 +4,7 @@ ghost use Rattle.std.specs.Prelude.{◌≡◌, ◌≢◌, ◌-◌, ◌+◌, ◌^
 ghost use Rattle.std.specs.Prelude.{Err, vec_capacity};
 ghost use Rattle.its_pcap.specs.Layouts.{IsAnswerOrEnd};
 ghost use Rattle.its_pcap.specs.Pcapng.{kind_of_next, next_block, IsAnswer, IsTaken};
-ghost use Rattle.its_pcap.specs.Pcapng.{ReadsInterfaceAt};
+ghost use Rattle.its_pcap.specs.Pcapng.{ReadsInterfaceAt, newest_in};
 ghost use Rattle.its_pcap.specs.Reading.{is_io};
 ghost use Rattle.its_pcap.specs.declared.pcapng.Stage.TheVariants as stages;
 ghost use Rattle.its_linkframe.specs.declared.record.CaptureFault.TheVariants as captures;
@@ -12,6 +12,7 @@ ghost use Rattle.its_pcap.specs.declared.fault.SourceFault.TheVariants as faults
 
 use crate::blocks::{Block, Kind, kind_of, read_block};
 use crate::fault::SourceFault;
+use crate::info::InterfaceInfo;
 use crate::interface::Interface;
 use crate::octets::{Endianness, u32_at};
 use crate::record::Step;
@@ -43,6 +44,8 @@ pub struct PcapngReader<R: Source> {
     keep: usize,
     stage: Stage,
     interfaces: Vec<Interface>,
+    /// How many interfaces the file had so far, in all its sections.
+    next: u32,
 }
 
 impl<R: Source> Model for PcapngReader<R> {
@@ -54,6 +57,7 @@ impl<R: Source> Model for PcapngReader<R> {
     ghost view = { λ r. record {
       stage = r.stage;
       interfaces = r.interfaces.items;
+      next = r.next;
       keep = r.keep;
       rest = R.remaining r.source;
       failures = R.failed r.source;
@@ -70,6 +74,7 @@ impl<R: Source> PcapngReader<R> {
         ensures { result ≡ record {
           stage = stages.Start;
           interfaces = [];
+          next = 0;
           keep = keep;
           rest = R.remaining source;
           failures = R.failed source;
@@ -80,11 +85,12 @@ impl<R: Source> PcapngReader<R> {
             keep,
             stage: Stage::Start,
             interfaces: Vec::new(alloc),
+            next: 0,
         }
     }
 
     /// The next step: each call reads a block, and gives its record, whose octets are put into the
-    /// buffer in place of what is there, or `Passed` where it has none; or the end.
+    /// buffer in place of what is there, `Interface` where it is one, or `Passed`; or the end.
     ///
     /// A field is checked before any octet behind it is read. After a fault each call answers C5. In
     /// a buffer with room for all that is kept of a frame C4 comes of an interface block alone.
@@ -105,11 +111,12 @@ impl<R: Source> PcapngReader<R> {
         match read_next(
             &mut self.source,
             order,
+            self.next,
             self.interfaces.as_slice(),
             self.keep,
             frame,
         ) {
-            Ok(Some(block)) => take(block, &mut self.stage, &mut self.interfaces),
+            Ok(Some(block)) => take(block, &mut self.stage, &mut self.next, &mut self.interfaces),
             Ok(None) => {
                 self.stage = Stage::Ended;
                 Ok(Step::End)
@@ -118,6 +125,16 @@ impl<R: Source> PcapngReader<R> {
                 self.stage = Stage::Failed;
                 Err(fault)
             }
+        }
+    }
+
+    /// Returns what the last interface block of the section says, if there was one.
+    pub fn newest(&self) -> Option<InterfaceInfo>
+        ensures { result ≡ newest_in self.now.interfaces }
+    {
+        match self.interfaces.as_slice().last() {
+            Some(interface) => Some(interface.info),
+            None => None,
         }
     }
 
@@ -131,16 +148,17 @@ impl<R: Source> PcapngReader<R> {
 }
 
 /// The next block, in a section of this order with these interfaces; `None` at the end of the file.
-/// The first block of a file is in no section.
+/// The first block of a file is in no section. `next` is the number of a further interface.
 fn read_next<S: Source>(
     source: &mut S,
     order: Option<Endianness>,
+    next: u32,
     interfaces: &[Interface],
     keep: usize,
     frame: &mut Vec<u8>,
 ) -> Result<Option<Block>, SourceFault>
     requires { S.failed source.old < 2 ^ 64 - 1 }
-    ensures answer { IsAnswerOrEnd (next_block order interfaces.now keep frame.new.items)
+    ensures answer { IsAnswerOrEnd (next_block order next interfaces.now keep frame.new.items)
         (S.remaining source.old) (S.remaining source.new) result }
     ensures counts { S.failed source.new ≡ S.failed source.old + (if is_io result then 1 else 0) }
     ensures memory { keep ≤ vec_capacity frame.old
@@ -150,7 +168,7 @@ fn read_next<S: Source>(
         return Ok(None);
     };
     let in_order = order.unwrap_or(Endianness::Big);
-    let block = read_block(source, kind, in_order, interfaces, keep, frame)?;
+    let block = read_block(source, kind, in_order, next, interfaces, keep, frame)?;
     Ok(Some(block))
 }
 
@@ -180,14 +198,16 @@ fn read_kind<S: Source>(
     Ok(Some(kind))
 }
 
-/// What a block gives, and makes of the stage and of the interfaces of its section. C4 where their
-/// list can't grow.
+/// What a block gives, and makes of the stage, of the count of interfaces and of the list of those of
+/// its section. C4 where that list can't grow.
 fn take(
     block: Block,
     stage: &mut Stage,
+    next: &mut u32,
     interfaces: &mut Vec<Interface>,
 ) -> Result<Step, SourceFault>
-    ensures { IsTaken block stage.old stage.new interfaces.old.items interfaces.new.items result }
+    ensures { IsTaken block stage.old stage.new next.old next.new interfaces.old.items
+        interfaces.new.items result }
 {
     match block {
         Block::Section(order) => {
@@ -196,7 +216,11 @@ fn take(
             Ok(Step::Passed)
         }
         Block::Interface(interface) => match interfaces.push(interface) {
-            Ok(()) => Ok(Step::Passed),
+            Ok(()) => {
+                // No file has so many interfaces: they take 20 octets each, and memory.
+                *next = next.saturating_add(1);
+                Ok(Step::Interface)
+            }
             Err(_) => {
                 *stage = Stage::Failed;
                 Err(SourceFault::Capture(CaptureFault::NoMemory))

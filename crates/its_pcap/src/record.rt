@@ -7,11 +7,27 @@ use its_linklayers::LinkLayer;
 use std::error::Error;
 use std::fmt;
 
+/// The time of a record below the millisecond, and in the ticks of its interface.
+#[derive(Clone, Copy, Debug, PartialEq, Eq)]
+pub struct FineTime {
+    /// Nanoseconds since the last whole millisecond, 0 to 999999. A fraction is cut down.
+    pub nanos: u32,
+    /// Whether the file has a fraction of a nanosecond too.
+    pub finer: bool,
+    /// The time as the file has it: ticks of the record's interface.
+    pub ticks: u64,
+}
+
 /// What is told of a record beside its octets.
 #[derive(Clone, Copy, Debug, PartialEq, Eq)]
 pub struct RecordHeader {
     /// In milliseconds since the epoch of its file; a fraction is cut down.
     pub moment: u64,
+    /// The same below the millisecond.
+    pub fine: FineTime,
+    /// The number of its interface in the file, from 0. Sections count on. 0 in a file without
+    /// interfaces.
+    pub interface: u32,
     /// How many of the record's octets the file has: at most 262144.
     pub captured: u32,
     /// How many octets the record had on the wire.
@@ -25,7 +41,9 @@ pub struct RecordHeader {
 pub enum Step {
     /// A record; its octets are in the buffer.
     Record(RecordHeader),
-    /// A header or a block without a record was passed over: call again.
+    /// An interface begins: the header of a classic pcap file, or an interface block. Call again.
+    Interface,
+    /// A block without a record or an interface was skipped. Call again.
     Passed,
     /// The end of the file, answered from then on.
     End,
@@ -70,7 +88,7 @@ impl RecordFault {
 impl fmt::Display for RecordFault {
     fn fmt<W: fmt::Write>(&self, f: &mut fmt::Formatter<W>) -> fmt::Result {
         let sentence = match self {
-            RecordFault::LinkType => "a link layer other than Ethernet, IEEE 802.11 and radiotap",
+            RecordFault::LinkType => "a link layer that is not read",
             RecordFault::CutFrame => "fewer octets were captured than were on the wire",
         };
         write!(f, "{sentence}")

@@ -9,10 +9,13 @@ ghost use Rattle.its_pcap.specs.Sinks.{file_of_sink};
 ghost use Rattle.its_pcap.specs.declared.sink.SinkFault.TheVariants as sink_faults;
 
 use crate::format::Format;
+use crate::info::InterfaceHead;
+use crate::pcap::Unit;
 use crate::pcap_writer::PcapWriter;
 use crate::pcapng_writer::PcapngWriter;
 use crate::put_fault::PutFault;
 use crate::record::RecordFault;
+use crate::stamp::Stamp;
 use its_linkframe::{CaptureFault, CaptureWriter, Sink};
 use its_linklayers::{LinkFault, LinkLayer};
 use std::error::Error;
@@ -89,51 +92,52 @@ pub trait RecordSink {
     /// The file: its format, its interfaces, and what its device has.
     ghost file: { Self → RecordFile };
 
-    /// Writes what a file begins with, whose records are of this link layer: the first call.
-    fn start_on(&mut self, layer: LinkLayer) -> Result<(), PutFault>
-        ensures { StartsOn layer (file self.old).format (file self.old) (file self.new) result };
+    /// Writes what a file begins with: the first call. In classic pcap its records are of this link
+    /// layer, and their times in this unit.
+    fn start_on(&mut self, layer: LinkLayer, unit: Unit) -> Result<(), PutFault>
+        ensures { StartsOn unit layer (file self.old).format (file self.old) (file self.new)
+            result };
 
-    /// The same of frames of Ethernet.
+    /// Writes what a file of Ethernet frames begins with, whose times are in milliseconds.
     fn start(&mut self) -> Result<(), PutFault>
         ensures { Starts (file self.old).format (file self.old) (file self.new) result }
     {
-        self.start_on(LinkLayer::Ethernet)
+        self.start_on(LinkLayer::Ethernet, Unit::Micro)
     }
 
-    /// Writes an interface of this link layer with this name, or with none where it is empty, if
-    /// the format has interfaces. The first is number 0. All of them are written before the first
-    /// record.
-    fn add_interface_on(&mut self, layer: LinkLayer, name: &str) -> Result<(), PutFault>
-        ensures { AddsInterfaceOn layer (file self.old).format name.now (file self.old)
+    /// Writes an interface with this head and this name, or with none if the name is empty, if the
+    /// format has interfaces. The first is number 0. Each is written before its first record.
+    fn add_interface_on(&mut self, head: InterfaceHead, name: &[u8]) -> Result<(), PutFault>
+        ensures { AddsInterfaceOn head (file self.old).format name.now (file self.old)
             (file self.new) result };
 
-    /// The same of Ethernet.
+    /// Writes an interface of Ethernet whose ticks are milliseconds.
     fn add_interface(&mut self, name: &str) -> Result<(), PutFault>
         ensures { AddsInterface (file self.old).format name.now (file self.old) (file self.new)
             result }
     {
-        self.add_interface_on(LinkLayer::Ethernet, name)
+        self.add_interface_on(InterfaceHead::of_millis(), name.as_bytes())
     }
 
-    /// Writes a frame, or what the link layer has in its place, of this interface, where the format
-    /// has any, at a moment in milliseconds.
-    fn put_frame(&mut self, interface: u32, moment: u64, frame: &[u8]) -> Result<(), PutFault>
-        ensures { PutsFrame interface moment frame.now (file self.old) (file self.new) result };
+    /// Writes a frame, or what the link layer has in its place, at this time. It is one of this
+    /// interface, if the format has any.
+    fn put_frame(&mut self, interface: u32, stamp: Stamp, frame: &[u8]) -> Result<(), PutFault>
+        ensures { PutsFrame interface stamp frame.now (file self.old) (file self.new) result };
 }
 
 impl<W: Sink> RecordSink for CaptureWriter<W> {
     ghost file = { capture_file };
 
-    fn start_on(&mut self, _layer: LinkLayer) -> Result<(), PutFault> {
+    fn start_on(&mut self, _layer: LinkLayer, _unit: Unit) -> Result<(), PutFault> {
         Ok(())
     }
 
-    fn add_interface_on(&mut self, _layer: LinkLayer, _name: &str) -> Result<(), PutFault> {
+    fn add_interface_on(&mut self, _head: InterfaceHead, _name: &[u8]) -> Result<(), PutFault> {
         Ok(())
     }
 
-    fn put_frame(&mut self, _interface: u32, moment: u64, frame: &[u8]) -> Result<(), PutFault> {
-        match self.put(moment, frame) {
+    fn put_frame(&mut self, _interface: u32, stamp: Stamp, frame: &[u8]) -> Result<(), PutFault> {
+        match self.put(stamp.moment, frame) {
             Ok(()) => Ok(()),
             Err(CaptureFault::Length) => Err(PutFault::Length),
             Err(CaptureFault::Io) => Err(PutFault::Io),
@@ -147,32 +151,32 @@ impl<W: Sink> RecordSink for CaptureWriter<W> {
 impl<W: Sink> RecordSink for PcapWriter<W> {
     ghost file = { pcap_file };
 
-    fn start_on(&mut self, layer: LinkLayer) -> Result<(), PutFault> {
-        self.start(layer)
+    fn start_on(&mut self, layer: LinkLayer, unit: Unit) -> Result<(), PutFault> {
+        self.start(layer, unit)
     }
 
-    fn add_interface_on(&mut self, _layer: LinkLayer, _name: &str) -> Result<(), PutFault> {
+    fn add_interface_on(&mut self, _head: InterfaceHead, _name: &[u8]) -> Result<(), PutFault> {
         Ok(())
     }
 
-    fn put_frame(&mut self, _interface: u32, moment: u64, frame: &[u8]) -> Result<(), PutFault> {
-        self.put(moment, frame)
+    fn put_frame(&mut self, _interface: u32, stamp: Stamp, frame: &[u8]) -> Result<(), PutFault> {
+        self.put(stamp.moment, stamp.fraction, frame)
     }
 }
 
 impl<W: Sink> RecordSink for PcapngWriter<W> {
     ghost file = { pcapng_file };
 
-    fn start_on(&mut self, _layer: LinkLayer) -> Result<(), PutFault> {
+    fn start_on(&mut self, _layer: LinkLayer, _unit: Unit) -> Result<(), PutFault> {
         self.start()
     }
 
-    fn add_interface_on(&mut self, layer: LinkLayer, name: &str) -> Result<(), PutFault> {
-        self.add_interface(layer, name)
+    fn add_interface_on(&mut self, head: InterfaceHead, name: &[u8]) -> Result<(), PutFault> {
+        self.add_interface(head, name)
     }
 
-    fn put_frame(&mut self, interface: u32, moment: u64, frame: &[u8]) -> Result<(), PutFault> {
-        self.put(interface, moment, frame)
+    fn put_frame(&mut self, interface: u32, stamp: Stamp, frame: &[u8]) -> Result<(), PutFault> {
+        self.put(interface, stamp.ticks, frame)
     }
 }
 
@@ -222,27 +226,27 @@ impl<W: Sink> AnySink<W> {
 impl<W: Sink> RecordSink for AnySink<W> {
     ghost file = { file_of_sink };
 
-    fn start_on(&mut self, layer: LinkLayer) -> Result<(), PutFault> {
+    fn start_on(&mut self, layer: LinkLayer, unit: Unit) -> Result<(), PutFault> {
         match self {
-            AnySink::Capture(writer) => writer.start_on(layer),
-            AnySink::Pcap(writer) => writer.start_on(layer),
-            AnySink::Pcapng(writer) => writer.start_on(layer),
+            AnySink::Capture(writer) => writer.start_on(layer, unit),
+            AnySink::Pcap(writer) => writer.start_on(layer, unit),
+            AnySink::Pcapng(writer) => writer.start_on(layer, unit),
         }
     }
 
-    fn add_interface_on(&mut self, layer: LinkLayer, name: &str) -> Result<(), PutFault> {
+    fn add_interface_on(&mut self, head: InterfaceHead, name: &[u8]) -> Result<(), PutFault> {
         match self {
-            AnySink::Capture(writer) => writer.add_interface_on(layer, name),
-            AnySink::Pcap(writer) => writer.add_interface_on(layer, name),
-            AnySink::Pcapng(writer) => writer.add_interface_on(layer, name),
+            AnySink::Capture(writer) => writer.add_interface_on(head, name),
+            AnySink::Pcap(writer) => writer.add_interface_on(head, name),
+            AnySink::Pcapng(writer) => writer.add_interface_on(head, name),
         }
     }
 
-    fn put_frame(&mut self, interface: u32, moment: u64, frame: &[u8]) -> Result<(), PutFault> {
+    fn put_frame(&mut self, interface: u32, stamp: Stamp, frame: &[u8]) -> Result<(), PutFault> {
         match self {
-            AnySink::Capture(writer) => writer.put_frame(interface, moment, frame),
-            AnySink::Pcap(writer) => writer.put_frame(interface, moment, frame),
-            AnySink::Pcapng(writer) => writer.put_frame(interface, moment, frame),
+            AnySink::Capture(writer) => writer.put_frame(interface, stamp, frame),
+            AnySink::Pcap(writer) => writer.put_frame(interface, stamp, frame),
+            AnySink::Pcapng(writer) => writer.put_frame(interface, stamp, frame),
         }
     }
 }

@@ -6,15 +6,17 @@ ghost use Rattle.its_linkframe.specs.declared.record.CaptureFault.TheVariants as
 ghost use Rattle.its_pcap.specs.Peeked.{left_of};
 ghost use Rattle.its_pcap.specs.Sources.{GivesCaptured, GivesClassic, GivesBlock, Gives};
 ghost use Rattle.its_pcap.specs.Sources.{LacksCaptured, LacksClassic, LacksBlock, Lacks};
-ghost use Rattle.its_pcap.specs.Sources.{format_of_source, layer_of_source, IsAtStart, IsOpened};
+ghost use Rattle.its_pcap.specs.Sources.{format_of_source, layer_of_source, newest_of_source};
+ghost use Rattle.its_pcap.specs.Sources.{IsAtStart, IsOpened};
 ghost use Rattle.its_pcap.specs.declared.fault.SourceFault.TheVariants as faults;
 
 use crate::fault::SourceFault;
 use crate::format::{Format, format_of};
+use crate::info::InterfaceInfo;
 use crate::pcap::PcapReader;
 use crate::pcapng::PcapngReader;
 use crate::peeked::Peeked;
-use crate::record::{RecordHeader, Step};
+use crate::record::{FineTime, RecordHeader, Step};
 use its_linkframe::{CaptureFault, CaptureReader, Source};
 use its_linklayers::LinkLayer;
 use std::alloc::Global;
@@ -106,6 +108,12 @@ impl<R: Source> RecordSource for CaptureSource<R> {
                 let size = frame.len() as u32;
                 Ok(Step::Record(RecordHeader {
                     moment,
+                    fine: FineTime {
+                        nanos: 0,
+                        finer: false,
+                        ticks: moment,
+                    },
+                    interface: 0,
                     captured: size,
                     wire: size,
                     layer: Some(LinkLayer::Ethernet),
@@ -176,6 +184,18 @@ impl<S: Source + Drop> AnySource<S> {
         match self {
             AnySource::Pcap(reader) => reader.layer(),
             AnySource::Capture(_) | AnySource::Pcapng(_) => None,
+        }
+    }
+
+    /// Returns what the file says of the interface that began last: in classic pcap its header,
+    /// in pcapng the last interface block of the section. A capture has no interfaces.
+    pub fn newest(&self) -> Option<InterfaceInfo>
+        ensures { result ≡ newest_of_source self.now }
+    {
+        match self {
+            AnySource::Pcap(reader) => reader.newest(),
+            AnySource::Pcapng(reader) => reader.newest(),
+            AnySource::Capture(_) => None,
         }
     }
 

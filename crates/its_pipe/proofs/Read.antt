@@ -8,7 +8,7 @@ use Rattle.its_keys.specs.declared.fault.KeyFault.{KeyFault}
 use Rattle.its_keys.specs.declared.key.Key.TheVariants as keys
 use Rattle.its_keys.specs.declared.key.Key.{Key}
 use Rattle.its_pipe.specs.Requests.{Asks, AsksIn, AsksOf, IsBadCallKey, IsBadKey, IsBadOf, IsId}
-use Rattle.its_pipe.specs.Requests.{IsIdFault, IsMomentOf, IsObject, IsQueryFault}
+use Rattle.its_pipe.specs.Requests.{IsIdFault, IsMomentOf, IsObject, IsQueryFault, IsQueryWord}
 use Rattle.its_pipe.specs.Requests.{IsBadCallKeyOf, IsToldAs}
 use Rattle.its_pipe.specs.Lines.{IsBlank, LineText}
 use Rattle.its_pipe.specs.declared.reading.ReadFault.{ReadFault}
@@ -71,33 +71,42 @@ asks_members (Ok q) now line members asks short some is =
 pub bad_moment : (now : Option ℕ) (members : Data)
     → ((moment : ℕ) → ¬ IsMomentOf now members moment) → IsBadKey now members keys.At
 bad_moment now members none =
-    record { moment = λ _. refl; call = λ moment is. absurd (none moment is) }
+    record {
+      asked = λ _. refl;
+      moment = λ _. refl;
+      call = λ moment is. absurd (none moment is);
+    }
 
 -- where there is one, it is that of the call
 pub bad_call : (now : Option ℕ) (members : Data) (moment : ℕ) (key : Key)
-    → IsMomentOf now members moment → IsBadCallKey members key → IsBadKey now members key
-bad_call now members moment key is bad =
-    record { moment = λ none. absurd (none moment is); call = λ _ _. bad }
+    → (¬ IsQueryWord members) → IsMomentOf now members moment → IsBadCallKey members key
+    → IsBadKey now members key
+bad_call now members moment key calls is bad =
+    record {
+      asked = λ asks. absurd (calls asks);
+      moment = λ none. absurd (none moment is);
+      call = λ _ _. bad;
+    }
 
 -- so, told with a word that may be meant
 pub bad_told : (now : Option ℕ) (members : Data) (moment : ℕ) (fault : KeyFault) (told : ReadFault)
-    → IsMomentOf now members moment → IsBadCallKeyOf members fault → IsToldAs fault told
-    → IsBadOf now members told
-bad_told now members moment key_faults.OutOfMemory told is bad like =
+    → (¬ IsQueryWord members) → IsMomentOf now members moment → IsBadCallKeyOf members fault
+    → IsToldAs fault told → IsBadOf now members told
+bad_told now members moment key_faults.OutOfMemory told calls is bad like =
     subst (IsBadOf now members) (sym like) tt
 bad_told now members moment (key_faults.Refused key wrong) (read_faults.Bad (faults.Key other w))
-    is bad like =
-    bad_call now members moment other is (subst (IsBadCallKey members) (sym like) bad)
+    calls is bad like =
+    bad_call now members moment other calls is (subst (IsBadCallKey members) (sym like) bad)
 bad_told now members moment (key_faults.Refused key wrong) (read_faults.Bad (faults.Word meant))
-    is bad like =
-    bad_call now members moment keys.Do is (subst (IsBadCallKey members) like bad)
+    calls is bad like =
+    bad_call now members moment keys.Do calls is (subst (IsBadCallKey members) like bad)
 bad_told now members moment (key_faults.Refused key wrong) (read_faults.Bad faults.NotJson)
-    is bad like = absurd like
-bad_told now members moment (key_faults.Refused key wrong) (read_faults.Bad faults.Id) is bad like =
+    calls is bad like = absurd like
+bad_told now members moment (key_faults.Refused key wrong) (read_faults.Bad faults.Id) calls is bad like =
     absurd like
 bad_told now members moment (key_faults.Refused key wrong)
     (read_faults.Bad (faults.Query other w)) is bad like = absurd like
-bad_told now members moment (key_faults.Refused key wrong) read_faults.OutOfMemory is bad like = tt
+bad_told now members moment (key_faults.Refused key wrong) read_faults.OutOfMemory calls is bad like = tt
 
 -- the fault of a key of what is asked
 pub bad_query : (now : Option ℕ) (members : Data) (fault : ReadFault)

@@ -13,6 +13,7 @@ use Rattle.its_model.specs.Stations.{next_neighbour, stations_at}
 use Rattle.its_station.specs.declared.counts.Counts.{Counts}
 use Rattle.its_station.specs.declared.refused.Refused.{Refused}
 use Rattle.its_station.specs.declared.refused.Refused.TheVariants as refusals
+use Rattle.its_linkframe.specs.FrameFaults.{IsFrameFault}
 use Rattle.its_linkframe.specs.Frames.{IsFrame}
 use Rattle.its_pipe.specs.declared.request.Query.{Query}
 use Rattle.its_pipe.specs.declared.request.Query.TheVariants as queries
@@ -91,10 +92,10 @@ TellsNeighbours m now after (knowns.Neighbours vectors more) =
 TellsNeighbours m now after (knowns.Refused refused) = IsRefusedAt m now refused
 TellsNeighbours m now after answer = ⊥
 
--- whether these octets are a frame
+-- whether these octets are a frame; if they are none, their first fault
 abbrev pub TellsFrame : List ℕ → Known → Type 0
 TellsFrame octets (knowns.Frame frame) = (frame.items ≡ octets) × IsFrame octets
-TellsFrame octets (knowns.NoFrame fault) = ¬ IsFrame octets
+TellsFrame octets (knowns.NoFrame fault) = (¬ IsFrame octets) × IsFrameFault octets fault
 TellsFrame octets answer = ⊥
 
 -- what is answered to what is asked

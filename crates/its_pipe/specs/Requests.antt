@@ -127,6 +127,7 @@ abbrev pub IsQueryWord : Data → Type 0
 IsQueryWord members =
     IsWord members (codes "next_beacon") ⊎ IsWord members (codes "neighbours")
     ⊎ IsWord members (codes "look_up") ⊎ IsWord members (codes "read_frame")
+    ⊎ IsWord members (codes "counts")
 
 -- the first bad key of a call is this one, where its moment is good: never that of the moment, and
 -- one under which nothing stands that it takes
@@ -138,8 +139,10 @@ pub record IsBadCallKey (members : Data) (key : Key) : Type 0 where
   pub frame : IsWord members (codes "receive")
       → (key ≡ keys.Frame) × ((frame : List ℕ) → ¬ IsFrameText members frame)
 
--- the object's first bad key is this one
+-- the object's first bad key is this one; if its word asks for what the station knows, only the
+-- moment is one
 pub record IsBadKey (now : Option ℕ) (members : Data) (key : Key) : Type 0 where
+  pub asked : IsQueryWord members → key ≡ keys.At
   pub moment : ((moment : ℕ) → ¬ IsMomentOf now members moment) → key ≡ keys.At
   pub call : (moment : ℕ) → IsMomentOf now members moment → IsBadCallKey members key
 

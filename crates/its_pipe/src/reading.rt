@@ -11,7 +11,7 @@ ghost use Rattle.its_world.specs.Events.{IsOwn};
 ghost use Rattle.its_pipe.specs.Requests.{Asks, AsksCall, AsksIn, AsksOf, AsksQuery, IsAskedIn};
 ghost use Rattle.its_pipe.specs.Requests.{IsAskedAt, IsBadOf, IsBadCallKeyOf, IsFrameKey, IsFrameText, IsId};
 ghost use Rattle.its_pipe.specs.Requests.{IsIdFault, IsJitter, IsJsonObject, IsMomentFault, IsMomentOf, IsObject};
-ghost use Rattle.its_pipe.specs.Requests.{IsOfQuery, IsQueryFault, IsToldAs, IsWord, SaysCall, line_of};
+ghost use Rattle.its_pipe.specs.Requests.{IsOfQuery, IsQueryFault, IsQueryWord, IsToldAs, IsWord, SaysCall, line_of};
 ghost use Rattle.its_pipe.specs.Requests.{values_in};
 ghost use Rattle.its_pipe.specs.Words.{line_word};
 
@@ -212,6 +212,8 @@ fn read_moment(members: &Members<'_>, now: Option<u64>) -> Result<Option<u64>, K
 /// Reads what is asked of what the station knows. `None` where the word is none of these.
 fn read_query(alloc: Global, members: &Members<'_>) -> Result<Option<Query>, ReadFault>
     ensures query { IfOk result (λ query. IfSome query (AsksQuery (view members.now.0.now))) }
+    ensures none { IfOk result (λ query. IfNone query
+        (¬ IsQueryWord (view members.now.0.now))) }
     ensures fault { IfErr result (IsQueryFault (view members.now.0.now)) }
 {
     Ok(match word_under(members) {

@@ -20,7 +20,8 @@ abbrev pub IsToldInLine : SourceFault → ℕ → Option Format → FileFault �
 IsToldInLine (sources.Capture captures.Io) records format told = ⊥
 IsToldInLine (sources.Capture captures.NoMemory) records format told = ⊥
 IsToldInLine fault records format told =
-    told ≡ record { fault = fault; begins_as_none = begins_as_none fault records format }
+    told
+    ≡ record { fault = fault; begins_as_none = begins_as_none fault records format; is_gzip = false }
 
 -- A failed read, or an allocation that failed, ends the command instead.
 abbrev pub EndsCommand : SourceFault → Bor (List ℕ) → Fault → Type 0

@@ -11,21 +11,26 @@ use Rattle.its_linkframe.specs.Frames.{EncodesFrame, transmission_of}
 use Rattle.its_linkframe.specs.Padding.{IsUnpadded}
 use Rattle.its_linkframe.specs.declared.frame.FrameView.{FrameView}
 use Rattle.its_linklayers.specs.LinkLayers.{IsFrameIn, IsLinkFault}
+use Rattle.its_linklayers.specs.declared.link.LinkFault.TheVariants as links
 use Rattle.its_linklayers.specs.declared.link.LinkLayer.{LinkLayer}
 use Rattle.its_linklayers.specs.declared.link.LinkLayer.TheVariants as layers
 use Rattle.its_model.specs.Packet.{Transmission, Body, beacon, shb, gbc, gac}
 use Rattle.its_pcap.specs.Records.{fault_of}
+use Rattle.its_pcap.specs.declared.record.RecordFault.TheVariants as records
 use Rattle.its_pcap.specs.declared.record.RecordHeader.{RecordHeader}
 use Rattle.its_records.specs.declared.refusal.RecordFault.{RecordFault}
 use Rattle.its_records.specs.declared.refusal.RecordFault.TheVariants as faults
 
 -- ---- the frame of a record
 
--- what is read of the octets that a link layer carries: Ethernet fills short frames up
+-- what is read of the octets that a link layer carries: Ethernet fills short frames up, and cooked
+-- captures have them as they came
 abbrev pub IsReadAs : LinkLayer → List ℕ → List ℕ → Type 0
 IsReadAs layers.Ethernet carried text = IsUnpadded carried text
 IsReadAs layers.Ieee80211 carried text = text ≡ carried
 IsReadAs layers.Radiotap carried text = text ≡ carried
+IsReadAs layers.Sll carried text = IsUnpadded carried text
+IsReadAs layers.Sll2 carried text = IsUnpadded carried text
 
 -- what is read of a record's octets: all, or, where they have the header of their link layer, what
 -- that carries
@@ -96,13 +101,29 @@ traits_in t =
       port = port_in t.pdu.body;
     }
 
--- what a record is chosen by: its frame, or that it has none
-abbrev pub AreTraits : RecordHeader → Bool → List ℕ → Option Traits → Type 0
-AreTraits h linked w (Some traits) =
-    (t : Transmission) × HasFrame h linked w t × (traits ≡ traits_in t)
-AreTraits h linked w None = (fault : RecordFault) × IsRecordFault h linked w fault
+-- a record that is refused because it is of another protocol: its link layer isn't read (P3), or says
+-- another kind of frame (L2), or its frame is of another type (L2)
+abbrev pub is_other : RecordFault → Bool
+is_other (faults.Record records.LinkType) = true
+is_other (faults.Record records.CutFrame) = false
+is_other (faults.Link links.Kind) = true
+is_other (faults.Link links.Short) = false
+is_other (faults.Frame frames.EtherType) = true
+is_other (faults.Frame fault) = false
+is_other (faults.Secured fault) = false
+
+-- what a record is chosen by: its frame; or that it has none, and whether it is of another protocol
+abbrev pub AreTraits : RecordHeader → Bool → List ℕ → Option Traits → Bool → Type 0
+AreTraits h linked w (Some traits) other =
+    (t : Transmission) × HasFrame h linked w t × (traits ≡ traits_in t) × (other ≡ false)
+AreTraits h linked w None other =
+    (fault : RecordFault) × IsRecordFault h linked w fault × (other ≡ is_other fault)
 
 -- the same of what was read
 abbrev pub traits_read : Result FrameView RecordFault → Option Traits
 traits_read (Ok frame) = Some (traits_in (transmission_of frame))
 traits_read (Err fault) = None
+
+abbrev pub other_read : Result FrameView RecordFault → Bool
+other_read (Ok frame) = false
+other_read (Err fault) = is_other fault

@@ -1,7 +1,7 @@
 -- Which records of a capture a command is over, and how a walk over it ends.
 use Rattle.std.specs.Prelude.{◌≡◌, ◌⊎◌, ℕ, List, Bool, true, Option, ◌||◌, is_some, nat_lt}
 use Rattle.std.specs.Prelude.{if◌then◌else◌}
-use Rattle.its_choosing.specs.Choosing.{is_chosen}
+use Rattle.its_choosing.specs.Choosing.{selects}
 use Rattle.its_choosing.specs.declared.Choice.{Choice}
 use Rattle.its_choosing.specs.declared.Traits.{Traits}
 use Rattle.its_pcap.specs.declared.record.RecordHeader.{RecordHeader}
@@ -19,6 +19,7 @@ walk_status walked =
 -- moment alone where nothing is asked of its frame
 abbrev pub Chooses : Choice → Bool → RecordHeader → List ℕ → Bool → Type 0
 Chooses choice linked h w chosen =
-    ((traits : Option Traits) × AreTraits h linked w traits
-    × (chosen ≡ is_chosen choice h.moment traits))
-    ⊎ ((chosen ≡ true) × ((traits : Option Traits) → is_chosen choice h.moment traits ≡ true))
+    ((traits : Option Traits) × (other : Bool) × AreTraits h linked w traits other
+    × (chosen ≡ selects choice h.moment traits other))
+    ⊎ ((chosen ≡ true)
+    × ((traits : Option Traits) (other : Bool) → selects choice h.moment traits other ≡ true))

@@ -46,6 +46,8 @@ fn read_on(layer: LinkLayer, octets: &[u8]) -> Result<FrameView<'_>, RecordFault
 {
     match layer {
         LinkLayer::Ethernet => read_filled_up(octets),
+        LinkLayer::Sll => read_filled_up(octets),
+        LinkLayer::Sll2 => read_filled_up(octets),
         LinkLayer::Ieee80211 | LinkLayer::Radiotap => read(octets),
     }
 }

@@ -2,6 +2,7 @@
 //! why it is refused.
 #![tactic(auto)]
 
+mod cut;
 mod frame;
 mod refusal;
 mod told;

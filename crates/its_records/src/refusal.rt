@@ -3,7 +3,7 @@
 ghost use Rattle.std.specs.Prelude.{◌≡◌, IfOk, IfErr};
 ghost use Rattle.its_pcap.specs.Codes.{code_of};
 ghost use Rattle.its_records.specs.FileFaults.{EndsCommand, IsToldInLine};
-ghost use Rattle.its_records.specs.RecordFrames.{IsTold};
+ghost use Rattle.its_records.specs.RecordFrames.{IsTold, is_other};
 ghost use Rattle.its_records.specs.declared.refusal.RecordFault.TheVariants as faults;
 
 use its_faults::FaultKind;
@@ -47,6 +47,19 @@ impl RecordFault {
             }
         }
         RecordFault::Frame(fault)
+    }
+
+    /// Whether it is of another protocol than GeoNetworking: of a link layer that is not read, of
+    /// another kind of its frames, or of another type.
+    pub fn is_other(&self) -> bool
+        ensures { result ≡ is_other self.now }
+    {
+        match self {
+            RecordFault::Record(its_pcap::RecordFault::LinkType)
+            | RecordFault::Link(LinkFault::Kind)
+            | RecordFault::Frame(FrameFault::EtherType) => true,
+            _ => false,
+        }
     }
 
     /// What lines show, as `P4`, `L1` or `L5 G9 at 10`.
@@ -101,7 +114,12 @@ pub struct FileFault {
     /// Whether the file begins as one of no format that is read. Without a format it is read as a
     /// capture, which has no first octets of its own.
     begins_as_none: bool,
+    /// Whether the file begins as gzip's.
+    is_gzip: bool,
 }
+
+/// The first two octets of gzip's files.
+const GZIP: u64 = 0x1f8b;
 
 impl FileFault {
     /// The fault of the file of this name after so many records, where its octets are at fault: a
@@ -124,8 +142,21 @@ impl FileFault {
                 Ok(FileFault {
                     fault,
                     begins_as_none: no_length && records == 0 && format.is_none(),
+                    is_gzip: false,
                 })
             }
+        }
+    }
+
+    /// The same of a file of this format, whose first record has this moment, if it has a record: a
+    /// capture begins with that moment, so a file of gzip is known by it.
+    pub(crate) fn begun(self, format: Format, first: Option<u64>) -> FileFault
+        ensures { result.fault ≡ self.fault }
+    {
+        let begins = first.is_some_and(|moment| moment / 2u64.pow(48) == GZIP);
+        FileFault {
+            is_gzip: begins && format == Format::Capture,
+            ..self
         }
     }
 
@@ -139,7 +170,9 @@ impl FileFault {
 
 impl fmt::Display for FileFault {
     fn fmt<W: fmt::Write>(&self, f: &mut fmt::Formatter<W>) -> fmt::Result {
-        if self.begins_as_none {
+        if self.is_gzip {
+            f.write_str("a gzip file: use zcat FILE | geostation show -")
+        } else if self.begins_as_none {
             f.write_str("not a capture, pcap or pcapng file")
         } else {
             write!(f, "{}", self.fault)

@@ -1,17 +1,19 @@
 //! The walk over the records of a file.
 
-ghost use Rattle.std.specs.Prelude.{◌≡◌, ◌≤◌, Option, IfOk, IfErr, IsTrue, None, true, take};
-ghost use Rattle.its_choosing.specs.Choosing.{is_chosen};
+ghost use Rattle.std.specs.Prelude.{◌≡◌, ◌≤◌, Bool, Option, IfOk, IfErr, IsTrue, None, true, take};
+ghost use Rattle.its_choosing.specs.Choosing.{selects};
 ghost use Rattle.its_choosing.specs.declared.Traits.{Traits};
 ghost use Rattle.its_linklayers.specs.declared.link.TheConstants.{LONGEST_RECORD};
-ghost use Rattle.its_records.specs.RecordFrames.{traits_read};
+ghost use Rattle.its_records.specs.RecordFrames.{traits_read, other_read};
 ghost use Rattle.its_records.specs.Walks.{walk_status, Chooses};
 ghost use Rattle.its_reporting.specs.declared.fault.Fault.TheVariants.{CannotRead};
 
+use crate::cut::{CutFrame, cut_frame_of};
 use crate::frame::{frame_of, traits_of};
 use crate::refusal::{FileFault, RecordFault};
 use its_choosing::Choice;
-use its_linkframe::{Counted, FrameView, Source};
+use its_linkframe::{Counted, FrameView, LONGEST_FRAME, Source};
+use its_linklayers::LinkFacts;
 use its_pcap::{AnySource, Format, LONGEST_RECORD, RecordHeader, RecordSource, SourceFault, Step};
 use its_reporting::{Fault, Status, is_standard};
 use std::alloc::{AllocError, Global};
@@ -27,6 +29,8 @@ pub struct Selection {
     pub choice: Choice,
     /// How many are chosen at most: then nothing more is read.
     pub count: Option<u64>,
+    /// Whether records that were cut are read as far as they go.
+    pub partial: bool,
 }
 
 impl Selection {
@@ -38,6 +42,7 @@ impl Selection {
             format: None,
             choice: Choice::all(),
             count: None,
+            partial: false,
         }
     }
 
@@ -66,7 +71,8 @@ impl Selection {
     /// Whether a record of this moment is chosen, whatever its frame is.
     fn has_any(&self, moment: u64) -> bool
         ensures { IsTrue result
-            → (traits : Option Traits) → is_chosen self.now.choice moment traits ≡ true }
+            → (traits : Option Traits) → (other : Bool)
+            → selects self.now.choice moment traits other ≡ true }
     {
         let choice = &self.choice;
         choice.kinds.is_none()
@@ -74,41 +80,85 @@ impl Selection {
             && choice.from.is_none()
             && choice.port.is_none()
             && !choice.refused
+            && !choice.skips_others
             && choice.since <= moment
             && moment <= choice.until
     }
 
     /// Whether a record of this moment is chosen, of which this was read.
     fn has(&self, moment: u64, frame: &Result<FrameView<'_>, RecordFault>) -> bool
-        ensures { result ≡ is_chosen self.now.choice moment (traits_read frame.now) }
+        ensures { result
+            ≡ selects self.now.choice moment (traits_read frame.now) (other_read frame.now) }
     {
-        let traits = match frame {
-            Ok(frame) => Some(traits_of(frame)),
-            Err(_) => None,
-        };
-        self.choice.is_chosen(moment, traits)
+        match frame {
+            Ok(frame) => self.choice.selects(moment, Some(traits_of(frame)), false),
+            Err(fault) => self.choice.selects(moment, None, fault.is_other()),
+        }
+    }
+
+    /// Whether a record of this moment is chosen, which was cut, and of which this was read.
+    fn has_cut(&self, moment: u64, read: &Result<CutFrame<'_>, RecordFault>) -> bool {
+        match read {
+            Ok(cut) => self.choice.selects(moment, Some(cut.traits()), false),
+            Err(fault) => self.choice.selects(moment, None, fault.is_other()),
+        }
     }
 }
 
-/// Where a record stands in its file.
+/// Where a record stands in its file, and what is known of it beside its frame.
 #[derive(Clone, Copy, Debug, PartialEq, Eq)]
 pub struct Place {
     /// How many records stand before it.
     pub number: u64,
     /// Its moment, in milliseconds.
     pub moment: u64,
+    /// The nanoseconds of its time below the millisecond.
+    pub nanos: u32,
     /// The moment of the file's first record.
     pub first: u64,
+    /// The nanoseconds of that below the millisecond.
+    pub first_nanos: u32,
+    /// The number of its interface, from 0.
+    pub interface: u32,
+    /// How many of its octets the file has.
+    pub length: u32,
+    /// What the headers of its link layer say.
+    pub link: LinkFacts,
+    /// How many octets of its frame there are, if the record was cut and is read as far as it goes.
+    pub known: Option<usize>,
 }
 
 impl Place {
-    /// The place behind so many records, of which the first has this moment, if there is one.
-    fn of(number: u64, head: &RecordHeader, first: Option<u64>) -> Place {
+    /// The place behind so many records, of which the first has this moment and these nanoseconds
+    /// below it, if there is one, of a record with these octets.
+    fn of(
+        number: u64,
+        head: &RecordHeader,
+        first: Option<(u64, u32)>,
+        octets: &[u8],
+        linked: bool,
+    ) -> Place {
+        let (moment, nanos) = (head.moment, head.fine.nanos);
+        let (first, first_nanos) = first.unwrap_or((moment, nanos));
         Place {
             number,
-            moment: head.moment,
-            first: first.unwrap_or(head.moment),
+            moment,
+            nanos,
+            first,
+            first_nanos,
+            interface: head.interface,
+            length: head.captured,
+            link: link_facts(head, octets, linked),
+            known: None,
         }
+    }
+}
+
+/// What the headers of the link layer say, if the octets have them.
+fn link_facts(head: &RecordHeader, octets: &[u8], linked: bool) -> LinkFacts {
+    match head.layer {
+        Some(layer) if linked => LinkFacts::of(layer, octets),
+        _ => LinkFacts::none(),
     }
 }
 
@@ -208,20 +258,28 @@ pub fn each_record<'a, S: Source + Drop, V: RecordVisitor, W: Write>(
     let linked = source.format() != Format::Capture;
     let waits = is_standard(file);
     let ended = walk(selection, waits, source, linked, &mut octets, visitor, out);
-    let (walked, fault) = ended?;
+    let (walked, first, fault) = ended?;
     match fault {
-        Some(fault) => Ok(Walked {
-            records: walked.records,
-            refused: walked.refused,
-            fault: Some(FileFault::of(fault, file, walked.read, selection.format)?),
-            read: walked.read,
-        }),
+        Some(fault) => {
+            let begun = match first {
+                Some((moment, _)) => Some(moment),
+                None => None,
+            };
+            let told = FileFault::of(fault, file, walked.read, selection.format)?;
+            Ok(Walked {
+                records: walked.records,
+                refused: walked.refused,
+                fault: Some(told.begun(source.format(), begun)),
+                read: walked.read,
+            })
+        }
         None => Ok(walked),
     }
 }
 
 /// Visits each record that is chosen, until as many are as are wanted, or the source ends or has a
-/// fault, which is returned. Where reads may wait, what was printed is written out before each.
+/// fault, which is returned, behind the moment of the first record. Where reads may wait, what was
+/// printed is written out before each.
 fn walk<'a, S: RecordSource, V: RecordVisitor, W: Write>(
     selection: &Selection,
     waits: bool,
@@ -230,26 +288,32 @@ fn walk<'a, S: RecordSource, V: RecordVisitor, W: Write>(
     octets: &mut Vec<u8>,
     visitor: &mut V,
     out: &mut W,
-) -> Result<(Walked, Option<SourceFault>), Fault<'a>>
+) -> Result<(Walked, Option<(u64, u32)>, Option<SourceFault>), Fault<'a>>
     ensures { IfOk result (λ ended. ended.0.refused ≤ ended.0.records) }
 {
     let mut walked = Walked::begin();
     let mut first = None;
+    let mut room = [0; LONGEST_FRAME];
     // The range is there so that the walk ends on any source. No file reaches its end: a step has
     // 11 octets at least, so that many are over 2^67 octets.
     for step in 0..u64::MAX {
         if selection.count == Some(walked.records) {
-            return Ok((walked, None));
+            return Ok((walked, first, None));
         }
         if waits {
             out.flush()?;
         }
         match source.next_into(octets) {
             Ok(Step::Record(head)) => {
-                let place = Place::of(walked.read, &head, first);
-                first = Some(place.first);
+                let place = Place::of(walked.read, &head, first, octets.as_slice(), linked);
+                first = Some((place.first, place.first_nanos));
                 walked.read += 1;
-                match visit(selection, place, &head, octets, linked, visitor, out)? {
+                let visited = if selection.partial && linked && is_cut(&head) {
+                    visit_cut(selection, place, &head, octets, &mut room, visitor, out)?
+                } else {
+                    visit(selection, place, &head, octets, linked, visitor, out)?
+                };
+                match visited {
                     Visited::Passed => {}
                     Visited::Frame => walked.records += 1,
                     Visited::Refused => {
@@ -258,12 +322,12 @@ fn walk<'a, S: RecordSource, V: RecordVisitor, W: Write>(
                     }
                 }
             }
-            Ok(Step::Passed) => {}
-            Ok(Step::End) => return Ok((walked, None)),
-            Err(fault) => return Ok((walked, Some(fault))),
+            Ok(Step::Interface | Step::Passed) => {}
+            Ok(Step::End) => return Ok((walked, first, None)),
+            Err(fault) => return Ok((walked, first, Some(fault))),
         }
     }
-    Ok((walked, None))
+    Ok((walked, first, None))
 }
 
 /// Visits a record, if it is chosen.
@@ -286,4 +350,36 @@ fn visit<'a, V: RecordVisitor, W: Write>(
     };
     visitor.visit(place, frame, out)?;
     Ok(visited)
+}
+
+/// Whether the record is of a link layer that is read, and was cut.
+fn is_cut(head: &RecordHeader) -> bool {
+    head.fault() == Some(its_pcap::RecordFault::CutFrame)
+}
+
+/// Visits a record that was cut, if it is chosen, as far as its frame goes.
+fn visit_cut<'a, V: RecordVisitor, W: Write>(
+    selection: &Selection,
+    place: Place,
+    head: &RecordHeader,
+    octets: &mut Vec<u8>,
+    room: &mut [u8; LONGEST_FRAME],
+    visitor: &mut V,
+    out: &mut W,
+) -> Result<Visited, Fault<'a>> {
+    let read = cut_frame_of(head, octets, room);
+    if !selection.has_cut(head.moment, &read) {
+        return Ok(Visited::Passed);
+    }
+    match read {
+        Ok(cut) => {
+            let known = Some(cut.known);
+            visitor.visit(Place { known, ..place }, Ok(cut.frame), out)?;
+            Ok(Visited::Frame)
+        }
+        Err(fault) => {
+            visitor.visit(place, Err(fault), out)?;
+            Ok(Visited::Refused)
+        }
+    }
 }

@@ -1,22 +1,23 @@
 -- One more step of a file after others.
 use Rattle.std.proofs.Common.{◌≡◌, ℕ, ◌+◌, List, [], ◌∷◌, ◌++◌, length, refl, sym, ap, subst, ◌∙◌}
-use Rattle.std.proofs.Common.{arith, inl, length-append, ◌≤◌, false, true≢false}
+use Rattle.std.proofs.Common.{arith, inl, inr, length-append, ◌×◌, ◌≤◌, true, false, true≢false}
 use Rattle.std.specs.Prelude.{Bool, Result, Ok, Err, IfOk, Option, None, Some}
 use Rattle.std.proofs.lemmas.List.{append_assoc, append-nil}
-use Rattle.its_choosing.specs.Choosing.{is_chosen}
 use Rattle.its_choosing.specs.declared.Choice.{Choice}
-use Rattle.its_choosing.specs.declared.Traits.{Traits}
 use Rattle.its_model.specs.Station.{StationModel}
 use Rattle.its_pcap.specs.declared.fault.SourceFault.{SourceFault}
 use Rattle.its_pcap.specs.declared.record.RecordHeader.{RecordHeader}
 use Rattle.its_pcap.specs.declared.record.Step.{Step}
 use Rattle.its_pcap.specs.declared.record.Step.TheVariants as steps
 use Rattle.its_station.specs.State.{StationState, RepresentsStation}
-use Rattle.its_replay.specs.Replays.{AreCounts, Given, IsGone, IsHeard, IsMet, IsReplayed}
+use Rattle.its_replay.specs.OnAir.{AnswersChoice, IsOnAir}
+use Rattle.its_replay.specs.Replays.{AreCounts, EndsFile, Given, IsGone, IsHeard, IsMet, IsReplayed}
+use Rattle.its_replay.specs.Replays.{IsReplayedWhole}
 use Rattle.its_replay.specs.Replays.{TellsStep}
 use Rattle.its_replay.specs.Replays.{TellsSteps, counts_after, fault_first, fault_in, fault_of_step}
 use Rattle.its_replay.specs.Replays.{is_end, records_in, records_of}
 use Rattle.its_replay.specs.declared.heard.Heard.{Heard}
+use Rattle.its_replay.specs.declared.on_air.OnAir.{OnAir}
 use Rattle.its_replay.specs.declared.replaying.Gone.{Gone}
 use Rattle.its_replay.specs.declared.replaying.Gone.TheVariants as gone
 use Rattle.its_replay.specs.declared.replaying.Replayed.{Replayed}
@@ -148,20 +149,54 @@ replayed_more gives choice linked file s left then station next counts met Took 
       stands = one.stands;
     }
 
--- the same of counts that are known to be those after the step
-pub replayed_then : {S : Type 0} (gives : S → S → List ℕ → Result Step SourceFault → Type 0)
+-- the same of counts that are known to be those after the step, and with one call more
+pub counted_then : {S : Type 0} (gives : S → S → List ℕ → Result Step SourceFault → Type 0)
     (choice : Choice) (linked : Bool) (file : S) (s : StationModel) (left then : S)
     (station next : StationState) (counts : Replayed) (met : Gone) (result : Replayed)
-    (Took Later : List Heard → Type 0)
+    (Took Later : List Heard → Type 0) (step : ℕ)
     (before : IsReplayed gives choice linked file s left station counts Took)
+    → length before.given ≡ step
     → result ≡ counts_after counts met → counts.fault ≡ None
     → IsGone gives choice linked left before.end before.told then next met Later
-    → IsReplayed gives choice linked file s then next result Later
-replayed_then gives choice linked file s left then station next counts met result Took Later before
-    is none one =
-    subst (λ (r : Replayed). IsReplayed gives choice linked file s then next r Later) (sym is)
-    (replayed_more gives choice linked file s left then station next counts met Took Later before
-    none one)
+    → (after : IsReplayed gives choice linked file s then next result Later)
+    × (length after.given ≡ step + 1)
+counted_then gives choice linked file s left then station next counts met result Took Later step
+    before steps is none one =
+    subst (λ (r : Replayed). (after : IsReplayed gives choice linked file s then next r Later)
+    × (length after.given ≡ step + 1)) (sym is) (
+      replayed_more gives choice linked file s left then station next counts met Took Later before
+          none one,
+      omega (arith, length-append before.given (one.given ∷ []), steps),
+    )
+
+-- the last step found the end of the file, or its fault
+ends_by : (count : Option ℕ) (counts : Replayed) (before : List Given) (one : Given) (met : Gone)
+    (told : List Heard) → is_end met ≡ true → IsMet met one.step told
+    → EndsFile count (counts_after counts met) (before ++ one ∷ [])
+ends_by count counts before one gone.Chosen told is met = absurd (true≢false (sym is))
+ends_by count counts before one gone.Passed told is met = absurd (true≢false (sym is))
+ends_by count counts before one gone.NoRecord told is met = absurd (true≢false (sym is))
+ends_by count counts before one (gone.End None) told is met =
+    inr (inl (before, one, refl, met.3))
+ends_by count counts before one (gone.End (Some fault)) told is met = inl refl
+
+-- the file was read to its end, or to its fault
+pub whole_then : {S : Type 0} (gives : S → S → List ℕ → Result Step SourceFault → Type 0)
+    (choice : Choice) (count : Option ℕ) (linked : Bool) (file : S) (s : StationModel)
+    (left then : S) (station next : StationState) (counts : Replayed) (met : Gone)
+    (result : Replayed) (Took Later : List Heard → Type 0)
+    (before : IsReplayed gives choice linked file s left station counts Took)
+    → result ≡ counts_after counts met → counts.fault ≡ None → is_end met ≡ true
+    → IsGone gives choice linked left before.end before.told then next met Later
+    → IsReplayedWhole gives choice count linked file s then next result Later
+whole_then gives choice count linked file s left then station next counts met result Took Later
+    before is none ends one =
+    subst (λ (r : Replayed). IsReplayedWhole gives choice count linked file s then next r Later)
+    (sym is) (record {
+      replayed = replayed_more gives choice linked file s left then station next counts met Took
+          Later before none one;
+      ended = ends_by count counts before.given one.given met one.told ends one.met_is;
+    })
 
 -- a step that isn't the last leaves the fault as it is
 pub fault_stays : (counts : Replayed) (met : Gone) → counts.fault ≡ None → is_end met ≡ false
@@ -188,15 +223,22 @@ chosen_grows counts (gone.End fault) le = le
 
 -- a record that isn't chosen
 pub heard_none : (choice : Choice) (linked : Bool) (head : RecordHeader) (w : List ℕ) (s : StationModel)
-    (log : List Heard) (station : StationState) (Took : List Heard → Type 0) (traits : Option Traits)
-    → is_chosen choice head.moment traits ≡ false → RepresentsStation station s → Took log
+    (log : List Heard) (station : StationState) (Took : List Heard → Type 0) (air : OnAir)
+    → IsOnAir linked head w air → AnswersChoice air choice head.moment false
+    → RepresentsStation station s → Took log
     → IsHeard choice linked head w s log station gone.Passed Took
-heard_none choice linked head w s log station Took traits passed rep took =
+heard_none choice linked head w s log station Took air on passed rep took =
     record {
       told = [];
       next = s;
       met_is = (refl, refl, refl);
-      tells = inl (record { traits = traits; passed = passed; told_is = refl; next_is = refl });
+      tells = inl (record {
+        air = air;
+        on_air = on;
+        passed = passed;
+        told_is = refl;
+        next_is = refl;
+      });
       took = subst Took (sym (append-nil log)) took;
       stands = rep;
     }

@@ -1,11 +1,19 @@
 -- What of a record was on the air.
 use Rattle.std.specs.Prelude.{◌≡◌, ℕ, Bool, true, false, List, Option, Some, None}
+use Rattle.its_choosing.specs.Choosing.{is_chosen}
+use Rattle.its_choosing.specs.declared.Choice.{Choice}
+use Rattle.its_choosing.specs.declared.Traits.{Traits}
+use Rattle.its_faults.specs.declared.frame.FrameFault.{FrameFault}
+use Rattle.its_linkframe.specs.FrameFaults.{IsFrameFault}
+use Rattle.its_linkframe.specs.Frames.{EncodesFrame}
 use Rattle.its_linkframe.specs.Padding.{IsUnpadded}
 use Rattle.its_linklayers.specs.LinkLayers.{IsFrameIn, IsLinkFault}
+use Rattle.its_model.specs.Packet.{Transmission}
 use Rattle.its_pcap.specs.Records.{fault_of}
 use Rattle.its_linklayers.specs.declared.link.LinkLayer.{LinkLayer}
 use Rattle.its_linklayers.specs.declared.link.LinkLayer.TheVariants as layers
 use Rattle.its_pcap.specs.declared.record.RecordHeader.{RecordHeader}
+use Rattle.its_records.specs.RecordFrames.{traits_in}
 use Rattle.its_records.specs.declared.refusal.RecordFault.{RecordFault}
 use Rattle.its_records.specs.declared.refusal.RecordFault.TheVariants as faults
 use Rattle.its_replay.specs.declared.on_air.OnAir.{OnAir}
@@ -16,6 +24,8 @@ abbrev pub IsUnfilled : LinkLayer → List ℕ → List ℕ → Type 0
 IsUnfilled layers.Ethernet frame octets = IsUnpadded frame octets
 IsUnfilled layers.Ieee80211 frame octets = octets ≡ frame
 IsUnfilled layers.Radiotap frame octets = octets ≡ frame
+IsUnfilled layers.Sll frame octets = IsUnpadded frame octets
+IsUnfilled layers.Sll2 frame octets = IsUnpadded frame octets
 
 -- the octets that a station hears of a record of this link layer
 abbrev pub IsFrameOf : LinkLayer → List ℕ → List ℕ → Type 0
@@ -46,6 +56,23 @@ HasNothing linked head w fault = (fault_of head ≡ None) × IsLayerFault linked
 abbrev pub IsOnAir : Bool → RecordHeader → List ℕ → OnAir → Type 0
 IsOnAir linked head w (airs.Octets octets) = HasOctets linked head w octets.items
 IsOnAir linked head w (airs.Nothing fault) = HasNothing linked head w fault
+
+-- what these octets are chosen by: their frame, or that they are none
+abbrev pub AreFrameTraits : List ℕ → Option Traits → Type 0
+AreFrameTraits octets (Some traits) =
+    (t : Transmission) × EncodesFrame t octets × (traits ≡ traits_in t)
+AreFrameTraits octets None = (fault : FrameFault) × IsFrameFault octets fault
+
+-- what a record is chosen by; one that has nothing to hear has nothing that frames are chosen by
+abbrev pub AreTraitsOf : OnAir → Option Traits → Type 0
+AreTraitsOf (airs.Octets octets) traits = AreFrameTraits octets.items traits
+AreTraitsOf (airs.Nothing fault) traits = traits ≡ None
+
+-- The choice answers this of a record of this moment, by what the record is chosen by.
+pub record AnswersChoice (air : OnAir) (choice : Choice) (moment : ℕ) (answer : Bool) : Type 0 where
+  pub traits : Option Traits
+  pub are_traits : AreTraitsOf air traits
+  pub answer_is : answer ≡ is_chosen choice moment traits
 
 -- ---- words of private functions
 

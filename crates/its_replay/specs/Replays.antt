@@ -1,9 +1,7 @@
 -- The records of a file, received by the station of the model one after the other.
-use Rattle.std.specs.Prelude.{◌≡◌, ℕ, ◌+◌, ◌⊎◌, ◌++◌, ◌∷◌, [], List, length, Result, Ok, Err}
-use Rattle.std.specs.Prelude.{Option, Some, None, Bool, true, false}
-use Rattle.its_choosing.specs.Choosing.{is_chosen}
+use Rattle.std.specs.Prelude.{◌≡◌, ℕ, ◌+◌, ◌-◌, ◌^◌, ◌⊎◌, ◌++◌, ◌∷◌, [], List, length, Result}
+use Rattle.std.specs.Prelude.{Ok, Err, Option, Some, None, IsSome, Bool, true, false}
 use Rattle.its_choosing.specs.declared.Choice.{Choice}
-use Rattle.its_choosing.specs.declared.Traits.{Traits}
 use Rattle.its_model.specs.Calls as model
 use Rattle.its_model.specs.Station.{StationModel, station_step}
 use Rattle.its_pcap.specs.declared.fault.SourceFault.{SourceFault}
@@ -15,7 +13,7 @@ use Rattle.its_station.specs.Runs.{TellsReply}
 use Rattle.its_station.specs.State.{StationState, RepresentsStation}
 use Rattle.its_station.specs.declared.run.Call.{Call}
 use Rattle.its_station.specs.declared.run.Call.TheVariants as calls
-use Rattle.its_replay.specs.OnAir.{HasNothing, HasOctets}
+use Rattle.its_replay.specs.OnAir.{AnswersChoice, HasNothing, HasOctets, IsOnAir}
 use Rattle.its_replay.specs.declared.heard.Heard.{Heard}
 use Rattle.its_replay.specs.declared.heard.Heard.TheVariants as heards
 use Rattle.its_replay.specs.declared.on_air.OnAir.{OnAir}
@@ -38,19 +36,23 @@ abbrev pub IsOf : Bool → RecordHeader → List ℕ → Heard → Type 0
 IsOf linked head w (heards.Received at frame reply) = HasOctets linked head w frame.items
 IsOf linked head w (heards.Nothing at fault) = HasNothing linked head w fault
 
--- The record is chosen, and received at its moment.
-pub record TellsHeard (linked : Bool) (head : RecordHeader) (w : List ℕ) (s : StationModel)
-    (told : List Heard) (next : StationModel) : Type 0 where
+-- The record is chosen, by what there is of it to hear, and received at its moment.
+pub record TellsHeard (choice : Choice) (linked : Bool) (head : RecordHeader) (w : List ℕ)
+    (s : StationModel) (told : List Heard) (next : StationModel) : Type 0 where
+  pub air : OnAir
+  pub on_air : IsOnAir linked head w air
+  pub chosen : AnswersChoice air choice head.moment true
   pub heard : Heard
   pub told_is : told ≡ heard ∷ []
   pub of : IsOf linked head w heard
   pub received : TellsReceived s head.moment heard next
 
--- The record isn't chosen: it is as if it weren't there.
-pub record TellsPassed (choice : Choice) (moment : ℕ) (s : StationModel) (told : List Heard)
-    (next : StationModel) : Type 0 where
-  pub traits : Option Traits
-  pub passed : is_chosen choice moment traits ≡ false
+-- The record isn't chosen, by what there is of it to hear: it is as if it weren't there.
+pub record TellsPassed (choice : Choice) (linked : Bool) (head : RecordHeader) (w : List ℕ)
+    (s : StationModel) (told : List Heard) (next : StationModel) : Type 0 where
+  pub air : OnAir
+  pub on_air : IsOnAir linked head w air
+  pub passed : AnswersChoice air choice head.moment false
   pub told_is : told ≡ []
   pub next_is : next ≡ s
 
@@ -58,13 +60,14 @@ pub record TellsPassed (choice : Choice) (moment : ℕ) (s : StationModel) (told
 abbrev pub TellsRecord : Choice → Bool → RecordHeader → List ℕ → StationModel → List Heard → StationModel
     → Type 0
 TellsRecord choice linked head w s told next =
-    TellsPassed choice head.moment s told next ⊎ TellsHeard linked head w s told next
+    TellsPassed choice linked head w s told next ⊎ TellsHeard choice linked head w s told next
 
 -- the same of what a call for the next record gives, with these octets: only a record is received
 abbrev pub TellsStep : Choice → Bool → List ℕ → Result Step SourceFault → StationModel
     → List Heard → StationModel → Type 0
 TellsStep choice linked w (Ok (steps.Record head)) s told next =
     TellsRecord choice linked head w s told next
+TellsStep choice linked w (Ok steps.Interface) s told next = (told ≡ []) × (next ≡ s)
 TellsStep choice linked w (Ok steps.Passed) s told next = (told ≡ []) × (next ≡ s)
 TellsStep choice linked w (Ok steps.End) s told next = (told ≡ []) × (next ≡ s)
 TellsStep choice linked w (Err fault) s told next = (told ≡ []) × (next ≡ s)
@@ -88,6 +91,7 @@ TellsSteps {S} gives choice linked file s (given ∷ more) told left end =
 -- how many records one call gave, and why it gave none
 abbrev pub records_of : Result Step SourceFault → ℕ
 records_of (Ok (steps.Record head)) = 1
+records_of (Ok steps.Interface) = 0
 records_of (Ok steps.Passed) = 0
 records_of (Ok steps.End) = 0
 records_of (Err fault) = 0
@@ -129,7 +133,32 @@ pub record IsReplayed {S : Type 0} (gives : S → S → List ℕ → Result Step
   pub took : Took told
   pub stands : RepresentsStation station end
 
+-- the last call found the end of the file
+abbrev pub IsAtEnd : List Given → Type 0
+IsAtEnd given = (before : List Given) × (last : Given) × (given ≡ before ++ last ∷ [])
+    × (last.step ≡ Ok steps.End)
+
+-- Why nothing further was read: the file has a fault or ended, or as many records are chosen as are
+-- wanted. No file has so many steps as the last case says.
+abbrev pub EndsFile : Option ℕ → Replayed → List Given → Type 0
+EndsFile count counts given =
+    IsSome counts.fault ⊎ IsAtEnd given ⊎ (count ≡ Some counts.chosen)
+    ⊎ (length given ≡ 2 ^ 64 - 1)
+
+-- The same, and the file was read to its end, to its fault, or to as many chosen records as are
+-- wanted.
+pub record IsReplayedWhole {S : Type 0} (gives : S → S → List ℕ → Result Step SourceFault → Type 0)
+    (choice : Choice) (count : Option ℕ) (linked : Bool) (file : S) (s : StationModel) (left : S)
+    (station : StationState) (counts : Replayed) (Took : List Heard → Type 0) : Type 0 where
+  pub replayed : IsReplayed gives choice linked file s left station counts Took
+  pub ended : EndsFile count counts replayed.given
+
 -- ---- words of private functions
+
+-- what the end is: the file's own, where it has no fault
+abbrev pub IsEndOf : Option SourceFault → Result Step SourceFault → Type 0
+IsEndOf None step = step ≡ Ok steps.End
+IsEndOf (Some fault) step = step ≡ Err fault
 
 -- what a step met is of what the call gave and of what was told of it
 abbrev pub IsMet : Gone → Result Step SourceFault → List Heard → Type 0
@@ -141,6 +170,7 @@ IsMet gone.NoRecord step told =
     (records_of step ≡ 0) × (length told ≡ 0) × (fault_of_step step ≡ None)
 IsMet (gone.End fault) step told =
     (records_of step ≡ 0) × (length told ≡ 0) × (fault_of_step step ≡ fault)
+    × IsEndOf fault step
 
 -- whether no further step follows
 abbrev pub is_end : Gone → Bool

@@ -1,9 +1,7 @@
 //! The octets of a record that were on the air, for a station to hear.
 
-ghost use Rattle.std.specs.Prelude.{◌≡◌, IfOk, Option};
-ghost use Rattle.its_choosing.specs.Choosing.{is_chosen as chosen};
-ghost use Rattle.its_choosing.specs.declared.Traits.{Traits};
-ghost use Rattle.its_replay.specs.OnAir.{IsOnAir, IsOnLayer, IsUnfilled};
+ghost use Rattle.std.specs.Prelude.{◌≡◌, IfOk};
+ghost use Rattle.its_replay.specs.OnAir.{AnswersChoice, IsOnAir, IsOnLayer, IsUnfilled};
 
 use its_linkframe::read_frame;
 use its_pcap::{LinkLayer, RecordHeader, frame_start, without_padding};
@@ -56,7 +54,7 @@ impl OnAir {
     /// Whether the record is chosen: one whose octets are no frame has nothing that frames are
     /// chosen by.
     pub(crate) fn is_chosen(&self, choice: &Choice, moment: u64) -> bool
-        ensures { (traits : Option Traits) × (result ≡ chosen choice.now moment traits) }
+        ensures { AnswersChoice self.now choice.now moment result }
     {
         let traits = match self {
             OnAir::Octets(octets) => match read_frame(octets.as_slice()) {
@@ -75,6 +73,8 @@ fn unfilled(layer: LinkLayer, frame: &[u8]) -> &[u8]
 {
     match layer {
         LinkLayer::Ethernet => without_padding(frame),
+        LinkLayer::Sll => without_padding(frame),
+        LinkLayer::Sll2 => without_padding(frame),
         LinkLayer::Ieee80211 | LinkLayer::Radiotap => frame,
     }
 }

@@ -4,7 +4,8 @@ ghost use Rattle.std.specs.Prelude.{◌≡◌, ◌<◌, ◌-◌, ◌^◌, [], If
 ghost use Rattle.its_model.specs.Station.{StationModel};
 ghost use Rattle.its_station.specs.State.{RepresentsStation};
 ghost use Rattle.its_replay.specs.declared.heard.Heard.{Heard as ToldRecord};
-ghost use Rattle.its_replay.specs.Replays.{IsReplayed, IsGone, IsHeard, TellsOctets, TellsOnAir};
+ghost use Rattle.its_replay.specs.Replays.{IsReplayedWhole, IsGone, IsHeard, TellsOctets};
+ghost use Rattle.its_replay.specs.Replays.{TellsOnAir};
 ghost use Rattle.its_replay.specs.Replays.{IsReceive, counts_after, is_end};
 
 use crate::heard::{Heard, HeardSink};
@@ -101,8 +102,9 @@ pub fn replay_records<'f, S: RecordSource, K: HeardSink>(
     sink: &mut K,
 ) -> Result<Replayed, Fault<'f>>
     ensures { (s : StationModel) → RepresentsStation station.old s → K.Took sink.old [] →
-        IfOk result (λ counts. IsReplayed S.GivesStep selection.now.choice linked source.old s
-        source.new station.new counts (K.Took sink.new)) }
+        IfOk result (λ counts. IsReplayedWhole S.GivesStep selection.now.choice
+        selection.now.count linked source.old s source.new station.new counts
+        (K.Took sink.new)) }
 {
     let mut octets = Vec::with_capacity(alloc, LONGEST_RECORD)?;
     let choice = &selection.choice;
@@ -138,6 +140,7 @@ fn go_on<'f, S: RecordSource, K: HeardSink>(
 {
     match source.next_into(octets) {
         Ok(Step::Record(head)) => { hear(alloc, station, choice, &head, linked, octets, sink) }
+        Ok(Step::Interface) => Ok(Gone::NoRecord),
         Ok(Step::Passed) => Ok(Gone::NoRecord),
         Ok(Step::End) => Ok(Gone::End(None)),
         Err(fault) => Ok(Gone::End(Some(fault))),

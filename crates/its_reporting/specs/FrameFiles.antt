@@ -5,6 +5,7 @@ use Rattle.its_pcap.specs.declared.format.Format.{Format}
 use Rattle.its_pcap.specs.declared.put_fault.PutFault.{PutFault}
 use Rattle.its_pcap.specs.declared.put_fault.PutFault.TheVariants as puts
 use Rattle.its_pcap.specs.RecordFiles.{RecordFile, Starts, AddsInterface, PutsFrame}
+use Rattle.its_pcap.specs.Stamps.{stamp_of}
 use Rattle.its_reporting.specs.declared.fault.Fault.{Fault}
 use Rattle.its_reporting.specs.declared.status.Status.{Status}
 use Rattle.its_reporting.specs.declared.status.Status.TheVariants.{Done, Refused}
@@ -62,7 +63,8 @@ Remembers (Err fault) old new ok =
 -- the next frame is put as one of its station's interface
 abbrev pub IsNoted : ℕ → ℕ → List ℕ → RunFile → RunFile → Bool → Type 0
 IsNoted station moment frame old new ok = (answer : Result (Unit {0}) PutFault)
-    × PutsFrame station moment frame old.file new.file answer × Remembers answer old new ok
+    × PutsFrame station (stamp_of moment) frame old.file new.file answer
+    × Remembers answer old new ok
     × (old.frames < 2 ^ 64 - 1 → new.frames ≡ old.frames + 1)
 
 -- how a run with a file of its frames ends: refused where a frame was left out of one that is done

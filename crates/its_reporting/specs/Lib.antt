@@ -1,3 +1,4 @@
-pub mod Statuses
 pub mod FileNames
 pub mod FrameFiles
+pub mod NamedFiles
+pub mod Statuses

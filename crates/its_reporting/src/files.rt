@@ -1,7 +1,8 @@
 //! The files that commands read and write. One that is read is standard input where its name is `-`.
 
 use crate::fault::{Fault, WriterFault};
-use crate::outputs::{OutputFault, is_standard, refuse_same};
+use crate::named_file::{NamedFile, refuse_same};
+use crate::outputs::{OutputFault, is_standard};
 use std::alloc::AllocError;
 use std::io::{BufReader, BufWriter, Read, Write};
 use std::rt::Files;
@@ -31,13 +32,13 @@ impl<F: Read, I: Read> Read for Opened<F, I> {
     }
 }
 
-/// Refuses the file that would be written where it is the one that is read.
+/// Refuses the file to be written if it is the one that is read.
 pub fn keep_apart<'a, R: Files>(
     rt: &R,
     written: &'a str,
     read: &'a str,
 ) -> Result<(), OutputFault<'a>> {
-    refuse_same(rt, &[written], &[read])
+    refuse_same(&[NamedFile::of(rt, written)], &[NamedFile::of(rt, read)])
 }
 
 /// Creates a file that isn't the one that is read: `create`, or the refusal of `keep_apart`.

@@ -9,7 +9,7 @@ use crate::left_out::LeftOut;
 use crate::options::OutputFormat;
 use crate::status::Status;
 use its_linkframe::Counted;
-use its_pcap::{AnySink, Format, PutFault, RecordSink, SinkFault};
+use its_pcap::{AnySink, Format, PutFault, RecordSink, SinkFault, Stamp};
 use std::alloc::Global;
 use std::io;
 use std::io::Write;
@@ -117,7 +117,8 @@ impl<'a, W: Write + Drop> FrameFile<'a, W> {
         self.frames = number.saturating_add(1);
         // A scenario has fewer stations than there are interfaces.
         let interface = u32::try_from(station).unwrap_or(u32::MAX);
-        match self.sink.put_frame(interface, moment, frame) {
+        let stamp = Stamp::of_millis(moment);
+        match self.sink.put_frame(interface, stamp, frame) {
             Ok(()) => Ok(()),
             Err(PutFault::Moment) => {
                 self.left_out = true;

@@ -1,5 +1,4 @@
-//! The files that a command writes: what their names say, and that none of them is one that is
-//! read.
+//! The files that a command writes: what their names say, and why one isn't written.
 
 ghost use Rattle.std.specs.Prelude.{◌≡◌, MatchResult, None, Some};
 ghost use Rattle.std.specs.Str.{str_eq_ignore_ascii_case};
@@ -11,10 +10,7 @@ use crate::fault::CommandFault;
 use crate::options::OutputFormat;
 use crate::status::Status;
 use its_pcap::Format;
-use std::fs;
 use std::io::Write;
-use std::os::unix::fs::MetadataExt;
-use std::rt::Files;
 use thiserror::Error;
 
 /// The name of standard input among the files that are read, and of standard output among those
@@ -130,60 +126,4 @@ impl CommandFault for OutputFault<'_> {
     fn report<E: Write>(&self, _format: OutputFormat, err: &mut E) {
         let _ = writeln!(err, "{self}");
     }
-}
-
-/// What tells a file from all others of the system, whatever its name.
-#[derive(Clone, Copy, Debug, PartialEq, Eq)]
-struct Identity {
-    device: u64,
-    inode: u64,
-}
-
-/// The identity of the regular file of this name. `None` where there is none, and on a system that
-/// tells no inode.
-fn identity_of<R: Files>(rt: &R, name: &str) -> Option<Identity> {
-    if is_standard(name) {
-        return None;
-    }
-    match fs::metadata(rt, name) {
-        Ok(metadata) if metadata.is_file() && metadata.ino() != 0 => Some(Identity {
-            device: metadata.dev(),
-            inode: metadata.ino(),
-        }),
-        _ => None,
-    }
-}
-
-/// The first of these files that has this identity.
-fn find_same<'a, R: Files>(rt: &R, identity: Identity, names: &[&'a str]) -> Option<&'a str> {
-    for name in names {
-        if identity_of(rt, name) == Some(identity) {
-            return Some(name);
-        }
-    }
-    None
-}
-
-/// Refuses the first file that would be written and is one of those that are read, or one of those
-/// to be written before it: by device and inode, whatever the names. Only regular files that are
-/// there are compared, and standard input and output are not.
-pub fn refuse_same<'a, R: Files>(
-    rt: &R,
-    written: &[&'a str],
-    read: &[&'a str],
-) -> Result<(), OutputFault<'a>> {
-    for (place, name) in written.iter().enumerate() {
-        let Some(identity) = identity_of(rt, name) else {
-            continue;
-        };
-        let same = find_same(rt, identity, read).or_else(|| find_same(
-            rt,
-            identity,
-            &written[..place],
-        ));
-        if let Some(other) = same {
-            return Err(OutputFault::SameFile(name, other));
-        }
-    }
-    Ok(())
 }

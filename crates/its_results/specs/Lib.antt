@@ -1,3 +1,4 @@
 pub mod Audiences
+pub mod FailedEvents
 pub mod FullTables
 pub mod Results

@@ -5,7 +5,9 @@
 
 mod audience;
 mod busy;
+mod failed_events;
 mod full_tables;
+mod late_events;
 mod load_rows;
 mod open_send;
 mod quantile;
@@ -14,9 +16,11 @@ mod results;
 mod rows;
 mod send_rows;
 mod station_rows;
+mod unsent;
 mod waiting_frames;
 
 pub use audience::{Audience, Audiences};
+pub use failed_events::FailedEvents;
 pub use full_tables::FullTables;
 pub use reach::Reach;
 pub use results::{ResultFiles, ResultWriters, Results};

@@ -1,5 +1,7 @@
 //! The file of the load of a run: a row for each second in which a frame was given.
 
+ghost use Rattle.std.specs.Prelude.{◌≡◌, ◌+◌, ◌-◌, ◌^◌, min};
+
 use crate::busy::{frame_time, octets_time};
 use crate::quantile::Quantiles;
 use crate::rows::Rows;
@@ -11,10 +13,13 @@ use std::io;
 use std::io::Write;
 
 /// The names of the columns.
-const HEAD: &str = "second,stations,frames,octets,busy_p50,busy_p95,busy_most";
+const HEAD: &str = "second,stations,frames,octets,busy_p50,busy_p95,busy_most,peak";
 
 /// The milliseconds of a second.
 const SECOND: u64 = 1000;
+
+/// The milliseconds of a window, of which the densest in a second counts.
+const WINDOW: u64 = 100;
 
 /// The load at a station in the second that is under way.
 #[derive(Clone, Copy)]
@@ -22,6 +27,40 @@ struct StationLoad {
     is_present: bool,
     /// How long the channel is busy there, in microseconds.
     busy: u64,
+    /// The last window in which it is, by its number from 0.
+    window: u64,
+    /// How long it is in that window, in microseconds.
+    dense: u64,
+}
+
+impl StationLoad {
+    /// That of a station where nothing was heard yet.
+    fn silent(is_present: bool) -> StationLoad {
+        StationLoad {
+            is_present,
+            busy: 0,
+            window: 0,
+            dense: 0,
+        }
+    }
+
+    /// Adds the air time of a frame in the window of this number. Returns how long the channel is
+    /// busy in that window then.
+    fn add(&mut self, window: u64, time: u64) -> u64
+        ensures busy { self.new.busy ≡ min (self.old.busy + time) (2 ^ 64 - 1) }
+        ensures first { ¬ (self.old.window ≡ window) → result ≡ time }
+        ensures more { self.old.window ≡ window → result ≡ min (self.old.dense + time) (2 ^ 64 - 1) }
+        ensures dense { (self.new.window ≡ window) × (self.new.dense ≡ result) }
+    {
+        self.busy = self.busy.saturating_add(time);
+        self.dense = if window == self.window {
+            self.dense.saturating_add(time)
+        } else {
+            time
+        };
+        self.window = window;
+        self.dense
+    }
 }
 
 /// The load of the second that is under way.
@@ -32,6 +71,9 @@ pub(crate) struct LoadRows {
     second: u64,
     frames: u64,
     octets: u64,
+    /// The most that the channel is busy at a station in one window of this second, in
+    /// microseconds.
+    peak: u64,
 }
 
 impl LoadRows {
@@ -39,10 +81,7 @@ impl LoadRows {
     pub(crate) fn new(alloc: Global, present: &[bool]) -> Result<LoadRows, NoMemory> {
         let mut loads = Vec::with_capacity(alloc, present.len())?;
         for is_present in present {
-            loads.push(StationLoad {
-                is_present: *is_present,
-                busy: 0,
-            })?;
+            loads.push(StationLoad::silent(*is_present))?;
         }
         Ok(LoadRows {
             alloc,
@@ -50,6 +89,7 @@ impl LoadRows {
             second: 0,
             frames: 0,
             octets: 0,
+            peak: 0,
         })
     }
 
@@ -63,6 +103,7 @@ impl LoadRows {
         self.second = second;
         self.frames = 0;
         self.octets = 0;
+        self.peak = 0;
         for station in self.stations.as_mut_slice() {
             station.busy = 0;
         }
@@ -80,10 +121,10 @@ impl LoadRows {
         Ok(busy)
     }
 
-    /// Adds a frame that is given or heard at a station.
-    fn add(&mut self, station: usize, time: u64) {
+    /// Adds a frame that is sent or heard at a station at this moment.
+    fn add(&mut self, station: usize, moment: u64, time: u64) {
         if let Some(load) = self.stations.as_mut_slice().get_mut(station) {
-            load.busy = load.busy.saturating_add(time);
+            self.peak = self.peak.max(load.add(moment / WINDOW, time));
         }
     }
 
@@ -110,7 +151,7 @@ impl Rows for LoadRows {
         if let Some(octets) = done.octets {
             self.frames = self.frames.saturating_add(1);
             self.octets = self.octets.saturating_add(octets.len() as u64);
-            self.add(done.station, octets_time(octets));
+            self.add(done.station, done.moment, octets_time(octets));
         }
         Ok(())
     }
@@ -124,14 +165,11 @@ impl Rows for LoadRows {
     ) -> Result<(), SimulationFault> {
         self.reach(moment, out)?;
         match *note {
-            Note::Made { .. } => self.stations.push(StationLoad {
-                is_present: false,
-                busy: 0,
-            })?,
+            Note::Made { .. } => self.stations.push(StationLoad::silent(false))?,
             Note::Came { station } => self.set_present(station, true),
             Note::Left { station } => self.set_present(station, false),
             Note::Heard { station, frame } | Note::Lost { station, frame } => {
-                self.add(station, frame_time(world, frame));
+                self.add(station, moment, frame_time(world, frame));
             }
             Note::Absent { .. } => {}
         }
@@ -147,9 +185,11 @@ impl Rows for LoadRows {
         let present = busy.len();
         let Quantiles { p50, p95, most, .. } = Quantiles::of(&mut busy)?;
         let (second, frames, octets) = (self.second, self.frames, self.octets);
+        // A hundredth of a window is 1000 microseconds.
+        let peak = self.peak / 1000;
         writeln!(
             out,
-            "{second},{present},{frames},{octets},{p50},{p95},{most}"
+            "{second},{present},{frames},{octets},{p50},{p95},{most},{peak}"
         )?;
         Ok(())
     }

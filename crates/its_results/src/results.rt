@@ -1,6 +1,6 @@
 //! The files of numbers of a run: its sends, its stations, its load.
 
-ghost use Rattle.std.specs.Prelude.{◌≡◌, ◌↔◌, None, IfOk, IsOk, IsTrue};
+ghost use Rattle.std.specs.Prelude.{◌≡◌, ◌↔◌, None, IfOk, IsOk, IsTrue, Ok};
 ghost use Rattle.its_reporting.specs.Statuses.{IsCommandStatus};
 ghost use Rattle.its_results.specs.Results.{IsNoFile};
 
@@ -82,7 +82,8 @@ impl<'a, R: Rows + Drop, W: Write + Drop> ResultFile<'a, R, W> {
     /// Ends the file after a run that ended so. `CannotWrite` where it failed.
     fn end(mut self, ran: Result<Status, Fault<'a>>) -> Result<Status, Fault<'a>>
         requires { IfOk ran IsCommandStatus }
-        ensures { IfOk result IsCommandStatus }
+        ensures status { IfOk result IsCommandStatus }
+        ensures done { result ≡ Ok Status.Done → ran.entry ≡ Ok Status.Done }
     {
         let finished = self.finish();
         if self.failed {
@@ -195,6 +196,7 @@ fn end_file<'a, R: Rows + Drop, W: Write + Drop>(
     requires { IfOk ran IsCommandStatus }
     ensures status { IfOk result IsCommandStatus }
     ensures none { file.entry ≡ None → result ≡ ran.entry }
+    ensures done { result ≡ Ok Status.Done → ran.entry ≡ Ok Status.Done }
 {
     match file {
         Some(file) => file.end(ran),
@@ -301,6 +303,7 @@ impl<'a, W: Write + Drop> Results<'a, W> {
         ensures status { IfOk result IsCommandStatus }
         ensures none { self.entry.sends ≡ None → self.entry.stations ≡ None →
             self.entry.load ≡ None → result ≡ ran.entry }
+        ensures done { result ≡ Ok Status.Done → ran.entry ≡ Ok Status.Done }
     {
         let Results {
             sends,

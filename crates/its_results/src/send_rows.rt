@@ -1,8 +1,10 @@
 //! The file of the packets for an area of a run: a row each, which is written once no delivery of
-//! its frames is still to come.
+//! its frames is still to come. One that an event asks for and that isn't sent has a row too.
 
+use crate::late_events::late_events;
 use crate::open_send::OpenSend;
 use crate::rows::Rows;
+use crate::unsent::UnsentPacket;
 use crate::waiting_frames::WaitingFrames;
 use its_gnvalue::NoMemory;
 use its_headers::Kind;
@@ -10,7 +12,7 @@ use its_scenario::Scenario;
 use its_simulation::{EventRecord, Note, SimulationFault};
 use its_station::OwnedGbcRequest;
 use its_tally::{CarriedPacket, Presence};
-use its_world::{What, World};
+use its_world::{Entry, What, World};
 use std::alloc::Global;
 use std::collections::VecDeque;
 use std::io;
@@ -20,6 +22,33 @@ use std::io::Write;
 const HEAD: &str = "send,moment,station,kind,port,inside,reached,delivered,frames,heard,lost,\
     duplicates,full,hops,first,p50,p95,last";
 
+/// A row that isn't written yet.
+#[derive(Drop)]
+enum WaitingRow {
+    /// Of a packet that was sent.
+    Sent(OpenSend),
+    /// Of one that wasn't.
+    Unsent(UnsentPacket),
+}
+
+impl WaitingRow {
+    /// Whether a delivery of its packet is still to come.
+    fn is_open(&self) -> bool {
+        match self {
+            WaitingRow::Sent(packet) => packet.is_open(),
+            WaitingRow::Unsent(_) => false,
+        }
+    }
+
+    /// Writes it, when nothing more comes of its packet.
+    fn write<W: Write>(self, out: &mut W) -> Result<(), SimulationFault> {
+        match self {
+            WaitingRow::Sent(packet) => packet.write(out),
+            WaitingRow::Unsent(packet) => Ok(packet.write(out)?),
+        }
+    }
+}
+
 /// The packets for an area whose rows aren't written yet, in the order in which they were sent.
 #[derive(Drop)]
 pub(crate) struct SendRows {
@@ -28,7 +57,9 @@ pub(crate) struct SendRows {
     frames: WaitingFrames,
     /// How many rows were written.
     written: usize,
-    open: VecDeque<OpenSend>,
+    open: VecDeque<WaitingRow>,
+    /// The packets of events after the end of the run.
+    late: Vec<UnsentPacket>,
 }
 
 impl SendRows {
@@ -40,12 +71,24 @@ impl SendRows {
             frames: WaitingFrames::new(alloc, scenario)?,
             written: 0,
             open: VecDeque::new(alloc),
+            late: late_packets(alloc, scenario)?,
         })
     }
 
-    /// The packet at a place among all that were sent, if its row isn't written yet.
-    fn packet(&mut self, send: usize) -> Option<&mut OpenSend> {
-        self.open.get_mut(send.checked_sub(self.written)?)
+    /// The packet that was sent whose row has this place, if that isn't written yet.
+    fn packet(&mut self, row: usize) -> Option<&mut OpenSend> {
+        match self.open.get_mut(row.checked_sub(self.written)?)? {
+            WaitingRow::Sent(packet) => Some(packet),
+            WaitingRow::Unsent(_) => None,
+        }
+    }
+
+    /// Adds the row of a packet that wasn't sent, if there is one.
+    fn add_unsent(&mut self, packet: Option<UnsentPacket>) -> Result<(), NoMemory> {
+        match packet {
+            Some(packet) => Ok(self.open.push_back(WaitingRow::Unsent(packet))?),
+            None => Ok(()),
+        }
     }
 
     /// Writes the rows of the first packets, up to one that still has deliveries to come.
@@ -92,18 +135,15 @@ impl SendRows {
         kind: Kind,
         request: &OwnedGbcRequest,
     ) -> Result<Option<CarriedPacket>, NoMemory> {
+        if let Entry::Refused(fault) = done.entry {
+            self.add_unsent(UnsentPacket::refused(done, *fault))?;
+        }
         if done.entry.frame().is_none() {
             return Ok(None);
         }
         let send = self.written.saturating_add(self.open.len());
-        self.open.push_back(OpenSend::new(
-            self.alloc,
-            world,
-            &self.presence,
-            done,
-            kind,
-            request,
-        )?)?;
+        let packet = OpenSend::new(self.alloc, world, &self.presence, done, kind, request)?;
+        self.open.push_back(WaitingRow::Sent(packet))?;
         Ok(Some(CarriedPacket { send, depth: 0 }))
     }
 
@@ -170,6 +210,7 @@ impl Rows for SendRows {
         let (frame, is_heard) = match *note {
             Note::Heard { frame, .. } => (frame, true),
             Note::Lost { frame, .. } => (frame, false),
+            Note::Absent { event, .. } => return Ok(self.add_unsent(UnsentPacket::absent(event))?),
             _ => return Ok(()),
         };
         let Some(CarriedPacket { send, .. }) = self.frames.get(frame) else {
@@ -190,6 +231,20 @@ impl Rows for SendRows {
         for _ in 0..self.open.len() {
             self.write_first(out)?;
         }
+        for packet in &self.late {
+            packet.write(out)?;
+        }
         Ok(())
     }
+}
+
+/// The packets for an area that events after the end of the run ask for.
+fn late_packets(alloc: Global, scenario: &Scenario) -> Result<Vec<UnsentPacket>, NoMemory> {
+    let mut packets = Vec::new(alloc);
+    for event in late_events(alloc, scenario)? {
+        if let Some(packet) = UnsentPacket::late(&event) {
+            packets.push(packet)?;
+        }
+    }
+    Ok(packets)
 }

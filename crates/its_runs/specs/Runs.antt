@@ -50,6 +50,6 @@ EndsRun strict scenario has_moves ended =
 -- the status of what kept a scenario from being run: a bad scenario is refused, and a bad line of
 -- moves, all else failed
 abbrev pub run_fault_status : RunFault → Status
-run_fault_status (NoScenario _) = Refused
+run_fault_status (NoScenario _ _) = Refused
 run_fault_status (Row _) = Refused
 run_fault_status (Stopped _) = Failed

@@ -1,6 +1,7 @@
 //! What keeps a scenario from being run, or ends its run.
 
 use crate::bad_row::BadRow;
+use crate::in_file::InFile;
 use its_air::AirFault;
 use its_frame_text::Explanation;
 use its_moves::MovesFault;
@@ -13,12 +14,12 @@ use thiserror::Error;
 /// Why a scenario was not run. Its text is the line on standard error.
 #[derive(Debug, Drop, Error)]
 pub enum RunFault<'a> {
-    /// The text is no scenario.
-    #[error("geostation: {0}")]
-    Scenario(ScenarioFault),
+    /// The text of the file of this name is no scenario.
+    #[error("geostation: {1}")]
+    Scenario(&'a str, ScenarioFault),
     /// A line of the file of moves is bad.
     #[error("{0}")]
-    Row(BadRow),
+    Row(BadRow<'a>),
     /// What ends any command.
     #[error("{0}")]
     Stopped(Fault<'a>),
@@ -32,18 +33,18 @@ impl CommandFault for RunFault<'_> {
     /// `Refused` for a scenario and a line of moves, else `Failed`.
     fn status(&self) -> Status {
         match self {
-            RunFault::Scenario(_) => Status::Refused,
+            RunFault::Scenario(..) => Status::Refused,
             RunFault::Row(row) => row.status(),
             RunFault::Stopped(fault) => fault.status(),
         }
     }
 
-    /// The line of a text that is no scenario, and of a bad line of moves, goes on with its
-    /// sentence, that of a file with the system's reason.
+    /// The line of a text that is no scenario, and of a bad line of moves, goes on with the name of
+    /// its file and a sentence, that of a file with the system's reason.
     fn report<E: Write>(&self, format: OutputFormat, err: &mut E) {
         match self {
-            RunFault::Scenario(fault) => {
-                let reason = if format.explain { fault.reason() } else { None };
+            RunFault::Scenario(file, fault) => {
+                let reason = format.explain.then_some(InFile(file, fault.reason()));
                 let _ = writeln!(err, "{self}{}", Explanation(reason));
             }
             RunFault::Row(row) => row.report(format, err),
@@ -52,12 +53,11 @@ impl CommandFault for RunFault<'_> {
     }
 }
 
-impl From<ScenarioFault> for RunFault<'_> {
-    fn from(fault: ScenarioFault) -> Self {
-        match fault {
-            ScenarioFault::OutOfMemory => RunFault::Stopped(Fault::OutOfMemory(AllocError)),
-            _ => RunFault::Scenario(fault),
-        }
+/// What keeps the scenario of the file of this name from being run.
+pub(crate) fn fault_of_scenario(fault: ScenarioFault, file: &str) -> RunFault<'_> {
+    match fault {
+        ScenarioFault::OutOfMemory => RunFault::Stopped(Fault::OutOfMemory(AllocError)),
+        _ => RunFault::Scenario(file, fault),
     }
 }
 
@@ -76,7 +76,7 @@ impl<'a> From<RunFault<'a>> for WriterFault<'a, RunFault<'a>> {
 /// What ends the command where the rows of the file of this name can't be read on.
 pub(crate) fn fault_of_moves<'a>(fault: MovesFault, file: &'a str) -> RunFault<'a> {
     match fault {
-        MovesFault::Line(line, word) => RunFault::Row(BadRow { line, word }),
+        MovesFault::Line(line, word) => RunFault::Row(BadRow { file, line, word }),
         MovesFault::Read(error) => RunFault::Stopped(Fault::of_read(&error, file)),
         MovesFault::NoMemory => RunFault::Stopped(Fault::OutOfMemory(AllocError)),
     }

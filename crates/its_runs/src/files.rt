@@ -1,9 +1,10 @@
 //! The command `sim` over named files. A file that is read is standard input where its name is `-`.
 
-ghost use Rattle.std.specs.Prelude.{◌≡◌, ◌≤◌, IfOk, IfSome, None, vec_len};
+ghost use Rattle.std.specs.Prelude.{◌≡◌, ◌≤◌, ◌++◌, IfOk, OnOk, IfSome, None, vec_len, option_to_list};
 ghost use Rattle.its_reporting.specs.FileNames.{format_of_file};
 ghost use Rattle.its_reporting.specs.Statuses.{IsCommandStatus};
 ghost use Rattle.its_results.specs.Results.{IsNoFile};
+ghost use Rattle.its_runs.specs.Files.{AreAllApart, names_of, names_read, names_written};
 
 use crate::course::{Course, MovesFile};
 use crate::fault::RunFault;
@@ -12,7 +13,7 @@ use crate::options::RunOptions;
 use crate::outputs::{Outputs, create_outputs};
 use crate::simulating::{MOST_STATIONS, read_scenario, run_into};
 use crate::target::{FrameTarget, frame_target};
-use its_reporting::{Fault, Io, Opened, Status, Target, WriterFault, open, refuse_same};
+use its_reporting::{Fault, Io, NamedFile, Opened, Status, Target, WriterFault, open, refuse_same};
 use its_results::ResultFiles;
 use its_scenario::{Reading, Scenario};
 use std::alloc::Global;
@@ -91,8 +92,7 @@ where
     ensures { IfOk result IsCommandStatus }
 {
     let inputs = read_inputs(rt, files, input, options)?;
-    let outputs: Outputs<'_, Vec<u8>> = Outputs::none();
-    Ok(run_inputs(rt.alloc(), inputs, options, outputs, io)?)
+    Ok(inputs.run(rt.alloc(), options, io)?)
 }
 
 /// Reads the scenario and the first line of the moves, and only then creates the files.
@@ -114,12 +114,32 @@ where
     Ok(run_inputs(rt.alloc(), inputs, options, outputs, io)?)
 }
 
-/// What is read before a run.
+/// What is read before a run: a scenario, and the first line of its moves.
 #[derive(Drop)]
-struct RunInputs<'a, M: BufRead + Drop> {
+pub struct RunInputs<'a, M: BufRead + Drop> {
     scenario: Scenario,
-    /// The file of moves, where there is one, with its first line read.
+    /// The file of moves, if there is one, with its first line read.
     moves: Option<MovesFile<'a, M>>,
+    ghost few: { vec_len scenario.stations ≤ 65535 },
+}
+
+impl<'a, M: BufRead + Drop> RunInputs<'a, M> {
+    /// Runs the scenario with its moves, prints its lines and writes no file. The status is
+    /// `Refused` if the scenario expects something that isn't met.
+    ///
+    /// `NoOutput` if a write failed, `CannotRead` or `NotRead` if a read of the moves failed,
+    /// `OutOfMemory` if an allocation failed.
+    pub fn run<W: Write, E: Write>(
+        self,
+        alloc: Global,
+        options: &RunOptions,
+        io: &mut Io<W, E>,
+    ) -> Result<Status, Fault<'a>>
+        ensures { IfOk result IsCommandStatus }
+    {
+        let outputs: Outputs<'_, Vec<u8>> = Outputs::none();
+        run_inputs(alloc, self, options, outputs, io)
+    }
 }
 
 /// Runs the scenario that was read, with its moves, and writes these files.
@@ -130,7 +150,6 @@ fn run_inputs<'a, M: BufRead + Drop, F: Write + Drop, W: Write, E: Write>(
     outputs: Outputs<'a, F>,
     io: &mut Io<W, E>,
 ) -> Result<Status, Fault<'a>>
-    requires { vec_len inputs.scenario.stations ≤ 65535 }
     ensures { IfOk result IsCommandStatus }
 {
     let RunInputs { scenario, moves } = inputs;
@@ -143,11 +162,12 @@ fn run_inputs<'a, M: BufRead + Drop, F: Write + Drop, W: Write, E: Write>(
 }
 
 /// The reader of a file of a run.
-type RunReader<F, I> = BufReader<Opened<F, Input<I>>>;
+pub type RunReader<F, I> = BufReader<Opened<F, Input<I>>>;
 
-/// Reads the scenario, and the first line of the moves, where there are any. `input` is standard
-/// input.
-fn read_inputs<'a, R: Files + AllocGlobal, I: Read + Drop>(
+/// Reads the scenario of these files, and the first line of the moves, if there are any. `input` is
+/// standard input. The fault is that the text is no scenario, that the line is bad, that a file
+/// can't be read, or that memory ran out.
+pub fn read_inputs<'a, R: Files + AllocGlobal, I: Read + Drop>(
     rt: &R,
     files: &RunFiles<'a>,
     input: I,
@@ -155,7 +175,6 @@ fn read_inputs<'a, R: Files + AllocGlobal, I: Read + Drop>(
 ) -> Result<RunInputs<'a, RunReader<R::File, I>>, RunFault<'a>>
 where
     R::File: Read + Drop,
-    ensures { IfOk result (λ inputs. vec_len inputs.scenario.stations ≤ 65535) }
 {
     let (for_scenario, for_moves) = Input::split(input, files.moves);
     let reader = open(rt, files.scenario, for_scenario)?;
@@ -183,29 +202,59 @@ where
     Ok(Some(MovesFile::open(rt.alloc(), name, reader, scenario)?))
 }
 
-/// Refuses a file that would be written and is one that is read or another one.
+/// Refuses a file to be written that is one of those that are read, or another one to be written.
 fn keep_all_apart<'a, R: Files + AllocGlobal>(
     rt: &R,
     files: &RunFiles<'a>,
-) -> Result<(), WriterFault<'a, RunFault<'a>>> {
-    let results = files.results;
-    let frames = files.frames.map(|target| target.name);
-    let names = [frames, results.sends, results.stations, results.load];
-    let written = named_among(rt, &names)?;
-    let read = named_among(rt, &[Some(files.scenario), files.moves])?;
-    Ok(refuse_same(rt, written.as_slice(), read.as_slice())?)
+) -> Result<(), WriterFault<'a, RunFault<'a>>>
+    ensures { OnOk result (AreAllApart files.now) }
+{
+    let written = written_files(rt, files)?;
+    let read = read_files(rt, files)?;
+    Ok(refuse_same(written.as_slice(), read.as_slice())?)
 }
 
-/// The names that are there.
-fn named_among<'a, R: AllocGlobal>(
+/// Returns the files that a run writes.
+fn written_files<'a, R: Files + AllocGlobal>(
     rt: &R,
-    names: &[Option<&'a str>],
-) -> Result<Vec<&'a str>, Fault<'a>> {
+    files: &RunFiles<'a>,
+) -> Result<Vec<NamedFile<'a>>, Fault<'a>>
+    ensures { IfOk result (λ named. names_of named.items ≡ names_written files.now) }
+{
+    let frames = files.frames.map(|target| target.name);
     let mut named = Vec::new(rt.alloc());
-    for name in names {
-        if let Some(name) = name {
-            named.push(*name)?;
-        }
-    }
+    add_named(rt, frames, &mut named)?;
+    add_named(rt, files.results.sends, &mut named)?;
+    add_named(rt, files.results.stations, &mut named)?;
+    add_named(rt, files.results.load, &mut named)?;
     Ok(named)
+}
+
+/// Returns the files that a run reads.
+fn read_files<'a, R: Files + AllocGlobal>(
+    rt: &R,
+    files: &RunFiles<'a>,
+) -> Result<Vec<NamedFile<'a>>, Fault<'a>>
+    ensures { IfOk result (λ named. names_of named.items ≡ names_read files.now) }
+{
+    let mut named = Vec::new(rt.alloc());
+    add_named(rt, Some(files.scenario), &mut named)?;
+    add_named(rt, files.moves, &mut named)?;
+    Ok(named)
+}
+
+/// Adds the file of this name, if there is one.
+#[tactic(auto, using(crate::proofs::Named::names_last))]
+fn add_named<'a, R: Files + AllocGlobal>(
+    rt: &R,
+    name: Option<&'a str>,
+    files: &mut Vec<NamedFile<'a>>,
+) -> Result<(), Fault<'a>>
+    ensures { OnOk result
+        (names_of files.new.items ≡ names_of files.old.items ++ option_to_list name.entry) }
+{
+    if let Some(name) = name {
+        files.push(NamedFile::of(rt, name))?;
+    }
+    Ok(())
 }

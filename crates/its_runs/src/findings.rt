@@ -1,14 +1,16 @@
 //! What is found out about a run beside its lines.
 
-ghost use Rattle.std.specs.Prelude.{IfOk};
+ghost use Rattle.std.specs.Prelude.{◌≡◌, ◌≢◌, IfOk, Ok};
 ghost use Rattle.its_reporting.specs.Statuses.{IsCommandStatus};
 
+use crate::asked::Asked;
 use crate::course::Course;
 use crate::fault::{RunFault, fault_of_air, is_cut_short};
 use its_air::AirFault;
+use its_frame_text::Explanation;
 use its_gnvalue::NoMemory;
 use its_reporting::{Fault, Io, Status};
-use its_results::{Audience, Audiences, FullTables, Results};
+use its_results::{Audience, Audiences, FailedEvents, FullTables, Results};
 use its_scenario::Scenario;
 use its_settings::{Expectation, Reached};
 use its_simulation::{EventRecord, EventSink, Note, SimulationFault};
@@ -21,10 +23,11 @@ use std::io::{BufRead, Write};
 pub(crate) struct Findings<'s, 'a, W: Write + Drop> {
     scenario: &'s Scenario,
     full: FullTables,
+    failed: FailedEvents,
     audiences: Audiences,
     results: Results<'a, W>,
-    /// Whether nothing is told but what makes the status another than `Done`.
-    quiet: bool,
+    /// Whether an event that wasn't run makes the status `Refused`.
+    strict: bool,
 }
 
 impl<'s, 'a, W: Write + Drop> Findings<'s, 'a, W> {
@@ -41,9 +44,10 @@ impl<'s, 'a, W: Write + Drop> Findings<'s, 'a, W> {
         Ok(Findings {
             scenario,
             full: FullTables::new(),
+            failed: FailedEvents::new(alloc, scenario)?,
             audiences: Audiences::new(alloc, scenario, are_wanted)?,
             results,
-            quiet: options.quiet,
+            strict: options.strict,
         })
     }
 
@@ -63,6 +67,7 @@ impl<'s, 'a, W: Write + Drop> Findings<'s, 'a, W> {
     /// Takes an event that was done.
     fn take(&mut self, world: &World, done: &EventRecord<'_>) -> Result<(), SimulationFault> {
         self.full.take(self.scenario, done);
+        self.failed.take(done)?;
         self.audiences.take(world, done)?;
         self.results.take(world, done)
     }
@@ -74,59 +79,72 @@ impl<'s, 'a, W: Write + Drop> Findings<'s, 'a, W> {
         moment: u64,
         note: &Note<'_>,
     ) -> Result<(), SimulationFault> {
+        self.failed.take_note(moment, note)?;
         self.audiences.take_note(moment, note)?;
         self.results.take_note(world, moment, note)
     }
 
-    /// Ends the files of a run that ended so, and tells on standard error what was found out about
-    /// it. `moves` is the name of its file of moves, where there is one. `CannotWrite` where a file
-    /// failed, `Refused` where something that is expected isn't met, of a run that is done, and
-    /// where a line of moves ended it.
+    /// Ends the files of a run that ended so, and reports on standard error what was found out about
+    /// it. `moves` is the name of its file of moves, if there is one. `CannotWrite` if a file
+    /// failed. `Refused` if a line of moves ended the run, and of a run that is done if something
+    /// that is expected isn't met or, with `strict`, if an event wasn't run.
     pub(crate) fn end<P, E: Write>(
-        self,
+        mut self,
         ran: Result<Status, AirFault>,
         moves: Option<&'a str>,
         io: &mut Io<P, E>,
     ) -> Result<Status, Fault<'a>>
         requires { IfOk ran IsCommandStatus }
-        ensures { IfOk result IsCommandStatus }
+        ensures status { IfOk result IsCommandStatus }
+        ensures done { result ≡ Ok Status.Done → ran.entry ≡ Ok Status.Done }
     {
         let told = match ran {
-            Ok(status) => Ok(self.tell(status, &mut io.err)),
+            Ok(status) => self.conclude(status, io),
             Err(fault) => self.tell_fault(fault, moves, io),
         };
         self.results.end(told)
     }
 
-    /// Tells on standard error what was found out about a run with this status: that location
-    /// tables were full, and each expectation that isn't met. `Refused` where one isn't, of a run
-    /// that is done.
-    fn tell<E: Write>(&self, status: Status, err: &mut E) -> Status
+    /// Reports on standard error what was found out about a run with this status: full location
+    /// tables, events that weren't run, and each expectation that isn't met. `OutOfMemory` if an
+    /// allocation failed.
+    fn conclude<P, E: Write>(
+        &mut self,
+        status: Status,
+        io: &mut Io<P, E>,
+    ) -> Result<Status, Fault<'a>>
         requires { IsCommandStatus status }
-        ensures { IsCommandStatus result }
+        ensures status { IfOk result IsCommandStatus }
+        ensures done { result ≡ Ok Status.Done → status ≡ Status.Done }
     {
-        self.tell_full(err);
-        let are_met = self.report_unmet(err);
-        if are_met || status != Status::Done {
-            status
+        self.failed.end(self.scenario)?;
+        let (explain, err) = (io.format.explain, &mut io.err);
+        self.report_full(err);
+        self.failed.report(explain, err);
+        let are_met = self.report_unmet(explain, err);
+        let are_run = !self.strict || self.failed.count() == 0;
+        if are_met && are_run || status != Status::Done {
+            Ok(status)
         } else {
-            Status::Refused
+            Ok(Status::Refused)
         }
     }
 
-    /// Tells on standard error of a run that this ended what was found out till then, where its
-    /// file of moves did: that location tables were full, and which line is bad. That is told here,
-    /// before the files are ended, which may fail as well.
+    /// Reports on standard error what was found out about a run that this fault ended: if its file
+    /// of moves did, full location tables, events that weren't run, and which line is bad. This
+    /// comes before the files are ended, which may fail as well.
     fn tell_fault<P, E: Write>(
         &self,
         fault: AirFault,
         moves: Option<&'a str>,
         io: &mut Io<P, E>,
     ) -> Result<Status, Fault<'a>>
-        ensures { IfOk result IsCommandStatus }
+        ensures status { IfOk result IsCommandStatus }
+        ensures done { result ≢ Ok Status.Done }
     {
         if is_cut_short(&fault) {
-            self.tell_full(&mut io.err);
+            self.report_full(&mut io.err);
+            self.failed.report(io.format.explain, &mut io.err);
         }
         match fault_of_air(fault, moves) {
             RunFault::Stopped(fault) => Err(fault),
@@ -134,26 +152,34 @@ impl<'s, 'a, W: Write + Drop> Findings<'s, 'a, W> {
         }
     }
 
-    /// Tells that location tables were full, in an air and unless it is quiet.
-    fn tell_full<E: Write>(&self, err: &mut E) {
-        if self.scenario.air.is_some() && !self.quiet {
+    /// Reports that location tables were full, in an air: the numbers of the run are wrong then.
+    fn report_full<E: Write>(&self, err: &mut E) {
+        if self.scenario.air.is_some() {
             self.full.report(err);
         }
     }
 
-    /// Tells of each expectation that isn't met, and gives whether there is none.
-    fn report_unmet<E: Write>(&self, err: &mut E) -> bool {
+    /// Reports each expectation that isn't met, with `explain` what it asks for. Returns whether
+    /// each is met.
+    fn report_unmet<E: Write>(&self, explain: bool, err: &mut E) -> bool {
         let mut are_met = true;
         for (number, expectation) in self.scenario.expectations.iter().enumerate() {
-            are_met &= self.report_one(number, expectation, err);
+            let asked = Explanation(explain.then_some(Asked(*expectation)));
+            are_met &= self.report_one(number, expectation, asked, err);
         }
         are_met
     }
 
-    /// Tells of an expectation that isn't met, and gives whether it is.
-    fn report_one<E: Write>(&self, number: usize, expectation: &Expectation, err: &mut E) -> bool {
+    /// Reports an expectation that isn't met, with what it asks for. Returns whether it is met.
+    fn report_one<E: Write>(
+        &self,
+        number: usize,
+        expectation: &Expectation,
+        asked: Explanation<Asked>,
+        err: &mut E,
+    ) -> bool {
         let Some(audience) = self.audiences.get(expectation.send) else {
-            let _ = writeln!(err, "geostation: expect {number}: no such send");
+            let _ = writeln!(err, "geostation: expect {number}: no such send{asked}");
             return false;
         };
         let size = audience.size();
@@ -165,7 +191,7 @@ impl<'s, 'a, W: Write + Drop> Findings<'s, 'a, W> {
         if reached < wanted {
             let _ = writeln!(
                 err,
-                "geostation: expect {number}: reached {reached} of {size}"
+                "geostation: expect {number}: reached {reached} of {size}{asked}"
             );
         }
         reached >= wanted

@@ -6,7 +6,7 @@ use std::io::Read;
 
 /// What is read for a file whose name is that of standard input.
 #[derive(Drop)]
-pub(crate) enum Input<I> {
+pub enum Input<I> {
     /// Standard input.
     Standard(I),
     /// Nothing: the other file reads standard input.

@@ -1,6 +1,7 @@
 //! The command `sim`: a scenario is run, its lines are printed, and its frames go to a file.
 #![tactic(auto)]
 
+mod asked;
 mod bad_row;
 mod both;
 mod course;
@@ -8,6 +9,7 @@ mod fault;
 mod files;
 mod findings;
 mod frames;
+mod in_file;
 mod input;
 mod options;
 mod outputs;
@@ -19,9 +21,12 @@ mod watched;
 
 pub use bad_row::BadRow;
 pub use fault::RunFault;
-pub use files::{RunFiles, simulate_file};
+pub use files::{RunFiles, RunInputs, RunReader, read_inputs, simulate_file};
+pub use input::Input;
 pub use its_results::ResultFiles;
 pub use options::RunOptions;
-pub use simulating::{read_scenario, read_scenario_without_air, simulate, simulate_scenario};
+pub use simulating::{
+    read_scenario, read_scenario_without_air, report_unknown, simulate, simulate_scenario,
+};
 pub use target::{FrameTarget, frame_target};
 pub use watched::is_refused;

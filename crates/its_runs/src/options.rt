@@ -13,7 +13,8 @@ pub struct RunOptions {
     pub heads: bool,
     /// Whether someone looks at standard error alone: how far the run is shows there.
     pub progress: bool,
-    /// Whether nothing is told on standard error but what makes the status another than `Done`.
+    /// Whether notices are left out: how far the run is, how to open a page. What is wrong is
+    /// reported in any case.
     pub quiet: bool,
     /// Whether an event that is refused makes the status `Refused`, where it would be `Done`.
     /// A key of the scenario that is unknown is refused then, too.

@@ -1,12 +1,12 @@
 //! The command `sim`.
 
-ghost use Rattle.std.specs.Prelude.{◌≡◌, ◌≤◌, IfOk, None, is_some, true, vec_len};
+ghost use Rattle.std.specs.Prelude.{◌≡◌, ◌≤◌, IfOk, None, Ok, is_some, true, vec_len};
 ghost use Rattle.its_reporting.specs.Statuses.{IsCommandStatus};
 ghost use Rattle.its_runs.specs.Runs.{EndsRun, IsMovedStatus, IsRunStatus};
 
 use crate::both::Both;
 use crate::course::Course;
-use crate::fault::{RunFault, is_cut_short};
+use crate::fault::{RunFault, fault_of_scenario, is_cut_short};
 use crate::findings::{Finding, Findings, SummaryDetails};
 use crate::frames::Frames;
 use crate::options::RunOptions;
@@ -15,6 +15,7 @@ use crate::progress::Progress;
 use crate::summary::print_summary;
 use crate::watched::Watched;
 use its_air::{AirFault, run_moves, run_scenario};
+use its_frame_text::Explanation;
 use its_moves::Rows;
 use its_reporting::{Fault, Io, OutputFormat, Status};
 use its_scenario::{Reading, Scenario};
@@ -74,7 +75,9 @@ pub fn simulate_scenario<'f, W: Write, E: Write>(
     io: &mut Io<W, E>,
 ) -> Result<Status, Fault<'f>>
     requires { vec_len scenario.now.stations ≤ 65535 }
-    ensures { IfOk result IsCommandStatus }
+    ensures status { IfOk result IsCommandStatus }
+    ensures done { result ≡ Ok Status.Done →
+        IsRunStatus options.now.strict scenario.now Status.Done }
 {
     let outputs: Outputs<'_, Vec<u8>> = Outputs::none();
     let options = *options;
@@ -95,12 +98,15 @@ pub(crate) fn run_into<'a, M: BufRead + Drop, F: Write + Drop, W: Write, E: Writ
     io: &mut Io<W, E>,
 ) -> Result<Status, Fault<'a>>
     requires { vec_len course.old.scenario.now.stations ≤ 65535 }
-    ensures { IfOk result IsCommandStatus }
+    ensures status { IfOk result IsCommandStatus }
+    ensures done { result ≡ Ok Status.Done → EndsRun course.old.options.now.strict
+        course.old.scenario.now (is_some course.old.moves) (Ok Status.Done) }
 {
     let Outputs {
         mut frames,
         results,
     } = outputs;
+    report_unknown(course.scenario, &mut io.err);
     let mut progress = Progress::of(course);
     let mut findings = Findings::new(alloc, course, io.format.explain, results)?;
     let finding = Finding {
@@ -291,6 +297,15 @@ fn run_moved<M: BufRead + Drop, S: EventSink>(
     Ok(watched.status(strict))
 }
 
+/// Reports on standard error each key of a scenario's document that is none of its words: a table
+/// of that name is ignored. A write that fails is ignored.
+pub fn report_unknown<E: Write>(scenario: &Scenario, err: &mut E) {
+    for key in &scenario.unknown {
+        let tip = Explanation(key.tip());
+        let _ = writeln!(err, "geostation: scenario: {key}{tip}");
+    }
+}
+
 /// Reads to the end of the reader, and what it gave as a scenario of at most so many stations, in
 /// this way. `file` is its name.
 ///
@@ -305,7 +320,9 @@ pub fn read_scenario<'a, R: Read + Drop>(
     ensures { IfOk result (λ scenario. vec_len scenario.stations ≤ most_stations) }
 {
     let text = read_text(alloc, file, reader)?;
-    Ok(Scenario::read(alloc, text.as_slice(), most_stations, reading)?)
+    Scenario::read(alloc, text.as_slice(), most_stations, reading).map_err(
+        |fault| fault_of_scenario(fault, file),
+    )
 }
 
 /// The same, but that whatever stands under `air` and `expect` is passed over. With `strict` a key
@@ -321,7 +338,9 @@ pub fn read_scenario_without_air<'a, R: Read + Drop>(
     ensures none { IfOk result (λ scenario. scenario.air ≡ None) }
 {
     let text = read_text(alloc, file, reader)?;
-    Ok(Scenario::read_without_air(alloc, text.as_slice(), most_stations, strict)?)
+    Scenario::read_without_air(alloc, text.as_slice(), most_stations, strict).map_err(
+        |fault| fault_of_scenario(fault, file),
+    )
 }
 
 /// All that the reader gives. `file` is its name.

@@ -36,7 +36,7 @@ pub(crate) fn print_summary<D: SummaryDetails, W: Write>(
         writeln!(out, "{send}{}", MissedText(&missed))?;
     }
     if is_whole {
-        writeln!(out, "{}", tally.totals())?;
+        writeln!(out, "{}{}", tally.totals(), FullText(details.table_full()))?;
     }
     Ok(())
 }
@@ -106,6 +106,19 @@ impl fmt::Display for MissedText<'_> {
             Ok(())
         } else {
             f.write_str(")")
+        }
+    }
+}
+
+/// How many receptions met a full location table, as ` full 3`, or nothing.
+#[derive(Clone, Copy)]
+struct FullText(Option<usize>);
+
+impl fmt::Display for FullText {
+    fn fmt<W: fmt::Write>(&self, f: &mut fmt::Formatter<W>) -> fmt::Result {
+        match self.0 {
+            Some(receptions) => write!(f, " full {receptions}"),
+            None => Ok(()),
         }
     }
 }

@@ -69,7 +69,7 @@ impl Scenario {
         ensures few { IfOk result (λ scenario. vec_len scenario.stations ≤ most_stations) }
     {
         let document = document_of(alloc, text)?;
-        let tables = Tables::of(&document, reading)?;
+        let tables = Tables::of(alloc, &document, reading)?;
         let scenario = tables.read(alloc, most_stations)?;
         tables.refuse_unknown(alloc, &document, reading.strict)?;
         Ok(scenario)

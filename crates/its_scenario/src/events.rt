@@ -42,7 +42,9 @@ fn read_numbered_event(alloc: Global, table: &Table, number: usize) -> Result<Ev
     ensures ranges { IfOk result FitsEvent }
     ensures refused { IfErr result IsPastToml }
 {
-    read_event(alloc, table).map_err(|fault| ScenarioFault::of_key(fault, Part::Event(number)))
+    read_event(alloc, table).map_err(|fault| {
+        ScenarioFault::of_key(alloc, fault, Part::Event(number), table)
+    })
 }
 
 /// Reads what waits in an air of these stations. An area whose centre is left out lies round where
@@ -98,7 +100,9 @@ fn read_filed(alloc: Global, table: &Table, number: usize) -> Result<Filed, Scen
     ensures ranges { IfOk result (λ event. FitsFileEvent event.filed) }
     ensures refused { IfErr result IsPastToml }
 {
-    read_file_event(alloc, table).map_err(|fault| ScenarioFault::of_key(fault, Part::Event(number)))
+    read_file_event(alloc, table).map_err(|fault| {
+        ScenarioFault::of_key(alloc, fault, Part::Event(number), table)
+    })
 }
 
 /// Reads what waits in an air with moves, of a scenario of so many stations.
@@ -135,8 +139,7 @@ fn read_numbered_addressed(
     ensures ranges { IfOk result (λ addressed. FitsFileEvent addressed.filed) }
     ensures refused { IfErr result IsPastToml }
 {
-    read_addressed(alloc, table, stations).map_err(|fault| ScenarioFault::of_key(
-        fault,
-        Part::Event(number),
-    ))
+    read_addressed(alloc, table, number, stations).map_err(|fault| {
+        ScenarioFault::of_key(alloc, fault, Part::Event(number), table)
+    })
 }

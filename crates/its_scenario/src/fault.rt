@@ -8,11 +8,12 @@ ghost use Rattle.its_scenario.specs.declared.fault.ScenarioFault.TheVariants.{Ou
 use crate::part::Part;
 use crate::position::TomlFault;
 use crate::reason::Reason;
-use crate::unknown::UnknownKey;
+use crate::unknown::{Misspelled, UnknownKey};
 use its_keys::{Key, KeyFault, Wrong};
 use its_world::WorldFault;
-use std::alloc::{AllocError, AllocFailed};
+use std::alloc::{AllocError, AllocFailed, Global};
 use thiserror::Error;
+use toml::Table;
 
 /// The first fault of a scenario, in the order in which faults are checked. Its text is what
 /// follows `geostation: ` on standard error.
@@ -45,6 +46,9 @@ pub enum ScenarioFault {
     /// A key of a table is missing, of another kind or out of range.
     #[error("scenario: {0}: {1}")]
     Key(Part, Key, Wrong),
+    /// A key is missing, and one that is none of the words of its table may mean it.
+    #[error("scenario: {0}")]
+    Misspelled(Misspelled),
     /// A key is none of the words of its table.
     #[error("scenario: {0}")]
     Unknown(UnknownKey),
@@ -58,22 +62,38 @@ pub enum ScenarioFault {
 }
 
 impl ScenarioFault {
-    /// What was wrong, as a sentence. There is none for a key that is no word of its table, where no
-    /// word is near.
-    pub fn reason(&self) -> Option<Reason<'_>> {
-        match self {
-            ScenarioFault::Unknown(key) if key.nearest().is_none() => None,
-            _ => Some(Reason(self)),
-        }
+    /// What was wrong, as a sentence.
+    pub fn reason(&self) -> Reason<'_> {
+        Reason(self)
     }
 
-    /// The fault of the scenario of which this part has the key.
-    pub(crate) fn of_key(fault: KeyFault, part: Part) -> ScenarioFault
+    /// Returns the scenario's fault for a key's fault in this part, whose table is given.
+    pub(crate) fn of_key(alloc: Global, fault: KeyFault, part: Part, table: &Table) -> ScenarioFault
         ensures { IsPastToml result }
     {
         match fault {
+            KeyFault::Refused(key, Wrong::Missing) => {
+                ScenarioFault::of_missing(alloc, key, Some(part), table)
+            }
             KeyFault::Refused(key, wrong) => ScenarioFault::Key(part, key, wrong),
             KeyFault::OutOfMemory => ScenarioFault::OutOfMemory,
+        }
+    }
+
+    /// Returns the fault of a missing key in the table of this part. `None` is the document itself.
+    pub(crate) fn of_missing(
+        alloc: Global,
+        key: Key,
+        part: Option<Part>,
+        table: &Table,
+    ) -> ScenarioFault
+        ensures { IsPastToml result }
+    {
+        match (Misspelled::find(alloc, table, key, part), part) {
+            (Ok(Some(misspelled)), _) => ScenarioFault::Misspelled(misspelled),
+            (Ok(None), Some(part)) => ScenarioFault::Key(part, key, Wrong::Missing),
+            (Ok(None), None) => ScenarioFault::Air(Wrong::Missing),
+            (Err(_), _) => ScenarioFault::OutOfMemory,
         }
     }
 }

@@ -21,4 +21,4 @@ pub use part::Part;
 pub use position::TomlFault;
 pub use reason::Reason;
 pub use scenario::{Reading, Scenario};
-pub use unknown::UnknownKey;
+pub use unknown::{Misspelled, Tip, UnknownKey};

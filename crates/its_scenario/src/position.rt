@@ -10,8 +10,13 @@ pub struct TomlFault {
     pub line: usize,
     /// The place in the line, in characters from 1.
     pub column: usize,
+    /// Whether the text is a gzip file.
+    is_gzip: bool,
     error: Error,
 }
+
+/// The octets with which each gzip file begins.
+const GZIP: &[u8] = b"\x1f\x8b";
 
 impl TomlFault {
     /// The fault of a text that was refused so.
@@ -26,6 +31,7 @@ impl TomlFault {
         TomlFault {
             line: breaks.saturating_add(1),
             column: characters.saturating_add(1),
+            is_gzip: text.starts_with(GZIP),
             error,
         }
     }
@@ -33,6 +39,9 @@ impl TomlFault {
 
 impl fmt::Display for TomlFault {
     fn fmt<W: fmt::Write>(&self, f: &mut fmt::Formatter<W>) -> fmt::Result {
+        if self.is_gzip {
+            return f.write_str("a gzip file: unpack it first, as in zcat FILE | geostation sim -");
+        }
         let (line, column) = (self.line, self.column);
         write!(
             f,

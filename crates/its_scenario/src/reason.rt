@@ -21,9 +21,10 @@ impl fmt::Display for Reason<'_> {
             ScenarioFault::Moves => WrongOf(Key::Moves, Wrong::Kind).fmt(f),
             ScenarioFault::TooManyStations => f.write_str("more than the command takes"),
             ScenarioFault::Key(_, key, wrong) => WrongOf(*key, *wrong).fmt(f),
-            ScenarioFault::Unknown(key) => match key.nearest() {
-                Some(word) => write!(f, "did you mean '{word}'?"),
-                None => f.write_str("not a key of its table"),
+            ScenarioFault::Misspelled(misspelled) => misspelled.write_reason(f),
+            ScenarioFault::Unknown(key) => match key.tip() {
+                Some(tip) => write!(f, "{tip}"),
+                None => list_keys(f, key.known()),
             },
             ScenarioFault::SharedMid(..) => {
                 f.write_str("the last 48 bits of their addresses are the same")
@@ -31,4 +32,14 @@ impl fmt::Display for Reason<'_> {
             ScenarioFault::OutOfMemory => f.write_str("an allocation failed"),
         }
     }
+}
+
+/// Writes the words of a table.
+fn list_keys<W: fmt::Write>(f: &mut fmt::Formatter<W>, known: &[Key]) -> fmt::Result {
+    f.write_str("not one of")?;
+    for (place, key) in known.iter().enumerate() {
+        let before = if place == 0 { "" } else { "," };
+        write!(f, "{before} {key}")?;
+    }
+    Ok(())
 }

@@ -5,6 +5,7 @@ ghost use Rattle.its_events.specs.Events.{FitsEvent, FitsFileEvent};
 ghost use Rattle.its_world.specs.Events.{IsConfig};
 ghost use Rattle.its_world.specs.Mids.{AreApart};
 
+use crate::unknown::UnknownKey;
 use its_events::{AddressedEvent, FileEvent};
 use its_keys::AirSettings;
 use its_settings::{Air, Expectation, Moves, Traffic};
@@ -35,6 +36,8 @@ pub struct Scenario {
     pub moves: Moves,
     /// What is expected of the run.
     pub expectations: Vec<Expectation>,
+    /// The keys of the document itself that are none of its words, in order. They are ignored.
+    pub unknown: Vec<UnknownKey>,
     ghost configs: { All IsConfig stations.items },
     ghost apart: { AreApart stations.items },
     ghost present_or_not: { vec_len present ≡ vec_len stations },

@@ -12,9 +12,8 @@ ghost use Rattle.toml.specs.View.{items_view, table_view};
 
 use crate::fault::ScenarioFault;
 use crate::part::Part;
-use crate::table_keys::{EXPECTATION_KEYS, MOVES_KEYS, TRAFFIC_KEYS};
 use crate::unknown::refuse_unknown;
-use its_keys::{AIR_KEYS, SetAir};
+use its_keys::SetAir;
 use its_settings::{
     Air, Expectation, Moves, Traffic, read_air, read_expectation, read_moves, read_traffic,
 };
@@ -26,8 +25,12 @@ pub(crate) fn read_known_air(alloc: Global, fields: SetAir<'_>) -> Result<Air, S
     ensures says { IfOk result (SaysAir (set_air_values fields.entry)) }
     ensures refused { IfErr result IsPastToml }
 {
-    let air = read_air(&fields).map_err(|fault| ScenarioFault::of_key(fault, Part::Air))?;
-    refuse_unknown(alloc, fields.table, &AIR_KEYS, Part::Air)?;
+    let table = fields.table;
+    let part = Part::Air;
+    let air = read_air(&fields).map_err(|fault| {
+        ScenarioFault::of_key(alloc, fault, part, table)
+    })?;
+    refuse_unknown(alloc, table, part)?;
     Ok(air)
 }
 
@@ -54,8 +57,10 @@ fn read_known_traffic(alloc: Global, table: &Table, number: usize) -> Result<Tra
     ensures refused { IfErr result IsPastToml }
 {
     let part = Part::Every(number);
-    let traffic = read_traffic(table).map_err(|fault| ScenarioFault::of_key(fault, part))?;
-    refuse_unknown(alloc, table, &TRAFFIC_KEYS, part)?;
+    let traffic = read_traffic(table).map_err(|fault| {
+        ScenarioFault::of_key(alloc, fault, part, table)
+    })?;
+    refuse_unknown(alloc, table, part)?;
     Ok(traffic)
 }
 
@@ -65,8 +70,10 @@ pub(crate) fn read_known_moves(alloc: Global, table: &Table) -> Result<Moves, Sc
     ensures refused { IfErr result IsPastToml }
 {
     let part = Part::Moves;
-    let moves = read_moves(alloc, table).map_err(|fault| ScenarioFault::of_key(fault, part))?;
-    refuse_unknown(alloc, table, &MOVES_KEYS, part)?;
+    let moves = read_moves(alloc, table).map_err(|fault| {
+        ScenarioFault::of_key(alloc, fault, part, table)
+    })?;
+    refuse_unknown(alloc, table, part)?;
     Ok(moves)
 }
 
@@ -100,7 +107,9 @@ fn read_known_expectation(
     ensures refused { IfErr result IsPastToml }
 {
     let part = Part::Expectation(number);
-    let expectation = read_expectation(table).map_err(|fault| ScenarioFault::of_key(fault, part))?;
-    refuse_unknown(alloc, table, &EXPECTATION_KEYS, part)?;
+    let expectation = read_expectation(table).map_err(|fault| {
+        ScenarioFault::of_key(alloc, fault, part, table)
+    })?;
+    refuse_unknown(alloc, table, part)?;
     Ok(expectation)
 }

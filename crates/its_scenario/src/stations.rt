@@ -39,28 +39,41 @@ pub(crate) fn read_stations(
         let Some(table) = item.as_table() else {
             return Err(ScenarioFault::Stations);
         };
-        stations.push(read_numbered_station(table, number)?)?;
-        present.push(read_presence(table, number, has_air)?)?;
+        stations.push(read_numbered_station(alloc, table, number)?)?;
+        present.push(read_presence(alloc, table, number, has_air)?)?;
     }
     Ok((stations, present))
 }
 
 /// Reads the station of this number.
-fn read_numbered_station(table: &Table, number: usize) -> Result<Config, ScenarioFault>
+fn read_numbered_station(
+    alloc: Global,
+    table: &Table,
+    number: usize,
+) -> Result<Config, ScenarioFault>
     ensures says { IfOk result (SaysStation (table_values (table_view table.now))) }
     ensures ranges { IfOk result IsConfig }
     ensures refused { IfErr result IsPastToml }
 {
-    read_station(table).map_err(|fault| ScenarioFault::of_key(fault, Part::Station(number)))
+    read_station(table).map_err(|fault| {
+        ScenarioFault::of_key(alloc, fault, Part::Station(number), table)
+    })
 }
 
 /// Whether the station of this number is present at the start.
-fn read_presence(table: &Table, number: usize, has_air: bool) -> Result<bool, ScenarioFault>
+fn read_presence(
+    alloc: Global,
+    table: &Table,
+    number: usize,
+    has_air: bool,
+) -> Result<bool, ScenarioFault>
     ensures says { IfOk result (SaysPresence has_air (table_values (table_view table.now))) }
     ensures refused { IfErr result IsPastToml }
 {
     if !has_air {
         return Ok(true);
     }
-    read_present(table).map_err(|fault| ScenarioFault::of_key(fault, Part::Station(number)))
+    read_present(table).map_err(|fault| {
+        ScenarioFault::of_key(alloc, fault, Part::Station(number), table)
+    })
 }

@@ -1,9 +1,23 @@
-//! Which keys stand in which table of a scenario.
+//! Which keys a table of a scenario may have.
 
-use its_keys::Key;
+use crate::part::Part;
+use its_keys::{AIR_KEYS, Key};
+
+/// Returns the keys that this part of the scenario may have. `None` is the scenario itself.
+pub(crate) fn keys_of(part: Option<Part>) -> &'static [Key] {
+    match part {
+        None => &SCENARIO_KEYS,
+        Some(Part::Station(_)) => &STATION_KEYS,
+        Some(Part::Air) => &AIR_KEYS,
+        Some(Part::Every(_)) => &TRAFFIC_KEYS,
+        Some(Part::Moves) => &MOVES_KEYS,
+        Some(Part::Event(_)) => &EVENT_KEYS,
+        Some(Part::Expectation(_)) => &EXPECTATION_KEYS,
+    }
+}
 
 /// The keys of a scenario.
-pub(crate) const SCENARIO_KEYS: [Key; 6] = [
+const SCENARIO_KEYS: [Key; 6] = [
     Key::Station,
     Key::Event,
     Key::Air,
@@ -13,7 +27,7 @@ pub(crate) const SCENARIO_KEYS: [Key; 6] = [
 ];
 
 /// The keys of a station, in the order in which they are checked.
-pub(crate) const STATION_KEYS: [Key; 6] = [
+const STATION_KEYS: [Key; 6] = [
     Key::Address,
     Key::Lat,
     Key::Lon,
@@ -23,10 +37,10 @@ pub(crate) const STATION_KEYS: [Key; 6] = [
 ];
 
 /// The keys of traffic, in the order in which they are checked.
-pub(crate) const TRAFFIC_KEYS: [Key; 5] = [Key::Period, Key::Port, Key::Info, Key::Tc, Key::Octets];
+const TRAFFIC_KEYS: [Key; 5] = [Key::Period, Key::Port, Key::Info, Key::Tc, Key::Octets];
 
 /// The keys of events, whatever they do, in the order in which they are checked.
-pub(crate) const EVENT_KEYS: [Key; 24] = [
+const EVENT_KEYS: [Key; 24] = [
     Key::Station,
     Key::Id,
     Key::At,
@@ -54,7 +68,7 @@ pub(crate) const EVENT_KEYS: [Key; 24] = [
 ];
 
 /// The keys of how moves are read, in the order in which they are checked.
-pub(crate) const MOVES_KEYS: [Key; 6] = [
+const MOVES_KEYS: [Key; 6] = [
     Key::Begin,
     Key::Gone,
     Key::Mid,
@@ -64,4 +78,4 @@ pub(crate) const MOVES_KEYS: [Key; 6] = [
 ];
 
 /// The keys of what is expected, in the order in which they are checked.
-pub(crate) const EXPECTATION_KEYS: [Key; 3] = [Key::Send, Key::Reached, Key::Within];
+const EXPECTATION_KEYS: [Key; 3] = [Key::Send, Key::Reached, Key::Within];

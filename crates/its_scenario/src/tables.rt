@@ -17,8 +17,8 @@ use crate::fault::ScenarioFault;
 use crate::scenario::{Reading, Scenario};
 use crate::settings::{read_every, read_expectations, read_known_air, read_known_moves};
 use crate::stations::read_stations;
-use crate::unknown::refuse_all_unknown;
-use its_keys::{SetAir, Wrong, items_of, value_of};
+use crate::unknown::{refuse_all_unknown, unknown_keys};
+use its_keys::{Key, SetAir, Wrong, items_of, value_of};
 use its_settings::{Air, Moves};
 use its_world::refuse_shared;
 use std::alloc::Global;
@@ -27,6 +27,7 @@ use toml::{Table, Value};
 /// The tables of a document that are read.
 #[derive(Clone, Copy)]
 pub(crate) struct Tables<'a> {
+    document: &'a Table,
     stations: &'a [Value],
     events: &'a [Value],
     /// Whether it is run with the moves of a file.
@@ -46,6 +47,7 @@ impl<'a> Tables<'a> {
             AreWithoutAir (table_view document.now) (parts_in tables)) }
     {
         Ok(Tables {
+            document,
             stations: array_of_tables(document, "station").ok_or(ScenarioFault::Stations)?,
             events: array_of_tables(document, "event").ok_or(ScenarioFault::Events)?,
             has_moves: false,
@@ -57,13 +59,17 @@ impl<'a> Tables<'a> {
     }
 
     /// All of a document.
-    pub(crate) fn of(document: &'a Table, reading: &'a Reading) -> Result<Tables<'a>, ScenarioFault>
+    pub(crate) fn of(
+        alloc: Global,
+        document: &'a Table,
+        reading: &'a Reading,
+    ) -> Result<Tables<'a>, ScenarioFault>
         ensures refused { IfErr result IsPastToml }
         ensures parts { IfOk result (λ tables.
             ArePartsOf reading.now (table_view document.now) (parts_in tables)) }
     {
         let first = Tables::without_air(document)?;
-        let air = air_of(document, reading)?;
+        let air = air_of(alloc, document, reading)?;
         let every = every_of(document, air.is_some())?;
         let moves = moves_of(document, air.is_some())?;
         let expectations = array_of_tables(document, "expect").ok_or(ScenarioFault::Expectations)?;
@@ -97,6 +103,7 @@ impl<'a> Tables<'a> {
         let addressed = read_all_addressed(alloc, parts.addressed, stations.len())?;
         let expectations = read_expectations(alloc, self.expectations)?;
         refuse_shared(alloc, stations.as_slice())?;
+        let unknown = unknown_keys(alloc, self.document)?;
         Ok(Scenario {
             stations,
             present,
@@ -107,6 +114,7 @@ impl<'a> Tables<'a> {
             every,
             moves,
             expectations,
+            unknown,
         })
     }
 
@@ -191,6 +199,7 @@ struct EventParts<'a> {
 /// The table of the air with what is set of it, where there is one. `Air` where it is no table, and
 /// where there is none and the reading needs it.
 fn air_of<'a>(
+    alloc: Global,
     document: &'a Table,
     reading: &'a Reading,
 ) -> Result<Option<SetAir<'a>>, ScenarioFault>
@@ -200,7 +209,9 @@ fn air_of<'a>(
 {
     let settings = &reading.settings;
     match value_of(document, "air") {
-        None if reading.needs_air => Err(ScenarioFault::Air(Wrong::Missing)),
+        None if reading.needs_air => {
+            Err(ScenarioFault::of_missing(alloc, Key::Air, None, document))
+        }
         None => Ok(None),
         Some(value) => match value.as_table() {
             Some(table) => Ok(Some(SetAir { table, settings })),

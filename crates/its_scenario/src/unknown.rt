@@ -5,7 +5,7 @@ ghost use Rattle.std.specs.Prelude.{◌≡◌, IfErr};
 
 use crate::fault::ScenarioFault;
 use crate::part::Part;
-use crate::table_keys::{EVENT_KEYS, SCENARIO_KEYS, STATION_KEYS};
+use crate::table_keys::keys_of;
 use its_keys::{Key, nearest};
 use std::alloc::{AllocError, Global};
 use std::fmt;
@@ -22,17 +22,12 @@ pub struct UnknownKey {
 }
 
 impl UnknownKey {
-    /// The key of this name, of a table of these words.
-    fn of(
-        alloc: Global,
-        part: Option<Part>,
-        name: &str,
-        known: &[Key],
-    ) -> Result<UnknownKey, AllocError> {
+    /// Returns the key of this name in this part of a scenario.
+    fn of(alloc: Global, part: Option<Part>, name: &str) -> Result<UnknownKey, AllocError> {
         Ok(UnknownKey {
             part,
             name: String::from_str(alloc, name)?,
-            nearest: nearest(alloc, name, known)?,
+            nearest: nearest(alloc, name, keys_of(part))?,
         })
     }
 
@@ -42,6 +37,26 @@ impl UnknownKey {
         ensures { result ≡ self.now.nearest }
     {
         self.nearest
+    }
+
+    /// That word as a question to the reader. `None` if there is none.
+    pub fn tip(&self) -> Option<Tip> {
+        self.nearest().map(Tip)
+    }
+
+    /// Returns the keys that its table may have.
+    pub fn known(&self) -> &'static [Key] {
+        keys_of(self.part)
+    }
+}
+
+/// The word that may be meant by a key. It prints as `did you mean 'event'?`.
+#[derive(Clone, Copy, Debug, PartialEq, Eq)]
+pub struct Tip(Key);
+
+impl fmt::Display for Tip {
+    fn fmt<W: fmt::Write>(&self, f: &mut fmt::Formatter<W>) -> fmt::Result {
+        write!(f, "did you mean '{}'?", self.0)
     }
 }
 
@@ -76,30 +91,81 @@ fn first_unknown<'a>(table: &'a Table, known: &[Key]) -> Option<&'a str> {
     None
 }
 
-/// Refuses a part of the scenario that has a key that is none of these words: the first, by its
-/// octets, is told.
-pub(crate) fn refuse_unknown(
-    alloc: Global,
-    table: &Table,
-    known: &[Key],
-    part: Part,
-) -> Result<(), ScenarioFault>
-    ensures { IfErr result IsPastToml }
-{
-    refuse_unknown_of(alloc, table, known, Some(part))
+/// The keys of the document itself that are none of its words, in the order of their octets.
+pub(crate) fn unknown_keys(alloc: Global, document: &Table) -> Result<Vec<UnknownKey>, AllocError> {
+    let mut unknown = Vec::new(alloc);
+    for name in document.keys() {
+        let name = name.as_str();
+        if !is_known(name, keys_of(None)) {
+            unknown.push(UnknownKey::of(alloc, None, name)?)?;
+        }
+    }
+    Ok(unknown)
 }
 
-/// The same of a part or of the scenario itself.
-fn refuse_unknown_of(
-    alloc: Global,
-    table: &Table,
-    known: &[Key],
+/// A key that is missing from a part of the scenario, where a key that is none of its words is near.
+/// It prints as the missing one's place in the scenario: `air: range`.
+#[derive(Debug, Drop, PartialEq, Eq)]
+pub struct Misspelled {
+    /// The part of the scenario. `None` for the scenario itself.
     part: Option<Part>,
-) -> Result<(), ScenarioFault>
+    missing: Key,
+    name: String,
+}
+
+impl Misspelled {
+    /// The name that stands there in place of the missing key. It prints as
+    /// `missing: did you mean 'range' by 'rnage'?`.
+    pub(crate) fn write_reason<W: fmt::Write>(&self, f: &mut fmt::Formatter<W>) -> fmt::Result {
+        let (key, name) = (self.missing, self.name.as_str());
+        write!(f, "missing: did you mean '{key}' by '{name}'?")
+    }
+
+    /// Returns the first key of this part's table, by its octets, that is unknown and may mean the
+    /// missing one. `None` if there is no such key.
+    pub(crate) fn find(
+        alloc: Global,
+        table: &Table,
+        missing: Key,
+        part: Option<Part>,
+    ) -> Result<Option<Misspelled>, AllocError> {
+        for name in table.keys() {
+            let name = name.as_str();
+            if !is_known(name, keys_of(part)) && nearest(alloc, name, &[missing])?.is_some() {
+                return Ok(Some(Misspelled {
+                    part,
+                    missing,
+                    name: String::from_str(alloc, name)?,
+                }));
+            }
+        }
+        Ok(None)
+    }
+}
+
+impl fmt::Display for Misspelled {
+    fn fmt<W: fmt::Write>(&self, f: &mut fmt::Formatter<W>) -> fmt::Result {
+        let key = self.missing;
+        match self.part {
+            Some(part) => write!(f, "{part}: {key}"),
+            None => write!(f, "{key}"),
+        }
+    }
+}
+
+/// Refuses a part of the scenario that has an unknown key: `Unknown` with the first, by its octets.
+pub(crate) fn refuse_unknown(alloc: Global, table: &Table, part: Part) -> Result<(), ScenarioFault>
     ensures { IfErr result IsPastToml }
 {
-    match first_unknown(table, known) {
-        Some(name) => Err(ScenarioFault::Unknown(UnknownKey::of(alloc, part, name, known)?)),
+    refuse_unknown_of(alloc, table, Some(part))
+}
+
+/// Refuses a part of the scenario, or the scenario itself, that has an unknown key.
+fn refuse_unknown_of(alloc: Global, table: &Table, part: Option<Part>) -> Result<(), ScenarioFault>
+    ensures { IfErr result IsPastToml }
+{
+    match first_unknown(table, keys_of(part)) {
+        Some(name) => Err(ScenarioFault::Unknown(UnknownKey::of(alloc, part, name)?)),
         None => Ok(()),
     }
 }
@@ -114,9 +180,9 @@ pub(crate) fn refuse_all_unknown(
 ) -> Result<(), ScenarioFault>
     ensures { IfErr result IsPastToml }
 {
-    refuse_unknown_of(alloc, document, &SCENARIO_KEYS, None)?;
+    refuse_unknown_of(alloc, document, None)?;
     for (number, station) in stations.iter().enumerate() {
-        refuse_unknown_in(alloc, station, &STATION_KEYS, Part::Station(number))?;
+        refuse_unknown_in(alloc, station, Part::Station(number))?;
     }
     refuse_unknown_events(alloc, events)
 }
@@ -126,22 +192,17 @@ fn refuse_unknown_events(alloc: Global, events: &[Value]) -> Result<(), Scenario
     ensures { IfErr result IsPastToml }
 {
     for (number, event) in events.iter().enumerate() {
-        refuse_unknown_in(alloc, event, &EVENT_KEYS, Part::Event(number))?;
+        refuse_unknown_in(alloc, event, Part::Event(number))?;
     }
     Ok(())
 }
 
-/// The same of a value that is a table.
-fn refuse_unknown_in(
-    alloc: Global,
-    item: &Value,
-    known: &[Key],
-    part: Part,
-) -> Result<(), ScenarioFault>
+/// Refuses a value that is a table and has an unknown key.
+fn refuse_unknown_in(alloc: Global, item: &Value, part: Part) -> Result<(), ScenarioFault>
     ensures { IfErr result IsPastToml }
 {
     match item {
-        Value::Table(table) => refuse_unknown(alloc, table, known, part),
+        Value::Table(table) => refuse_unknown(alloc, table, part),
         _ => Ok(()),
     }
 }

@@ -33,12 +33,12 @@ SaysPorts members ports =
     (items : Items) × (items_under keys.Ports members ≡ Some items) × ArePorts items ports
 
 -- a table says how moves are read: where nothing is said, the run begins at 0, a station leaves
--- after 1000 ms, and there is room for 256 sources, of each of which 8 numbers are remembered
+-- after 1000 ms, and there is room for 1024 sources, of each of which 8 numbers are remembered
 abbrev pub SaysMoves : Members → Moves → Type 0
 SaysMoves members moves =
     IsNumberOr (table_values members) keys.Begin 0 moves.begin
     × IsNumberOr (table_values members) keys.Gone 1000 moves.gone
     × IsMid (table_values members) moves.mid
-    × IsNumberOr (table_values members) keys.Capacity 256 moves.capacity
+    × IsNumberOr (table_values members) keys.Capacity 1024 moves.capacity
     × IsNumberOr (table_values members) keys.Remember 8 moves.remember
     × SaysPorts members moves.ports.items

@@ -18,7 +18,7 @@ use toml::{Table, Value};
 const USUAL_TIME: i64 = 1000;
 
 /// The capacity where none is given.
-const USUAL_ENTRIES: i64 = 256;
+const USUAL_ENTRIES: i64 = 1024;
 
 /// How many numbers are remembered of a source where nothing is given.
 const USUAL_NUMBERS: i64 = 8;
@@ -46,7 +46,7 @@ impl Moves {
 }
 
 /// Reads `begin`, `gone`, `mid`, `capacity`, `remember`, `ports`, checked in this order. Each may be
-/// missing: 0, 1000, 020100000001, 256, 8 and no port stand for them then.
+/// missing: 0, 1000, 020100000001, 1024, 8 and no port stand for them then.
 pub fn read_moves(alloc: Global, table: &Table) -> Result<Moves, KeyFault>
     ensures { IfOk result (SaysMoves (table_view table.now)) }
 {
@@ -78,7 +78,7 @@ fn read_time<F: Fields>(fields: &F) -> Result<u32, KeyFault>
 
 /// For how many sources there is room.
 fn read_capacity<F: Fields>(fields: &F) -> Result<u16, KeyFault>
-    ensures says { IfOk result (IsNumberOr (F.values fields.now) keys.Capacity 256) }
+    ensures says { IfOk result (IsNumberOr (F.values fields.now) keys.Capacity 1024) }
     ensures least { IfOk result (λ capacity. 1 ≤ capacity) }
     ensures most { IfOk result (λ capacity. capacity ≤ 4096) }
 {

@@ -3,6 +3,7 @@
 ghost use Rattle.std.specs.Prelude.{◌≡◌};
 ghost use Rattle.its_simulation.specs.Notes.{is_told};
 
+use its_events::AddressedEvent;
 use serde::Serialize;
 use std::fmt;
 
@@ -11,17 +12,35 @@ use std::fmt;
 pub enum Note<'a> {
     /// A station was made, which has this id in a file of moves. It is absent, and no event of it
     /// was done.
-    Made { station: usize, id: &'a str },
+    Made {
+        station: usize,
+        id: &'a str,
+    },
     /// A station was absent, and is present from now on.
-    Came { station: usize },
+    Came {
+        station: usize,
+    },
     /// A station was present, and is absent from now on.
-    Left { station: usize },
+    Left {
+        station: usize,
+    },
     /// A frame that was just given will come to a station: no draw lost it.
-    Heard { station: usize, frame: usize },
+    Heard {
+        station: usize,
+        frame: usize,
+    },
     /// A frame that was just given would have come to a station, and a draw lost it.
-    Lost { station: usize, frame: usize },
-    /// An event wasn't run: the station of its id is absent, or was never seen.
-    Absent { id: &'a str },
+    Lost {
+        station: usize,
+        frame: usize,
+    },
+    /// An event of this id wasn't run. The station of the id is absent, or no row has made one yet.
+    Absent {
+        id: &'a str,
+        event: &'a AddressedEvent,
+        /// Whether a row had made that station: it was present, and has left.
+        has_left: bool,
+    },
 }
 
 /// A note and its moment in milliseconds. It prints as its line, `- 500 1 came`, `- 1001 1 lost 1`
@@ -39,7 +58,7 @@ impl fmt::Display for NoteText<'_> {
             Note::Came { station } => write!(f, "- {moment} {station} came"),
             Note::Left { station } => write!(f, "- {moment} {station} left"),
             Note::Lost { station, frame } => write!(f, "- {moment} {station} lost {frame}"),
-            Note::Absent { id } => write!(f, "- {moment} - absent {id}"),
+            Note::Absent { id, .. } => write!(f, "- {moment} - absent {id}"),
             Note::Made { .. } | Note::Heard { .. } => Ok(()),
         }
     }
@@ -65,7 +84,7 @@ impl<'a> NoteLine<'a> {
             Note::Came { station } => ("came", Some(station), None, None),
             Note::Left { station } => ("left", Some(station), None, None),
             Note::Lost { station, frame } => ("lost", Some(station), Some(frame), None),
-            Note::Absent { id } => ("absent", None, None, Some(id)),
+            Note::Absent { id, .. } => ("absent", None, None, Some(id)),
             Note::Made { .. } | Note::Heard { .. } => return None,
         };
         Some(NoteLine {

@@ -4,11 +4,13 @@ ghost use Rattle.std.specs.Prelude.{◌<◌};
 
 use crate::table::Table;
 use its_faults::{FaultKind, FrameFault};
+use its_frame_text::Explanation;
 use its_headers::{KINDS, Kind};
 use its_pcap::LinkFault;
 use its_records::RecordFault;
 use serde::{Case, Described, Serialize, Serializer};
 use std::alloc::{AllocError, Global};
+use std::fmt;
 
 /// How many rows there are.
 const ROWS: usize = 22;
@@ -34,12 +36,44 @@ fn name_of(row: usize) -> &'static str
 #[derive(Clone, Copy)]
 pub(crate) struct Kinds {
     counts: [u64; ROWS],
+    /// The first fault of each row of refused records.
+    faults: [Option<RecordFault>; ROWS],
+}
+
+/// The name of a row, and behind it what its code means, if codes are explained.
+#[derive(Clone, Copy)]
+struct RowName {
+    name: &'static str,
+    reason: Option<Reason>,
+}
+
+impl fmt::Display for RowName {
+    fn fmt<W: fmt::Write>(&self, f: &mut fmt::Formatter<W>) -> fmt::Result {
+        write!(f, "{}{}", self.name, Explanation(self.reason))
+    }
+}
+
+/// A fault, of a packet without its place.
+#[derive(Clone, Copy)]
+struct Reason(RecordFault);
+
+impl fmt::Display for Reason {
+    fn fmt<W: fmt::Write>(&self, f: &mut fmt::Formatter<W>) -> fmt::Result {
+        match self.0 {
+            RecordFault::Frame(FrameFault::Packet(fault))
+            | RecordFault::Secured(FrameFault::Packet(fault)) => write!(f, "{}", fault.kind),
+            fault => write!(f, "{fault}"),
+        }
+    }
 }
 
 impl Kinds {
     /// None yet.
     pub(crate) fn new() -> Kinds {
-        Kinds { counts: [0; ROWS] }
+        Kinds {
+            counts: [0; ROWS],
+            faults: [None; ROWS],
+        }
     }
 
     /// Counts a frame whose packet is of this kind.
@@ -49,7 +83,9 @@ impl Kinds {
 
     /// Counts a record that is refused.
     pub(crate) fn add_refused(&mut self, fault: RecordFault) {
-        self.add(row_of_fault(fault));
+        let row = row_of_fault(fault);
+        self.faults[row] = self.faults[row].or(Some(fault));
+        self.add(row);
     }
 
     /// Counts a record of a row. No file has 2^64 records.
@@ -59,12 +95,16 @@ impl Kinds {
         self.counts[row] = self.counts[row].saturating_add(1);
     }
 
-    /// The table of the rows that occur.
-    pub(crate) fn table(&self, alloc: Global) -> Result<Table, AllocError> {
+    /// The table of the rows that occur, with what each code means if codes are explained.
+    pub(crate) fn table(&self, alloc: Global, explain: bool) -> Result<Table, AllocError> {
         let mut table = Table::new(alloc, &["kind", "records"])?;
         for row in 0..ROWS {
             if self.counts[row] > 0 {
-                table.add(&name_of(row))?;
+                let reason = if explain { self.faults[row] } else { None };
+                table.add(&RowName {
+                    name: name_of(row),
+                    reason: reason.map(Reason),
+                })?;
                 table.add(&self.counts[row])?;
             }
         }

@@ -33,7 +33,7 @@ pub(crate) fn print_tables<'f, W: Write>(
     let (counts, walked) = (counted.counts, counted.walked);
     let sources = counts.sources.rows(counted.top)?;
     let ports = counts.ports.rows()?;
-    counts.kinds.table(alloc)?.write(out)?;
+    counts.kinds.table(alloc, explain)?.write(out)?;
     writeln!(out)?;
     source_table(alloc, sources.as_slice())?.write(out)?;
     writeln!(out)?;

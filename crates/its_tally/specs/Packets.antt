@@ -2,7 +2,7 @@
 -- Lines and deliveries have the newest first, packets and frames are in the order of their numbers.
 use Rattle.std.specs.Prelude.{◌≡◌, ℕ, ◌+◌, ◌-◌, ◌<◌, ◌≤◌, List, [], ◌∷◌, ◌++◌, length, map, filter}
 use Rattle.std.specs.Prelude.{count_by, drop, max, Option, Some, None, Bool, true, false, cond}
-use Rattle.std.specs.Prelude.{nat_eq, slice_get, ◌&&◌}
+use Rattle.std.specs.Prelude.{nat_eq, nat_lt, slice_get, ◌&&◌}
 use Rattle.std.specs.List.{list_any}
 use Rattle.std.specs.HashSet.{contains}
 use Rattle.its_headers.specs.declared.kind.Kind.{Kind}
@@ -87,6 +87,11 @@ looked_up (Some carries) = carries
 abbrev pub delivered_by : What → Frames → Option CarriedPacket
 delivered_by (Calls call) frames = None
 delivered_by (Deliver k) frames = looked_up (slice_get frames k)
+
+-- whether an event delivers a frame that was let go, of which so many were
+abbrev pub is_released : ℕ → What → Bool
+is_released released (Calls call) = false
+is_released released (Deliver k) = nat_lt k released
 
 -- what a relay carries: the same packet, one relay further
 abbrev pub deeper : Option CarriedPacket → Option CarriedPacket

@@ -2,6 +2,7 @@
 
 ghost use Rattle.std.specs.Prelude.{◌≡◌, ℕ, List, ◌<◌, ◌+◌, ◌-◌, ◌^◌, ◌&&◌, [], ◌∷◌, ◌++◌, Some};
 ghost use Rattle.std.specs.Prelude.{true, false, cond, length, drop, min, max, IfOk, OnOk};
+ghost use Rattle.std.specs.Prelude.{if◌then◌else◌};
 ghost use Rattle.its_simulation.specs.Records.{happening_in};
 ghost use Rattle.its_model.specs.World.{with_one_more};
 ghost use Rattle.its_world.specs.Events.{what_of};
@@ -9,7 +10,7 @@ ghost use Rattle.its_tally.specs.Packets as told;
 ghost use Rattle.its_tally.specs.Packets.{HasCounted, Packet, Frames, AreKept, IsSummary, IsOneOf};
 ghost use Rattle.its_tally.specs.Packets.{delivered_by, deeper, with_relay, with_delivery, own_of};
 ghost use Rattle.its_tally.specs.Packets.{packets_after, carried_after, deliveries_after, sent_by};
-ghost use Rattle.its_tally.specs.Packets.{lines_of, with_frame_of};
+ghost use Rattle.its_tally.specs.Packets.{is_released, lines_of, with_frame_of};
 ghost use Rattle.its_tally.specs.Totals.{AreTotals, capped, with_entry, with_frame, with_handed};
 ghost use Rattle.its_tally.specs.Totals.{with_accepted, packets_sent, is_area_send, was_sent};
 
@@ -262,6 +263,8 @@ impl Tally {
         ensures released { self.new.released ≡ self.old.released }
         ensures late { self.new.late ≡ false → self.old.late ≡ false }
         ensures early { self.old.released ≡ 0 → self.new.late ≡ self.old.late }
+        ensures only { self.new.late ≡ (if is_released self.old.released
+            (what_of done.now.what.now) then true else self.old.late) }
         ensures counts { (ps : List Packet) (frames : Frames) (ds : List told.Delivery)
             → HasCounted self.old ps frames ds → OnOk result (self.new.late ≡ false
             → let what = what_of done.now.what.now in HasCounted self.new ps
@@ -278,6 +281,8 @@ impl Tally {
         ensures others { self.new ≡ record self.old { late = self.new.late } }
         ensures late { self.new.late ≡ false → self.old.late ≡ false }
         ensures early { self.old.released ≡ 0 → self.new.late ≡ self.old.late }
+        ensures only { self.new.late ≡ (if is_released self.old.released (what_of action.now)
+            then true else self.old.late) }
         ensures carried { self.new.late ≡ false → (frames : Frames)
             → AreKept self.old.carried.items self.old.released frames
             → result ≡ delivered_by (what_of action.now) frames }

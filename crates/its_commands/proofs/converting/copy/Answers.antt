@@ -1,7 +1,7 @@
 use Rattle.std.proofs.Common.{rules, ◌≡◌, ◌≤◌, ◌^◌, ◌-◌, ◌∙◌, ap, sym, subst, inl, inr, Some, arith}
 use Rattle.std.specs.Prelude.{Bool}
-use Rattle.its_pcap.specs.Sources.{Gives, layer_of_source}
-use Rattle.its_commands.specs.Conversions.{IsCopied, has_links}
+use Rattle.its_pcap.specs.Sources.{Gives}
+use Rattle.its_commands.specs.Conversions.{IsCopied, has_links, said_by}
 use Rattle.its_commands.proofs.Copies.{copied, copied_end, copying_more, records_grow, chosen_grow}
 use Rattle.its_commands.proofs.converting.copy.Goals as goal
 
@@ -11,11 +11,11 @@ returns-then-eq-clause-copied g c =
     let is : c.args.selection.now.count ≡ Some c.loop-step.progress.chosen = search rules in
     let linked = c.is_linked-linked.ensures ∙ ap has_links c.format.ensures in
     subst
-    (λ (b : Bool). IsCopied Gives layer_of_source c.args.selection.now.choice
+    (λ (b : Bool). IsCopied Gives said_by c.args.selection.now.choice
     c.args.selection.now.count b c.args.source.now c.args.written.now c.loop-step.source
     c.loop-step.written c.status.result)
     linked
-    (copied Gives layer_of_source c.args.selection.now.choice c.args.selection.now.count
+    (copied Gives said_by c.args.selection.now.choice c.args.selection.now.count
     c.is_linked-linked.result c.args.source.now c.args.written.now c.loop-step.source
     c.loop-step.written c.loop-step.progress c.loop-step.step c.status.result k
     (inr (inl (is ∙ ap Some k.chosen))) c.status.ensures)
@@ -24,11 +24,11 @@ pub returns-then-is_end-clause-copied : goal.returns-then-is_end-clause-copied
 returns-then-is_end-clause-copied g c =
     let linked = c.is_linked-linked.ensures ∙ ap has_links c.format.ensures in
     subst
-    (λ (b : Bool). IsCopied Gives layer_of_source c.args.selection.now.choice
+    (λ (b : Bool). IsCopied Gives said_by c.args.selection.now.choice
     c.args.selection.now.count b c.args.source.now c.args.written.now c.go_on.new.source
     c.go_on.new.written c.status-then-is_end.result)
     linked
-    (copied_end Gives layer_of_source c.args.selection.now.choice c.args.selection.now.count
+    (copied_end Gives said_by c.args.selection.now.choice c.args.selection.now.count
     c.is_linked-linked.result c.args.source.now c.args.written.now c.loop-step.source
     c.loop-step.written c.loop-step.progress c.loop-step.step c.go_on.new.source
     c.go_on.new.written c.in_ok-met.met c.after-progress.result c.status-then-is_end.result
@@ -41,7 +41,7 @@ loop-step-preserved g c = record {
       c.loop-step.step c.after-progress.ensures c.loop-step.invariant.records;
   chosen = chosen_grow c.loop-step.progress c.in_ok-met.met c.after-progress.result
       c.loop-step.step c.after-progress.ensures c.loop-step.invariant.chosen;
-  copying = copying_more Gives layer_of_source c.args.selection.now.choice
+  copying = copying_more Gives said_by c.args.selection.now.choice
       c.is_linked-linked.result c.args.source.now c.args.written.now c.loop-step.source
       c.loop-step.written c.loop-step.progress c.loop-step.step c.go_on.new.source
       c.go_on.new.written c.in_ok-met.met c.after-progress.result
@@ -54,11 +54,11 @@ returns-clause-copied g c =
     let last : 2 ^ 64 - 1 ≤ c.loop-step.step = search rules in
     let linked = c.is_linked-linked.ensures ∙ ap has_links c.format.ensures in
     subst
-    (λ (b : Bool). IsCopied Gives layer_of_source c.args.selection.now.choice
+    (λ (b : Bool). IsCopied Gives said_by c.args.selection.now.choice
     c.args.selection.now.count b c.args.source.now c.args.written.now c.loop-step.source
     c.loop-step.written c.status-2.result)
     linked
-    (copied Gives layer_of_source c.args.selection.now.choice c.args.selection.now.count
+    (copied Gives said_by c.args.selection.now.choice c.args.selection.now.count
     c.is_linked-linked.result c.args.source.now c.args.written.now c.loop-step.source
     c.loop-step.written c.loop-step.progress c.loop-step.step c.status-2.result k
     (inr (inr (omega (arith, last, k.gone)))) c.status-2.ensures)

@@ -1,6 +1,6 @@
 use Rattle.std.proofs.Common.{◌≤◌}
-use Rattle.its_pcap.specs.Sources.{Gives, layer_of_source}
-use Rattle.its_commands.specs.Conversions.{IsCopying}
+use Rattle.its_pcap.specs.Sources.{Gives}
+use Rattle.its_commands.specs.Conversions.{IsCopying, said_by}
 use Rattle.its_commands.proofs.converting.copy.Given as goal
 
 -- no more records than steps were gone, and what these steps wrote
@@ -8,6 +8,6 @@ abbrev pub invariant-loop-step : goal.invariant-loop-step
 invariant-loop-step g l = record {
   records : l.progress.records ≤ l.step;
   chosen : l.progress.chosen ≤ l.step;
-  copying : IsCopying Gives layer_of_source l.selection.choice l.linked l.fn.source l.fn.written
+  copying : IsCopying Gives said_by l.selection.choice l.linked l.fn.source l.fn.written
       l.source l.written l.progress l.step;
 }

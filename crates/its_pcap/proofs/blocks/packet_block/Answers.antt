@@ -39,7 +39,7 @@ returns-in_err-captured-clause-answer g c =
     rw (p.1, p.2)
     (behind-fault _ _ c.in_ok-length.length _ _ _ _ c.in_ok-length.ensures.answer
     (behind-fault _ _ c.in_ok-interface.interface _ _ _ _ c.in_ok-interface.ensures.answer
-    (behind-fault _ _ c.in_ok-moment.moment _ _ _ _ c.in_ok-moment.ensures.answer
+    (behind-fault _ _ (c.in_ok-moment.moment, c.in_ok-moment.fine) _ _ _ _ c.in_ok-moment.ensures.answer
     (first-fault _ _ _ _ _ c.in_err-captured.ensures.answer))))
 
 pub returns-in_err-wire-clause-answer : goal.returns-in_err-wire-clause-answer
@@ -49,7 +49,7 @@ returns-in_err-wire-clause-answer g c =
     rw (p.1, p.2)
     (behind-fault _ _ c.in_ok-length.length _ _ _ _ c.in_ok-length.ensures.answer
     (behind-fault _ _ c.in_ok-interface.interface _ _ _ _ c.in_ok-interface.ensures.answer
-    (behind-fault _ _ c.in_ok-moment.moment _ _ _ _ c.in_ok-moment.ensures.answer
+    (behind-fault _ _ (c.in_ok-moment.moment, c.in_ok-moment.fine) _ _ _ _ c.in_ok-moment.ensures.answer
     (behind-fault _ _ c.in_ok-captured.captured _ _ _ _ c.in_ok-captured.ensures.answer
     (first-fault _ _ _ _ _ c.in_err-wire.ensures.answer)))))
 
@@ -60,7 +60,7 @@ returns-in_err-read_record_octets-clause-answer g c =
     rw (p.1, p.2)
     (behind-fault _ _ c.in_ok-length.length _ _ _ _ c.in_ok-length.ensures.answer
     (behind-fault _ _ c.in_ok-interface.interface _ _ _ _ c.in_ok-interface.ensures.answer
-    (behind-fault _ _ c.in_ok-moment.moment _ _ _ _ c.in_ok-moment.ensures.answer
+    (behind-fault _ _ (c.in_ok-moment.moment, c.in_ok-moment.fine) _ _ _ _ c.in_ok-moment.ensures.answer
     (behind-fault _ _ c.in_ok-captured.captured _ _ _ _ c.in_ok-captured.ensures.answer
     (behind-fault _ _ c.in_ok-wire.wire _ _ _ _ c.in_ok-wire.ensures.answer
     (first-fault _ _ _ _ _ (frame-cut c.in_ok-captured.captured c.args.keep c.read_record_octets.new.frame.items _ _ _ c.in_err-read_record_octets.ensures.fault)))))))
@@ -72,7 +72,7 @@ returns-in_err-end_block-clause-answer g c =
     rw (p.1, p.2)
     (behind-fault _ _ c.in_ok-length.length _ _ _ _ c.in_ok-length.ensures.answer
     (behind-fault _ _ c.in_ok-interface.interface _ _ _ _ c.in_ok-interface.ensures.answer
-    (behind-fault _ _ c.in_ok-moment.moment _ _ _ _ c.in_ok-moment.ensures.answer
+    (behind-fault _ _ (c.in_ok-moment.moment, c.in_ok-moment.fine) _ _ _ _ c.in_ok-moment.ensures.answer
     (behind-fault _ _ c.in_ok-captured.captured _ _ _ _ c.in_ok-captured.ensures.answer
     (behind-fault _ _ c.in_ok-wire.wire _ _ _ _ c.in_ok-wire.ensures.answer
     (behind-fault _ _ tt _ _ _ _ (frame-read _ _ _ _ _ c.in_ok-read_record_octets.ensures.frame)
@@ -83,14 +83,16 @@ unfolding packet
 returns-clause-answer g c =
     (behind-answer _ _ c.in_ok-length.length (Ok _) _ _ _ c.in_ok-length.ensures.answer
     (behind-answer _ _ c.in_ok-interface.interface (Ok _) _ _ _ c.in_ok-interface.ensures.answer
-    (behind-answer _ _ c.in_ok-moment.moment (Ok _) _ _ _ c.in_ok-moment.ensures.answer
+    (behind-answer _ _ (c.in_ok-moment.moment, c.in_ok-moment.fine) (Ok _) _ _ _ c.in_ok-moment.ensures.answer
     (behind-answer _ _ c.in_ok-captured.captured (Ok _) _ _ _ c.in_ok-captured.ensures.answer
     (behind-answer _ _ c.in_ok-wire.wire (Ok _) _ _ _ c.in_ok-wire.ensures.answer
     (behind-answer _ _ tt (Ok _) _ _ _ (frame-read _ _ _ _ _ c.in_ok-read_record_octets.ensures.frame)
     (behind-answer _ _ tt (Ok _) _ _ _ c.in_ok-end_block.ensures.answer
     (gives-value {A = Block} (blocks.Record (record {
       moment = c.in_ok-moment.moment;
+      fine = c.in_ok-moment.fine;
+      interface = c.in_ok-interface.interface.number;
       captured = c.in_ok-captured.captured;
       wire = c.in_ok-wire.wire;
-      layer = c.in_ok-interface.interface.layer;
+      layer = c.in_ok-interface.interface.info.layer;
     })) _))))))))

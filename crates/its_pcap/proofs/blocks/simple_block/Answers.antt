@@ -1,4 +1,4 @@
-use Rattle.std.proofs.Common.{Ok}
+use Rattle.std.proofs.Common.{Ok, false}
 use Rattle.std.proofs.lemmas.Result.{err_from_is_err_and}
 use Rattle.its_pcap.proofs.Layouts.{behind-fault, behind-answer, first-fault}
 use Rattle.its_pcap.proofs.Layouts.{gives-value}
@@ -64,7 +64,9 @@ returns-clause-answer g c =
     (behind-answer _ _ tt (Ok _) _ _ _ c.in_ok-end_block.ensures.answer
     (gives-value {A = Block} (blocks.Record (record {
       moment = 0;
+      fine = record { nanos = 0; finer = false; ticks = 0 };
+      interface = c.in_ok-interface.interface.number;
       captured = c.in_ok-wire.captured;
       wire = c.in_ok-wire.wire;
-      layer = c.in_ok-interface.interface.layer;
+      layer = c.in_ok-interface.interface.info.layer;
     })) _))))))

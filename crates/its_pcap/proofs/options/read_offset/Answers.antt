@@ -19,4 +19,4 @@ pub returns-clause-answer : goal.returns-clause-answer
 unfolding offset
 returns-clause-answer g c =
     (behind-answer _ _ c.u64_at.result (Ok _) _ _ _ (reads ((number c.args.order 8).Is c.u64_at.result) _ _ c.read_exact.new.buf (omega arith, (sym c.u64_at.ensures, tt)) c.in_ok-read_exact.ensures.octets)
-    (has-offset c.args.interface _ _ _ c.seconds_of-offset_added.ensures.added c.seconds_of-offset_added.ensures.taken refl refl refl))
+    (has-offset c.args.interface _ _ _ c.with_offset.ensures refl refl refl))

@@ -3,7 +3,7 @@ use Rattle.std.proofs.lemmas.Result.{err_from_is_err_and}
 use Rattle.its_pcap.proofs.Layouts.{behind-fault, behind-answer, first-fault}
 use Rattle.std.proofs.Common.{arith, get_or}
 use Rattle.its_pcap.proofs.Layouts.{reads, part-cut, octets-read}
-use Rattle.its_pcap.proofs.OptionChains.{has-ticks}
+use Rattle.its_pcap.proofs.OptionChains.{has-resolution}
 use Rattle.its_pcap.specs.Interfaces.{resolution}
 use Rattle.its_pcap.specs.Layouts.{number_that, octets}
 use Rattle.its_pcap.specs.Moments.{IsTooFine}
@@ -33,7 +33,7 @@ unfolding resolution
 returns-clause-answer g c =
     (behind-answer _ _ (get_or c.read_exact.new.buf 0 0) (Ok _) _ _ _ (reads ((number_that Big 1 (λ r. ¬ IsTooFine r)).Is (get_or c.read_exact.new.buf 0 0)) _ _ c.read_exact.new.buf (omega arith, (omega arith, c.in_ok-ticks.ensures.ticks.1)) c.in_ok-read_exact.ensures.octets)
     (behind-answer _ _ tt (Ok _) _ _ _ (octets-read 3 _ _ c.in_ok-skip.ensures.octets)
-    (has-ticks c.args.interface _ _ _ c.in_ok-ticks.ensures.ticks.0 refl refl refl refl)))
+    (has-resolution c.args.interface _ _ _ c.in_ok-ticks.ensures.ticks.0 c.with_resolution.ensures refl refl)))
 
 pub returns-in_err-ticks-clause-answer : goal.returns-in_err-ticks-clause-answer
 unfolding resolution

@@ -57,6 +57,8 @@ returns-clause-step g c =
           frame.passes.gone v twelve four frame.passes.size c.u32_at-captured.ensures
           (omega arith)
           (rw (c.moment_at.ensures, c.u32_at-seconds.ensures, c.u32_at-fraction.ensures) refl)
+          (rw (c.fine_time_at.ensures, c.u32_at-seconds.ensures, c.u32_at-fraction.ensures) refl)
+          refl
           c.u32_at.ensures refl frame.kept);
       passes = record {
         gone = (head ++ wire) ++ frame.passes.gone;

@@ -1,16 +1,17 @@
-use Rattle.std.proofs.Common.{◌≤◌, ◌+◌, ◌∙◌, ap, sym, subst}
+use Rattle.std.proofs.Common.{◌≤◌, ◌+◌, ◌-◌, ◌^◌, ◌∙◌, ap, sym, subst, arith, inl, inr, refl}
 use Rattle.its_replay.specs.declared.replaying.Replayed.{Replayed}
-use Rattle.its_replay.proofs.Records.{chosen_grows, fault_stays, read_grows, replayed_then}
+use Rattle.its_replay.proofs.Records.{chosen_grows, fault_stays, read_grows, counted_then, whole_then}
 use Rattle.its_replay.proofs.replaying.replay_records.Goals as goal
 
 pub returns-then-is_end : goal.returns-then-is_end
 returns-then-is_end g c = λ s rep took.
-    let before = c.loop-step.invariant.received s rep took in
-    replayed_then {S = g.row.S.Denot} g.S.RecordSource.GivesStep c.args.selection.now.choice
-    c.args.linked c.args.source.now s c.loop-step.source c.go_on.new.source c.loop-step.station
-    c.go_on.new.station c.loop-step.replayed c.in_ok-met.met c.after-replayed.result
-    (g.K.HeardSink.Took c.loop-step.sink) (g.K.HeardSink.Took c.go_on.new.sink) before
-    c.after-replayed.ensures c.loop-step.invariant.good
+    let before = (c.loop-step.invariant.received s rep took).0 in
+    whole_then {S = g.row.S.Denot} g.S.RecordSource.GivesStep c.args.selection.now.choice
+    c.args.selection.now.count c.args.linked c.args.source.now s c.loop-step.source
+    c.go_on.new.source c.loop-step.station c.go_on.new.station c.loop-step.replayed
+    c.in_ok-met.met c.after-replayed.result (g.K.HeardSink.Took c.loop-step.sink)
+    (g.K.HeardSink.Took c.go_on.new.sink) before c.after-replayed.ensures
+    c.loop-step.invariant.good (sym c.is_end.ensures ∙ c.if-is_end.true)
     (c.in_ok-met.ensures before.end before.told before.stands before.took)
 
 pub loop-step-preserved : goal.loop-step-preserved
@@ -23,12 +24,12 @@ loop-step-preserved g c = record {
       ∙ fault_stays c.loop-step.replayed c.in_ok-met.met c.loop-step.invariant.good
       (sym c.is_end.ensures ∙ c.if-is_end.false);
   received = λ s rep took.
-      let before = c.loop-step.invariant.received s rep took in
-      replayed_then {S = g.row.S.Denot} g.S.RecordSource.GivesStep c.args.selection.now.choice
+      let (before, steps) = c.loop-step.invariant.received s rep took in
+      counted_then {S = g.row.S.Denot} g.S.RecordSource.GivesStep c.args.selection.now.choice
       c.args.linked c.args.source.now s c.loop-step.source c.go_on.new.source
       c.loop-step.station c.go_on.new.station c.loop-step.replayed c.in_ok-met.met
       c.after-replayed.result (g.K.HeardSink.Took c.loop-step.sink)
-      (g.K.HeardSink.Took c.go_on.new.sink) before c.after-replayed.ensures
-      c.loop-step.invariant.good
+      (g.K.HeardSink.Took c.go_on.new.sink) c.loop-step.step before steps
+      c.after-replayed.ensures c.loop-step.invariant.good
       (c.in_ok-met.ensures before.end before.told before.stands before.took);
 }

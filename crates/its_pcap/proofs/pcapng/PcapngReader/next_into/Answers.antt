@@ -15,6 +15,7 @@ returns-in-Ok-Some-clause-answer g c =
     record {
       stage = stage;
       interfaces = c.self.inside.interfaces.items;
+      next = c.self.inside.next;
       keep = c.self.inside.keep;
       rest = g.R.Read.remaining c.self.inside.source;
       failures = g.R.Source.failed c.self.inside.source;
@@ -23,6 +24,7 @@ returns-in-Ok-Some-clause-answer g c =
     record {
       stage = c.take.new.stage;
       interfaces = c.take.new.interfaces.items;
+      next = c.take.new.next;
       keep = c.self.inside.keep;
       rest = g.R.Read.remaining c.read_next.new.source;
       failures = g.R.Source.failed c.read_next.new.source;
@@ -48,6 +50,7 @@ returns-in-Ok-Some-clause-memory g c = λ enough is.
     record {
       stage = stage;
       interfaces = c.self.inside.interfaces.items;
+      next = c.self.inside.next;
       keep = c.self.inside.keep;
       rest = g.R.Read.remaining c.self.inside.source;
       failures = g.R.Source.failed c.self.inside.source;
@@ -56,6 +59,7 @@ returns-in-Ok-Some-clause-memory g c = λ enough is.
     record {
       stage = c.take.new.stage;
       interfaces = c.take.new.interfaces.items;
+      next = c.take.new.next;
       keep = c.self.inside.keep;
       rest = g.R.Read.remaining c.read_next.new.source;
       failures = g.R.Source.failed c.read_next.new.source;

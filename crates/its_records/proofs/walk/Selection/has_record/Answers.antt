@@ -1,5 +1,5 @@
 use Rattle.std.proofs.Common.{◌≡◌, ◌∙◌, ◌++◌, List, ℕ, ap, inl, subst, take}
-use Rattle.its_records.specs.RecordFrames.{AreTraits, traits_read}
+use Rattle.its_records.specs.RecordFrames.{AreTraits, traits_read, other_read}
 use Rattle.its_linklayers.specs.declared.link.TheConstants.{LONGEST_RECORD}
 use Rattle.its_records.proofs.Chosen.{are_traits, take_most}
 use Rattle.its_records.proofs.walk.Selection.has_record.Goals as goal
@@ -13,7 +13,8 @@ returns c =
     c.in_ok-extend_from_slice.ensures.items
     ∙ ap (λ (v : List ℕ). v ++ take c.min.result w) c.clear.ensures.items
     ∙ take_most w LONGEST_RECORD c.min.result c.min.ensures in
-    let traits = subst (λ (v : List ℕ). AreTraits head c.args.linked v (traits_read read)) kept
+    let traits =
+    subst (λ (v : List ℕ). AreTraits head c.args.linked v (traits_read read) (other_read read)) kept
     (are_traits head c.args.linked c.extend_from_slice.new.self.items read
     c.frame_of-frame.ensures.frame c.frame_of-frame.ensures.fault) in
-    inl (traits_read read, traits, c.has.ensures)
+    inl (traits_read read, other_read read, traits, c.has.ensures)

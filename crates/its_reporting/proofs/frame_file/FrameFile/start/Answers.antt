@@ -1,6 +1,6 @@
-use Rattle.std.proofs.Common.{◌≡◌, ℕ, Result, Ok, rules, refl, subst}
+use Rattle.std.proofs.Common.{◌≡◌, ℕ, ◌+◌, suc, Result, Ok, rules, refl, subst, arith}
 use Rattle.its_pcap.specs.declared.put_fault.PutFault.{PutFault}
-use Rattle.its_pcap.specs.RecordFiles.{RecordFile, Starts}
+use Rattle.its_pcap.specs.RecordFiles.{RecordFile, Starts, AddsInterface}
 use Rattle.its_pcap.specs.Sinks.{file_of_sink}
 use Rattle.its_reporting.specs.FrameFiles.{AddsInterfaces, fresh}
 use Rattle.its_reporting.proofs.frame_file.FrameFile.start.Goals as goal
@@ -24,3 +24,17 @@ returns g c =
       refl,
       refl,
     )
+
+pub loop-station-preserved : goal.loop-station-preserved
+loop-station-preserved g c =
+    let between = file_of_sink c.loop-station.sink in
+    let next = file_of_sink c.add_interface.new.self in
+    let name = c.as_str.result.now in
+    let is_ok : c.add_interface.result ≡ Ok tt = search rules in
+    let added : AddsInterface between.format name between next (Ok tt) =
+    subst (λ (r : Result (Unit {0}) PutFault). AddsInterface between.format name between next r)
+    is_ok c.add_interface.ensures in
+    let more : suc c.loop-station.station-counter ≡ c.loop-station.station-counter + 1 =
+    omega arith in
+    subst (λ (n : ℕ). AddsInterfaces n (file_of_sink c.start.new.self) next) more
+    (between, c.loop-station.invariant, name, added)

@@ -1,0 +1,32 @@
+//! Output that keeps up with its input.
+
+use std::io;
+use std::io::Write;
+
+/// A writer that passes on each write at once, for a reader that waits for it.
+#[derive(Drop)]
+pub(crate) struct Prompt<W: Write + Drop> {
+    out: W,
+}
+
+impl<W: Write + Drop> Prompt<W> {
+    /// Returns a writer before this one.
+    pub(crate) fn new(out: W) -> Prompt<W> {
+        Prompt { out }
+    }
+}
+
+impl<W: Write + Drop> Write for Prompt<W> {
+    ghost contents = { λ p. W.contents p.out };
+
+    fn write(&mut self, octets: &[u8]) -> io::Result<usize> {
+        let written = self.out.write(octets)?;
+        // What fails here fails again at the end, where it is reported.
+        let _ = self.out.flush();
+        Ok(written)
+    }
+
+    fn flush(&mut self) -> io::Result<()> {
+        self.out.flush()
+    }
+}
