@@ -5,11 +5,9 @@ use clap::error::ErrorKind;
 use clap::{Command, Error};
 use its_arguments::{BadArgument, add_commands, command_named};
 use its_reporting::OutputFormat;
+use its_runs::VERSION;
 use its_terminal::Console;
 use std::alloc::{AllocError, Global};
-
-/// The version of the program, as the head of the change log has it.
-const VERSION: &str = "0.1.0";
 
 /// The name of the program.
 const PROGRAM: &str = "geostation";
