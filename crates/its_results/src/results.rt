@@ -206,7 +206,7 @@ fn end_file<'a, R: Rows + Drop, W: Write + Drop>(
 
 /// Whether a write failed.
 fn is_failure(taken: &Result<(), SimulationFault>) -> bool {
-    matches!(taken, Err(SimulationFault::Output(_)))
+    matches!(taken, Err(SimulationFault::Output))
 }
 
 /// What the files of numbers are written to, where they are. A file is written that has both a name

@@ -30,7 +30,7 @@ impl<W: Write + Drop, E: Write> EventSink for Frames<'_, '_, W, E> {
         };
         let put = file.put(done.station, done.moment, frame, self.format, self.err);
         // The file remembers that it failed.
-        put.map_err(|_| SimulationFault::Output(io::Error::from(io::ErrorKind::Other)))
+        put.map_err(|_| SimulationFault::Output)
     }
 
     fn note(
@@ -47,7 +47,7 @@ impl<W: Write + Drop, E: Write> EventSink for Frames<'_, '_, W, E> {
             Err(error) if error.kind() == io::ErrorKind::OutOfMemory => {
                 Err(SimulationFault::OutOfMemory(AllocError))
             }
-            Err(error) => Err(SimulationFault::Output(error)),
+            Err(_) => Err(SimulationFault::Output),
         }
     }
 }
