@@ -23,6 +23,7 @@ impl<W: Write + Drop, E: Write> EventSink for Frames<'_, '_, W, E> {
     // What the file holds isn't said by contracts.
     ghost Took = { λ _ _ _. Unit {0} };
 
+    #[inline(always)]
     fn put(&mut self, _world: &World, done: &EventRecord<'_>) -> Result<(), SimulationFault> {
         self.progress.note(done, self.err);
         let (Some(file), Some(frame)) = (&mut *self.file, done.octets) else {
