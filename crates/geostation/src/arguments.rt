@@ -15,7 +15,7 @@ const PROGRAM: &str = "geostation";
 /// The program with its commands, in the order of its help.
 fn whole<'a>(alloc: Global) -> Result<Command<'a>, AllocError> {
     let program = Command::new(alloc, PROGRAM)
-        .about("Shows, checks and makes captures of GeoNetworking frames, and runs scenarios")
+        .about("Show, check and make captures of GeoNetworking frames, and run scenarios")
         .version(VERSION)
         .subcommand_required(true);
     add_commands(alloc, program)
