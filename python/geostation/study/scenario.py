@@ -140,7 +140,7 @@ class Scenario:
         return self._document
 
     def with_values(self, changes: Mapping[str, Value]) -> bytes:
-        """Returns the scenario with other values at some paths; unchanged if there are none.
+        """Returns the scenario with other values at some paths, or as it is without `changes`.
 
         A key has to be in the scenario already, except the keys of `[moves]`, which the program
         checks. Raises `StudyError` for a path that leads nowhere.
