@@ -1,6 +1,6 @@
 -- One more step of a file after others.
 use Rattle.std.proofs.Common.{◌≡◌, ℕ, ◌+◌, List, [], ◌∷◌, ◌++◌, length, refl, sym, ap, subst, ◌∙◌}
-use Rattle.std.proofs.Common.{arith, inl, inr, length-append, ◌×◌, ◌≤◌, true, false, true≢false}
+use Rattle.std.proofs.Common.{arith, inl, inr, length-append, ◌≤◌, true, false, true≢false}
 use Rattle.std.specs.Prelude.{Bool, Result, Ok, Err, IfOk, Option, None, Some}
 use Rattle.std.proofs.lemmas.List.{append_assoc, append-nil}
 use Rattle.its_choosing.specs.declared.Choice.{Choice}
@@ -160,6 +160,7 @@ pub counted_then : {S : Type 0} (gives : S → S → List ℕ → Result Step So
     → IsGone gives choice linked left before.end before.told then next met Later
     → (after : IsReplayed gives choice linked file s then next result Later)
     × (length after.given ≡ step + 1)
+unfolding replayed_more
 counted_then gives choice linked file s left then station next counts met result Took Later step
     before steps is none one =
     subst (λ (r : Replayed). (after : IsReplayed gives choice linked file s then next r Later)
@@ -189,6 +190,7 @@ pub whole_then : {S : Type 0} (gives : S → S → List ℕ → Result Step Sour
     → result ≡ counts_after counts met → counts.fault ≡ None → is_end met ≡ true
     → IsGone gives choice linked left before.end before.told then next met Later
     → IsReplayedWhole gives choice count linked file s then next result Later
+unfolding replayed_more
 whole_then gives choice count linked file s left then station next counts met result Took Later
     before is none ends one =
     subst (λ (r : Replayed). IsReplayedWhole gives choice count linked file s then next r Later)
