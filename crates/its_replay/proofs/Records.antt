@@ -127,6 +127,20 @@ replayed_none gives choice linked file s station Took rep took =
       stands = rep;
     }
 
+-- the counts with which a file begins, and no call
+pub replayed_begun : {S : Type 0} (gives : S → S → List ℕ → Result Step SourceFault → Type 0)
+    (choice : Choice) (linked : Bool) (file : S) (s : StationModel) (station : StationState)
+    (Took : List Heard → Type 0) (counts : Replayed)
+    → counts ≡ record { read = 0; chosen = 0; fault = None }
+    → RepresentsStation station s → Took []
+    → (begun : IsReplayed gives choice linked file s file station counts Took)
+    × (length begun.given ≡ 0)
+unfolding replayed_none
+replayed_begun gives choice linked file s station Took counts is rep took =
+    subst (λ (r : Replayed). (begun : IsReplayed gives choice linked file s file station r Took)
+    × (length begun.given ≡ 0)) (sym is)
+    (replayed_none gives choice linked file s station Took rep took, refl)
+
 pub replayed_more : {S : Type 0} (gives : S → S → List ℕ → Result Step SourceFault → Type 0)
     (choice : Choice) (linked : Bool) (file : S) (s : StationModel) (left then : S)
     (station next : StationState) (counts : Replayed) (met : Gone)
