@@ -1,6 +1,6 @@
 //! The command `sim`.
 
-ghost use Rattle.std.specs.Prelude.{◌≡◌, ◌≤◌, IfOk, None, Ok, is_some, true, vec_len};
+ghost use Rattle.std.specs.Prelude.{◌≡◌, ◌≤◌, IfOk, None, is_some, true, vec_len};
 ghost use Rattle.its_reporting.specs.Statuses.{IsCommandStatus};
 ghost use Rattle.its_runs.specs.Runs.{EndsRun, IsMovedStatus, IsRunStatus};
 
@@ -76,8 +76,6 @@ pub fn simulate_scenario<'f, W: Write, E: Write>(
 ) -> Result<Status, Fault<'f>>
     requires { vec_len scenario.now.stations ≤ 65535 }
     ensures status { IfOk result IsCommandStatus }
-    ensures done { result ≡ Ok Status.Done →
-        IsRunStatus options.now.strict scenario.now Status.Done }
 {
     let outputs: Outputs<'_, Vec<u8>> = Outputs::none();
     let options = *options;
@@ -99,8 +97,6 @@ pub(crate) fn run_into<'a, M: BufRead + Drop, F: Write + Drop, W: Write, E: Writ
 ) -> Result<Status, Fault<'a>>
     requires { vec_len course.old.scenario.now.stations ≤ 65535 }
     ensures status { IfOk result IsCommandStatus }
-    ensures done { result ≡ Ok Status.Done → EndsRun course.old.options.now.strict
-        course.old.scenario.now (is_some course.old.moves) (Ok Status.Done) }
 {
     let Outputs {
         mut frames,
