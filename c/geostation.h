@@ -722,6 +722,13 @@ int geostation_neighbour(const geostation_handle *s, uint64_t now, uint64_t afte
 int geostation_look_up(const geostation_handle *s, uint64_t now, uint64_t address,
                        struct geostation_vector *out);
 
+/** @} */
+
+/**
+ * @defgroup counters Counters
+ * @{
+ */
+
 #if defined(__cplusplus) && defined(__GNUC__)
 #pragma GCC diagnostic push
 #pragma GCC diagnostic ignored "-Wshadow" /* the struct and the function have one name */
