@@ -1,6 +1,6 @@
 """Compares what the program prints in words with what it prints in JSON, over all samples.
 
-Each object is written again in words, by the rules of docs/FORMATS.md, and has to be the line.
+Each object is written again in words, by the rules of docs/formats/json.md, and has to be the line.
 Arguments: the program, and the folder of the samples.
 """
 
@@ -103,7 +103,7 @@ def compare(program, command, sample):
         assert line == json.dumps(value, separators=(",", ":")), f"{line}: not compact"
     air = command == "sim" and "[air]" in pathlib.Path(sample).read_text()
     if command == "sim":
-        assert list(told[0]) == (["stations", "air"] if air else ["stations"]), objects[0]
+        assert list(told[0]) == (["stations", "air", "version"] if air else ["stations"]), objects[0]
         told = told[1:]
     assert len(words) == len(reasons) == len(told), f"{command} {sample}: the lines differ"
     for line, reason, value in zip(words, reasons, told):

@@ -5,11 +5,9 @@ use clap::error::ErrorKind;
 use clap::{Command, Error};
 use its_arguments::{BadArgument, add_commands, command_named};
 use its_reporting::OutputFormat;
+use its_runs::VERSION;
 use its_terminal::Console;
 use std::alloc::{AllocError, Global};
-
-/// The version of the program, as the head of the change log has it.
-const VERSION: &str = "0.1.0";
 
 /// The name of the program.
 const PROGRAM: &str = "geostation";
@@ -17,7 +15,7 @@ const PROGRAM: &str = "geostation";
 /// The program with its commands, in the order of its help.
 fn whole<'a>(alloc: Global) -> Result<Command<'a>, AllocError> {
     let program = Command::new(alloc, PROGRAM)
-        .about("Shows, checks and makes captures of GeoNetworking frames, and runs scenarios")
+        .about("Show, check and make captures of GeoNetworking frames, and run scenarios")
         .version(VERSION)
         .subcommand_required(true);
     add_commands(alloc, program)

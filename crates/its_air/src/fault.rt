@@ -5,7 +5,6 @@ use its_moves::MovesFault;
 use its_queue::QueueFault;
 use its_simulation::SimulationFault;
 use std::alloc::{AllocError, AllocFailed};
-use std::io;
 use thiserror::Error;
 
 /// Why the run of an air ended before its last event. The sink has the events before it.
@@ -16,7 +15,7 @@ pub enum AirFault {
     OutOfMemory(#[from(alloc)] AllocError),
     /// The sink failed.
     #[error("the output failed")]
-    Output(#[from] io::Error),
+    Output,
     /// There are 2^64 events or more.
     #[error("too many events")]
     TooManyEvents,
@@ -53,7 +52,7 @@ impl From<SimulationFault> for AirFault {
     fn from(fault: SimulationFault) -> AirFault {
         match fault {
             SimulationFault::OutOfMemory(error) => AirFault::OutOfMemory(error),
-            SimulationFault::Output(error) => AirFault::Output(error),
+            SimulationFault::Output => AirFault::Output,
         }
     }
 }

@@ -3,31 +3,31 @@
 use clap::{Arg, ArgAction, Command};
 use std::alloc::{AllocError, Global};
 
-/// An argument of a command: its name, and what help says of it.
+/// An argument of a command: its name and its help.
 #[derive(Clone, Copy)]
 enum Argument {
-    /// It has to be given, in its place.
+    /// Required, by position.
     Required(&'static str, &'static str),
-    /// The same, and it may begin with a minus sign, as a number below 0 does.
+    /// Required, by position. It may begin with a minus sign, for a number below 0.
     Signed(&'static str, &'static str),
-    /// It has to be given, in its place, where the option of this name isn't, and not beside it.
+    /// Required, by position, unless the option of this name is given. Both together are refused.
     Unless(&'static str, &'static str, &'static str),
-    /// An option that is given or not.
+    /// An option without a value.
     Flag(&'static str, &'static str),
-    /// The same, with a letter.
+    /// An option without a value, with a letter.
     LetterFlag(char, &'static str, &'static str),
-    /// An option with a value, which help calls by its own name.
+    /// An option with a value, and the name of the value in the help.
     Value(&'static str, &'static str, &'static str),
-    /// The same, with a letter.
+    /// An option with a value, with a letter.
     LetterValue(char, &'static str, &'static str, &'static str),
-    /// The same, and it may be given more than once.
+    /// An option with a value that may be given several times.
     Values(&'static str, &'static str, &'static str),
     /// An option with one of these values.
     Choice(&'static str, &'static str, &'static [&'static str], &'static str),
 }
 
-/// A command: its name, what it does, its arguments, those by which it chooses records, and what
-/// its help ends with.
+/// A command: its name, what it does, its arguments, those that select records, and the end of its
+/// help.
 #[derive(Clone, Copy)]
 struct Form {
     name: &'static str,
@@ -37,107 +37,106 @@ struct Form {
     example: &'static str,
 }
 
-const JSON: Argument = Argument::Flag("json", "Prints each line as a JSON object");
+const JSON: Argument = Argument::Flag("json", "Print each line as a JSON object");
 
-const EXPLAIN: Argument = Argument::Flag("explain", "Says in words what each code means");
+const EXPLAIN: Argument = Argument::Flag("explain", "Explain codes in words");
 
-const NO_EXPLAIN: Argument = Argument::Flag("no-explain", "Doesn't, on a terminal either");
+const NO_EXPLAIN: Argument = Argument::Flag(
+    "no-explain",
+    "Don't explain codes, even on a terminal",
+);
 
 const QUIET: Argument = Argument::LetterFlag(
     'q',
     "quiet",
-    "Tells nothing but what is wrong: no progress, no notices",
+    "Print errors only: no progress, no notices",
 );
 
 const COLOR: Argument = Argument::Choice(
     "color",
     "WHEN",
     &["auto", "always", "never"],
-    "When kinds and refusals are coloured: auto is on a terminal",
+    "When to colour kinds and refusals; auto means on a terminal",
 );
 
 const STRICT: Argument = Argument::Flag(
     "strict",
-    "Ends with status 1 where an event or an unknown key is refused",
+    "End with status 1 if an event is refused or not run, or a key is unknown",
 );
 
 const FRAMES: Argument = Argument::Value(
     "frames",
     "OUT",
-    "Also writes the frames to this file: .pcap, .pcapng or .cap",
+    "Write the frames to this file as well: .pcap, .pcapng or .cap",
 );
 
 const TO: Argument = Argument::Choice(
     "to",
     "FORMAT",
     &["capture", "pcap", "pcapng"],
-    "The format that is written, in place of what the file's name says",
+    "Format to write [default: by the name of the file]",
 );
 
 const FORMAT: Argument = Argument::Choice(
     "format",
     "FORMAT",
     &["capture", "pcap", "pcapng"],
-    "The format that is read, in place of what the first octets say",
+    "Format to read [default: by the first bytes of the file]",
 );
 
 const KIND: Argument = Argument::Value(
     "kind",
     "LIST",
-    "Chooses frames of these kinds: beacon,shb,gbc,gac",
+    "Select frames of these kinds, separated by commas: beacon,shb,gbc,gac",
 );
 
 const SOURCE: Argument = Argument::Value(
     "source",
     "HEX16",
-    "Chooses frames whose packet is of this address",
+    "Select frames with this source address in the packet",
 );
 
 const FROM_MAC: Argument = Argument::Value(
     "from-mac",
     "HEX12",
-    "Choose frames from this link address; it may have colons or hyphens",
+    "Select frames from this link address, with or without colons or hyphens",
 );
 
-const PORT: Argument = Argument::Value("port", "N", "Chooses frames to this destination port");
+const PORT: Argument = Argument::Value("port", "N", "Select frames to this destination port");
 
 const SINCE: Argument = Argument::Value(
     "since",
     "MOMENT",
-    "Choose records of this moment and later: milliseconds, or a time of UTC",
+    "Select records from this time on: milliseconds, or a UTC time",
 );
 
 const UNTIL: Argument = Argument::Value(
     "until",
     "MOMENT",
-    "Choose records of this moment and before: milliseconds, or a time of UTC",
+    "Select records up to this time: milliseconds, or a UTC time",
 );
 
-const REFUSED: Argument = Argument::Flag("refused", "Chooses refused records");
+const REFUSED: Argument = Argument::Flag("refused", "Select refused records");
 
 const NOT_GEONETWORKING: Argument = Argument::Choice(
     "not-geonetworking",
     "WHAT",
     &["refuse", "skip"],
-    "Refuse or skip records of other protocols and of link layers that are not read [default: refuse]",
+    "Refuse or skip records of other protocols and unsupported link layers [default: refuse]",
 );
 
 const PARTIAL: Argument = Argument::Flag(
     "partial",
-    "Read frames that a snap length cut off as far as they go",
+    "Read frames that a snap length cut off, as far as they go",
 );
 
-const COUNT: Argument = Argument::Value(
-    "count",
-    "N",
-    "Reads nothing more once so many records are chosen",
-);
+const COUNT: Argument = Argument::Value("count", "N", "Stop after this many selected records");
 
 const TIME: Argument = Argument::Choice(
     "time",
     "TIME",
     &["raw", "utc", "relative", "delta"],
-    "How moments are told: in milliseconds, in UTC, in seconds since the first or the last one",
+    "How to print times: milliseconds, UTC, seconds since the first or the previous record [default: raw]",
 );
 
 const FIELDS: Argument = Argument::Value(
@@ -148,48 +147,48 @@ const FIELDS: Argument = Argument::Value(
 
 const FRAMES_ONLY: Argument = Argument::Flag(
     "frames-only",
-    "Writes Ethernet frames in place of records with their link layer's header",
+    "Write Ethernet frames instead of records with their link layer header",
 );
 
 const ADDRESS: Argument = Argument::Required(
     "ADDRESS",
-    "The station's address, 16 hexadecimal digits",
+    "GN address of the station, 16 hexadecimal digits",
 );
 
 const LAT: Argument = Argument::Signed(
     "LAT",
-    "Its latitude in tenths of a microdegree: 481000000 is 48.1 degrees",
+    "Latitude in tenths of a microdegree: 481000000 is 48.1 degrees",
 );
 
 const LON: Argument = Argument::Signed(
     "LON",
-    "Its longitude in tenths of a microdegree: 115000000 is 11.5 degrees",
+    "Longitude in tenths of a microdegree: 115000000 is 11.5 degrees",
 );
 
 const CAPACITY: Argument = Argument::Value(
     "capacity",
     "N",
-    "How many sources it knows: 1 to 4096, else 64",
+    "Size of the location table, 1 to 4096 [default: 64]",
 );
 
 const REMEMBER: Argument = Argument::Value(
     "remember",
     "N",
-    "How many numbers it remembers of each: 1 to 64, else 8",
+    "Length of the duplicate packet list per source, 1 to 64 [default: 8]",
 );
 
-const CAPTURE: Argument = Argument::Required("FILE", "The capture, or - for standard input");
+const CAPTURE: Argument = Argument::Required("FILE", "Capture file, or - for standard input");
 
-const SCENARIO: Argument = Argument::Required("SCENARIO", "The scenario, or - for standard input");
+const SCENARIO: Argument = Argument::Required("SCENARIO", "Scenario file, or - for standard input");
 
 const OUTPUT: Argument = Argument::LetterValue(
     'o',
     "output",
     "FILE",
-    "The file that is made, as OUT",
+    "File to write, the same as OUT",
 );
 
-/// By which records are chosen.
+/// The options that select records.
 const CHOOSING: &[Argument] = &[
     KIND,
     SOURCE,
@@ -202,7 +201,7 @@ const CHOOSING: &[Argument] = &[
     COUNT,
 ];
 
-/// The same where `--port` says something else.
+/// The options that select records, for a command whose `--port` opens a port.
 const CHOOSING_TO_ANY_PORT: &[Argument] = &[KIND, SOURCE, FROM_MAC, SINCE, UNTIL, REFUSED, COUNT];
 
 /// Adds all commands to a program, each with its arguments, in the order of the help.
@@ -260,11 +259,11 @@ fn stations() -> &'static [Form] {
     &STATIONS
 }
 
-/// The commands that tell what a capture has.
+/// The commands that print what is in a capture.
 static READERS: [Form; 3] = [
     Form {
         name: "show",
-        about: "Prints a line for each record of a capture",
+        about: "Print a line for each record of a capture",
         arguments: &[
             CAPTURE, FORMAT, JSON, EXPLAIN, NO_EXPLAIN, COLOR, TIME, FIELDS, PARTIAL,
         ],
@@ -279,7 +278,7 @@ Example:
     },
     Form {
         name: "check",
-        about: "Prints a line for each refused record of a capture, and a count",
+        about: "Print a line for each refused record of a capture, and a count",
         arguments: &[CAPTURE, FORMAT, JSON, EXPLAIN, NO_EXPLAIN],
         choosing: CHOOSING,
         example: "\
@@ -288,7 +287,7 @@ Example:
     },
     Form {
         name: "stats",
-        about: "Counts the records of a capture by kind, source, port and second",
+        about: "Count the records of a capture by kind, source, port and second",
         arguments: &[
             CAPTURE,
             FORMAT,
@@ -298,7 +297,7 @@ Example:
             Argument::Value(
                 "top",
                 "N",
-                "Prints so many sources, those of the most frames",
+                "Print this many sources, those with the most frames",
             ),
         ],
         choosing: CHOOSING,
@@ -308,17 +307,17 @@ Example:
     },
 ];
 
-/// The commands that make a capture.
+/// The commands that write a capture.
 static MAKERS: [Form; 2] = [
     Form {
         name: "convert",
-        about: "Writes the records of a capture in the format of another file's name",
+        about: "Write the records of a capture in another format",
         arguments: &[
-            Argument::Required("IN", "The capture, or - for standard input"),
+            Argument::Required("IN", "Capture file, or - for standard input"),
             Argument::Unless(
                 "OUT",
                 "output",
-                "The file that is made: .pcap, .pcapng or .cap, or - for standard output",
+                "File to write: .pcap, .pcapng or .cap, or - for standard output",
             ),
             OUTPUT,
             FORMAT,
@@ -335,13 +334,13 @@ Example:
     },
     Form {
         name: "import",
-        about: "Makes a capture of lines of a moment and hexadecimal digits",
+        about: "Make a capture from lines with a time and hexadecimal digits",
         arguments: &[
-            Argument::Required("FILE", "The lines, or - for standard input"),
+            Argument::Required("FILE", "Text file, or - for standard input"),
             Argument::Unless(
                 "OUT",
                 "output",
-                "The capture that is made, or - for standard output",
+                "Capture to write, or - for standard output",
             ),
             OUTPUT,
             EXPLAIN,
@@ -350,7 +349,7 @@ Example:
         ],
         choosing: &[],
         example: "\
-Example, of a line with a frame of one octet at moment 5:
+Example, a line with a frame of one byte at 5 ms:
   echo '5 00' | geostation import - short.cap",
     },
 ];
@@ -359,43 +358,43 @@ Example, of a line with a frame of one octet at moment 5:
 static RUNNERS: [Form; 3] = [
     Form {
         name: "sim",
-        about: "Runs a scenario and prints a line for each event",
+        about: "Run a scenario and print a line for each event",
         arguments: &[
             SCENARIO,
             Argument::Flag(
                 "summary",
-                "Prints what came of each send in place of the events",
+                "Print the outcome of each GBC and GAC instead of the events",
             ),
             Argument::Values(
                 "set",
                 "KEY=VALUE",
-                "Puts a key of the air in place of the scenario's",
+                "Set a key of [air]: range, delay, loss, seed, beacons or until",
             ),
             Argument::Value(
                 "moves",
                 "FILE",
-                "Moves stations as the rows of this file say: CSV, or - for standard input",
+                "Move stations by the rows of this CSV file, or - for standard input",
             ),
             Argument::Flag(
                 "notes",
-                "Also prints who comes, who leaves and what is lost in an air",
+                "Also print which stations arrive or depart, and which frames are lost",
             ),
             FRAMES,
             TO,
             Argument::Value(
                 "sends",
                 "FILE",
-                "Also writes a row for each send to this file: CSV",
+                "Write a row for each GBC and GAC to this CSV file",
             ),
             Argument::Value(
                 "stations",
                 "FILE",
-                "Also writes a row for each station: CSV",
+                "Write a row for each station to this CSV file",
             ),
             Argument::Value(
                 "load",
                 "FILE",
-                "Also writes a row for each second with frames: CSV",
+                "Write a row for each second with frames to this CSV file",
             ),
             JSON,
             EXPLAIN,
@@ -411,32 +410,32 @@ Example:
     },
     Form {
         name: "view",
-        about: "Writes the page that shows a run, with the run in it, as one file",
+        about: "Write a page that shows a run in a browser, as one file",
         arguments: &[
             Argument::Required(
                 "RUN",
-                "The lines of sim --json, or a scenario, or - for standard input",
+                "Lines of sim --json, or a scenario, or - for standard input",
             ),
             Argument::LetterValue(
                 'o',
                 "output",
                 "FILE",
-                "The page that is made, in place of standard output",
+                "Page to write [default: standard output]",
             ),
             Argument::Value(
                 "viewer",
                 "DIR",
-                "The folder of the page, in place of the one beside the program",
+                "Folder of the viewer [default: the one beside the program]",
             ),
             Argument::Value(
                 "moves",
                 "FILE",
-                "Run the scenario with the moves in this file: CSV, or - for standard input",
+                "Run the scenario with the moves in this CSV file, or - for standard input",
             ),
             Argument::Value(
                 "net",
                 "FILE",
-                "Draw the streets in this file beneath the run: net.xml of SUMO, or GeoJSON",
+                "Draw the streets of this file beneath the run: net.xml of SUMO, or GeoJSON",
             ),
             EXPLAIN,
             NO_EXPLAIN,
@@ -449,7 +448,7 @@ Example:
     },
     Form {
         name: "mesh",
-        about: "Runs a scenario over UDP sockets on the loopback",
+        about: "Run a scenario over UDP sockets on the loopback interface",
         arguments: &[SCENARIO, FRAMES, TO, JSON, EXPLAIN, NO_EXPLAIN, STRICT],
         choosing: &[],
         example: "\
@@ -462,7 +461,7 @@ Example:
 static STATIONS: [Form; 2] = [
     Form {
         name: "replay",
-        about: "Prints what a station would have done with the frames of a capture",
+        about: "Print what a station would have done with the frames of a capture",
         arguments: &[
             CAPTURE,
             ADDRESS,
@@ -473,7 +472,7 @@ static STATIONS: [Form; 2] = [
             Argument::Values(
                 "port",
                 "N",
-                "Opens this port at the start; frames aren't chosen by it",
+                "Open this port at the start; it doesn't select frames",
             ),
             FRAMES,
             TO,
@@ -489,7 +488,7 @@ Example:
     },
     Form {
         name: "station",
-        about: "Runs one station on JSON lines",
+        about: "Run one station on JSON lines",
         arguments: &[ADDRESS, LAT, LON, CAPACITY, REMEMBER],
         choosing: &[],
         example: "\
@@ -499,7 +498,7 @@ Example:
 ];
 
 impl Argument {
-    /// The same, as clap has it.
+    /// Returns the argument for clap.
     fn to_clap<'a>(self, alloc: Global) -> Result<Arg<'a>, AllocError> {
         Ok(match self {
             Argument::Required(name, help) => Arg::new(alloc, name).required(true).help(help),
@@ -527,7 +526,7 @@ impl Argument {
     }
 }
 
-/// An option that is given or not.
+/// Returns an option without a value.
 fn flag<'a>(alloc: Global, name: &'static str, help: &'static str) -> Arg<'a> {
     Arg::new(alloc, name)
         .long(name)
@@ -535,7 +534,7 @@ fn flag<'a>(alloc: Global, name: &'static str, help: &'static str) -> Arg<'a> {
         .help(help)
 }
 
-/// An option with a value.
+/// Returns an option with a value.
 fn option<'a>(
     alloc: Global,
     name: &'static str,
@@ -550,7 +549,7 @@ fn option<'a>(
 }
 
 impl Form {
-    /// The command.
+    /// Returns the command for clap.
     fn command<'a>(&self, alloc: Global) -> Result<Command<'a>, AllocError> {
         let mut command = Command::new(alloc, self.name)
             .about(self.about)

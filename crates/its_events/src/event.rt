@@ -13,9 +13,8 @@ ghost use Rattle.its_events.specs.Saying.{SaysFiled};
 ghost use Rattle.its_world.specs.Events.{what_of};
 
 use crate::in_air::InAir;
-use crate::verb::Verbs;
 use crate::what::read_what;
-use its_keys::{Fields, Key, KeyFault, Verb, Wrong, number, text, whole};
+use its_keys::{Fields, Key, KeyFault, Verb, Verbs, Wrong, number, text, whole};
 use its_moves::is_id;
 use its_world::{Event, What};
 use std::alloc::Global;
@@ -264,7 +263,7 @@ fn unknown_verb<F: Fields>(alloc: Global, fields: &F, verbs: Verbs) -> KeyFault 
     let word = fields.text(Key::Do.word()).unwrap_or("");
     match verbs.meant_by(alloc, word) {
         Ok(Some(meant)) => KeyFault::Refused(Key::Do, Wrong::Near(meant)),
-        Ok(None) => KeyFault::Refused(Key::Do, Wrong::Unlisted(verbs.all())),
+        Ok(None) => KeyFault::Refused(Key::Do, Wrong::Unlisted(verbs)),
         Err(_) => KeyFault::OutOfMemory,
     }
 }

@@ -17,5 +17,5 @@ pub use key::{AIR_KEYS, Key};
 pub use meant::{Spelled, nearest};
 pub use settings::{AirSettings, SetAir, SettingFault, SettingReason};
 pub use values::{number, octet, octets, octets_into, place, text, truth, unlike, whole, whole_or};
-pub use verb::Verb;
+pub use verb::{Verb, Verbs};
 pub use wrong::{Wrong, WrongOf};

@@ -3,7 +3,8 @@
 ghost use Rattle.std.specs.Prelude.{◌≡◌, IfNone, IfSome};
 ghost use Rattle.its_keys.specs.Verbs.{verb_word};
 
-use crate::meant::Spelled;
+use crate::meant::{Spelled, nearest};
+use std::alloc::{AllocError, Global};
 use std::fmt;
 
 /// What a station does, by the word that a scenario has for it after `do`. It prints as that word.
@@ -68,6 +69,47 @@ impl Verb {
             Verb::Restart => "restart",
             Verb::Leave => "leave",
         }
+    }
+}
+
+/// All words.
+const VERBS: [Verb; 10] = [
+    Verb::Deliver,
+    Verb::Move,
+    Verb::Open,
+    Verb::Close,
+    Verb::Tick,
+    Verb::Shb,
+    Verb::Gbc,
+    Verb::Gac,
+    Verb::Restart,
+    Verb::Leave,
+];
+
+/// Which words a scenario takes.
+#[derive(Clone, Copy, Debug, PartialEq, Eq)]
+pub enum Verbs {
+    /// Without a radio model: all but `leave`.
+    Alone,
+    /// With a radio model: all.
+    InAir,
+    /// With a radio model and moves: all but `deliver`.
+    WithMoves,
+}
+
+impl Verbs {
+    /// Returns the words.
+    pub fn all(self) -> &'static [Verb] {
+        match self {
+            Verbs::Alone => &VERBS[..9],
+            Verbs::InAir => &VERBS,
+            Verbs::WithMoves => &VERBS[1..],
+        }
+    }
+
+    /// Returns the word that may be meant by an unknown one. `None` if none is near.
+    pub fn meant_by(self, alloc: Global, word: &str) -> Result<Option<Verb>, AllocError> {
+        nearest(alloc, word, self.all())
     }
 }
 

@@ -1,7 +1,7 @@
 //! What is wrong with the value of a key.
 
 use crate::key::Key;
-use crate::verb::Verb;
+use crate::verb::{Verb, Verbs};
 use std::fmt;
 
 /// What is wrong with the value of a key.
@@ -20,7 +20,7 @@ pub enum Wrong {
     /// It is a word that the key doesn't take, at most two changes of a letter from this one.
     Near(Verb),
     /// It is a word that the key doesn't take: it takes these.
-    Unlisted(&'static [Verb]),
+    Unlisted(Verbs),
     /// It is the number of no station of the scenario's own.
     NoStation,
 }
@@ -41,7 +41,7 @@ fn explain<W: fmt::Write>(f: &mut fmt::Formatter<W>, key: Key, wrong: Wrong) -> 
         Wrong::Kind => write!(f, "not {}", key.kind()),
         Wrong::OfCircle => f.write_str("not 0, as it is of a circle"),
         Wrong::Near(verb) => write!(f, "did you mean '{verb}'?"),
-        Wrong::Unlisted(verbs) => list_verbs(f, verbs),
+        Wrong::Unlisted(verbs) => list_verbs(f, verbs.all()),
         Wrong::NoStation => f.write_str("the scenario has no such station"),
         Wrong::Range(number) => { write!(f, "{number} is not in {}..={}", key.least(), key.most()) }
         Wrong::Value => match key.form() {

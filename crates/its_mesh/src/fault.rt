@@ -61,7 +61,7 @@ impl CommandFault for MeshFault<'_> {
 pub(crate) fn fault_of_lines<'a>(fault: SimulationFault) -> Fault<'a> {
     match fault {
         SimulationFault::OutOfMemory(error) => Fault::OutOfMemory(error),
-        SimulationFault::Output(error) => Fault::NoOutput(error),
+        SimulationFault::Output => Fault::no_output(),
     }
 }
 

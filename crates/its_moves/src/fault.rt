@@ -23,7 +23,9 @@ pub enum HeaderFault {
 impl fmt::Display for HeaderFault {
     fn fmt<W: fmt::Write>(&self, f: &mut fmt::Formatter<W>) -> fmt::Result {
         match self {
-            HeaderFault::Gzip => f.write_str("a gzip file: use zcat FILE | geostation sim --moves -"),
+            HeaderFault::Gzip => f.write_str(
+                "a gzip file: use zcat FILE | geostation sim --moves -",
+            ),
             HeaderFault::NoColumn => f.write_str(
                 "it names no columns, which are at, id, lat and lon, \
                 or SUMO's timestep_time, vehicle_id, vehicle_y and vehicle_x",
@@ -110,13 +112,37 @@ impl fmt::Display for WordReason {
     }
 }
 
+/// Why a reader failed: the number of the system's error, if it has one. The error itself is large,
+/// and each row returns a result that may hold one.
+#[derive(Clone, Copy, Debug, PartialEq, Eq)]
+pub struct ReadFault {
+    number: Option<i32>,
+}
+
+impl ReadFault {
+    /// Returns that of an error.
+    pub(crate) fn of(error: &io::Error) -> ReadFault {
+        ReadFault {
+            number: error.raw_os_error(),
+        }
+    }
+
+    /// Returns the error: the system's, or one of no known kind.
+    pub fn error(self) -> io::Error {
+        match self.number {
+            Some(number) => io::Error::from_raw_os_error(number),
+            None => io::Error::from(io::ErrorKind::Other),
+        }
+    }
+}
+
 /// Why moves can't be read on. After one each call answers the same.
 #[derive(Clone, Copy, Debug)]
 pub enum MovesFault {
     /// The line of this number, from 1, is refused by this word: the first of an empty file too.
     Line(u64, Word),
     /// The reader failed, by this error.
-    Read(io::Error),
+    Read(ReadFault),
     /// An allocation failed.
     NoMemory,
 }
@@ -125,7 +151,7 @@ impl fmt::Display for MovesFault {
     fn fmt<W: fmt::Write>(&self, f: &mut fmt::Formatter<W>) -> fmt::Result {
         match self {
             MovesFault::Line(number, word) => write!(f, "line {number}: {word}"),
-            MovesFault::Read(error) => write!(f, "{error}"),
+            MovesFault::Read(fault) => write!(f, "{}", fault.error()),
             MovesFault::NoMemory => write!(f, "out of memory"),
         }
     }

@@ -10,6 +10,6 @@ mod row;
 mod rows;
 
 pub use columns::{Column, Columns, Notation};
-pub use fault::{HeaderFault, MovesFault, Word, WordReason};
+pub use fault::{HeaderFault, MovesFault, ReadFault, Word, WordReason};
 pub use row::{Row, is_id};
 pub use rows::{LONGEST_LINE, Rows};

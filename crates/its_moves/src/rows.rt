@@ -6,7 +6,7 @@ ghost use Rattle.its_moves.specs.Rows.{IsId, IsRow, IsRowBetween, ReachesBetween
 ghost use Rattle.its_moves.specs.Rows.{field_at};
 
 use crate::columns::{Column, Columns, Found, Notation, columns_of, find, names_none};
-use crate::fault::{HeaderFault, LineFault, MovesFault, Word};
+use crate::fault::{HeaderFault, LineFault, MovesFault, ReadFault, Word};
 use crate::fields::{Bound, find_bounds, join, split};
 use crate::row::{Row, field, numbers_of};
 use std::alloc::Global;
@@ -263,7 +263,7 @@ fn read_line<R: BufRead>(reader: &mut Take<R>, line: &mut Vec<u8>) -> Result<boo
     match reader.read_until(b'\n', line) {
         Ok(count) => Ok(count > 0),
         Err(error) if error.kind() == io::ErrorKind::OutOfMemory => Err(MovesFault::NoMemory),
-        Err(error) => Err(MovesFault::Read(error)),
+        Err(error) => Err(MovesFault::Read(ReadFault::of(&error))),
     }
 }
 

@@ -77,10 +77,15 @@ impl Fault<'_> {
     /// line.
     pub fn of_target(file: &str) -> Fault<'_> {
         if is_standard(file) {
-            Fault::NoOutput(io::Error::from(io::ErrorKind::Other))
+            Fault::no_output()
         } else {
             Fault::CannotWrite(file)
         }
+    }
+
+    /// The fault of standard output, if the error isn't known.
+    pub fn no_output<'a>() -> Fault<'a> {
+        Fault::NoOutput(io::Error::from(io::ErrorKind::Other))
     }
 
     /// The system's reason, where it gave one.

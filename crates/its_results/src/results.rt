@@ -206,7 +206,7 @@ fn end_file<'a, R: Rows + Drop, W: Write + Drop>(
 
 /// Whether a write failed.
 fn is_failure(taken: &Result<(), SimulationFault>) -> bool {
-    matches!(taken, Err(SimulationFault::Output(_)))
+    matches!(taken, Err(SimulationFault::Output))
 }
 
 /// What the files of numbers are written to, where they are. A file is written that has both a name
@@ -270,6 +270,7 @@ impl<'a, W: Write + Drop> Results<'a, W> {
     /// Takes an event that was done, with the world as it stands after it, and writes the rows that
     /// are complete then. `Output` where a file could not be written, which `end` tells then;
     /// `OutOfMemory` where an allocation failed.
+    #[inline(always)]
     pub fn take(&mut self, world: &World, done: &EventRecord<'_>) -> Result<(), SimulationFault>
         ensures none { self.old.sends ≡ None → self.old.stations ≡ None → self.old.load ≡ None →
             IsOk result }

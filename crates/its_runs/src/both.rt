@@ -14,6 +14,7 @@ impl<L: EventSink, S: EventSink> EventSink for Both<L, S> {
     ghost Took = { λ both events log. L.Took both.lines events log
         × S.Took both.other events log };
 
+    #[inline(always)]
     fn put(&mut self, world: &World, done: &EventRecord<'_>) -> Result<(), SimulationFault> {
         self.lines.put(world, done)?;
         self.other.put(world, done)

@@ -77,7 +77,7 @@ impl<'a> From<RunFault<'a>> for WriterFault<'a, RunFault<'a>> {
 pub(crate) fn fault_of_moves<'a>(fault: MovesFault, file: &'a str) -> RunFault<'a> {
     match fault {
         MovesFault::Line(line, word) => RunFault::Row(BadRow { file, line, word }),
-        MovesFault::Read(error) => RunFault::Stopped(Fault::of_read(&error, file)),
+        MovesFault::Read(fault) => RunFault::Stopped(Fault::of_read(&fault.error(), file)),
         MovesFault::NoMemory => RunFault::Stopped(Fault::OutOfMemory(AllocError)),
     }
 }
@@ -87,7 +87,7 @@ pub(crate) fn fault_of_moves<'a>(fault: MovesFault, file: &'a str) -> RunFault<'
 pub(crate) fn fault_of_air<'a>(fault: AirFault, moves: Option<&'a str>) -> RunFault<'a> {
     match fault {
         AirFault::OutOfMemory(error) => RunFault::Stopped(Fault::OutOfMemory(error)),
-        AirFault::Output(error) => RunFault::Stopped(Fault::NoOutput(error)),
+        AirFault::Output => RunFault::Stopped(Fault::no_output()),
         AirFault::Moves(fault) => fault_of_moves(fault, moves.unwrap_or("")),
         // No memory has the counts of so many.
         AirFault::TooManyEvents => RunFault::Stopped(Fault::OutOfMemory(AllocError)),

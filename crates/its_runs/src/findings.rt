@@ -65,6 +65,7 @@ impl<'s, 'a, W: Write + Drop> Findings<'s, 'a, W> {
     }
 
     /// Takes an event that was done.
+    #[inline(always)]
     fn take(&mut self, world: &World, done: &EventRecord<'_>) -> Result<(), SimulationFault> {
         self.full.take(self.scenario, done);
         self.failed.take(done)?;
@@ -228,6 +229,7 @@ impl<W: Write + Drop, S: EventSink> EventSink for Finding<'_, '_, '_, W, S> {
     // What is found out isn't said by contracts.
     ghost Took = { λ _ _ _. Unit {0} };
 
+    #[inline(always)]
     fn put(&mut self, world: &World, done: &EventRecord<'_>) -> Result<(), SimulationFault> {
         self.findings.take(world, done)?;
         self.next.put(world, done)

@@ -23,6 +23,7 @@ impl<W: Write + Drop, E: Write> EventSink for Frames<'_, '_, W, E> {
     // What the file holds isn't said by contracts.
     ghost Took = { λ _ _ _. Unit {0} };
 
+    #[inline(always)]
     fn put(&mut self, _world: &World, done: &EventRecord<'_>) -> Result<(), SimulationFault> {
         self.progress.note(done, self.err);
         let (Some(file), Some(frame)) = (&mut *self.file, done.octets) else {
@@ -30,7 +31,7 @@ impl<W: Write + Drop, E: Write> EventSink for Frames<'_, '_, W, E> {
         };
         let put = file.put(done.station, done.moment, frame, self.format, self.err);
         // The file remembers that it failed.
-        put.map_err(|_| SimulationFault::Output(io::Error::from(io::ErrorKind::Other)))
+        put.map_err(|_| SimulationFault::Output)
     }
 
     fn note(
@@ -47,7 +48,7 @@ impl<W: Write + Drop, E: Write> EventSink for Frames<'_, '_, W, E> {
             Err(error) if error.kind() == io::ErrorKind::OutOfMemory => {
                 Err(SimulationFault::OutOfMemory(AllocError))
             }
-            Err(error) => Err(SimulationFault::Output(error)),
+            Err(_) => Err(SimulationFault::Output),
         }
     }
 }

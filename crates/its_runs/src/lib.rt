@@ -24,6 +24,7 @@ pub use fault::RunFault;
 pub use files::{RunFiles, RunInputs, RunReader, read_inputs, simulate_file};
 pub use input::Input;
 pub use its_results::ResultFiles;
+pub use its_simulation::VERSION;
 pub use options::RunOptions;
 pub use simulating::{
     read_scenario, read_scenario_without_air, report_unknown, simulate, simulate_scenario,

@@ -49,6 +49,7 @@ impl<S: EventSink> EventSink for Watched<S> {
     // What is below takes the entries in its own way; here is known whether one is a refusal.
     ghost Took = { λ watched events log. watched.all_done ≡ list_all was_done log };
 
+    #[inline(always)]
     fn put(&mut self, world: &World, done: &EventRecord<'_>) -> Result<(), SimulationFault> {
         self.sink.put(world, done)?;
         self.all_done &= !is_refused(done.entry);

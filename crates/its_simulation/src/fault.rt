@@ -12,9 +12,16 @@ pub enum SimulationFault {
     /// An allocation failed.
     #[error("out of memory")]
     OutOfMemory(#[from(alloc)] AllocError),
-    /// A line could not be written.
+    /// A line could not be written. The error isn't kept: each event of a run returns a result of
+    /// this type, and an error is large.
     #[error("the output failed")]
-    Output(#[from] io::Error),
+    Output,
+}
+
+impl From<io::Error> for SimulationFault {
+    fn from(_: io::Error) -> SimulationFault {
+        SimulationFault::Output
+    }
 }
 
 impl From<NoMemory> for SimulationFault {
@@ -28,7 +35,7 @@ impl From<JsonFault> for SimulationFault {
         match fault {
             JsonFault::OutOfMemory => SimulationFault::OutOfMemory(AllocError),
             // No line of an event has such a value.
-            JsonFault::Kind => SimulationFault::Output(io::Error::from(io::ErrorKind::InvalidData)),
+            JsonFault::Kind => SimulationFault::Output,
         }
     }
 }

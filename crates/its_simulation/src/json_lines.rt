@@ -2,6 +2,7 @@
 
 ghost use Rattle.std.specs.Prelude.{◌≡◌, IfOk, false};
 
+use crate::VERSION;
 use crate::entry::{EntryKeys, entry_keys};
 use crate::fault::SimulationFault;
 use crate::note::{Note, NoteLine};
@@ -54,9 +55,10 @@ impl<'a, W: Write> JsonLines<'a, W> {
         self.write(&StationsLine { stations })
     }
 
-    /// Writes the line of the stations of an air and of the air itself: `{"stations":[..],"air":{..}}`,
-    /// with `range`, `delay`, `loss`, `seed`, `beacons` and `until`, the last moment that is run,
-    /// which is null where no one knows it yet.
+    /// Writes the line of a run with a radio model: its stations, the model and the version of the
+    /// program, as `{"stations":[..],"air":{..},"version":".."}`. The model has `range`, `delay`,
+    /// `loss`, `seed`, `beacons` and `until`, the last millisecond of the run, which is null if it
+    /// isn't known yet.
     ///
     /// `OutOfMemory` where an allocation failed, `Output` where a write did.
     pub fn stations_in_air(
@@ -67,7 +69,11 @@ impl<'a, W: Write> JsonLines<'a, W> {
     ) -> Result<(), SimulationFault> {
         let stations = StationList(configs);
         let air = AirText::of(air, until);
-        self.write(&AirLine { stations, air })
+        self.write(&AirLine {
+            stations,
+            air,
+            version: VERSION,
+        })
     }
 
     /// Writes the line of a call that is no event of a world: `moment`, `station` and `do`, which is
@@ -131,11 +137,12 @@ struct StationsLine<'a> {
     stations: StationList<'a>,
 }
 
-/// What is told of the stations of an air and of the air.
+/// The stations of a run, its radio model and the version of the program.
 #[derive(Clone, Copy, Serialize)]
 struct AirLine<'a> {
     stations: StationList<'a>,
     air: AirText,
+    version: &'static str,
 }
 
 /// What is told of an air.

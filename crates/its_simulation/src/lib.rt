@@ -24,3 +24,6 @@ pub use simulation::simulate_into;
 pub use sink::EventSink;
 pub use step::do_event;
 pub use text_lines::TextLines;
+
+/// The version of the program, which is the newest of the change log.
+pub const VERSION: &str = "0.2.0";

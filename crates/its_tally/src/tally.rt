@@ -106,6 +106,7 @@ impl Tally {
     }
 
     /// Forgets what the frames carried that the world has let go: none of them is delivered again.
+    #[inline(always)]
     fn forget_released(&mut self, world: &World)
         ensures totals { self.new.totals ≡ self.old.totals }
         ensures sends { self.new.sends ≡ self.old.sends }
@@ -127,6 +128,7 @@ impl Tally {
     }
 
     /// Counts an event.
+    #[inline(always)]
     fn count(&mut self, world: &World, done: &EventRecord<'_>) -> Result<(), NoMemory>
         ensures totals { OnOk result
             (self.new.totals ≡ with_entry self.old.totals done.now.entry.now) }
@@ -394,6 +396,7 @@ impl EventSink for Tally {
         HasCounted tally (told.packets lines) (told.carried lines) (told.deliveries lines))
         × (tally.released ≡ 0 → tally.late ≡ false) };
 
+    #[inline(always)]
     fn put(&mut self, world: &World, done: &EventRecord<'_>) -> Result<(), SimulationFault> {
         self.forget_released(world);
         Ok(self.count(world, done)?)

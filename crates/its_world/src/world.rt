@@ -220,6 +220,22 @@ impl World {
     }
 }
 
+impl World {
+    /// Keeps the buffer of a payload that was delivered for the next delivery. The world stays as it
+    /// was.
+    pub fn reuse(&mut self, entry: Entry)
+        ensures { self.new ≡ self.old }
+    {
+        if let Entry::Accepted {
+            handed: Some(handed),
+            ..
+        } = entry
+        {
+            self.room = handed.payload;
+        }
+    }
+}
+
 /// The frame that an event delivers, or no octets where it delivers none; `None` where no frame of
 /// its number is kept.
 fn delivered<'a>(air: &'a Air, what: &What) -> Option<&'a [u8]>
