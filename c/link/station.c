@@ -30,7 +30,7 @@ static geostation_handle *make(const struct options *o, uint16_t capacity, uint1
     if (status != GEOSTATION_OK) {
         fail(FAILED, "out of memory: --capacity %u and --remember %u need %u kB of the limit "
              "(ulimit -v, MemoryMax=)", o->capacity, o->remember,
-             (328 + o->capacity * (58 + 2u * o->remember)) / 1000 + 1);
+             (472 + o->capacity * (58 + 2u * o->remember)) / 1000 + 1);
     }
     return handle;
 }
