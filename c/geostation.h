@@ -220,7 +220,7 @@ struct geostation_config {
     int32_t longitude;  /**< in 0.1 microdegree, -1800000000 to 1800000000 (default 0) */
     uint16_t capacity;  /**< size of the location table, 1 to 4096 (default 64) */
     uint16_t remember;  /**< length of each duplicate packet list, 1 to 64 (default 8) */
-    uint16_t mobile;    /**< 0: the packets say that the station does not move (default 1) */
+    uint16_t mobile;    /**< 0 for a station that does not move, otherwise not 0 (default 1) */
     uint16_t number;    /**< sequence number of the first packet for an area (default 0) */
 };
 
@@ -721,6 +721,13 @@ int geostation_neighbour(const geostation_handle *s, uint64_t now, uint64_t afte
  */
 int geostation_look_up(const geostation_handle *s, uint64_t now, uint64_t address,
                        struct geostation_vector *out);
+
+/** @} */
+
+/**
+ * @defgroup counters Counters
+ * @{
+ */
 
 #if defined(__cplusplus) && defined(__GNUC__)
 #pragma GCC diagnostic push

@@ -30,20 +30,20 @@ namespace geostation {
 
 /// The status that a function returns: the values of enum geostation_status.
 enum class Status : int {
-    Ok = GEOSTATION_OK,
-    MomentEarlier = GEOSTATION_MOMENT_EARLIER,
-    MomentTooLate = GEOSTATION_MOMENT_TOO_LATE,
-    BadFrame = GEOSTATION_BAD_FRAME,
-    TableFull = GEOSTATION_TABLE_FULL,
-    NoMemory = GEOSTATION_NO_MEMORY,
-    PayloadTooLong = GEOSTATION_PAYLOAD_TOO_LONG,
-    HopLimitZero = GEOSTATION_HOP_LIMIT_ZERO,
-    PortAlreadyOpen = GEOSTATION_PORT_ALREADY_OPEN,
-    JitterRange = GEOSTATION_JITTER_RANGE,
-    PortsFull = GEOSTATION_PORTS_FULL,
-    PortNotOpen = GEOSTATION_PORT_NOT_OPEN,
-    BadArgument = GEOSTATION_BAD_ARGUMENT,
-    NoRoom = GEOSTATION_NO_ROOM
+    Ok = GEOSTATION_OK,                                  ///< the call succeeded
+    MomentEarlier = GEOSTATION_MOMENT_EARLIER,           ///< (S1) earlier than an earlier call
+    MomentTooLate = GEOSTATION_MOMENT_TOO_LATE,          ///< (S2) later than 2^62 ms
+    BadFrame = GEOSTATION_BAD_FRAME,                     ///< (S3) not a valid frame
+    TableFull = GEOSTATION_TABLE_FULL,                   ///< (S4) the location table is full
+    NoMemory = GEOSTATION_NO_MEMORY,                     ///< (S5) an allocation failed
+    PayloadTooLong = GEOSTATION_PAYLOAD_TOO_LONG,        ///< (S6) over GEOSTATION_PAYLOAD_MAX
+    HopLimitZero = GEOSTATION_HOP_LIMIT_ZERO,            ///< (S7) the hop limit is 0
+    PortAlreadyOpen = GEOSTATION_PORT_ALREADY_OPEN,      ///< (S8 B2) the port is already open
+    JitterRange = GEOSTATION_JITTER_RANGE,               ///< (S9) the jitter is over 750 ms
+    PortsFull = GEOSTATION_PORTS_FULL,                   ///< (S8 B3) 64 ports are open
+    PortNotOpen = GEOSTATION_PORT_NOT_OPEN,              ///< (S8 B4) the port is not open
+    BadArgument = GEOSTATION_BAD_ARGUMENT,               ///< an argument is out of its range
+    NoRoom = GEOSTATION_NO_ROOM                          ///< a buffer is too small
 };
 
 /// Returns a message for a status.
@@ -53,20 +53,20 @@ inline const char *text(Status status) noexcept {
 
 /// A view of bytes that it does not own. `data` may be null if `size` is 0.
 struct Octets {
-    const std::uint8_t *data = nullptr;
-    std::size_t size = 0;
+    const std::uint8_t *data = nullptr; ///< first byte
+    std::size_t size = 0;               ///< number of bytes
 };
 
 /// A buffer for a frame to send. `size` is 0 if there is no frame.
 struct Frame {
-    std::array<std::uint8_t, GEOSTATION_FRAME_MAX> octets;
-    std::size_t size = 0;
+    std::array<std::uint8_t, GEOSTATION_FRAME_MAX> octets; ///< the buffer
+    std::size_t size = 0;                                  ///< length of the frame
 };
 
 /// A buffer for the answer to a JSON request. `size` is 0 for a blank line.
 struct Answer {
-    std::array<std::uint8_t, GEOSTATION_ANSWER_MAX> octets;
-    std::size_t size = 0;
+    std::array<std::uint8_t, GEOSTATION_ANSWER_MAX> octets; ///< the buffer
+    std::size_t size = 0;                                   ///< length of the answer
 };
 
 /// The result of Station::receive.
@@ -74,18 +74,18 @@ struct Answer {
 /// `payload` points into the bytes that were passed to Station::receive. It is empty if nothing is
 /// delivered.
 struct Received {
-    Status status;
-    geostation_reception reception;
-    Octets payload;
+    Status status;                  ///< status of the call
+    geostation_reception reception; ///< the result, with the fault of a bad frame
+    Octets payload;                 ///< the delivered payload
 };
 
 /// The result of read_frame.
 ///
 /// `payload` points into the bytes that were passed to read_frame.
 struct Packet {
-    Status status;
-    geostation_packet packet;
-    Octets payload;
+    Status status;            ///< Ok or BadFrame
+    geostation_packet packet; ///< all fields, or the fault of a bad frame
+    Octets payload;           ///< the payload of the packet
 };
 
 /// Reads all fields of a frame, without a station.

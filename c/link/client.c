@@ -104,7 +104,7 @@ void client_read(struct clients *all, struct client *c) {
     }
     if (n <= 0) {
         if (c->line_length != 0) {
-            end_line(all, c); /* the last line may lack its line feed */
+            end_line(all, c); /* the last line needs no line feed */
         }
         c->in = -1;
         return;
@@ -115,7 +115,7 @@ void client_read(struct clients *all, struct client *c) {
     client_take_lines(all, c);
 }
 
-/* At most PIPE_BUF octets, which a pipe that is ready takes at once: standard output may be shared
+/* Writes at most PIPE_BUF octets, which a ready pipe accepts at once. Standard output may be shared
  * with other programs, so it isn't made non-blocking. */
 static ssize_t put(int fd, const uint8_t *octets, size_t n) {
     ssize_t wrote = send(fd, octets, n, MSG_DONTWAIT | MSG_NOSIGNAL);
@@ -127,8 +127,8 @@ static ssize_t put(int fd, const uint8_t *octets, size_t n) {
 
 bool client_is_writing(const struct client *c) { return !c->deaf && client_waiting(c) != 0; }
 
-/* A client that closed its end may have sent requests before: these are read and done, though no
- * one reads the answers. */
+/* A client that closed its end may have sent requests before. They are read and executed, although
+ * no one reads the answers. */
 int client_write(struct client *c) {
     ssize_t wrote = put(c->out, c->queue + c->begin, client_waiting(c));
     if (wrote > 0) {

@@ -75,7 +75,7 @@ static size_t free_place(const struct clients *c) {
     return k;
 }
 
-/* The client of the socket that is idle for the longest time; all places are taken. */
+/* Returns the client of the socket that is idle for the longest time. All places are taken. */
 static size_t idlest(const struct clients *c) {
     size_t found = 1;
     for (size_t k = 2; k < CLIENTS; k++) {
@@ -94,7 +94,7 @@ static uint64_t place_at(const struct clients *c) {
     return c->timeout == 0 ? UINT64_MAX : c->all[idlest(c)]->active_at + c->timeout;
 }
 
-/* When clients_poll looks at the socket again, though it doesn't now. */
+/* Returns when clients_poll looks at the socket again, if it does not now. */
 uint64_t clients_due(const struct clients *c, uint64_t now) {
     uint64_t at = c->listening < 0 ? 0 : place_at(c);
     return at > now ? at : UINT64_MAX;
@@ -160,8 +160,8 @@ static bool is_done(const struct clients *c, size_t k) {
     return (k == 0 && one->deaf) || (client_is_done(one) && !stays);
 }
 
-/* What a client sent is read before anything is written to it: it may have closed its end since.
- * Lines that waited for space are done after the writing, so none waits for another turn. */
+/* Input of a client is read before its output is written, since it may have closed its end. Lines
+ * that waited for space are handled after the writing, so none waits for another turn. */
 static void turn(struct clients *c, size_t k, const struct pollfd *reads,
                  const struct pollfd *writes) {
     struct client *one = c->all[k];

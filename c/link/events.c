@@ -1,10 +1,10 @@
-/* Lines that answer no request. Events are for all clients; `lost` and `closed` are for one. */
+/* Events: lines that are not answers. They go to all clients; `lost` and `closed` go to one. */
 #include "parts.h"
 #include <inttypes.h>
 #include <stdarg.h>
 #include <stdio.h>
 
-/* The longest text is a delivery: some 150 octets and two for each of a payload. */
+/* The longest event is a delivery: about 150 octets, and two for each octet of the payload. */
 _Static_assert(sizeof(((struct text *)0)->octets) > 2 * GEOSTATION_PAYLOAD_MAX + 256, "text");
 
 __attribute__((format(printf, 2, 3))) static void put(struct text *t, const char *format, ...) {

@@ -15,7 +15,7 @@ void fail(int status, const char *format, ...) {
     exit(status);
 }
 
-/* A message that standard error doesn't take now is lost: the station waits for no one. */
+/* Never waits: if standard error accepts no message now, the message is lost. */
 void note(const char *format, ...) {
     char text[640];
     struct pollfd ready = { STDERR_FILENO, POLLOUT, 0 };

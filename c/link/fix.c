@@ -9,7 +9,7 @@ enum { ACCURATE_TO = 10 /* metres */, FASTEST = 16383 /* 0.01 m/s */ };
 enum { OLD_AFTER = 5000, AHEAD_AT_MOST = 5000 /* ms */ };
 enum { NO_FIX, FIX_2D = 2, FIX_3D = 3 };
 
-/* The number that the digits at `at` make; -1 if one of them is no digit. */
+/* Reads the digits at `at` as a number; -1 if one of them is not a digit. */
 static int digits_of(const char *at, size_t count) {
     int value = 0;
     for (size_t k = 0; k < count; k++) {
@@ -21,7 +21,7 @@ static int digits_of(const char *at, size_t count) {
     return value;
 }
 
-/* Days since 1970-01-01 of a day in the Gregorian calendar. */
+/* Converts a date of the Gregorian calendar to days since 1970-01-01. */
 static int64_t days_of(int year, int month, int day) {
     int y = month > 2 ? year : year - 1;
     int shifted = month > 2 ? month - 3 : month + 9; /* months since March */
@@ -29,7 +29,7 @@ static int64_t days_of(int year, int month, int day) {
     return days + (153 * shifted + 2) / 5 + day - 1 - 719468;
 }
 
-/* YYYY-MM-DDTHH:MM:SS[.fff]Z */
+/* Reads a time of the form YYYY-MM-DDTHH:MM:SS[.fff]Z. */
 static bool time_of(const char *text, size_t length, uint64_t *moment) {
     if (length < 20 || text[4] != '-' || text[7] != '-' || text[10] != 'T' || text[13] != ':'
         || text[16] != ':' || text[length - 1] != 'Z') {
@@ -57,7 +57,7 @@ static bool time_of(const char *text, size_t length, uint64_t *moment) {
     return true;
 }
 
-/* strtod ends where the number does: what follows it in JSON is not a part of any number. */
+/* strtod ends with the number: in JSON, no character that may follow is part of a number. */
 static void take_number(struct fix *f, const struct json_member *m) {
     const struct {
         const char *name;
@@ -97,13 +97,13 @@ bool fix_read(struct fix *f, const char *line, size_t length) {
     return step == JSON_END && report;
 }
 
-/* Latitude 0 with longitude 0 is what receivers report that have no fix. */
+/* Receivers without a fix report latitude 0 and longitude 0. */
 static bool is_position(const struct fix *f) {
     return f->mode >= FIX_2D && fabs(f->latitude) <= 90 && fabs(f->longitude) <= 180
         && (f->latitude != 0 || f->longitude != 0);
 }
 
-/* An error that the report lacks doesn't count. */
+/* A missing error estimate counts as accurate. */
 static bool is_accurate(const struct fix *f) {
     double error = isfinite(f->eph) ? f->eph : hypot(f->epx, f->epy);
     return f->mode >= FIX_3D && !(error > ACCURATE_TO);
@@ -116,14 +116,14 @@ static void take_motion(struct place *p, const struct fix *f) {
     }
 }
 
-/* Is the report's own time credible? One that is far in the future is not: others would take all
- * later packets of this station for older ones. */
+/* Is the time of the report credible? A time far in the future is not: other stations would treat
+ * all later packets of this station as older ones. */
 static bool is_credible(const struct fix *f, const struct place *p, uint64_t now) {
     return !f->timed
         || (f->moment <= now + AHEAD_AT_MOST && now < f->moment + p->fix_timeout);
 }
 
-/* Once, until a report is credible again. */
+/* Reports it once, until a report is credible again. */
 static void report_time(const struct fix *f, struct place *p, uint64_t now) {
     bool ahead = f->moment > now;
     uint64_t off = ahead ? f->moment - now : now - f->moment;
@@ -134,8 +134,7 @@ static void report_time(const struct fix *f, struct place *p, uint64_t now) {
     p->time_reported = true;
 }
 
-/* A report without a position, or of another time, only says that the old position isn't accurate
- * any more. */
+/* If a report has no position or no credible time, the old position is no longer accurate. */
 bool fix_take(const struct fix *f, struct place *p, uint64_t now) {
     bool credible = is_credible(f, p, now);
     if (!credible) {

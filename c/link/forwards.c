@@ -1,6 +1,6 @@
 /* Frames that the station forwards. All stations that received a broadcast frame would forward it
  * at the same time and collide, so each waits for a random time. A frame to one station is
- * forwarded by one only, and goes at once. The station's own frames never wait. */
+ * forwarded by one only, so it is sent at once. The station's own frames never wait. */
 #define _GNU_SOURCE
 #include "parts.h"
 #include <string.h>
@@ -31,7 +31,7 @@ void forwards_put(struct forwards *w, const uint8_t *frame, size_t length) {
     memcpy(w->frames[at], frame, length);
 }
 
-/* Which of the places in use is due first; there is one. */
+/* Returns the used place that is due first. At least one is used. */
 static size_t first(const struct forwards *w) {
     size_t found = 0;
     for (size_t k = 1; k < w->count; k++) {

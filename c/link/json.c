@@ -1,6 +1,5 @@
-/* Reads one JSON object, member by member (RFC 8259). It reads no octet beyond the text, goes
- * through it once, and refuses what is not JSON. Escapes in texts are checked and kept as they are
- * written. */
+/* Reads one JSON object, member by member (RFC 8259). It reads the text once, never beyond its end,
+ * and rejects what is not JSON. Escapes in strings are checked and left as they are. */
 #include "parts.h"
 #include <string.h>
 
@@ -12,7 +11,7 @@ static void skip_blanks(struct json *j) {
     }
 }
 
-/* Takes this octet and the blanks before it, if it is next. */
+/* Skips blanks, and then this octet if it is next. */
 static bool take(struct json *j, char wanted) {
     skip_blanks(j);
     if (j->at == j->end || *j->at != wanted) {
@@ -97,7 +96,7 @@ static bool take_word(struct json *j) {
 
 static bool take_value(struct json *j, struct json_member *m, int depth);
 
-/* An object or an array: its members are checked and not kept. */
+/* Skips an object or an array, and checks its members. */
 static bool take_nested(struct json *j, char close, int depth) {
     struct json_member inner;
     if (depth == DEEPEST) {
@@ -143,7 +142,7 @@ bool json_open(struct json *j, const char *text, size_t length) {
     return take(j, '{');
 }
 
-/* The first member follows `{`, the others follow a comma. */
+/* The first member comes after `{`, the others after a comma. */
 enum json_step json_next(struct json *j, struct json_member *m) {
     bool first = j->at[-1] == '{';
     if (take(j, '}')) {

@@ -1,5 +1,5 @@
-/* The link, whatever it is over. Nothing here waits: a frame that the link doesn't take now is
- * lost, as on the air, and counted. */
+/* The link, over a packet socket or UDP. Nothing here waits: a frame that the link doesn't accept
+ * now is lost, as on the air, and counted. */
 #define _GNU_SOURCE
 #include "parts.h"
 #include <errno.h>
@@ -9,10 +9,10 @@
 #include <time.h>
 #include <unistd.h>
 
-enum { BATCH = 16 }; /* frames that one call of the system takes */
+enum { BATCH = 16 }; /* frames that one system call receives */
 
 static struct {
-    size_t count, next; /* frames that were taken; which of them comes next */
+    size_t count, next; /* number of frames in the batch; index of the next one */
     struct received frames[BATCH];
     struct sockaddr_ll from[BATCH];
     char control[BATCH][CMSG_SPACE(sizeof(struct timespec))];
@@ -20,8 +20,8 @@ static struct {
     struct mmsghdr about[BATCH];
 } batch;
 
-/* Space for bursts; with CAP_NET_ADMIN it may be over net.core.rmem_max. The kernel counts its own
- * overhead too, so that it doubles what is asked for. */
+/* Enlarges the receive buffer for bursts. With CAP_NET_ADMIN it may be over net.core.rmem_max. The
+ * kernel adds its own overhead, so it doubles the requested size. */
 void link_enlarge_buffer(int fd) {
     const int wanted = 4 << 20;
     int got = 0;
@@ -35,7 +35,7 @@ void link_enlarge_buffer(int fd) {
     }
 }
 
-/* If no address was given, it is made of the station type and the interface's MAC. */
+/* Without --address, the address consists of the station type and the interface's MAC. */
 static void make_address(struct options *o, const uint8_t mac[6]) {
     o->address = o->station_type << 58;
     for (int k = 0; k < 6; k++) {
@@ -91,7 +91,7 @@ static enum sending send_to_peers(struct link *l, const uint8_t *frame, size_t l
     return taken ? SENT : result;
 }
 
-/* SENT: the socket took the frame; on UDP, for one peer at least. */
+/* SENT: the socket accepted the frame; on UDP, for at least one peer. */
 enum sending link_send(struct link *l, const uint8_t *frame, size_t length) {
     if (l->wanted == NULL) {
         return send_to_peers(l, frame, length);
@@ -106,8 +106,8 @@ enum sending link_send(struct link *l, const uint8_t *frame, size_t length) {
     return result;
 }
 
-/* When the kernel received it. No clock's jump counts: it was after the last time at which no frame
- * waited, and before now. */
+/* The time at which the kernel received a frame. A jump of the clock does not matter: the time is
+ * limited to the interval from the last time at which no frame waited until now. */
 static uint64_t time_of(struct msghdr *about, const struct link *l, const struct instant *now) {
     int64_t age = 0;
     for (struct cmsghdr *c = CMSG_FIRSTHDR(about); c != NULL; c = CMSG_NXTHDR(about, c)) {
@@ -122,7 +122,7 @@ static uint64_t time_of(struct msghdr *about, const struct link *l, const struct
     return now->moment - waited;
 }
 
-/* Takes as many frames as wait, up to a batch. */
+/* Receives the waiting frames, up to a batch. */
 static void fill(const struct link *l) {
     for (size_t k = 0; k < BATCH; k++) {
         batch.to[k] = (struct iovec){ batch.frames[k].octets, FRAME_ROOM };
@@ -137,7 +137,7 @@ static void fill(const struct link *l) {
     batch.next = 0;
 }
 
-/* Is there a frame in the batch? After one that wasn't full no frame waits. */
+/* Is there another frame in the batch? If the last batch was not full, no frame waits. */
 static bool has_frame(const struct link *l) {
     if (batch.next == batch.count) {
         bool was_full = batch.count == BATCH || batch.count == 0;
@@ -149,8 +149,8 @@ static bool has_frame(const struct link *l) {
     return batch.next < batch.count;
 }
 
-/* The next frame. Frames that the host sent itself are skipped and not counted; those with a VLAN
- * tag are skipped and counted. */
+/* Returns the next frame. It skips frames that this host sent, and frames with a VLAN tag. Only the
+ * latter are counted. */
 enum waiting link_receive(struct link *l, const struct instant *now, struct received **r) {
     if (!has_frame(l)) {
         l->empty_at = now->moment;
@@ -176,12 +176,12 @@ enum waiting link_receive(struct link *l, const struct instant *now, struct rece
 unsigned link_look(struct link *l) {
     uint8_t news[8192];
     while (recv(l->watch, news, sizeof news, MSG_DONTWAIT) > 0) {
-        /* that something changed is all that is read of it */
+        /* the content does not matter: any message means that something changed */
     }
     return packet_look(l);
 }
 
-/* Frames that came and that the kernel dropped, as the receive buffer was full. */
+/* Returns the number of frames that the kernel dropped because the receive buffer was full. */
 uint64_t link_kernel_dropped(struct link *l) {
     uint32_t memory[SK_MEMINFO_VARS] = { 0 };
     socklen_t size = sizeof memory;

@@ -1,4 +1,4 @@
-/* The program waits in one place: for the link, clients, fixes, signals and what is due. */
+/* The main loop. It waits for the link, clients, fixes, signals and the next event that is due. */
 #define _GNU_SOURCE
 #include "parts.h"
 #include <errno.h>
@@ -9,7 +9,7 @@
 #include <unistd.h>
 
 enum { SIGNALS, LINK, WATCH, GPS, METRICS, FIRST_CLIENT, ALL = FIRST_CLIENT + 1 + 2 * CLIENTS };
-/* All frames of a turn are those of whole batches (link.c). */
+/* A turn handles the frames of whole batches (link.c). */
 enum { FRAMES_A_TURN = 64, LONGEST_WAIT = 60000 /* ms */ };
 
 static int open_signals(void) {
@@ -25,7 +25,7 @@ static int open_signals(void) {
     return signalfd(-1, &set, SFD_CLOEXEC | SFD_NONBLOCK);
 }
 
-/* Is the program to end? */
+/* Has the program to end? */
 static bool read_signal(int signals, struct program *p) {
     struct signalfd_siginfo got;
     if (read(signals, &got, sizeof got) != sizeof got) {
@@ -126,7 +126,7 @@ static struct timespec wait_of(const struct program *p) {
                               .tv_nsec = (long)(micros % 1000000) * 1000 };
 }
 
-/* Waits, and says what is ready. */
+/* Waits, and fills in what is ready. */
 static void wait_for(struct program *p, int signals, struct pollfd *on) {
     struct timespec wait = wait_of(p);
     on[SIGNALS] = (struct pollfd){ signals, POLLIN, 0 };
@@ -145,7 +145,7 @@ static void wait_for(struct program *p, int signals, struct pollfd *on) {
     }
 }
 
-/* The station's own frames go before those that it forwards. */
+/* The station's own frames are sent before those that it forwards. */
 static void turn(struct program *p, const struct pollfd *on) {
     if (on[WATCH].revents != 0) {
         look_at_link(p);

@@ -33,7 +33,7 @@ void metrics_start(struct metrics *m, const char *path) {
     }
 }
 
-/* One reader a turn. The text is shorter than a socket's buffer, so it is taken at once or not. */
+/* Serves one reader per turn. The text fits into a socket's buffer, so the write does not wait. */
 void metrics_serve(const struct metrics *m, const struct station *s, uint64_t now) {
     char asked[512];
     int fd = accept4(m->listening, NULL, NULL, SOCK_NONBLOCK | SOCK_CLOEXEC);
@@ -58,7 +58,7 @@ static bool write_whole(int fd, size_t length) {
     return true;
 }
 
-/* The new file has a name of its own until it is whole. */
+/* The new file has a temporary name until it is complete. */
 static bool replace(const char *path, size_t length) {
     char new_path[PATH_MAX];
     snprintf(new_path, sizeof new_path, "%s.new", path);

@@ -1,5 +1,6 @@
-/* A network interface, by a packet socket for GeoNetworking's EtherType alone (EN 302 636-4-1). It
- * requires CAP_NET_RAW and nothing else. An interface that goes and comes back is opened again. */
+/* A network interface, with a packet socket for GeoNetworking's EtherType only (EN 302 636-4-1). It
+ * requires CAP_NET_RAW and nothing else. If the interface disappears and comes back, it is opened
+ * again. */
 #define _GNU_SOURCE
 #include "parts.h"
 #include <arpa/inet.h>
@@ -15,14 +16,14 @@
 
 enum { ETHERTYPE = 0x8947, LOOK_EACH = 250 /* ms */ };
 
-/* False if the interface went meanwhile. */
+/* Returns false if the interface disappeared meanwhile. */
 static bool ask(const struct link *l, unsigned long what, struct ifreq *about) {
     memset(about, 0, sizeof *about);
     memcpy(about->ifr_name, l->name, sizeof about->ifr_name);
     return ioctl(l->fd, what, about) == 0;
 }
 
-/* Readable if an interface of this machine changed. It needs no right. */
+/* Opens a socket that is readable if an interface of this machine changed; needs no privilege. */
 static int open_watch(void) {
     struct sockaddr_nl groups = { .nl_family = AF_NETLINK, .nl_groups = RTMGRP_LINK };
     int fd = socket(AF_NETLINK, SOCK_RAW | SOCK_CLOEXEC, NETLINK_ROUTE);
@@ -48,7 +49,7 @@ void packet_wait(struct link *l) {
     close(news.fd);
 }
 
-/* The interface receives frames to the station's own MID too, if that isn't its MAC. */
+/* Makes the interface receive frames to the station's MID too, if that isn't its MAC. */
 static bool take_address(const struct link *l) {
     struct packet_mreq more = { .mr_ifindex = (int)l->index, .mr_type = PACKET_MR_UNICAST,
                                 .mr_alen = 6 };
@@ -80,7 +81,7 @@ static void read_state(struct link *l) {
 
 static void open_socket(struct link *l) {
     const int on = 1;
-    /* no protocol before it is bound: otherwise frames of all interfaces come */
+    /* no protocol before it is bound: otherwise it receives frames of all interfaces */
     l->fd = socket(AF_PACKET, SOCK_RAW | SOCK_CLOEXEC, 0);
     if (l->fd < 0 && errno == EPERM) {
         fail(FAILED, "%s: no permission: CAP_NET_RAW is needed", l->wanted);
@@ -135,7 +136,7 @@ static unsigned open_again(struct link *l) {
     return (l->up ? NEWS_UP : NO_NEWS) | (memcmp(old, l->mac, 6) != 0 ? NEWS_MAC : NO_NEWS);
 }
 
-/* Its name may have changed; its number doesn't, while it is there. */
+/* The name of the interface may have changed. Its index stays as long as it exists. */
 unsigned packet_look(struct link *l) {
     bool was = l->up;
     uint8_t old[6];
@@ -157,7 +158,7 @@ unsigned packet_look(struct link *l) {
     return (l->up != was ? NEWS_UP : NO_NEWS) | (changed ? NEWS_MAC : NO_NEWS);
 }
 
-/* Since it was asked last. */
+/* Returns the number of drops since the last call. */
 uint64_t packet_drops(const struct link *l) {
     struct tpacket_stats counts = { 0, 0 };
     socklen_t size = sizeof counts;
@@ -166,10 +167,10 @@ uint64_t packet_drops(const struct link *l) {
     return known ? counts.tp_drops : 0;
 }
 
-/* Did the frame come with a tag of another network (IEEE 802.1Q)? The kernel takes tags off before
- * a socket for one EtherType sees the frame, and PACKET_AUXDATA doesn't show them. But a frame of
- * a VLAN that has a device of its own is that device's; and of one that has none the kernel says
- * that it is for another host, though it is to a group or to the interface's own MAC. */
+/* Did the frame have a VLAN tag of another network (IEEE 802.1Q)? The kernel removes tags before a
+ * socket for one EtherType sees the frame, and PACKET_AUXDATA doesn't show them. But a frame of a
+ * VLAN with a device belongs to that device. A frame of another VLAN has the packet type "other
+ * host", even if it is addressed to a group or to the interface's MAC. */
 bool packet_is_foreign(const struct link *l, const uint8_t *octets, size_t n, const void *from) {
     const struct sockaddr_ll *at = from;
     return at->sll_ifindex != (int)l->index

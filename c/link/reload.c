@@ -1,4 +1,4 @@
-/* The options again, while the program runs. */
+/* Reads the options again while the program runs. */
 #include "parts.h"
 
 static void take_position(struct program *p, const struct options *new) {
@@ -15,8 +15,7 @@ static void take_position(struct program *p, const struct options *new) {
     place_tell(&p->place, p->station.handle, now);
 }
 
-/* If something is wrong in the file, all stays as it was. Options other than ports and the position
- * are those of the start. */
+/* If the file is wrong, nothing changes. Only ports and the position are taken from it. */
 void reload(struct program *p) {
     static struct options new;
     struct fault f;

@@ -1,4 +1,4 @@
-/* A UNIX socket at a path, which a group may use. */
+/* A UNIX socket at a path, with access for a group. */
 #define _GNU_SOURCE
 #include "parts.h"
 #include <errno.h>

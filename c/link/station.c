@@ -7,7 +7,7 @@ enum { SHORTEST = 60 /* octets: Ethernet pads shorter frames with zeros */ };
 
 static uint16_t draw_jitter(void) { return (uint16_t)draw_below(GEOSTATION_JITTER_MAX + 1); }
 
-/* To be called only after the station's own packets and restarts. */
+/* Call it only after the station's own packets and restarts. */
 void station_plan_beacon(struct station *s) {
     s->beacon_at = geostation_beacon_at(s->handle, s->jitter);
 }
@@ -30,7 +30,7 @@ static geostation_handle *make(const struct options *o, uint16_t capacity, uint1
     if (status != GEOSTATION_OK) {
         fail(FAILED, "out of memory: --capacity %u and --remember %u need %u kB of the limit "
              "(ulimit -v, MemoryMax=)", o->capacity, o->remember,
-             (328 + o->capacity * (58 + 2u * o->remember)) / 1000 + 1);
+             (472 + o->capacity * (58 + 2u * o->remember)) / 1000 + 1);
     }
     return handle;
 }
@@ -87,9 +87,9 @@ static void count_padded(struct station *s, const struct received *r) {
     }
 }
 
-/* The station's times never go back, so a frame that waited while others were done is received at
- * the time of the last call. The event has the time at which the kernel received it. While the
- * position is lost the station receives, and forwards nothing. */
+/* The station's times never go back. So a frame that waited is processed at the time of the last
+ * call, but its event has the time at which the kernel received it. While the position is lost, the
+ * station receives but forwards nothing. */
 void station_hear(struct station *s, const struct received *r) {
     struct geostation_reception got;
     if (!s->place->known) {
@@ -125,7 +125,7 @@ void station_beacon(struct station *s, uint64_t now) {
     }
     station_plan_beacon(s);
     if (s->beacon_at <= now) {
-        s->beacon_at = now + 1; /* no memory: tried again, but not at once */
+        s->beacon_at = now + 1; /* no memory: try again a bit later */
     }
 }
 

@@ -4,7 +4,7 @@
 #include <arpa/inet.h>
 #include <string.h>
 
-/* Frames to the group come in and go out at the local address; those of other groups don't come. */
+/* Joins a group at the local address. Frames to other groups are not received. */
 static bool join(int fd, const struct sockaddr_in *group, struct in_addr local) {
     const int on = 1, off = 0;
     struct ip_mreqn how = { .imr_multiaddr = group->sin_addr, .imr_address = local };
@@ -34,7 +34,7 @@ void udp_open(struct link *l, const struct options *o) {
         if (!join(l->fd, &peer, local.sin_addr)) {
             fail(FAILED, "--to %s: cannot join the group: %m", o->to[k]);
         }
-        at.sin_addr.s_addr = htonl(INADDR_ANY); /* a group's frames aren't to one's own address */
+        at.sin_addr.s_addr = htonl(INADDR_ANY); /* to receive group frames */
     }
     if (l->fd < 0 || bind(l->fd, (struct sockaddr *)&at, sizeof at) != 0) {
         fail(FAILED, "--udp %s: %m", o->udp);

@@ -1,4 +1,4 @@
-/* The texts of values, on the command line and in a configuration file. */
+/* Reads the values of options, from the command line and from a configuration file. */
 #define _GNU_SOURCE
 #include "parts.h"
 #include <errno.h>
@@ -7,7 +7,7 @@
 #include <stdlib.h>
 #include <string.h>
 
-/* Names the setting, where it is written, and what is wrong with it. */
+/* Sets a fault that names the setting, its place, and what is wrong with it. */
 bool refuse_value(const struct setting *s, const char *why, struct fault *f) {
     const char *space = s->value != NULL ? " " : "";
     const char *value = s->value != NULL ? s->value : "";
@@ -40,7 +40,7 @@ bool address_of(const struct setting *s, uint64_t *out, struct fault *f) {
     return true;
 }
 
-/* Degrees with up to 7 decimals, exactly, in 0.1 microdegree; what follows is left in *text. */
+/* Reads degrees with up to 7 decimals exactly, in 0.1 microdegree, and moves *text behind them. */
 static bool degrees(const char **text, int64_t most, int32_t *out) {
     bool negative = **text == '-';
     const char *at = *text + negative;
@@ -69,7 +69,7 @@ bool position_of(const struct setting *s, struct options *o, struct fault *f) {
     return true;
 }
 
-/* The parts of HOST:PORT or [HOST]:PORT; `host` has 256 octets. */
+/* Splits HOST:PORT or [HOST]:PORT; `host` has space for 256 octets. */
 static bool split(const char *text, char *host, const char **port) {
     const char *colon = strrchr(text, ':');
     bool bracketed = text[0] == '[';
@@ -116,7 +116,7 @@ static void resolve(const char *option, const char *text, int family, int type,
     freeaddrinfo(found);
 }
 
-/* The link is IPv4, as its groups are; gpsd may be at an address of either kind. */
+/* The link and its multicast groups use IPv4; gpsd may use IPv4 or IPv6. */
 void resolve_addresses(struct options *o) {
     if (o->udp != NULL) {
         resolve("udp", o->udp, AF_INET, SOCK_DGRAM, &o->local);
