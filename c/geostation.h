@@ -9,7 +9,7 @@
  * and of octets that a call reads (a payload, a frame, a line) where their length is 0; objects that
  * one call is given don't overlap, so that `frame` and `relay` are two buffers; a buffer has as
  * many octets as its length says, at most PTRDIFF_MAX; what a call writes to is aligned as its type
- * asks; a handle comes from geostation_new or geostation_new_with, isn't used after
+ * asks; a handle comes from geostation_new or geostation_new_from_config, isn't used after
  * geostation_free, and is in one call at a time: a call with a const handle is a call too.
  */
 #ifndef GEOSTATION_H
@@ -25,19 +25,21 @@ extern "C" {
 /* The library's version, and that of its layouts and calls. A program that loads the library, or
  * that copies these layouts, compares geostation_abi() with GEOSTATION_ABI first. */
 #define GEOSTATION_VERSION "0.1.0"
-#define GEOSTATION_ABI 2
+#define GEOSTATION_ABI 3
 
 /* The longest frame, in octets: a call that may write one wants a buffer with room for it. */
 #define GEOSTATION_FRAME_MAX 1468
-/* The longest line of geostation_serve, in octets: a longer one can't be read, and its answer says
- * so. */
+/* The longest line of geostation_handle_json, in octets: a longer one can't be read, and its
+ * answer says so. */
 #define GEOSTATION_LINE_MAX 65536
-/* The longest answer of geostation_serve, in octets: it wants a buffer with room for it. */
+/* The longest answer of geostation_handle_json, in octets: it wants a buffer with room for it. */
 #define GEOSTATION_ANSWER_MAX 16384
 /* The longest payload of a request, in octets. */
 #define GEOSTATION_PAYLOAD_MAX 1394
 /* The greatest jitter of a beacon, in ms. */
 #define GEOSTATION_JITTER_MAX 750
+/** The greatest rate and the greatest burst of a limit, in frames per second and in frames. */
+#define GEOSTATION_RATE_MAX 1000000
 /* The last moment of a call, in ms. */
 #define GEOSTATION_LAST_MOMENT (UINT64_C(1) << 62)
 
@@ -56,7 +58,8 @@ enum geostation_status {
     GEOSTATION_PORTS_FULL = 10,       /* S8 B3: 64 ports are open */
     GEOSTATION_PORT_NOT_OPEN = 11,    /* S8 B4 */
     GEOSTATION_BAD_ARGUMENT = 20,     /* an argument is out of its range */
-    GEOSTATION_NO_ROOM = 21           /* a buffer is too short for the longest frame or answer */
+    GEOSTATION_NO_ROOM = 21,          /* a buffer is too short for the longest frame or answer */
+    GEOSTATION_OVER_RATE = 22         /* own packets are over their rate */
 };
 
 /* Why a frame is ignored. */
@@ -114,6 +117,13 @@ struct geostation_config {
     uint16_t remember;           /* sequence numbers of each, 1 to 64; 8 */
     uint16_t mobile;             /* whether its packets say that it is mobile (0 or not); 1 */
     uint16_t number;             /* the sequence number of its first packet for an area; 0 */
+    /* Limits on what it sends. A rate is in frames per second, a burst in frames that may go out at
+     * once, both 0 to GEOSTATION_RATE_MAX. There is no limit if the rate or the burst is 0. */
+    uint32_t forward_rate, forward_burst; /* all frames that it forwards; 100, 50 */
+    uint32_t source_rate, source_burst;   /* frames of each source that it forwards; 20, 20 */
+    uint32_t own_rate, own_burst;         /* own packets without beacons; 50, 50 */
+    uint32_t hop_cap; /* packets with more hops left are not forwarded, 0 to 255; 0 is no cap; 10 */
+    uint32_t deliver_once; /* whether a delivered GBC or GAC isn't delivered again (0 or not); 1 */
 };
 
 /* How often each thing happened since the station was made. A count stays at UINT64_MAX. */
@@ -131,6 +141,9 @@ struct geostation_counts {
     struct {
         uint64_t beacons, single_hop, geobroadcasts, geoanycasts;
     } sent; /* frames of its own */
+    uint64_t suppressed; /* frames that were not forwarded, for a limit or as an echo */
+    uint64_t repeated;   /* payloads that were not delivered, as they were delivered before */
+    uint64_t over_rate;  /* own packets that were refused by GEOSTATION_OVER_RATE */
 };
 
 /* A payload for all stations in reach. */
@@ -219,7 +232,7 @@ GEOSTATION_AT(vector, longitude, 16, 16);
 GEOSTATION_AT(vector, speed, 20, 20);
 GEOSTATION_AT(vector, heading, 22, 22);
 GEOSTATION_AT(vector, accurate, 24, 24);
-GEOSTATION_SIZE(config, 32, 32);
+GEOSTATION_SIZE(config, 64, 64);
 GEOSTATION_AT(config, address, 8, 8);
 GEOSTATION_AT(config, latitude, 16, 16);
 GEOSTATION_AT(config, longitude, 20, 20);
@@ -227,7 +240,15 @@ GEOSTATION_AT(config, capacity, 24, 24);
 GEOSTATION_AT(config, remember, 26, 26);
 GEOSTATION_AT(config, mobile, 28, 28);
 GEOSTATION_AT(config, number, 30, 30);
-GEOSTATION_SIZE(counts, 144, 144);
+GEOSTATION_AT(config, forward_rate, 32, 32);
+GEOSTATION_AT(config, forward_burst, 36, 36);
+GEOSTATION_AT(config, source_rate, 40, 40);
+GEOSTATION_AT(config, source_burst, 44, 44);
+GEOSTATION_AT(config, own_rate, 48, 48);
+GEOSTATION_AT(config, own_burst, 52, 52);
+GEOSTATION_AT(config, hop_cap, 56, 56);
+GEOSTATION_AT(config, deliver_once, 60, 60);
+GEOSTATION_SIZE(counts, 168, 168);
 GEOSTATION_AT(counts, accepted, 8, 8);
 GEOSTATION_AT(counts, delivered, 16, 16);
 GEOSTATION_AT(counts, relayed, 24, 24);
@@ -237,6 +258,9 @@ GEOSTATION_AT(counts, refused.moment_earlier, 64, 64);
 GEOSTATION_AT(counts, refused.other, 104, 104);
 GEOSTATION_AT(counts, sent.beacons, 112, 112);
 GEOSTATION_AT(counts, sent.geoanycasts, 136, 136);
+GEOSTATION_AT(counts, suppressed, 144, 144);
+GEOSTATION_AT(counts, repeated, 152, 152);
+GEOSTATION_AT(counts, over_rate, 160, 160);
 GEOSTATION_SIZE(shb_request, 6, 6);
 GEOSTATION_AT(shb_request, info, 2, 2);
 GEOSTATION_AT(shb_request, traffic_class, 4, 4);
@@ -304,15 +328,18 @@ uint32_t geostation_abi(void);
 const char *geostation_version(void);
 
 /* Makes a station to which nothing happened yet. Its location table has room for `capacity`
- * sources, 1 to 4096, and remembers the last `remember` sequence numbers of each, 1 to 64. *out is
- * its handle, or NULL where the status isn't 0 (BAD_ARGUMENT, NO_MEMORY). */
+ * sources, 1 to 4096, and remembers the last `remember` sequence numbers of each, 1 to 64. Its
+ * limits are those that geostation_config_init writes. *out is its handle, or NULL where the status
+ * isn't 0 (BAD_ARGUMENT, NO_MEMORY). */
 int geostation_new(geostation_handle **out, uint64_t address, int32_t latitude, int32_t longitude,
                    uint16_t capacity, uint8_t remember);
 
 /* The same of a struct, which geostation_config_init fills. A struct of another size than the
  * library's is BAD_ARGUMENT too. */
 void geostation_config_init(struct geostation_config *config);
-int geostation_new_with(geostation_handle **out, const struct geostation_config *config);
+int geostation_new_from_config(geostation_handle **out, const struct geostation_config *config);
+/** Deprecated: the former name of geostation_new_from_config. */
+#define geostation_new_with geostation_new_from_config
 
 /* Gives a station's memory back. NULL is passed over. */
 void geostation_free(geostation_handle *s);
@@ -342,7 +369,7 @@ int geostation_tick(geostation_handle *s, uint64_t now, uint16_t jitter,
 
 /* Write the frame of a payload for all in reach (SHB); for all stations in an area (GBC); and for
  * any one of them (GAC). Where the status isn't 0, *length is 0. S1, S2, S5, S6, of an area S7 and
- * BAD_ARGUMENT, NO_ROOM. */
+ * BAD_ARGUMENT, NO_ROOM, OVER_RATE. */
 int geostation_send_shb(geostation_handle *s, uint64_t now,
                         const struct geostation_shb_request *request,
                         const uint8_t *payload, size_t payload_length,
@@ -357,10 +384,13 @@ int geostation_send_gac(geostation_handle *s, uint64_t now,
                         uint8_t *frame, size_t room, size_t *length);
 
 /* An SHB with this octet of a lifetime, a multiplier and a base; geostation_send_shb's is 0x1a. */
-int geostation_send_shb_for(geostation_handle *s, uint64_t now,
-                            const struct geostation_shb_request *request, uint8_t lifetime,
-                            const uint8_t *payload, size_t payload_length,
-                            uint8_t *frame, size_t room, size_t *length);
+int geostation_send_shb_with_lifetime(geostation_handle *s, uint64_t now,
+                                      const struct geostation_shb_request *request,
+                                      uint8_t lifetime,
+                                      const uint8_t *payload, size_t payload_length,
+                                      uint8_t *frame, size_t room, size_t *length);
+/** Deprecated: the former name of geostation_send_shb_with_lifetime. */
+#define geostation_send_shb_for geostation_send_shb_with_lifetime
 
 /* The sequence number of the station's next packet for an area. */
 uint16_t geostation_next_number(const geostation_handle *s);
@@ -369,7 +399,8 @@ uint16_t geostation_next_number(const geostation_handle *s);
  * one at most), else 0. */
 size_t geostation_frame_length(const uint8_t *octets, size_t length);
 
-/* Takes a frame that came. What is to be sent on is written to `relay`. Of at most 60 octets the
+/* Takes a frame that came. What is to be sent on is written to `relay`, if the station's limits let
+ * it pass; a payload that was delivered before is not delivered again. Of at most 60 octets the
  * zeros behind the frame's packet are left out: Ethernet fills a short frame up with them. S1 to
  * S5, NO_ROOM. */
 int geostation_receive(geostation_handle *s, uint64_t now, const uint8_t *frame, size_t length,
@@ -426,11 +457,14 @@ void geostation_counts(const geostation_handle *s, struct geostation_counts *out
  * be sent, or nothing; neither is ended by 0. The status says whether the line was answered: a
  * refusal of the station's is in the answer, and so is what can't be read in a line, of which
  * `number` is told as its number. S5, NO_ROOM for an answer's buffer under GEOSTATION_ANSWER_MAX
- * octets or a frame's under GEOSTATION_FRAME_MAX. */
-int geostation_serve(geostation_handle *s, uint64_t now, uint64_t number,
-                     const uint8_t *line, size_t line_length,
-                     uint8_t *answer, size_t answer_room, size_t *answer_length,
-                     uint8_t *frame, size_t frame_room, size_t *frame_length);
+ * octets or a frame's under GEOSTATION_FRAME_MAX. The station's limits don't apply to a line: a
+ * frame that a line passes is forwarded, and a packet that a line asks for is sent, at any rate. */
+int geostation_handle_json(geostation_handle *s, uint64_t now, uint64_t number,
+                           const uint8_t *line, size_t line_length,
+                           uint8_t *answer, size_t answer_room, size_t *answer_length,
+                           uint8_t *frame, size_t frame_room, size_t *frame_length);
+/** Deprecated: the former name of geostation_handle_json. */
+#define geostation_serve geostation_handle_json
 
 /* Reads the octets of a frame, without a station: all of them, zeros behind it are no part of a
  * frame. S3. */

@@ -28,7 +28,8 @@ enum class Status : int {
     PortsFull = GEOSTATION_PORTS_FULL,
     PortNotOpen = GEOSTATION_PORT_NOT_OPEN,
     BadArgument = GEOSTATION_BAD_ARGUMENT,
-    NoRoom = GEOSTATION_NO_ROOM
+    NoRoom = GEOSTATION_NO_ROOM,
+    OverRate = GEOSTATION_OVER_RATE
 };
 
 /// A sentence for a status.
@@ -112,7 +113,7 @@ class Station {
     static std::optional<Station> make(const geostation_config &config,
                                        Status *status = nullptr) noexcept {
         geostation_handle *handle = nullptr;
-        const int got = geostation_new_with(&handle, &config);
+        const int got = geostation_new_from_config(&handle, &config);
         if (status != nullptr) {
             *status = static_cast<Status>(got);
         }
@@ -163,11 +164,17 @@ class Station {
         return Status(geostation_send_shb(handle_, now, &request, payload.data, payload.size,
                                           frame.octets.data(), frame.octets.size(), &frame.size));
     }
-    Status send_shb_for(std::uint64_t now, const geostation_shb_request &request,
-                        std::uint8_t lifetime, Octets payload, Frame &frame) noexcept {
-        return Status(geostation_send_shb_for(handle_, now, &request, lifetime, payload.data,
-                                              payload.size, frame.octets.data(),
-                                              frame.octets.size(), &frame.size));
+    Status send_shb_with_lifetime(std::uint64_t now, const geostation_shb_request &request,
+                                  std::uint8_t lifetime, Octets payload, Frame &frame) noexcept {
+        return Status(geostation_send_shb_with_lifetime(
+            handle_, now, &request, lifetime, payload.data, payload.size, frame.octets.data(),
+            frame.octets.size(), &frame.size));
+    }
+    /// The former name of `send_shb_with_lifetime`.
+    [[deprecated("use send_shb_with_lifetime")]] Status
+    send_shb_for(std::uint64_t now, const geostation_shb_request &request, std::uint8_t lifetime,
+                 Octets payload, Frame &frame) noexcept {
+        return send_shb_with_lifetime(now, request, lifetime, payload, frame);
     }
     Status send_gbc(std::uint64_t now, const geostation_area_request &request, Octets payload,
                     Frame &frame) noexcept {
@@ -196,11 +203,18 @@ class Station {
 
     /// Does what a line of JSON asks for, as the command `station`; writes the answer, and the frame
     /// that is to be sent.
-    Status serve(std::uint64_t now, std::uint64_t number, Octets line, Answer &answer,
-                 Frame &frame) noexcept {
-        return Status(geostation_serve(handle_, now, number, line.data, line.size,
-                                       answer.octets.data(), answer.octets.size(), &answer.size,
-                                       frame.octets.data(), frame.octets.size(), &frame.size));
+    Status handle_json(std::uint64_t now, std::uint64_t number, Octets line, Answer &answer,
+                       Frame &frame) noexcept {
+        return Status(geostation_handle_json(
+            handle_, now, number, line.data, line.size, answer.octets.data(),
+            answer.octets.size(), &answer.size, frame.octets.data(), frame.octets.size(),
+            &frame.size));
+    }
+    /// The former name of `handle_json`.
+    [[deprecated("use handle_json")]] Status serve(std::uint64_t now, std::uint64_t number,
+                                                   Octets line, Answer &answer,
+                                                   Frame &frame) noexcept {
+        return handle_json(now, number, line, answer, frame);
     }
 
     /// How often each thing happened since the station was made.

@@ -12,7 +12,7 @@ from typing import Any, Dict, List, Optional, Tuple
 
 HERE = Path(__file__).resolve().parent
 PACKAGE = "geostation"
-SUFFIXES = (".py", ".typed", ".so.0")
+SUFFIXES = (".py", ".typed", ".so.3")
 
 
 def _project(key: str) -> str:

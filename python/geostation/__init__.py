@@ -6,14 +6,16 @@ same calls. Moments are milliseconds; `latitude` and `longitude` are tenths of a
 """
 
 from .calls import FRAME_MAX, LAST_MOMENT, PAYLOAD_MAX
-from .errors import BadArgument, BadFrame, Fault, Refused, Status
+from .errors import BadArgument, BadFrame, Fault, OverRate, Refused, Status
 from .line import Ended, Line
 from .station import Station, frame_length, read_frame
 from .values import (
+    NO_LIMITS,
     Area,
     Counts,
     IgnoredCounts,
     Kind,
+    Limits,
     Message,
     Packet,
     Reception,
@@ -27,6 +29,7 @@ from .values import (
 __all__ = [
     "FRAME_MAX",
     "LAST_MOMENT",
+    "NO_LIMITS",
     "PAYLOAD_MAX",
     "Area",
     "BadArgument",
@@ -36,8 +39,10 @@ __all__ = [
     "Fault",
     "IgnoredCounts",
     "Kind",
+    "Limits",
     "Line",
     "Message",
+    "OverRate",
     "Packet",
     "Reception",
     "Refused",

@@ -102,7 +102,7 @@ def test_padded():
         counts = d.until(lambda n: n["link"]["frames"] == 4)
         assert counts["link"] == {"frames": 4, "padded": 1, "tagged": 0, "dropped": 0,
                                   "kernel_dropped": 0, "forward_dropped": 0, "suppressed": 0,
-                                  "events_lost": 0}, counts
+                                  "repeated": 0, "over_rate": 0, "events_lost": 0}, counts
         assert (counts["accepted"], counts["refused"]["frame"]) == (2, 2), counts
 
 
@@ -391,6 +391,7 @@ def test_arguments():
         *(["--interface", "lo", *place, *more.split()] for more in (
             "--station-type 32", "--capacity 4097", "--capacity 0", "--remember 65",
             "--port 65536", "--forward-spread 1001", "--gps-timeout 0", "--client-timeout 86401",
+            "--forward-rate 1000001", "--source-burst -1", "--hop-cap 256", "--deliver-once 2",
             "--config /nosuch", "--address 3c00030000000000", "--address 3c0002000000000")),
         *(["--interface", "lo", "--position", p] for p in
           ("91,0", "x", "1,2x", "1", "0,180.0000001", "1.12345678,0", "1.,0", "+1,0", "-,0")),

@@ -1,5 +1,6 @@
 pub mod Values
 pub mod StationPtrs
+pub mod GovernorPtrs
 pub mod Opens
 pub mod Restarts
 pub mod Lookups

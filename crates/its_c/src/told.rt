@@ -1,6 +1,6 @@
 //! What a call tells C: its status, and what it writes into the caller's buffers.
 
-ghost use Rattle.std.specs.Prelude.{◌≡◌, ◌≤◌, pos, length, Err, IfOk, IfSome};
+ghost use Rattle.std.specs.Prelude.{◌≡◌, ◌≢◌, ◌≤◌, pos, length, Err, IfOk, IfSome};
 ghost use Rattle.its_station.specs.Receiving.{DeliversEndOf, HandsOutEndOf, SendsAtMost};
 ghost use Rattle.its_c.specs.Status.{status_in};
 ghost use Rattle.its_c.specs.Told.{Holds, ShowsFrame, ShowsBeacon, ShowsHanded, ShowsReceived};
@@ -34,6 +34,7 @@ pub(crate) fn told_frame(
     ensures status { result ≡ status_in said }
     ensures shown { ShowsFrame written.new frame.new said }
     ensures memory { result ≡ pos 5 → said ≡ Err Refused.NoMemory }
+    ensures rate { result ≢ pos 22 }
 {
     match said {
         Ok(octets) => {

@@ -49,6 +49,14 @@ pub(crate) struct Config {
     pub(crate) remember: u16,
     pub(crate) mobile: u16,
     pub(crate) number: u16,
+    pub(crate) forward_rate: u32,
+    pub(crate) forward_burst: u32,
+    pub(crate) source_rate: u32,
+    pub(crate) source_burst: u32,
+    pub(crate) own_rate: u32,
+    pub(crate) own_burst: u32,
+    pub(crate) hop_cap: u32,
+    pub(crate) deliver_once: u32,
 }
 
 /// `struct geostation_counts`.
@@ -62,6 +70,9 @@ pub(crate) struct Counts {
     pub(crate) ignored: [u64; 4],
     pub(crate) refused: [u64; 6],
     pub(crate) sent: [u64; 4],
+    pub(crate) suppressed: u64,
+    pub(crate) repeated: u64,
+    pub(crate) over_rate: u64,
 }
 
 /// `struct geostation_shb_request`.
@@ -172,7 +183,7 @@ type SendToArea = unsafe extern "C" fn(
 
 extern "C" {
     fn geostation_config_init(config: *mut Config);
-    fn geostation_new_with(out: *mut *mut Opaque, config: *const Config) -> c_int;
+    fn geostation_new_from_config(out: *mut *mut Opaque, config: *const Config) -> c_int;
     fn geostation_free(s: *mut Opaque);
     fn geostation_move(
         s: *mut Opaque,
@@ -214,7 +225,7 @@ extern "C" {
         room: usize,
         length: *mut usize,
     ) -> c_int;
-    fn geostation_send_shb_for(
+    fn geostation_send_shb_with_lifetime(
         s: *mut Opaque,
         now: u64,
         request: *const ShbRequest,
@@ -254,7 +265,7 @@ extern "C" {
         relay: *mut u8,
         room: usize,
     ) -> c_int;
-    fn geostation_serve(
+    fn geostation_handle_json(
         s: *mut Opaque,
         now: u64,
         number: u64,
@@ -300,7 +311,7 @@ impl Handle {
         let mut out = null_mut();
         // SAFETY: `out` is a pointer's place, to which the call writes a handle or NULL; the config
         // is read alone.
-        let status = unsafe { geostation_new_with(&mut out, config) };
+        let status = unsafe { geostation_new_from_config(&mut out, config) };
         NonNull::new(out).map(Handle).ok_or(status)
     }
 
@@ -375,7 +386,7 @@ impl Handle {
         (status, length)
     }
 
-    pub(crate) fn send_shb_for(
+    pub(crate) fn send_shb_with_lifetime(
         &mut self,
         now: u64,
         request: &ShbRequest,
@@ -388,7 +399,7 @@ impl Handle {
         let (given, count) = (payload.as_ptr(), payload.len());
         // SAFETY: as for `geostation_send_shb`.
         let status = unsafe {
-            geostation_send_shb_for(
+            geostation_send_shb_with_lifetime(
                 s,
                 now,
                 request,
@@ -456,7 +467,7 @@ impl Handle {
     }
 
     /// The answer's length is that of its buffer afterwards.
-    pub(crate) fn serve(
+    pub(crate) fn handle_json(
         &mut self,
         now: u64,
         number: u64,
@@ -472,7 +483,7 @@ impl Handle {
         // SAFETY: the handle lives, and is in this call alone; the three slices are as long as is
         // said, and don't overlap, as two of them are borrowed mutably.
         let status = unsafe {
-            geostation_serve(
+            geostation_handle_json(
                 s,
                 now,
                 number,

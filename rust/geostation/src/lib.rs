@@ -30,7 +30,7 @@ pub use buffer::Buffer;
 pub use error::{Code, Error, Fault};
 pub use frame::{frame_length, read_frame, Area, Content, Message, Packet, Shape, Vector};
 pub use station::{
-    AreaRequest, Config, Counts, IgnoredCounts, Neighbours, Place, Received, RefusedCounts,
+    AreaRequest, Config, Counts, IgnoredCounts, Limits, Neighbours, Place, Received, RefusedCounts,
     SentCounts, ShbRequest, Station, Why,
 };
 

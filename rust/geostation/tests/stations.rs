@@ -165,7 +165,7 @@ fn a_fix_a_lifetime_and_a_number() {
     let place = Place { latitude: 5, longitude: 6, accurate: false, speed: 0, heading: 0 };
     a.move_at(1000, 4_294_967_295, &place).unwrap();
     let request = ShbRequest { port: 9, ..ShbRequest::default() };
-    let frame = a.send_shb_for(1000, &request, 0x05, b"x", &mut out).unwrap();
+    let frame = a.send_shb_with_lifetime(1000, &request, 0x05, b"x", &mut out).unwrap();
     let told = read_frame(frame).unwrap();
     assert_eq!((0x05, 4_294_967_295, 5), (told.lifetime, told.vector.timestamp, 5));
     assert_eq!((5, 6, false), (told.vector.latitude, told.vector.longitude, false));
@@ -206,19 +206,19 @@ fn lines_are_answered_and_frames_are_those_of_calls() {
     let (mut twin, _) = pair();
     let (mut answer, mut frame, mut other) = (Vec::new(), Vec::new(), Vec::new());
     let line = br#"{"id":1,"do":"shb","port":2002,"info":7,"tc":2,"payload":"6869"}"#;
-    let sent = a.serve(5, 1, line, &mut answer, &mut frame).unwrap();
+    let sent = a.handle_json(5, 1, line, &mut answer, &mut frame).unwrap();
     let request = ShbRequest { port: 2002, info: 7, traffic_class: 2 };
     assert_eq!(twin.send_shb(5, &request, b"hi", &mut other).unwrap(), sent);
     let digits: String = frame.iter().map(|octet| format!("{octet:02x}")).collect();
     let told = format!(r#"{{"id":1,"at":5,"result":"sent","frame":"{digits}"}}"#);
     assert_eq!(answer, told.as_bytes());
 
-    assert!(a.serve(5, 2, b" ", &mut answer, &mut frame).unwrap().is_empty());
+    assert!(a.handle_json(5, 2, b" ", &mut answer, &mut frame).unwrap().is_empty());
     assert!(answer.is_empty());
-    a.serve(5, 3, br#"{"do":"open"}"#, &mut answer, &mut frame).unwrap();
+    a.handle_json(5, 3, br#"{"do":"open"}"#, &mut answer, &mut frame).unwrap();
     assert!(answer.starts_with(br#"{"line":3,"error":"port","reason":""#));
     let mut short = [0; FRAME_MAX - 1];
-    assert_eq!(a.serve(5, 3, line, &mut answer, &mut short), Err(Error::NoRoom));
+    assert_eq!(a.handle_json(5, 3, line, &mut answer, &mut short), Err(Error::NoRoom));
     assert!(answer.is_empty());
 }
 

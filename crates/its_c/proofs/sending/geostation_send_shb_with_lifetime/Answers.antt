@@ -5,7 +5,7 @@ use Rattle.its_station.specs.Requests.{TellsSent, shb_request}
 use Rattle.its_station.specs.Steps.{IsStepOf}
 use Rattle.its_c.specs.Arguments.{shb_asked}
 use Rattle.its_c.proofs.Opens.{held_model, stays_open}
-use Rattle.its_c.proofs.sending.geostation_send_shb_for.Goals as goal
+use Rattle.its_c.proofs.sending.geostation_send_shb_with_lifetime.Goals as goal
 
 pub invariant_of-s : goal.invariant_of-s
 invariant_of-s c =
