@@ -5,7 +5,16 @@ import random
 import shutil
 import unittest
 
-from geostation import Area, BadArgument, Ended, Line, Reception, Refused, Station
+from geostation import (
+    NO_LIMITS,
+    Area,
+    BadArgument,
+    Ended,
+    Line,
+    Reception,
+    Refused,
+    Station,
+)
 
 PROGRAM = os.environ.get("GEOSTATION_PROGRAM", "geostation")
 PORTS = (1, 2, 2002)
@@ -26,7 +35,8 @@ class Traffic:
         self.draws = random.Random(seed)
         self.now = 0
         self.others = [
-            Station(0x1400020000000100 + n, latitude=n, longitude=0) for n in range(6)
+            Station(0x1400020000000100 + n, latitude=n, longitude=0, limits=NO_LIMITS)
+            for n in range(6)
         ]
 
     def place(self):
@@ -117,7 +127,8 @@ class Alike(unittest.TestCase):
         place = {"latitude": 3, "longitude": -3, "capacity": 4, "remember": 2}
         kinds = set()
         traffic = Traffic(7)
-        with Station(0x1400020000000001, **place) as station:
+        # A station on a pipe has no limits.
+        with Station(0x1400020000000001, limits=NO_LIMITS, **place) as station:
             with Line(0x1400020000000001, **place, program=PROGRAM) as line:
                 for number in range(1000):
                     call = traffic.call()

@@ -67,7 +67,7 @@ impl GovernorPtr {
         mem::replace(self, none).into_raw_box().into_box()
     }
 
-    /// Puts a governor in where there is none.
+    /// Puts a governor in after `take` took one out.
     pub(crate) fn put(&mut self, governor: Box<Governor>)
         requires { self.old.value ≡ None }
         ensures { self.new.value ≡ Some governor.value }
