@@ -5,3 +5,4 @@ pub mod Opens
 pub mod Restarts
 pub mod Lookups
 pub mod Messages
+pub mod Unlimited

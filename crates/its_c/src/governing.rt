@@ -1,11 +1,10 @@
 //! The limit on own packets, as the calls that send one ask for it.
 
-ghost use Rattle.std.specs.Prelude.{◌≡◌, ◌≢◌, ◌≤◌, ◌^◌, IsTrue, IsFalse, IsSome, Some, not};
+ghost use Rattle.std.specs.Prelude.{◌≡◌, IsTrue, IsFalse, IsSome, IsOk, IsErr, None, Some};
 ghost use Rattle.its_model.specs.Station.{StationModel};
 ghost use Rattle.its_governor.specs.declared.governor.Governor.{Governor as Limited};
-ghost use Rattle.its_governor.specs.Governing.{is_over_rate, after_refusal};
+ghost use Rattle.its_governor.specs.Governing.{is_over_rate, after_refusal, after_sent};
 ghost use Rattle.its_c.specs.Open.{HoldsModel, IsOpen};
-ghost use Rattle.its_c.specs.Governed.{after_sending};
 
 use crate::governor_ptr::GovernorPtr;
 use crate::station_ptr::StationPtr;
@@ -25,6 +24,8 @@ pub(crate) fn is_over_rate(
         governor.old.value ≡ Some g → result ≡ is_over_rate g m.clock now }
     ensures refusal { IsTrue result → (g : Limited) → governor.old.value ≡ Some g →
         governor.new.value ≡ Some (after_refusal g) }
+    ensures unlimited { (g : Limited) → governor.old.value ≡ Some g → g.own ≡ None →
+        IsFalse result }
     ensures within { IsFalse result → governor.new.value ≡ governor.old.value }
     ensures unchanged { held.new.station ≡ held.old.station }
     ensures governs { IsSome governor.new.value }
@@ -40,7 +41,7 @@ pub(crate) fn is_over_rate(
     is_over
 }
 
-/// Takes an own packet that was sent out of its bucket.
+/// Takes an own packet out of its bucket, if it was sent.
 pub(crate) fn note_sent(
     alloc: Global,
     governor: &mut GovernorPtr,
@@ -48,13 +49,15 @@ pub(crate) fn note_sent(
     said: &Result<Vec<u8>, Refused>,
 )
     requires { IsSome governor.old.value }
-    ensures sent { (g : Limited) → governor.old.value ≡ Some g →
-        governor.new.value ≡ Some (after_sending g now said.now) }
+    ensures sent { IsOk said.now → (g : Limited) → governor.old.value ≡ Some g →
+        governor.new.value ≡ Some (after_sent g now) }
+    ensures failed { IsErr said.now → governor.new.value ≡ governor.old.value }
     ensures governs { IsSome governor.new.value }
 {
-    let mut limits = governor.take(alloc);
-    if said.is_ok() {
-        limits.note_sent(now);
+    if said.is_err() {
+        return;
     }
+    let mut limits = governor.take(alloc);
+    limits.note_sent(now);
     governor.put(limits);
 }

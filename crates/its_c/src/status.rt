@@ -29,6 +29,7 @@ pub(crate) fn status_of(refused: Refused) -> i32
     ensures status { result ≡ status_of refused }
     ensures memory { result ≡ pos 5 → refused ≡ Refused.NoMemory }
     ensures rate { result ≢ pos 22 }
+    ensures refused { result ≢ pos 0 }
 {
     match refused {
         Refused::MomentEarlier => 1,

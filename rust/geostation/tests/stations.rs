@@ -2,8 +2,8 @@
 //! moments of beacons are those of EN 302 636-4-1, clause 10.3.6 (3 s after the last packet).
 
 use geostation::{
-    frame_length, read_frame, Area, AreaRequest, Config, Content, Error, Fault, Place, Shape,
-    ShbRequest, Station, Why, FRAME_MAX, LAST_MOMENT, PAYLOAD_MAX,
+    frame_length, read_frame, Area, AreaRequest, Config, Content, Error, Fault, Limits, Place,
+    Shape, ShbRequest, Station, Why, FRAME_MAX, LAST_MOMENT, PAYLOAD_MAX,
 };
 
 const A: u64 = 0x1400_0200_0000_0001;
@@ -220,6 +220,63 @@ fn lines_are_answered_and_frames_are_those_of_calls() {
     let mut short = [0; FRAME_MAX - 1];
     assert_eq!(a.handle_json(5, 3, line, &mut answer, &mut short), Err(Error::NoRoom));
     assert!(answer.is_empty());
+}
+
+fn limited(address: u64, longitude: i32, limits: Limits) -> Station {
+    let mut config = Config::new(address, 449, longitude);
+    config.limits = limits;
+    Station::new(&config).unwrap()
+}
+
+/// Two at once and ten per second: each takes 100 ms to come back.
+#[test]
+fn own_packets_over_their_rate_are_refused() {
+    let mut a = limited(A, 0, Limits { own_rate: 10, own_burst: 2, ..Limits::NONE });
+    let (mut out, request) = (Vec::new(), ShbRequest::default());
+    a.send_shb(1000, &request, b"", &mut out).unwrap();
+    a.send_gbc(1000, &warning(), b"", &mut out).unwrap();
+    for now in [1000, 1099] {
+        let refused = a.send_gbc(now, &warning(), b"", &mut out).unwrap_err();
+        assert_eq!((Error::OverRate, 22, 1), (refused, refused.status(), a.next_number()));
+        assert_eq!("own packets are over their rate", refused.to_string());
+        assert_eq!("", refused.code().to_string());
+    }
+    a.send_gbc(1100, &warning(), b"", &mut out).unwrap();
+    let counts = a.counts();
+    assert_eq!((0, 0, 2), (counts.suppressed, counts.repeated, counts.over_rate));
+    assert_eq!((1, 2), (counts.sent.single_hop, counts.sent.geobroadcasts));
+    let mut config = Config::new(A, 449, 0);
+    config.limits.own_rate = 1_000_001;
+    assert_eq!(Some(Error::BadArgument), Station::new(&config).err());
+}
+
+#[test]
+fn forwarded_frames_hops_and_echoes_have_limits() {
+    let mut a = limited(A, 0, Limits::NONE);
+    let mut config = Config::new(B, 449, 900);
+    config.remember = 1;
+    config.limits =
+        Limits { forward_rate: 10, forward_burst: 2, source_rate: 0, hop_cap: 4, ..config.limits };
+    let mut b = Station::new(&config).unwrap();
+    b.open_port(0, 2002).unwrap();
+    let (mut sent, mut relay, mut passed) = (Vec::new(), Vec::new(), Vec::new());
+    let mut second = Vec::new();
+    for hops in [5, 4, 4, 4] {
+        let request = AreaRequest { max_hops: hops, ..warning() };
+        let frame = a.send_gbc(10, &request, b"x", &mut sent).unwrap();
+        let got = b.receive(10, frame, &mut relay).unwrap();
+        assert!(got.delivered.is_some());
+        passed.push(got.relay.is_some());
+        if passed.len() == 2 {
+            second = frame.to_vec();
+        }
+    }
+    assert_eq!(vec![false, true, true, false], passed);
+    let echo = b.receive(10, &second, &mut relay).unwrap();
+    assert_eq!((None, None, None), (echo.ignored, echo.delivered, echo.relay));
+    let counts = b.counts();
+    assert_eq!((3, 1, 0), (counts.suppressed, counts.repeated, counts.over_rate));
+    assert_eq!((4, 2), (counts.delivered, counts.relayed));
 }
 
 #[test]

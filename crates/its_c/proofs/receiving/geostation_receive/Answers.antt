@@ -14,6 +14,7 @@ invariant_of-s c =
           (λ m. station_step m c.args.now c.hear-said.ensures.step.0) c.args.s.now.held.station
           c.put.new.self.station c.hear-said.ensures.step.3 c.hear-said.ensures.unchanged
           (search rules) (search rules) c.args.s.now.represents;
+      governs = is_there c.put.new.self.value c.hear-said.new.governor (search rules);
     }
 
 pub returns-clause-step : goal.returns-clause-step
