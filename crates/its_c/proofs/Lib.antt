@@ -6,3 +6,4 @@ pub mod Restarts
 pub mod Lookups
 pub mod Messages
 pub mod Unlimited
+pub mod Limits

@@ -33,12 +33,14 @@ pub(crate) fn is_over_rate(
     let station = held.take(alloc);
     let mut limits = governor.take(alloc);
     let is_over = limits.is_over_rate(&station, now);
+    held.put(station);
     if is_over {
         limits.note_refusal();
+        governor.put(limits);
+        return true;
     }
     governor.put(limits);
-    held.put(station);
-    is_over
+    false
 }
 
 /// Takes an own packet out of its bucket, if it was sent.

@@ -1,0 +1,50 @@
+-- The limit on own packets, of a handle's station and governor.
+use Rattle.std.proofs.Common.{◌≡◌, ℕ, ◌^◌, Bool, true, false, ◌&&◌, not, leb, Option, Some, None}
+use Rattle.std.proofs.Common.{refl, sym, ap, ◌∙◌}
+use Rattle.std.proofs.lemmas.Option.{same_Some}
+use Rattle.its_model.specs.Station.{StationModel}
+use Rattle.its_station.specs.State.{StationState}
+use Rattle.its_governor.specs.declared.bucket.Bucket.{Bucket}
+use Rattle.its_governor.specs.declared.governor.Governor.{Governor}
+use Rattle.its_governor.specs.Governing.{is_over_rate, room_in, after_refusal}
+use Rattle.its_c.specs.Open.{HoldsModel}
+use Rattle.its_c.proofs.Opens.{held_model}
+
+-- a pointer holds one governor
+pub same_governor : (value : Option Governor) (h g : Governor) → value ≡ Some h → value ≡ Some g
+    → h ≡ g
+same_governor value h g had has = same_Some h g (sym had ∙ has)
+
+-- the test by the station's clock is that by the model's
+pub over_is : (held : Option StationState) (value : Option Governor) (st : StationState)
+    (h : Governor) (now : ℕ) (result : Bool)
+    → held ≡ Some st → value ≡ Some h → result ≡ is_over_rate h st.clock now
+    → (m : StationModel) (g : Governor) → HoldsModel held m → value ≡ Some g
+    → result ≡ is_over_rate g m.clock now
+over_is held value st h now result was had is m g holds has =
+    let rep = held_model held st m was holds in
+    is
+    ∙ ap (λ (x : Governor). is_over_rate x st.clock now) (same_governor value h g had has)
+    ∙ ap (λ (c : ℕ). is_over_rate g c now) (sym (ap (λ (s : StationModel). s.clock) rep.fields))
+
+and_false : (a b : Bool) → (a && b && false) ≡ false
+and_false true true = refl
+and_false true false = refl
+and_false false true = refl
+and_false false false = refl
+
+-- no packet is over a rate that isn't there
+pub over_without : (value : Option Governor) (h g : Governor) (clock now : ℕ) (result : Bool)
+    → value ≡ Some h → result ≡ is_over_rate h clock now → value ≡ Some g → g.own ≡ None
+    → result ≡ false
+over_without value h g clock now result had is has none =
+    is
+    ∙ ap (λ (x : Governor). is_over_rate x clock now) (same_governor value h g had has)
+    ∙ ap (λ (o : Option Bucket). leb clock now && leb now (2 ^ 62) && not (room_in o now)) none
+    ∙ and_false (leb clock now) (leb now (2 ^ 62))
+
+-- what is said of the governor that was taken out, of any that was there
+pub of_governor : (value after : Option Governor) (h : Governor) (f : Governor → Governor)
+    → value ≡ Some h → after ≡ Some (f h) → (g : Governor) → value ≡ Some g → after ≡ Some (f g)
+of_governor value after h f had is g has =
+    is ∙ ap (λ (x : Governor). Some (f x)) (same_governor value h g had has)
