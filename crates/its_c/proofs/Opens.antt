@@ -89,4 +89,4 @@ stays_asked said old new c d Tells held after tells same was now opened =
 
 -- what holds a governor still does
 pub is_there : {A : Type 0} (o : Option A) (x : A) → o ≡ Some x → IsSome o
-is_there o x is = subst (λ (p : Option A). IsSome p) (sym is) refl
+is_there {A = A} o x is = subst (λ (p : Option A). IsSome p) (sym is) refl
