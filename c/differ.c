@@ -1,8 +1,8 @@
-/* The same random calls on each machine: differ CALLS [SEED] prints a checksum of all results after
- * each 1000 calls. It judges no result. Compare what two machines print.
+/* Makes the same random calls on each machine: differ CALLS [SEED] prints a checksum of all results
+ * after each 1000 calls. It judges no result. Compare the output of two machines.
  *
  * Some calls leave other bits above each small argument, as the calling convention of ARM allows.
- * With `clean` as third argument they don't: the checksums have to be the same. */
+ * With `clean` as third argument they don't. The checksums have to be the same. */
 #define _GNU_SOURCE
 #include "geostation.h"
 #include <inttypes.h>
@@ -47,12 +47,13 @@ static uint64_t drawn64(void) {
     return drawing * UINT64_C(2685821657736338717);
 }
 
-/* Each draw is a statement of its own: C leaves open in which order arguments are evaluated. */
+/* Each random number is drawn in its own statement: C does not fix the order in which arguments
+ * are evaluated. */
 static uint32_t drawn(uint32_t below) {
     return (uint32_t)((drawn64() >> 32) * below >> 32);
 }
 
-/* A value of so many bits, with other bits above it. */
+/* A value of a given number of bits, with other bits above it. */
 static uint64_t dirty(uint64_t value, int bits) {
     const uint64_t low = value & ((UINT64_C(1) << bits) - 1);
     dirt = dirt * UINT64_C(6364136223846793005) + 1;
@@ -195,7 +196,7 @@ static size_t write_area_line(const char *id) {
                       n[8], n[9], hex);
 }
 
-/* Writes a line of JSON that asks for a call, often with a key of a wrong value. */
+/* Writes a JSON request for a call, often with a wrong value. */
 static size_t write_good_line(void) {
     static char hex[2 * sizeof frame + 1];
     const char *id = drawn_id();
@@ -236,7 +237,7 @@ static size_t write_good_line(void) {
     }
 }
 
-/* The same, sometimes with damaged octets or cut short. */
+/* Writes a JSON request, sometimes damaged or cut short. */
 static size_t write_line(void) {
     size_t length = write_good_line();
     if (drawn(6) == 0) {

@@ -1,9 +1,10 @@
-/* A road-side unit over UDP on the loopback: one datagram is one frame. It beacons, warns of a
- * place once, relays, and prints what is delivered; after the given seconds it ends.
+/* A road-side unit over UDP on the loopback interface: one datagram is one frame. It sends beacons
+ * and one warning, forwards packets, and prints the payloads that are delivered. It ends after the
+ * given number of seconds (default 10).
  *
  *     example PORT PEER_PORT NUMBER [SECONDS]
  *
- * Two of them: `example 7001 7002 1 5 & example 7002 7001 2 5`. */
+ * Start two of them: `example 7001 7002 1 5 & example 7002 7001 2 5`. */
 #define _POSIX_C_SOURCE 200809L
 #include "geostation.h"
 #include <arpa/inet.h>
@@ -39,7 +40,8 @@ static void put_on_air(int link, const struct sockaddr_in *peer, const uint8_t *
     }
 }
 
-/* A number that differs from one start to the next; a unit in the field asks its system for it. */
+/* A random number that differs from one start to the next. A unit in the field should use a random
+ * source of its system. */
 static uint32_t drawn(void) {
     static uint64_t state;
     if (state == 0) {
@@ -51,15 +53,15 @@ static uint32_t drawn(void) {
     return (uint32_t)(state >> 33);
 }
 
-/* All stations that received a frame to all would forward it at the same time, and their frames
- * collide on the air: each waits for a random time first. A unit with much traffic keeps such
- * frames in a queue meanwhile, as c/link/forwards.c does, and sends its own at once. */
+/* All stations that received a broadcast frame would forward it at the same time, and their frames
+ * would collide. So each waits for a random time first. A unit with much traffic keeps such frames
+ * in a queue, as c/link/forwards.c does, and sends its own frames at once. */
 static void wait_to_forward(void) {
     const struct timespec spread = { .tv_sec = 0, .tv_nsec = (long)(drawn() % 2000) * 1000 };
     nanosleep(&spread, NULL);
 }
 
-/* The jitter of a beacon: drawn once for each. */
+/* The jitter of a beacon: a new one for each beacon. */
 static uint16_t drawn_jitter(void) {
     return (uint16_t)(drawn() % (GEOSTATION_JITTER_MAX + 1));
 }
@@ -69,8 +71,8 @@ static int fail(const char *what, int status) {
     return 1;
 }
 
-/* Reads one datagram and does what the station says. A frame that an Ethernet filled up with zeros
- * is taken too. */
+/* Receives one datagram, passes it to the station, and acts on the result. Frames with Ethernet
+ * padding are received too. */
 static void hear(struct geostation *s, int link, const struct sockaddr_in *peer) {
     uint8_t got[GEOSTATION_FRAME_MAX + 1];
     struct geostation_reception r;
@@ -80,7 +82,7 @@ static void hear(struct geostation *s, int link, const struct sockaddr_in *peer)
     }
     int status = geostation_receive(s, now_ms(), got, (size_t)n, &r, frame, sizeof frame);
     if (status == GEOSTATION_BAD_FRAME) {
-        printf("no frame: %s\n", geostation_fault_text(r.fault, r.fault_kind));
+        printf("bad frame: %s\n", geostation_fault_text(r.fault, r.fault_kind));
     } else if (status != GEOSTATION_OK) {
         printf("refused: %s\n", geostation_status_text(status));
     } else if (r.delivered) {
@@ -92,7 +94,7 @@ static void hear(struct geostation *s, int link, const struct sockaddr_in *peer)
     }
 }
 
-/* Asleep until a moment, the end, or a frame that comes, which is taken. */
+/* Sleeps until a time, the end, or the next frame, which is received. */
 static void hear_until(struct geostation *s, int link, const struct sockaddr_in *peer,
                        uint64_t moment, uint64_t end) {
     uint64_t next = moment < end ? moment : end, now = now_ms();
@@ -114,8 +116,8 @@ int main(int argc, char **argv) {
         return 1;
     }
 
-    /* a road-side unit (station type 15) at its place, which isn't mobile, with room for 64
-     * neighbours; others still remember the numbers of a unit that was started anew */
+    /* A road-side unit (station type 15) that does not move. Other stations remember its old
+     * sequence numbers after a restart, so the first one is random. */
     struct geostation *s = NULL;
     struct geostation_config config;
     geostation_config_init(&config);
@@ -147,7 +149,7 @@ int main(int argc, char **argv) {
             hear_until(s, link, &peer, warn_at < beacon_at ? warn_at : beacon_at, end);
             continue;
         }
-        /* its place is handed in before each packet of its own: its time stamp is that moment */
+        /* Set the position before each packet of its own: the packet has its time stamp. */
         status = geostation_move(s, now, 514776500, -10000, 1, 0, 0);
         if (status != GEOSTATION_OK) {
             return fail("move", status);
@@ -169,7 +171,7 @@ int main(int argc, char **argv) {
         if (n != 0) {
             jitter = drawn_jitter();
         }
-        /* asked anew only here, after what the unit may have sent: not after frames that came */
+        /* Only here, after the unit may have sent a packet: not after received frames. */
         beacon_at = geostation_beacon_at(s, jitter);
     }
     geostation_free(s);

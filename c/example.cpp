@@ -1,5 +1,5 @@
-// Two stations of C++: the first sends to an area, the second delivers it, relays, and knows where
-// the first is.
+// Two stations in C++. The first one sends to an area. The second one delivers the payload,
+// forwards the packet, and knows where the first one is.
 #include "geostation.hpp"
 
 #include <cstdio>
@@ -35,14 +35,14 @@ int main() {
         std::fprintf(stderr, "%s\n", geostation::text(sent));
         return 1;
     }
-    // On a radio `relay` is sent after a random wait below 2 ms, so that relays don't collide.
+    // On a radio, send `relay` after a random wait below 2 ms: otherwise forwarded frames collide.
     const auto got = b.receive(11, Octets{frame.octets.data(), frame.size}, relay);
-    std::printf("%.*s at port %u, %zu octets go on\n", static_cast<int>(got.payload.size),
+    std::printf("%.*s at port %u, %zu bytes to forward\n", static_cast<int>(got.payload.size),
                 reinterpret_cast<const char *>(got.payload.data), unsigned{got.reception.port},
                 relay.size);
     const auto packet = geostation::read_frame(Octets{frame.octets.data(), frame.size}).packet;
     const auto where = b.look_up(11, 0x1400020000000001);
-    std::printf("%u hops left of a packet from latitude %d\n", unsigned{packet.hops_left},
+    std::printf("hop limit %u, from latitude %d\n", unsigned{packet.hops_left},
                 where ? where->latitude : 0);
     return got.status == Status::Ok && got.payload.size == 2 && relay.size == 76 ? 0 : 1;
 }

@@ -1,16 +1,60 @@
-/* geostation.h: an ITS station's GeoNetworking and BTP-B (EN 302 636-4-1, EN 302 636-5-1) for C.
+/**
+ * @file geostation.h
+ * A GeoNetworking and BTP-B station (EN 302 636-4-1, EN 302 636-5-1) for C11 and C++.
  *
- * Link with libgeostation.a. The library has no global state, does no input or output and reads no
- * clock: octets, positions and moments come in; payloads and frames to send go out. Moments `now`
- * are in milliseconds and never go back; coordinates are in 0.1 microdegree. A call that doesn't
- * return GEOSTATION_OK changed nothing of the station.
+ * Link with `libgeostation.a` or `libgeostation.so.3`. The library has no global state, does no
+ * input or output, and reads no clock. You pass in the time, the position and the frames that you
+ * received. You get payloads, and frames to send.
  *
- * The caller's duties, which the library can't check: no pointer is NULL but where that is said,
- * and of octets that a call reads (a payload, a frame, a line) where their length is 0; objects that
- * one call is given don't overlap, so that `frame` and `relay` are two buffers; a buffer has as
- * many octets as its length says, at most PTRDIFF_MAX; what a call writes to is aligned as its type
- * asks; a handle comes from geostation_new or geostation_new_from_config, isn't used after
- * geostation_free, and is in one call at a time: a call with a const handle is a call too.
+ * An example, in which `send` and `use` are functions of yours:
+ *
+ * @code
+ * geostation_handle *s;
+ * if (geostation_new(&s, 0x1400020000000001, 514776500, -10000, 64, 8) != GEOSTATION_OK)
+ *     return 1;
+ * int status = geostation_open_port(s, now, 2002);
+ *
+ * // To send a payload to all stations within 200 m of a point:
+ * const struct geostation_area_request area = {
+ *     .port = 2002, .lifetime = 0x1a, .max_hops = 5, .shape = GEOSTATION_CIRCLE,
+ *     .latitude = 514776500, .longitude = -10000, .a = 200,
+ * };
+ * uint8_t frame[GEOSTATION_FRAME_MAX];
+ * size_t length;
+ * status = geostation_send_gbc(s, now, &area, payload, payload_length,
+ *                              frame, sizeof frame, &length);
+ * if (status == GEOSTATION_OK)
+ *     send(frame, length);
+ * else
+ *     puts(geostation_status_text(status));
+ *
+ * // For each frame that you received:
+ * struct geostation_reception r;
+ * uint8_t relay[GEOSTATION_FRAME_MAX];
+ * status = geostation_receive(s, now, got, got_length, &r, relay, sizeof relay);
+ * if (status == GEOSTATION_OK && r.delivered)
+ *     use(r.port, got + r.payload_start, r.payload_length);
+ * if (r.relay_length != 0)
+ *     send(relay, r.relay_length);      // after a random wait: see geostation_receive
+ *
+ * geostation_free(s);
+ * @endcode
+ *
+ * Rules for all functions:
+ *
+ * - Times (`now`) are in milliseconds and never go back. Coordinates are in 0.1 microdegree.
+ * - A function that returns anything but #GEOSTATION_OK leaves the station unchanged.
+ * - Pointers must not be NULL unless the function says so. An input buffer (payload, frame, line)
+ *   may be NULL if its length is 0.
+ * - Buffers and structs that you pass to one call must not overlap. `frame` and `relay` are two
+ *   buffers.
+ * - A buffer must be as long as you say, and at most `PTRDIFF_MAX` bytes. What a function writes to
+ *   must be aligned as its type requires.
+ * - A handle comes from geostation_new() or geostation_new_from_config(). Do not use it
+ *   after geostation_free(). Do not use it in two calls at once; calls with a const handle count
+ *   too.
+ *
+ * The library cannot check the last four rules.
  */
 #ifndef GEOSTATION_H
 #define GEOSTATION_H
@@ -18,468 +62,902 @@
 #include <stddef.h>
 #include <stdint.h>
 
+#if defined(SIZE_MAX) && SIZE_MAX < 0xffffffffffffffff
+#error "geostation needs a 64-bit target: all lengths in its contracts have 64 bits"
+#endif
+
 #ifdef __cplusplus
 extern "C" {
 #endif
 
-/* The library's version, and that of its layouts and calls. A program that loads the library, or
- * that copies these layouts, compares geostation_abi() with GEOSTATION_ABI first. */
+/**
+ * @defgroup version Version
+ * A program that loads the library at run time, or that has its own copy of the structs, must
+ * compare geostation_abi() with #GEOSTATION_ABI before any other call.
+ * @{
+ */
+
+/** The version of the library. */
 #define GEOSTATION_VERSION "0.1.0"
+/** The version of the structs and functions in this header. */
 #define GEOSTATION_ABI 3
 
-/* The longest frame, in octets: a call that may write one wants a buffer with room for it. */
+/** @} */
+
+/**
+ * @defgroup limits Limits
+ * @{
+ */
+
+/** The longest frame, in bytes. A buffer to which a frame is written needs this size. */
 #define GEOSTATION_FRAME_MAX 1468
-/* The longest line of geostation_handle_json, in octets: a longer one can't be read, and its
- * answer says so. */
+/** The longest line that geostation_handle_json() reads, in bytes. A longer one is malformed. */
 #define GEOSTATION_LINE_MAX 65536
-/* The longest answer of geostation_handle_json, in octets: it wants a buffer with room for it. */
+/** The longest answer of geostation_handle_json(), in bytes. A buffer for it needs this size. */
 #define GEOSTATION_ANSWER_MAX 16384
-/* The longest payload of a request, in octets. */
+/** The longest payload that can be sent, in bytes. */
 #define GEOSTATION_PAYLOAD_MAX 1394
-/* The greatest jitter of a beacon, in ms. */
+/** The greatest jitter of a beacon, in ms. */
 #define GEOSTATION_JITTER_MAX 750
 /** The greatest rate and the greatest burst of a limit, in frames per second and in frames. */
 #define GEOSTATION_RATE_MAX 1000000
-/* The last moment of a call, in ms. */
+/** The latest time that a call accepts, in ms. */
 #define GEOSTATION_LAST_MOMENT (UINT64_C(1) << 62)
 
-/* What a call returns; the code is what logs show. */
+/** @} */
+
+/**
+ * @defgroup types Constants and structs
+ * @{
+ */
+
+/** The status that a function returns. The code in parentheses is the one that logs show. */
 enum geostation_status {
+    /** The call succeeded. */
     GEOSTATION_OK = 0,
-    GEOSTATION_MOMENT_EARLIER = 1,    /* S1: the moment is before the last one */
-    GEOSTATION_MOMENT_TOO_LATE = 2,   /* S2: the moment is over 2^62 ms */
-    GEOSTATION_BAD_FRAME = 3,         /* S3: the octets are no frame */
-    GEOSTATION_TABLE_FULL = 4,        /* S4: no room for the packet's source */
-    GEOSTATION_NO_MEMORY = 5,         /* S5: an allocation failed */
-    GEOSTATION_PAYLOAD_TOO_LONG = 6,  /* S6: over GEOSTATION_PAYLOAD_MAX octets */
-    GEOSTATION_HOP_LIMIT_ZERO = 7,    /* S7: the packet would have no hop */
-    GEOSTATION_PORT_ALREADY_OPEN = 8, /* S8 B2 */
-    GEOSTATION_JITTER_RANGE = 9,      /* S9: over 750 ms */
-    GEOSTATION_PORTS_FULL = 10,       /* S8 B3: 64 ports are open */
-    GEOSTATION_PORT_NOT_OPEN = 11,    /* S8 B4 */
-    GEOSTATION_BAD_ARGUMENT = 20,     /* an argument is out of its range */
-    GEOSTATION_NO_ROOM = 21,          /* a buffer is too short for the longest frame or answer */
-    GEOSTATION_OVER_RATE = 22         /* own packets are over their rate */
+    /** (S1) `now` is earlier than in an earlier call. */
+    GEOSTATION_MOMENT_EARLIER = 1,
+    /** (S2) `now` is later than #GEOSTATION_LAST_MOMENT. */
+    GEOSTATION_MOMENT_TOO_LATE = 2,
+    /** (S3) The bytes are not a valid frame. The `fault` fields say why. */
+    GEOSTATION_BAD_FRAME = 3,
+    /** (S4) The packet's source is new, and the location table is full. */
+    GEOSTATION_TABLE_FULL = 4,
+    /** (S5) An allocation failed. */
+    GEOSTATION_NO_MEMORY = 5,
+    /** (S6) The payload is longer than #GEOSTATION_PAYLOAD_MAX. */
+    GEOSTATION_PAYLOAD_TOO_LONG = 6,
+    /** (S7) The hop limit is 0. */
+    GEOSTATION_HOP_LIMIT_ZERO = 7,
+    /** (S8 B2) The port is already open. */
+    GEOSTATION_PORT_ALREADY_OPEN = 8,
+    /** (S9) The jitter is greater than #GEOSTATION_JITTER_MAX. */
+    GEOSTATION_JITTER_RANGE = 9,
+    /** (S8 B3) 64 ports are open; no other can be opened. */
+    GEOSTATION_PORTS_FULL = 10,
+    /** (S8 B4) The port is not open. */
+    GEOSTATION_PORT_NOT_OPEN = 11,
+    /** An argument is out of its range. It has no code. */
+    GEOSTATION_BAD_ARGUMENT = 20,
+    /** A buffer is smaller than #GEOSTATION_FRAME_MAX or #GEOSTATION_ANSWER_MAX. It has no code. */
+    GEOSTATION_NO_ROOM = 21,
+    /** Own packets are over their rate (`own_rate` and `own_burst`). It has no code. */
+    GEOSTATION_OVER_RATE = 22
 };
 
-/* Why a frame is ignored. */
+/** Why a frame was ignored. */
 enum geostation_why {
-    GEOSTATION_NOT_FOR_ME = 1,      /* it is to another link address */
-    GEOSTATION_OWN_SOURCE = 2,      /* its packet is the station's own */
-    GEOSTATION_SENDER_MISMATCH = 3, /* a BEACON or SHB not from its source's link address */
-    GEOSTATION_DUPLICATE = 4        /* a GBC or GAC whose sequence number is remembered */
+    /** The frame is addressed to another link address. */
+    GEOSTATION_NOT_FOR_ME = 1,
+    /** The station itself is the source of the packet. */
+    GEOSTATION_OWN_SOURCE = 2,
+    /** A BEACON or SHB came from another link address than its source's. */
+    GEOSTATION_SENDER_MISMATCH = 3,
+    /** The sequence number of a GBC or GAC is in the duplicate packet list of its source. */
+    GEOSTATION_DUPLICATE = 4
 };
 
-enum geostation_shape { GEOSTATION_CIRCLE = 0, GEOSTATION_RECTANGLE = 1, GEOSTATION_ELLIPSE = 2 };
+/** The shape of an area (EN 302 931). */
+enum geostation_shape {
+    /** A circle. */
+    GEOSTATION_CIRCLE = 0,
+    /** A rectangle. */
+    GEOSTATION_RECTANGLE = 1,
+    /** An ellipse. */
+    GEOSTATION_ELLIPSE = 2
+};
 
-/* The kinds of packet. */
+/** The type of a packet. */
 enum geostation_kind {
+    /** A beacon: it carries the position of its source, and no payload. */
     GEOSTATION_BEACON = 1,
-    GEOSTATION_SHB = 2, /* a single-hop broadcast, to all in reach */
-    GEOSTATION_GBC = 3, /* a geobroadcast, to all stations in an area */
-    GEOSTATION_GAC = 4  /* a geoanycast, to any one station in an area */
+    /** A single-hop broadcast, for all stations in radio range. */
+    GEOSTATION_SHB = 2,
+    /** A geobroadcast, for all stations in an area. */
+    GEOSTATION_GBC = 3,
+    /** A geoanycast, for any one station in an area. */
+    GEOSTATION_GAC = 4
 };
 
-/* A station: what is in it is the library's own. C++ has the short name for a namespace, that of
- * geostation.hpp, and calls the struct geostation_handle; so may C. */
+/**
+ * @typedef geostation_handle
+ * An opaque station handle.
+ *
+ * In C, `struct geostation` is the same type. In C++, `geostation` is the namespace of
+ * geostation.hpp, so the struct has this name there.
+ */
 #ifdef __cplusplus
 struct geostation_handle;
 #else
 typedef struct geostation geostation_handle;
 #endif
 
-/* What became of a frame. Where the status isn't 0 all is 0, but for the fault of a bad frame. */
+/**
+ * The result of geostation_receive().
+ *
+ * If the status is not #GEOSTATION_OK, all fields are 0, except the fault fields in case of
+ * #GEOSTATION_BAD_FRAME. The last five fields are set for each frame with status #GEOSTATION_OK,
+ * whether it was ignored or not.
+ */
 struct geostation_reception {
-    uint32_t ignored;      /* an enum geostation_why, or 0 where the packet is accepted */
-    uint32_t delivered;    /* 1 where a payload is delivered, else 0 */
-    uint16_t port;         /* its destination port (BTP-B) */
-    uint16_t info;         /* the destination port info */
-    size_t payload_start;  /* where in the frame that came the payload begins */
-    size_t payload_length; /* how many octets it has */
-    size_t relay_length;   /* how many octets of the relay buffer are to be sent, or 0 */
-    uint32_t fault;        /* of GEOSTATION_BAD_FRAME: 1 to 5, for L1 to L5 */
-    uint32_t fault_kind;   /* at 5 (L5): 1 to 12, for G1 to G12 */
-    size_t fault_at;       /* at 5 (L5): the octet of the packet at which the field begins */
-    /* Of each frame for which the status is 0, ignored or not: */
-    uint64_t source;       /* the address of the station that made the packet */
-    uint32_t kind;         /* an enum geostation_kind */
-    uint16_t number;       /* of a GBC or GAC: its sequence number */
-    uint8_t traffic_class; /* its octet, which the relay has too */
-    uint8_t hops_left;     /* RHL, from 1 */
+    uint32_t ignored;      /**< why the frame was ignored (enum geostation_why), or 0 */
+    uint32_t delivered;    /**< 1 if a payload is delivered, otherwise 0 */
+    uint16_t port;         /**< destination port of the payload (BTP-B) */
+    uint16_t info;         /**< destination port info of the payload */
+    size_t payload_start;  /**< offset of the payload in the received frame */
+    size_t payload_length; /**< length of the payload, in bytes */
+    size_t relay_length;   /**< number of bytes to send from the relay buffer, or 0 */
+    uint32_t fault;        /**< #GEOSTATION_BAD_FRAME: 1 to 5, for L1 to L5 */
+    uint32_t fault_kind;   /**< if `fault` is 5: 1 to 12, for G1 to G12 */
+    size_t fault_at;       /**< if `fault` is 5: offset of the faulty field in the packet */
+    uint64_t source;       /**< GN address of the packet's source */
+    uint32_t kind;         /**< type of the packet (enum geostation_kind) */
+    uint16_t number;       /**< sequence number of a GBC or GAC, otherwise 0 */
+    uint8_t traffic_class; /**< traffic class byte; the forwarded frame has the same */
+    uint8_t hops_left;     /**< remaining hop limit (RHL), from 1 */
 };
 
-/* What a station is made of: geostation_config_init writes it, then a caller what differs. */
+/** Parameters of a station. Call geostation_config_init(), then change what you need. */
 struct geostation_config {
-    uint64_t size;               /* sizeof(struct geostation_config) */
-    uint64_t address;            /* the station's; 0 */
-    int32_t latitude, longitude; /* in 0.1 microdegree; 0 */
-    uint16_t capacity;           /* room for so many sources, 1 to 4096; 64 */
-    uint16_t remember;           /* sequence numbers of each, 1 to 64; 8 */
-    uint16_t mobile;             /* whether its packets say that it is mobile (0 or not); 1 */
-    uint16_t number;             /* the sequence number of its first packet for an area; 0 */
-    /* Limits on what it sends. A rate is in frames per second, a burst in frames that may go out at
-     * once, both 0 to GEOSTATION_RATE_MAX. There is no limit if the rate or the burst is 0. */
-    uint32_t forward_rate, forward_burst; /* all frames that it forwards; 100, 50 */
-    uint32_t source_rate, source_burst;   /* frames of each source that it forwards; 20, 20 */
-    uint32_t own_rate, own_burst;         /* own packets without beacons; 50, 50 */
-    uint32_t hop_cap; /* packets with more hops left are not forwarded, 0 to 255; 0 is no cap; 10 */
-    uint32_t deliver_once; /* whether a delivered GBC or GAC isn't delivered again (0 or not); 1 */
+    uint64_t size;      /**< sizeof(struct geostation_config), set by geostation_config_init() */
+    uint64_t address;   /**< GN address, not a group address (default 0) */
+    int32_t latitude;   /**< in 0.1 microdegree, -900000000 to 900000000 (default 0) */
+    int32_t longitude;  /**< in 0.1 microdegree, -1800000000 to 1800000000 (default 0) */
+    uint16_t capacity;  /**< size of the location table, 1 to 4096 (default 64) */
+    uint16_t remember;  /**< length of each duplicate packet list, 1 to 64 (default 8) */
+    uint16_t mobile;    /**< 0: the packets say that the station does not move (default 1) */
+    uint16_t number;    /**< sequence number of the first packet for an area (default 0) */
+
+    /* Limits on what is sent. A rate or a burst of 0 turns a limit off. */
+    uint32_t forward_rate;  /**< forwarded frames per second, 0 to 1000000 (default 100) */
+    uint32_t forward_burst; /**< frames forwarded at once, 0 to 1000000 (default 50) */
+    uint32_t source_rate;   /**< forwarded frames per second of each source (default 20) */
+    uint32_t source_burst;  /**< frames of each source forwarded at once (default 20) */
+    uint32_t own_rate;      /**< own packets per second, without beacons (default 50) */
+    uint32_t own_burst;     /**< own packets sent at once (default 50) */
+    uint32_t hop_cap;       /**< greatest RHL that is forwarded, 0 to 255; 0: any (default 10) */
+    uint32_t deliver_once;  /**< 0: a packet for an area may be delivered twice (default 1) */
 };
 
-/* How often each thing happened since the station was made. A count stays at UINT64_MAX. */
+/** Counters of a station since it was created. A counter stops at `UINT64_MAX`. */
 struct geostation_counts {
-    uint64_t received;  /* frames that came, whatever became of them */
-    uint64_t accepted;  /* those whose packet was accepted */
-    uint64_t delivered; /* payloads */
-    uint64_t relayed;   /* frames that were written to a relay buffer */
+    uint64_t received;  /**< frames passed to geostation_receive() */
+    uint64_t accepted;  /**< frames whose packet was accepted */
+    uint64_t delivered; /**< payloads that were delivered */
+    uint64_t relayed;   /**< frames that were written to a relay buffer */
+    /** Ignored frames, by enum geostation_why. */
     struct {
-        uint64_t not_for_me, own_source, sender_mismatch, duplicate;
-    } ignored; /* frames, by an enum geostation_why */
+        uint64_t not_for_me;      /**< #GEOSTATION_NOT_FOR_ME */
+        uint64_t own_source;      /**< #GEOSTATION_OWN_SOURCE */
+        uint64_t sender_mismatch; /**< #GEOSTATION_SENDER_MISMATCH */
+        uint64_t duplicate;       /**< #GEOSTATION_DUPLICATE */
+    } ignored;
+    /** Failed calls, by code. */
     struct {
-        uint64_t moment_earlier, moment_too_late, frame, table_full, no_memory, other;
-    } refused; /* calls, by S1 to S5, and S6 to S9 together */
+        uint64_t moment_earlier;  /**< S1 */
+        uint64_t moment_too_late; /**< S2 */
+        uint64_t frame;           /**< S3 */
+        uint64_t table_full;      /**< S4 */
+        uint64_t no_memory;       /**< S5 */
+        uint64_t other;           /**< S6 to S9 */
+    } refused;
+    /** The station's own packets, by type. */
     struct {
-        uint64_t beacons, single_hop, geobroadcasts, geoanycasts;
-    } sent; /* frames of its own */
-    uint64_t suppressed; /* frames that were not forwarded, for a limit or as an echo */
-    uint64_t repeated;   /* payloads that were not delivered, as they were delivered before */
-    uint64_t over_rate;  /* own packets that were refused by GEOSTATION_OVER_RATE */
+        uint64_t beacons;       /**< BEACON */
+        uint64_t single_hop;    /**< SHB */
+        uint64_t geobroadcasts; /**< GBC */
+        uint64_t geoanycasts;   /**< GAC */
+    } sent;
+    uint64_t suppressed; /**< frames that were not forwarded because of a limit */
+    uint64_t repeated;   /**< payloads that were not delivered because they were delivered before */
+    uint64_t over_rate;  /**< calls that failed with #GEOSTATION_OVER_RATE */
 };
 
-/* A payload for all stations in reach. */
+/** A request for a single-hop broadcast (SHB). */
 struct geostation_shb_request {
-    uint16_t port, info;   /* the destination port (BTP-B) and its info */
-    uint8_t traffic_class; /* the octet of the packet */
+    uint16_t port;         /**< destination port (BTP-B) */
+    uint16_t info;         /**< destination port info */
+    uint8_t traffic_class; /**< traffic class byte of the packet */
 };
 
-/* A payload for the stations in an area. */
+/** A request for a geobroadcast (GBC) or a geoanycast (GAC). */
 struct geostation_area_request {
-    uint16_t port, info;         /* the destination port (BTP-B) and its info */
-    uint8_t traffic_class;       /* the octet of the packet */
-    uint8_t lifetime;            /* the octet of the packet: a multiplier, then a base */
-    uint8_t max_hops;            /* from 1 */
-    uint8_t shape;               /* an enum geostation_shape */
-    int32_t latitude, longitude; /* of the centre, in 0.1 microdegree */
-    uint16_t a, b;               /* metres, from 1; a circle's radius is a, and b isn't read */
-    uint16_t angle;              /* degrees from north, 0 to 359; of a circle it isn't read */
+    uint16_t port;         /**< destination port (BTP-B) */
+    uint16_t info;         /**< destination port info */
+    uint8_t traffic_class; /**< traffic class byte of the packet */
+    uint8_t lifetime;      /**< lifetime byte: 6 bits of multiplier, 2 bits of base; 0x1a is 60 s */
+    uint8_t max_hops;      /**< hop limit, from 1 */
+    uint8_t shape;         /**< shape of the area (enum geostation_shape) */
+    int32_t latitude;      /**< latitude of the centre, in 0.1 microdegree */
+    int32_t longitude;     /**< longitude of the centre, in 0.1 microdegree */
+    uint16_t a;            /**< radius, or distance from the centre along `angle`, in m, from 1 */
+    uint16_t b;            /**< distance from the centre across `angle`; not read for a circle */
+    uint16_t angle;        /**< degrees clockwise from north, 0 to 359; not read for a circle */
 };
 
-/* Where a station is, by its own words: its position vector. */
+/** A position vector: where a station says that it is. */
 struct geostation_vector {
-    uint64_t address;            /* the station's */
-    uint32_t timestamp;          /* the moment of the place, in ms modulo 2^32 */
-    int32_t latitude, longitude; /* in 0.1 microdegree */
-    int16_t speed;               /* in 0.01 m/s, -16384 to 16383, negative backwards */
-    uint16_t heading;            /* in 0.1 degree, clockwise from north */
-    uint8_t accurate;            /* 1 where the place is accurate (PAI), else 0 */
+    uint64_t address;   /**< GN address of the station */
+    uint32_t timestamp; /**< time of the position, in ms modulo 2^32 */
+    int32_t latitude;   /**< in 0.1 microdegree */
+    int32_t longitude;  /**< in 0.1 microdegree */
+    int16_t speed;      /**< in 0.01 m/s, -16384 to 16383; negative means backwards */
+    uint16_t heading;   /**< in 0.1 degree, clockwise from north */
+    uint8_t accurate;   /**< position accuracy indicator (PAI), 0 or 1 */
 };
 
-/* Where a packet is to go. */
+/** The destination area of a packet. */
 struct geostation_area {
-    int32_t latitude, longitude; /* of the centre, in 0.1 microdegree */
-    uint16_t a, b;               /* metres; a circle's radius is a, and its b 0 */
-    uint16_t angle;              /* degrees from north, 0 to 359; of a circle 0 */
-    uint8_t shape;               /* an enum geostation_shape */
+    int32_t latitude;  /**< latitude of the centre, in 0.1 microdegree */
+    int32_t longitude; /**< longitude of the centre, in 0.1 microdegree */
+    uint16_t a;        /**< radius, or distance from the centre along `angle`, in m */
+    uint16_t b;        /**< distance from the centre across `angle`, in m; 0 for a circle */
+    uint16_t angle;    /**< degrees clockwise from north, 0 to 359; 0 for a circle */
+    uint8_t shape;     /**< shape (enum geostation_shape) */
 };
 
-/* What a packet brings to a port. */
+/** The payload of a packet, and its port. */
 struct geostation_message {
-    size_t payload_start;  /* where in the frame the payload begins */
-    size_t payload_length; /* how many octets it has */
-    uint16_t port, info;   /* the destination port (BTP-B) and its info */
+    size_t payload_start;  /**< offset of the payload in the frame */
+    size_t payload_length; /**< length of the payload, in bytes */
+    uint16_t port;         /**< destination port (BTP-B) */
+    uint16_t info;         /**< destination port info */
 };
 
-/* All fields of a frame. Where the octets are no frame all is 0 but the fault. */
+/** All fields of a frame. If the bytes are not a valid frame, all is 0 except the fault fields. */
 struct geostation_packet {
-    uint8_t target[6], source[6];      /* the link addresses to which and from which it goes */
-    uint32_t kind;                     /* an enum geostation_kind */
-    struct geostation_vector vector;   /* the source's */
-    uint8_t hops_left, max_hops;       /* RHL and MHL, from 1 */
-    uint8_t lifetime;                  /* its octet: a multiplier, then a base */
-    uint8_t traffic_class;             /* its octet */
-    uint8_t mobile;                    /* 1 where the source is mobile, else 0 */
-    uint8_t media[4];                  /* of an SHB: the media-dependent data */
-    uint16_t number;                   /* of a GBC or GAC: its sequence number */
-    struct geostation_area area;       /* of a GBC or GAC */
-    struct geostation_message message; /* of all but a BEACON */
-    uint32_t fault;                    /* of GEOSTATION_BAD_FRAME: 1 to 5, for L1 to L5 */
-    uint32_t fault_kind;               /* at 5 (L5): 1 to 12, for G1 to G12 */
-    size_t fault_at;                   /* at 5 (L5): the octet of the packet */
+    uint8_t target[6];                 /**< destination link address */
+    uint8_t source[6];                 /**< source link address */
+    uint32_t kind;                     /**< type of the packet (enum geostation_kind) */
+    struct geostation_vector vector;   /**< position vector of the source */
+    uint8_t hops_left;                 /**< remaining hop limit (RHL), from 1 */
+    uint8_t max_hops;                  /**< maximum hop limit (MHL), from 1 */
+    uint8_t lifetime;                  /**< lifetime byte: 6 bits of multiplier, 2 bits of base */
+    uint8_t traffic_class;             /**< traffic class byte */
+    uint8_t mobile;                    /**< 1 if the source is mobile, otherwise 0 */
+    uint8_t media[4];                  /**< SHB: the media-dependent data */
+    uint16_t number;                   /**< GBC, GAC: sequence number */
+    struct geostation_area area;       /**< GBC, GAC: destination area */
+    struct geostation_message message; /**< SHB, GBC, GAC: payload and port */
+    uint32_t fault;                    /**< #GEOSTATION_BAD_FRAME: 1 to 5, for L1 to L5 */
+    uint32_t fault_kind;               /**< if `fault` is 5: 1 to 12, for G1 to G12 */
+    size_t fault_at;                   /**< if `fault` is 5: offset of the faulty field */
 };
 
-/* The library's structs have the same layout: fields in this order, each at its own alignment, for
- * pointers of 64 and of 32 bits. */
+/** @} */
+
+/**
+ * @addtogroup version
+ * @{
+ */
+
+/**
+ * Returns the #GEOSTATION_ABI with which the library was built.
+ * @return the version of its structs and functions
+ */
+uint32_t geostation_abi(void);
+
+/**
+ * Returns the #GEOSTATION_VERSION of the library.
+ * @return a string that lives as long as the program
+ */
+const char *geostation_version(void);
+
+/** @} */
+
+/**
+ * @defgroup life Creation and release
+ * @{
+ */
+
+/**
+ * Creates a station.
+ *
+ * The station is mobile, its first packet for an area has sequence number 0, and its limits are the
+ * defaults of geostation_config. Use geostation_new_from_config() for other values.
+ *
+ * @param[out] out   the handle, or NULL if the status is not #GEOSTATION_OK
+ * @param address    GN address, not a group address
+ * @param latitude   in 0.1 microdegree, -900000000 to 900000000
+ * @param longitude  in 0.1 microdegree, -1800000000 to 1800000000
+ * @param capacity   size of the location table, 1 to 4096
+ * @param remember   length of each duplicate packet list, 1 to 64
+ * @return #GEOSTATION_OK, #GEOSTATION_BAD_ARGUMENT or #GEOSTATION_NO_MEMORY
+ */
+int geostation_new(geostation_handle **out, uint64_t address, int32_t latitude, int32_t longitude,
+                   uint16_t capacity, uint8_t remember);
+
+/**
+ * Fills a struct with the defaults, which are listed at its fields.
+ * @param[out] config  the struct
+ */
+void geostation_config_init(struct geostation_config *config);
+
+/**
+ * Creates a station with the parameters in a struct.
+ *
+ * For a road-side unit, set `mobile` to 0. Choose `number` at random at each start: other stations
+ * remember the sequence numbers from before a restart for 20 s.
+ *
+ * @param[out] out  the handle, or NULL if the status is not #GEOSTATION_OK
+ * @param config    the parameters, initialised with geostation_config_init()
+ * @return #GEOSTATION_OK, #GEOSTATION_BAD_ARGUMENT (also if `size` is wrong) or
+ *         #GEOSTATION_NO_MEMORY
+ */
+int geostation_new_from_config(geostation_handle **out, const struct geostation_config *config);
+/** Deprecated: the former name of geostation_new_from_config(). */
+#define geostation_new_with geostation_new_from_config
+
+/**
+ * Frees a station.
+ * @param s  the handle; NULL does nothing
+ */
+void geostation_free(geostation_handle *s);
+
+/** @} */
+
+/**
+ * @defgroup state Position and ports
+ * @{
+ */
+
+/**
+ * Sets the position of the station. Its time stamp is `now`.
+ *
+ * @param s          the station
+ * @param now        time, in ms
+ * @param latitude   in 0.1 microdegree, -900000000 to 900000000
+ * @param longitude  in 0.1 microdegree, -1800000000 to 1800000000
+ * @param accurate   position accuracy indicator (PAI): 0 or not 0
+ * @param speed      in 0.01 m/s, -16384 to 16383; negative means backwards
+ * @param heading    in 0.1 degree, clockwise from north
+ * @return #GEOSTATION_OK, #GEOSTATION_MOMENT_EARLIER, #GEOSTATION_MOMENT_TOO_LATE or
+ *         #GEOSTATION_BAD_ARGUMENT
+ */
+int geostation_move(geostation_handle *s, uint64_t now, int32_t latitude, int32_t longitude,
+                    uint8_t accurate, int16_t speed, uint16_t heading);
+
+/**
+ * Sets the position of the station, with the time stamp of the fix.
+ *
+ * Use it for a GNSS receiver, which reports a position that is already slightly old.
+ *
+ * @param s          the station
+ * @param now        time, in ms
+ * @param timestamp  time of the fix, in ms since 2004-01-01 TAI, modulo 2^32
+ * @param latitude   in 0.1 microdegree, -900000000 to 900000000
+ * @param longitude  in 0.1 microdegree, -1800000000 to 1800000000
+ * @param accurate   position accuracy indicator (PAI): 0 or not 0
+ * @param speed      in 0.01 m/s, -16384 to 16383; negative means backwards
+ * @param heading    in 0.1 degree, clockwise from north
+ * @return #GEOSTATION_OK, #GEOSTATION_MOMENT_EARLIER, #GEOSTATION_MOMENT_TOO_LATE or
+ *         #GEOSTATION_BAD_ARGUMENT
+ */
+int geostation_move_at(geostation_handle *s, uint64_t now, uint32_t timestamp,
+                       int32_t latitude, int32_t longitude, uint8_t accurate, int16_t speed,
+                       uint16_t heading);
+
+/**
+ * Opens a port. Payloads are delivered to open ports only.
+ *
+ * @param s     the station
+ * @param now   time, in ms
+ * @param port  destination port (BTP-B)
+ * @return #GEOSTATION_OK, #GEOSTATION_MOMENT_EARLIER, #GEOSTATION_MOMENT_TOO_LATE,
+ *         #GEOSTATION_PORT_ALREADY_OPEN or #GEOSTATION_PORTS_FULL
+ */
+int geostation_open_port(geostation_handle *s, uint64_t now, uint16_t port);
+
+/**
+ * Closes a port.
+ *
+ * @param s     the station
+ * @param now   time, in ms
+ * @param port  destination port (BTP-B)
+ * @return #GEOSTATION_OK, #GEOSTATION_MOMENT_EARLIER, #GEOSTATION_MOMENT_TOO_LATE or
+ *         #GEOSTATION_PORT_NOT_OPEN
+ */
+int geostation_close_port(geostation_handle *s, uint64_t now, uint16_t port);
+
+/**
+ * Restarts the station: empties its location table and closes its ports.
+ *
+ * Its address, its position and its counters stay. Its next beacon is due at once (jitter 0).
+ *
+ * @param s       the station
+ * @param now     time, in ms
+ * @param number  sequence number of the next packet for an area
+ * @return #GEOSTATION_OK, #GEOSTATION_MOMENT_EARLIER or #GEOSTATION_MOMENT_TOO_LATE
+ */
+int geostation_restart(geostation_handle *s, uint64_t now, uint16_t number);
+
+/** @} */
+
+/**
+ * @defgroup sending Sending
+ * Each of these functions writes a frame, which you send. If the status is not #GEOSTATION_OK,
+ * `*length` is 0.
+ * @{
+ */
+
+/**
+ * Writes a beacon frame if one is due.
+ *
+ * A beacon is due 3000 ms plus `jitter` after the last packet that the station itself sent. The
+ * first beacon is due at time `jitter`, the first one after geostation_restart() `jitter` ms later.
+ * geostation_beacon_at() returns the time at which to call this function.
+ *
+ * @param s            the station
+ * @param now          time, in ms
+ * @param jitter       0 to #GEOSTATION_JITTER_MAX, in ms, chosen at random for each beacon
+ * @param[out] frame   the frame
+ * @param room         size of `frame`, at least #GEOSTATION_FRAME_MAX
+ * @param[out] length  length of the frame, or 0 if no beacon is due
+ * @return #GEOSTATION_OK, #GEOSTATION_MOMENT_EARLIER, #GEOSTATION_MOMENT_TOO_LATE,
+ *         #GEOSTATION_NO_MEMORY, #GEOSTATION_JITTER_RANGE or #GEOSTATION_NO_ROOM
+ */
+int geostation_tick(geostation_handle *s, uint64_t now, uint16_t jitter,
+                    uint8_t *frame, size_t room, size_t *length);
+
+/**
+ * Writes the frame of a single-hop broadcast (SHB), for all stations in radio range.
+ *
+ * Its lifetime is 60 s (0x1a).
+ *
+ * @param s               the station
+ * @param now             time, in ms
+ * @param request         port and traffic class
+ * @param payload         the payload; may be NULL if `payload_length` is 0
+ * @param payload_length  0 to #GEOSTATION_PAYLOAD_MAX
+ * @param[out] frame      the frame
+ * @param room            size of `frame`, at least #GEOSTATION_FRAME_MAX
+ * @param[out] length     length of the frame
+ * @return #GEOSTATION_OK, #GEOSTATION_MOMENT_EARLIER, #GEOSTATION_MOMENT_TOO_LATE,
+ *         #GEOSTATION_NO_MEMORY, #GEOSTATION_PAYLOAD_TOO_LONG, #GEOSTATION_NO_ROOM or
+ *         #GEOSTATION_OVER_RATE
+ */
+int geostation_send_shb(geostation_handle *s, uint64_t now,
+                        const struct geostation_shb_request *request,
+                        const uint8_t *payload, size_t payload_length,
+                        uint8_t *frame, size_t room, size_t *length);
+
+/**
+ * Writes the frame of a geobroadcast (GBC), for all stations in an area.
+ *
+ * @param s               the station
+ * @param now             time, in ms
+ * @param request         port, area and hop limit
+ * @param payload         the payload; may be NULL if `payload_length` is 0
+ * @param payload_length  0 to #GEOSTATION_PAYLOAD_MAX
+ * @param[out] frame      the frame
+ * @param room            size of `frame`, at least #GEOSTATION_FRAME_MAX
+ * @param[out] length     length of the frame
+ * @return #GEOSTATION_OK, #GEOSTATION_MOMENT_EARLIER, #GEOSTATION_MOMENT_TOO_LATE,
+ *         #GEOSTATION_NO_MEMORY, #GEOSTATION_PAYLOAD_TOO_LONG, #GEOSTATION_HOP_LIMIT_ZERO,
+ *         #GEOSTATION_BAD_ARGUMENT (the area is not valid), #GEOSTATION_NO_ROOM or
+ *         #GEOSTATION_OVER_RATE
+ */
+int geostation_send_gbc(geostation_handle *s, uint64_t now,
+                        const struct geostation_area_request *request,
+                        const uint8_t *payload, size_t payload_length,
+                        uint8_t *frame, size_t room, size_t *length);
+
+/**
+ * Writes the frame of a geoanycast (GAC), for any one station in an area.
+ *
+ * @param s               the station
+ * @param now             time, in ms
+ * @param request         port, area and hop limit
+ * @param payload         the payload; may be NULL if `payload_length` is 0
+ * @param payload_length  0 to #GEOSTATION_PAYLOAD_MAX
+ * @param[out] frame      the frame
+ * @param room            size of `frame`, at least #GEOSTATION_FRAME_MAX
+ * @param[out] length     length of the frame
+ * @return #GEOSTATION_OK, #GEOSTATION_MOMENT_EARLIER, #GEOSTATION_MOMENT_TOO_LATE,
+ *         #GEOSTATION_NO_MEMORY, #GEOSTATION_PAYLOAD_TOO_LONG, #GEOSTATION_HOP_LIMIT_ZERO,
+ *         #GEOSTATION_BAD_ARGUMENT (the area is not valid), #GEOSTATION_NO_ROOM or
+ *         #GEOSTATION_OVER_RATE
+ */
+int geostation_send_gac(geostation_handle *s, uint64_t now,
+                        const struct geostation_area_request *request,
+                        const uint8_t *payload, size_t payload_length,
+                        uint8_t *frame, size_t room, size_t *length);
+
+/**
+ * Writes the frame of a single-hop broadcast (SHB) with a given lifetime.
+ *
+ * @param s               the station
+ * @param now             time, in ms
+ * @param request         port and traffic class
+ * @param lifetime        lifetime byte: 6 bits of multiplier, 2 bits of base
+ * @param payload         the payload; may be NULL if `payload_length` is 0
+ * @param payload_length  0 to #GEOSTATION_PAYLOAD_MAX
+ * @param[out] frame      the frame
+ * @param room            size of `frame`, at least #GEOSTATION_FRAME_MAX
+ * @param[out] length     length of the frame
+ * @return #GEOSTATION_OK, #GEOSTATION_MOMENT_EARLIER, #GEOSTATION_MOMENT_TOO_LATE,
+ *         #GEOSTATION_NO_MEMORY, #GEOSTATION_PAYLOAD_TOO_LONG, #GEOSTATION_NO_ROOM or
+ *         #GEOSTATION_OVER_RATE
+ */
+int geostation_send_shb_with_lifetime(geostation_handle *s, uint64_t now,
+                                      const struct geostation_shb_request *request,
+                                      uint8_t lifetime,
+                                      const uint8_t *payload, size_t payload_length,
+                                      uint8_t *frame, size_t room, size_t *length);
+/** Deprecated: the former name of geostation_send_shb_with_lifetime(). */
+#define geostation_send_shb_for geostation_send_shb_with_lifetime
+
+/** @} */
+
+/**
+ * @defgroup receiving Receiving
+ * @{
+ */
+
+/**
+ * Processes a received frame.
+ *
+ * If the packet is to be forwarded, the frame to send is written to `relay`. The limits of the
+ * station may hold it back; then `relay_length` is 0, and the payload is delivered all the same. A
+ * packet for an area that was delivered before is not delivered again. All stations that
+ * received the same broadcast frame would forward it at the same time. So wait for a random time
+ * below 2 ms before you send it, unless it goes to one station (the lowest bit of its first byte is
+ * 0).
+ *
+ * In frames of up to 60 bytes, zeros after the packet are ignored: Ethernet pads short frames.
+ *
+ * @param s           the station
+ * @param now         time, in ms
+ * @param frame       the received frame; may be NULL if `length` is 0
+ * @param length      length of `frame`
+ * @param[out] out    the result
+ * @param[out] relay  the frame to forward, of `out->relay_length` bytes; not the same buffer as
+ *                    `frame`
+ * @param room        size of `relay`, at least #GEOSTATION_FRAME_MAX
+ * @return #GEOSTATION_OK, #GEOSTATION_MOMENT_EARLIER, #GEOSTATION_MOMENT_TOO_LATE,
+ *         #GEOSTATION_BAD_FRAME, #GEOSTATION_TABLE_FULL, #GEOSTATION_NO_MEMORY or
+ *         #GEOSTATION_NO_ROOM
+ */
+int geostation_receive(geostation_handle *s, uint64_t now, const uint8_t *frame, size_t length,
+                       struct geostation_reception *out, uint8_t *relay, size_t room);
+
+/**
+ * Returns the length of the frame at the start of a buffer. Use it to strip padding.
+ *
+ * @param octets  the bytes; may be NULL if `length` is 0
+ * @param length  how many there are
+ * @return the length of the frame, or 0 if the buffer does not start with one; at most one length
+ *         gives a valid frame
+ */
+size_t geostation_frame_length(const uint8_t *octets, size_t length);
+
+/**
+ * Reads all fields of a frame, without a station.
+ *
+ * All bytes have to belong to the frame: padding is an error here.
+ *
+ * @param frame     the frame; may be NULL if `length` is 0
+ * @param length    length of `frame`
+ * @param[out] out  the fields
+ * @return #GEOSTATION_OK or #GEOSTATION_BAD_FRAME
+ */
+int geostation_read_frame(const uint8_t *frame, size_t length, struct geostation_packet *out);
+
+/** @} */
+
+/**
+ * @defgroup queries Queries
+ * These functions do not change the station. They still count as calls: never use one handle in two
+ * calls at once.
+ * @{
+ */
+
+/**
+ * Returns the earliest time at which geostation_tick() with this jitter writes a beacon.
+ *
+ * Choose a jitter at random for each beacon, and sleep until this time:
+ *
+ * @code
+ * uint64_t due = geostation_beacon_at(s, jitter);
+ * for (;;) {
+ *     if (now_ms() >= due) {
+ *         geostation_tick(s, now_ms(), jitter, frame, sizeof frame, &length);
+ *         // send the frame; then choose a new jitter
+ *         due = geostation_beacon_at(s, jitter);
+ *     }
+ *     // wait until `due` or for a frame; pass the frame to geostation_receive
+ * }
+ * @endcode
+ *
+ * Call it again after you have sent a packet, which postpones the beacon, and after
+ * geostation_restart(). Do not call it again after receiving a frame. The result is never earlier
+ * than the last call, so on a busy channel a new wait for each frame might never end.
+ *
+ * @param s       the station
+ * @param jitter  0 to #GEOSTATION_JITTER_MAX, in ms
+ * @return the time, in ms; `UINT64_MAX` if the jitter is out of range
+ */
+uint64_t geostation_beacon_at(const geostation_handle *s, uint16_t jitter);
+
+/**
+ * Returns the earliest time at which geostation_tick() with jitter 0 writes a beacon.
+ *
+ * Once the beacon is due, the result is the time of the last call, and received frames count as
+ * calls. So do not add a jitter to it: use geostation_beacon_at().
+ *
+ * @param s  the station
+ * @return the time, in ms
+ */
+uint64_t geostation_next_beacon(const geostation_handle *s);
+
+/**
+ * Returns the sequence number of the station's next packet for an area.
+ * @param s  the station
+ * @return the sequence number
+ */
+uint16_t geostation_next_number(const geostation_handle *s);
+
+/**
+ * Finds the next neighbour by address. A neighbour is a live source whose frames arrive directly.
+ *
+ * This loop visits all neighbours:
+ *
+ * @code
+ * uint64_t after = 0;
+ * struct geostation_vector v;
+ * for (; geostation_neighbour(s, now, after, &v); after = v.address) { .. }
+ * @endcode
+ *
+ * @param s         the station
+ * @param now       time, in ms
+ * @param after     find the least address above this one; a neighbour with address 0 is never found
+ * @param[out] out  the newest position vector, or zeros
+ * @return 1 if there is such a neighbour, otherwise 0. It is also 0 if `now` is earlier than the
+ *         station's last call or later than #GEOSTATION_LAST_MOMENT.
+ */
+int geostation_neighbour(const geostation_handle *s, uint64_t now, uint64_t after,
+                         struct geostation_vector *out);
+
+/**
+ * Finds a live source by address: one of which a new packet was accepted in the last 20 s.
+ *
+ * @param s         the station
+ * @param now       time, in ms
+ * @param address   GN address of the source
+ * @param[out] out  the newest position vector, or zeros
+ * @return 1 if the source is in the location table, otherwise 0. It is also 0 if `now` is earlier
+ *         than the station's last call or later than #GEOSTATION_LAST_MOMENT.
+ */
+int geostation_look_up(const geostation_handle *s, uint64_t now, uint64_t address,
+                       struct geostation_vector *out);
+
+#if defined(__cplusplus) && defined(__GNUC__)
+#pragma GCC diagnostic push
+#pragma GCC diagnostic ignored "-Wshadow" /* the struct and the function have one name */
+#endif
+/**
+ * Writes the counters of the station.
+ *
+ * Calls that return #GEOSTATION_BAD_ARGUMENT or #GEOSTATION_NO_ROOM are not counted.
+ * #GEOSTATION_OVER_RATE is counted in `over_rate` only.
+ * geostation_restart() keeps the counters.
+ *
+ * @param s         the station
+ * @param[out] out  the counters
+ */
+void geostation_counts(const geostation_handle *s, struct geostation_counts *out);
+#if defined(__cplusplus) && defined(__GNUC__)
+#pragma GCC diagnostic pop
+#endif
+
+/** @} */
+
+/**
+ * @defgroup json JSON requests
+ * @{
+ */
+
+/**
+ * Executes one JSON request at time `now`: the same requests as those of the command `geostation
+ * station` (docs/STATION.md).
+ *
+ * An `at` key in the line is ignored. The status only says whether an answer was written. Failed
+ * calls and malformed lines are reported inside the answer. `answer` and `frame` are not terminated
+ * by 0. A thread that calls this function should have 96 KB of stack.
+ *
+ * The limits of the station do not apply to a line: it is executed at any rate.
+ *
+ * @param s                   the station
+ * @param now                 time, in ms
+ * @param number              line number, for the answer to a malformed line
+ * @param line                the line; may be NULL if `line_length` is 0
+ * @param line_length         length of `line`; over #GEOSTATION_LINE_MAX it is malformed
+ * @param[out] answer         the answer: one JSON object without a line feed
+ * @param answer_room         size of `answer`, at least #GEOSTATION_ANSWER_MAX
+ * @param[out] answer_length  length of the answer, 0 for a blank line
+ * @param[out] frame          the frame to send
+ * @param frame_room          size of `frame`, at least #GEOSTATION_FRAME_MAX
+ * @param[out] frame_length   length of the frame, or 0
+ * @return #GEOSTATION_OK, #GEOSTATION_NO_MEMORY or #GEOSTATION_NO_ROOM
+ */
+int geostation_handle_json(geostation_handle *s, uint64_t now, uint64_t number,
+                           const uint8_t *line, size_t line_length,
+                           uint8_t *answer, size_t answer_room, size_t *answer_length,
+                           uint8_t *frame, size_t frame_room, size_t *frame_length);
+/** Deprecated: the former name of geostation_handle_json(). */
+#define geostation_serve geostation_handle_json
+
+/** @} */
+
+/**
+ * @defgroup texts Messages and codes
+ * @{
+ */
+
+/**
+ * Returns a message for a status.
+ * @param status  a status of enum geostation_status
+ * @return a string that lives as long as the program
+ */
+const char *geostation_status_text(int status);
+
+/**
+ * Returns a message for the fault of a frame.
+ * @param fault       `fault` of a reception or packet
+ * @param fault_kind  its `fault_kind`
+ * @return a string that lives as long as the program
+ */
+const char *geostation_fault_text(uint32_t fault, uint32_t fault_kind);
+
+/**
+ * Writes a short code for logs, for example `S4`, `S8 B2` or `S3 L5 G9 at 10`.
+ *
+ * A status without a code gives an empty string. As with `snprintf`, a code that does not fit is
+ * cut off.
+ *
+ * @param status      a status of enum geostation_status
+ * @param fault       `fault` of the reception, for #GEOSTATION_BAD_FRAME
+ * @param fault_kind  its `fault_kind`
+ * @param fault_at    its `fault_at`
+ * @param[out] out    the code, terminated by 0; may be NULL if `room` is 0
+ * @param room        size of `out`
+ * @return the length of the whole code, without the 0
+ */
+size_t geostation_code(int status, uint32_t fault, uint32_t fault_kind, size_t fault_at,
+                       char *out, size_t room);
+
+/** @} */
+
+/** @cond */
+/* The structs of the library have these sizes and offsets. */
 #if !defined(__cplusplus) || __cplusplus >= 201103L
 #ifdef __cplusplus
 #define GEOSTATION_ASSERT(fact, text) static_assert(fact, text)
 #else
 #define GEOSTATION_ASSERT(fact, text) _Static_assert(fact, text)
 #endif
-#define GEOSTATION_BY_WIDTH(of_64, of_32) (sizeof(size_t) == 8 ? (of_64) : (of_32))
-/* How a uint64_t is aligned in a struct: to 8 octets but on few machines of 32 bits, to 4 there. */
-#define GEOSTATION_WIDE (sizeof(struct geostation_vector) == 32 ? 8 : 4)
-#define GEOSTATION_SIZE(type, of_64, of_32) \
-    GEOSTATION_ASSERT(sizeof(struct geostation_##type) == GEOSTATION_BY_WIDTH(of_64, of_32), #type)
-#define GEOSTATION_AT(type, field, of_64, of_32) \
-    GEOSTATION_ASSERT(offsetof(struct geostation_##type, field) \
-                      == GEOSTATION_BY_WIDTH(of_64, of_32), #type "." #field)
+#define GEOSTATION_SIZE(type, size) \
+    GEOSTATION_ASSERT(sizeof(struct geostation_##type) == (size), #type)
+#define GEOSTATION_AT(type, field, at) \
+    GEOSTATION_ASSERT(offsetof(struct geostation_##type, field) == (at), #type "." #field)
 
-GEOSTATION_ASSERT(sizeof(size_t) == sizeof(void *) && sizeof(int) == 4, "size_t");
-GEOSTATION_SIZE(vector, 32, GEOSTATION_WIDE == 8 ? 32 : 28);
-GEOSTATION_AT(vector, timestamp, 8, 8);
-GEOSTATION_AT(vector, latitude, 12, 12);
-GEOSTATION_AT(vector, longitude, 16, 16);
-GEOSTATION_AT(vector, speed, 20, 20);
-GEOSTATION_AT(vector, heading, 22, 22);
-GEOSTATION_AT(vector, accurate, 24, 24);
-GEOSTATION_SIZE(config, 64, 64);
-GEOSTATION_AT(config, address, 8, 8);
-GEOSTATION_AT(config, latitude, 16, 16);
-GEOSTATION_AT(config, longitude, 20, 20);
-GEOSTATION_AT(config, capacity, 24, 24);
-GEOSTATION_AT(config, remember, 26, 26);
-GEOSTATION_AT(config, mobile, 28, 28);
-GEOSTATION_AT(config, number, 30, 30);
-GEOSTATION_AT(config, forward_rate, 32, 32);
-GEOSTATION_AT(config, forward_burst, 36, 36);
-GEOSTATION_AT(config, source_rate, 40, 40);
-GEOSTATION_AT(config, source_burst, 44, 44);
-GEOSTATION_AT(config, own_rate, 48, 48);
-GEOSTATION_AT(config, own_burst, 52, 52);
-GEOSTATION_AT(config, hop_cap, 56, 56);
-GEOSTATION_AT(config, deliver_once, 60, 60);
-GEOSTATION_SIZE(counts, 168, 168);
-GEOSTATION_AT(counts, accepted, 8, 8);
-GEOSTATION_AT(counts, delivered, 16, 16);
-GEOSTATION_AT(counts, relayed, 24, 24);
-GEOSTATION_AT(counts, ignored.own_source, 40, 40);
-GEOSTATION_AT(counts, ignored.duplicate, 56, 56);
-GEOSTATION_AT(counts, refused.moment_earlier, 64, 64);
-GEOSTATION_AT(counts, refused.other, 104, 104);
-GEOSTATION_AT(counts, sent.beacons, 112, 112);
-GEOSTATION_AT(counts, sent.geoanycasts, 136, 136);
-GEOSTATION_AT(counts, suppressed, 144, 144);
-GEOSTATION_AT(counts, repeated, 152, 152);
-GEOSTATION_AT(counts, over_rate, 160, 160);
-GEOSTATION_SIZE(shb_request, 6, 6);
-GEOSTATION_AT(shb_request, info, 2, 2);
-GEOSTATION_AT(shb_request, traffic_class, 4, 4);
-GEOSTATION_SIZE(area_request, 24, 24);
-GEOSTATION_AT(area_request, traffic_class, 4, 4);
-GEOSTATION_AT(area_request, lifetime, 5, 5);
-GEOSTATION_AT(area_request, max_hops, 6, 6);
-GEOSTATION_AT(area_request, shape, 7, 7);
-GEOSTATION_AT(area_request, latitude, 8, 8);
-GEOSTATION_AT(area_request, longitude, 12, 12);
-GEOSTATION_AT(area_request, a, 16, 16);
-GEOSTATION_AT(area_request, b, 18, 18);
-GEOSTATION_AT(area_request, angle, 20, 20);
-GEOSTATION_SIZE(area, 16, 16);
-GEOSTATION_AT(area, longitude, 4, 4);
-GEOSTATION_AT(area, a, 8, 8);
-GEOSTATION_AT(area, b, 10, 10);
-GEOSTATION_AT(area, angle, 12, 12);
-GEOSTATION_AT(area, shape, 14, 14);
-GEOSTATION_SIZE(message, 24, 12);
-GEOSTATION_AT(message, payload_length, 8, 4);
-GEOSTATION_AT(message, port, 16, 8);
-GEOSTATION_AT(message, info, 18, 10);
-GEOSTATION_SIZE(reception, 72, GEOSTATION_WIDE == 8 ? 56 : 52);
-GEOSTATION_AT(reception, delivered, 4, 4);
-GEOSTATION_AT(reception, port, 8, 8);
-GEOSTATION_AT(reception, info, 10, 10);
-GEOSTATION_AT(reception, payload_start, 16, 12);
-GEOSTATION_AT(reception, payload_length, 24, 16);
-GEOSTATION_AT(reception, relay_length, 32, 20);
-GEOSTATION_AT(reception, fault, 40, 24);
-GEOSTATION_AT(reception, fault_kind, 44, 28);
-GEOSTATION_AT(reception, fault_at, 48, 32);
-GEOSTATION_AT(reception, source, 56, GEOSTATION_WIDE == 8 ? 40 : 36);
-GEOSTATION_AT(reception, kind, 64, GEOSTATION_WIDE == 8 ? 48 : 44);
-GEOSTATION_AT(reception, number, 68, GEOSTATION_WIDE == 8 ? 52 : 48);
-GEOSTATION_AT(reception, traffic_class, 70, GEOSTATION_WIDE == 8 ? 54 : 50);
-GEOSTATION_AT(reception, hops_left, 71, GEOSTATION_WIDE == 8 ? 55 : 51);
-GEOSTATION_SIZE(packet, 120, GEOSTATION_WIDE == 8 ? 104 : 96);
-GEOSTATION_AT(packet, source, 6, 6);
-GEOSTATION_AT(packet, kind, 12, 12);
-GEOSTATION_AT(packet, vector, 16, 16);
-GEOSTATION_AT(packet, hops_left, 48, GEOSTATION_WIDE == 8 ? 48 : 44);
-GEOSTATION_AT(packet, max_hops, 49, GEOSTATION_WIDE == 8 ? 49 : 45);
-GEOSTATION_AT(packet, lifetime, 50, GEOSTATION_WIDE == 8 ? 50 : 46);
-GEOSTATION_AT(packet, traffic_class, 51, GEOSTATION_WIDE == 8 ? 51 : 47);
-GEOSTATION_AT(packet, mobile, 52, GEOSTATION_WIDE == 8 ? 52 : 48);
-GEOSTATION_AT(packet, media, 53, GEOSTATION_WIDE == 8 ? 53 : 49);
-GEOSTATION_AT(packet, number, 58, GEOSTATION_WIDE == 8 ? 58 : 54);
-GEOSTATION_AT(packet, area, 60, GEOSTATION_WIDE == 8 ? 60 : 56);
-GEOSTATION_AT(packet, message, 80, GEOSTATION_WIDE == 8 ? 76 : 72);
-GEOSTATION_AT(packet, fault, 104, GEOSTATION_WIDE == 8 ? 88 : 84);
-GEOSTATION_AT(packet, fault_kind, 108, GEOSTATION_WIDE == 8 ? 92 : 88);
-GEOSTATION_AT(packet, fault_at, 112, GEOSTATION_WIDE == 8 ? 96 : 92);
+GEOSTATION_ASSERT(sizeof(size_t) == 8 && sizeof(void *) == 8 && sizeof(int) == 4, "size_t");
+GEOSTATION_SIZE(vector, 32);
+GEOSTATION_AT(vector, timestamp, 8);
+GEOSTATION_AT(vector, latitude, 12);
+GEOSTATION_AT(vector, longitude, 16);
+GEOSTATION_AT(vector, speed, 20);
+GEOSTATION_AT(vector, heading, 22);
+GEOSTATION_AT(vector, accurate, 24);
+GEOSTATION_SIZE(config, 64);
+GEOSTATION_AT(config, address, 8);
+GEOSTATION_AT(config, latitude, 16);
+GEOSTATION_AT(config, longitude, 20);
+GEOSTATION_AT(config, capacity, 24);
+GEOSTATION_AT(config, remember, 26);
+GEOSTATION_AT(config, mobile, 28);
+GEOSTATION_AT(config, number, 30);
+GEOSTATION_AT(config, forward_rate, 32);
+GEOSTATION_AT(config, forward_burst, 36);
+GEOSTATION_AT(config, source_rate, 40);
+GEOSTATION_AT(config, source_burst, 44);
+GEOSTATION_AT(config, own_rate, 48);
+GEOSTATION_AT(config, own_burst, 52);
+GEOSTATION_AT(config, hop_cap, 56);
+GEOSTATION_AT(config, deliver_once, 60);
+GEOSTATION_SIZE(counts, 168);
+GEOSTATION_AT(counts, accepted, 8);
+GEOSTATION_AT(counts, delivered, 16);
+GEOSTATION_AT(counts, relayed, 24);
+GEOSTATION_AT(counts, ignored.own_source, 40);
+GEOSTATION_AT(counts, ignored.duplicate, 56);
+GEOSTATION_AT(counts, refused.moment_earlier, 64);
+GEOSTATION_AT(counts, refused.other, 104);
+GEOSTATION_AT(counts, sent.beacons, 112);
+GEOSTATION_AT(counts, sent.geoanycasts, 136);
+GEOSTATION_AT(counts, suppressed, 144);
+GEOSTATION_AT(counts, repeated, 152);
+GEOSTATION_AT(counts, over_rate, 160);
+GEOSTATION_SIZE(shb_request, 6);
+GEOSTATION_AT(shb_request, info, 2);
+GEOSTATION_AT(shb_request, traffic_class, 4);
+GEOSTATION_SIZE(area_request, 24);
+GEOSTATION_AT(area_request, traffic_class, 4);
+GEOSTATION_AT(area_request, lifetime, 5);
+GEOSTATION_AT(area_request, max_hops, 6);
+GEOSTATION_AT(area_request, shape, 7);
+GEOSTATION_AT(area_request, latitude, 8);
+GEOSTATION_AT(area_request, longitude, 12);
+GEOSTATION_AT(area_request, a, 16);
+GEOSTATION_AT(area_request, b, 18);
+GEOSTATION_AT(area_request, angle, 20);
+GEOSTATION_SIZE(area, 16);
+GEOSTATION_AT(area, longitude, 4);
+GEOSTATION_AT(area, a, 8);
+GEOSTATION_AT(area, b, 10);
+GEOSTATION_AT(area, angle, 12);
+GEOSTATION_AT(area, shape, 14);
+GEOSTATION_SIZE(message, 24);
+GEOSTATION_AT(message, payload_length, 8);
+GEOSTATION_AT(message, port, 16);
+GEOSTATION_AT(message, info, 18);
+GEOSTATION_SIZE(reception, 72);
+GEOSTATION_AT(reception, delivered, 4);
+GEOSTATION_AT(reception, port, 8);
+GEOSTATION_AT(reception, info, 10);
+GEOSTATION_AT(reception, payload_start, 16);
+GEOSTATION_AT(reception, payload_length, 24);
+GEOSTATION_AT(reception, relay_length, 32);
+GEOSTATION_AT(reception, fault, 40);
+GEOSTATION_AT(reception, fault_kind, 44);
+GEOSTATION_AT(reception, fault_at, 48);
+GEOSTATION_AT(reception, source, 56);
+GEOSTATION_AT(reception, kind, 64);
+GEOSTATION_AT(reception, number, 68);
+GEOSTATION_AT(reception, traffic_class, 70);
+GEOSTATION_AT(reception, hops_left, 71);
+GEOSTATION_SIZE(packet, 120);
+GEOSTATION_AT(packet, source, 6);
+GEOSTATION_AT(packet, kind, 12);
+GEOSTATION_AT(packet, vector, 16);
+GEOSTATION_AT(packet, hops_left, 48);
+GEOSTATION_AT(packet, max_hops, 49);
+GEOSTATION_AT(packet, lifetime, 50);
+GEOSTATION_AT(packet, traffic_class, 51);
+GEOSTATION_AT(packet, mobile, 52);
+GEOSTATION_AT(packet, media, 53);
+GEOSTATION_AT(packet, number, 58);
+GEOSTATION_AT(packet, area, 60);
+GEOSTATION_AT(packet, message, 80);
+GEOSTATION_AT(packet, fault, 104);
+GEOSTATION_AT(packet, fault_kind, 108);
+GEOSTATION_AT(packet, fault_at, 112);
 
 #undef GEOSTATION_AT
 #undef GEOSTATION_SIZE
-#undef GEOSTATION_WIDE
-#undef GEOSTATION_BY_WIDTH
 #undef GEOSTATION_ASSERT
 #endif
-
-/* What the library was built as: GEOSTATION_ABI and GEOSTATION_VERSION of its header. */
-uint32_t geostation_abi(void);
-const char *geostation_version(void);
-
-/* Makes a station to which nothing happened yet. Its location table has room for `capacity`
- * sources, 1 to 4096, and remembers the last `remember` sequence numbers of each, 1 to 64. Its
- * limits are those that geostation_config_init writes. *out is its handle, or NULL where the status
- * isn't 0 (BAD_ARGUMENT, NO_MEMORY). */
-int geostation_new(geostation_handle **out, uint64_t address, int32_t latitude, int32_t longitude,
-                   uint16_t capacity, uint8_t remember);
-
-/* The same of a struct, which geostation_config_init fills. A struct of another size than the
- * library's is BAD_ARGUMENT too. */
-void geostation_config_init(struct geostation_config *config);
-int geostation_new_from_config(geostation_handle **out, const struct geostation_config *config);
-/** Deprecated: the former name of geostation_new_from_config. */
-#define geostation_new_with geostation_new_from_config
-
-/* Gives a station's memory back. NULL is passed over. */
-void geostation_free(geostation_handle *s);
-
-/* The station stands there from now on: whether that is accurate (0 or not), its speed in 0.01 m/s,
- * -16384 to 16383, and its heading in 0.1 degree. S1, S2, BAD_ARGUMENT. */
-int geostation_move(geostation_handle *s, uint64_t now, int32_t latitude, int32_t longitude,
-                    uint8_t accurate, int16_t speed, uint16_t heading);
-
-/* The same with the time stamp of the fix, in ms since 2004-01-01 TAI modulo 2^32, in place of
- * that of `now`: a receiver tells the place of some moments ago. */
-int geostation_move_at(geostation_handle *s, uint64_t now, uint32_t timestamp,
-                       int32_t latitude, int32_t longitude, uint8_t accurate, int16_t speed,
-                       uint16_t heading);
-
-/* Opens and closes a port, at which payloads are delivered. S1, S2, S8. */
-int geostation_open_port(geostation_handle *s, uint64_t now, uint16_t port);
-int geostation_close_port(geostation_handle *s, uint64_t now, uint16_t port);
-
-/* The station forgets what it heard and closes its ports; its next packet for an area has this
- * sequence number. S1, S2. */
-int geostation_restart(geostation_handle *s, uint64_t now, uint16_t number);
-
-/* Writes the frame of a beacon where one is due; else *length is 0. S1, S2, S5, S9, NO_ROOM. */
-int geostation_tick(geostation_handle *s, uint64_t now, uint16_t jitter,
-                    uint8_t *frame, size_t room, size_t *length);
-
-/* Write the frame of a payload for all in reach (SHB); for all stations in an area (GBC); and for
- * any one of them (GAC). Where the status isn't 0, *length is 0. S1, S2, S5, S6, of an area S7 and
- * BAD_ARGUMENT, NO_ROOM, OVER_RATE. */
-int geostation_send_shb(geostation_handle *s, uint64_t now,
-                        const struct geostation_shb_request *request,
-                        const uint8_t *payload, size_t payload_length,
-                        uint8_t *frame, size_t room, size_t *length);
-int geostation_send_gbc(geostation_handle *s, uint64_t now,
-                        const struct geostation_area_request *request,
-                        const uint8_t *payload, size_t payload_length,
-                        uint8_t *frame, size_t room, size_t *length);
-int geostation_send_gac(geostation_handle *s, uint64_t now,
-                        const struct geostation_area_request *request,
-                        const uint8_t *payload, size_t payload_length,
-                        uint8_t *frame, size_t room, size_t *length);
-
-/* An SHB with this octet of a lifetime, a multiplier and a base; geostation_send_shb's is 0x1a. */
-int geostation_send_shb_with_lifetime(geostation_handle *s, uint64_t now,
-                                      const struct geostation_shb_request *request,
-                                      uint8_t lifetime,
-                                      const uint8_t *payload, size_t payload_length,
-                                      uint8_t *frame, size_t room, size_t *length);
-/** Deprecated: the former name of geostation_send_shb_with_lifetime. */
-#define geostation_send_shb_for geostation_send_shb_with_lifetime
-
-/* The sequence number of the station's next packet for an area. */
-uint16_t geostation_next_number(const geostation_handle *s);
-
-/* How many of the octets are a frame: its length where a beginning of them is a frame (there is
- * one at most), else 0. */
-size_t geostation_frame_length(const uint8_t *octets, size_t length);
-
-/* Takes a frame that came. What is to be sent on is written to `relay`, if the station's limits let
- * it pass; a payload that was delivered before is not delivered again. Of at most 60 octets the
- * zeros behind the frame's packet are left out: Ethernet fills a short frame up with them. S1 to
- * S5, NO_ROOM. */
-int geostation_receive(geostation_handle *s, uint64_t now, const uint8_t *frame, size_t length,
-                       struct geostation_reception *out, uint8_t *relay, size_t room);
-
-/* The least moment at which geostation_tick with this jitter gives a beacon, in ms; UINT64_MAX for
- * one over 750. A program draws a jitter once for each beacon, hands it to each geostation_tick
- * until that gave the beacon, and sleeps so:
- *
- *     uint64_t due = geostation_beacon_at(s, jitter);
- *     for (;;) {
- *         if (now_ms() >= due) { .. geostation_tick(s, now_ms(), jitter, ..) ..
- *             jitter = drawn(); due = geostation_beacon_at(s, jitter); }
- *         .. wait until due, or for a frame, and take that ..
- *     }
- *
- * It asks anew after a packet of the station's own, which puts the beacon off, and after
- * geostation_restart; and not after a frame that came: the answer is never before the last call, so
- * that a sleep begun anew with each frame, with a jitter added to it, never ends. */
-uint64_t geostation_beacon_at(const geostation_handle *s, uint16_t jitter);
-
-/* The same with no jitter. Since no call may be earlier than the last one, this moves on with each
- * call, with each frame that came too, once the beacon is due: a program whose beacons have a
- * jitter doesn't add it here, but asks geostation_beacon_at. */
-uint64_t geostation_next_beacon(const geostation_handle *s);
-
-/* Look-ups in what the station heard: of the live neighbour of least address above `after` (a
- * neighbour is heard directly), and of the live source of an address. They return 1 and write the
- * newest vector where there is one, and 0 and zeros else, also at a moment that is before the
- * station's last call or over GEOSTATION_LAST_MOMENT. All neighbours:
- *
- *     uint64_t after = 0;
- *     struct geostation_vector v;
- *     for (; geostation_neighbour(s, now, after, &v); after = v.address) { .. } */
-int geostation_neighbour(const geostation_handle *s, uint64_t now, uint64_t after,
-                         struct geostation_vector *out);
-int geostation_look_up(const geostation_handle *s, uint64_t now, uint64_t address,
-                       struct geostation_vector *out);
-
-/* Writes the counts of the station. What returned BAD_ARGUMENT or NO_ROOM isn't counted; a restart
- * keeps the counts. */
-#if defined(__cplusplus) && defined(__GNUC__)
-#pragma GCC diagnostic push
-#pragma GCC diagnostic ignored "-Wshadow" /* the struct and the call have one name */
-#endif
-void geostation_counts(const geostation_handle *s, struct geostation_counts *out);
-#if defined(__cplusplus) && defined(__GNUC__)
-#pragma GCC diagnostic pop
-#endif
-
-/* Does what a line of JSON asks for at the moment `now`: a call of the station, or what it knows, as
- * a line of the command `station` (docs/STATION.md). An `at` in the line is passed over. Writes the
- * answer, one JSON object without a line feed, or nothing to a blank line, and the frame that is to
- * be sent, or nothing; neither is ended by 0. The status says whether the line was answered: a
- * refusal of the station's is in the answer, and so is what can't be read in a line, of which
- * `number` is told as its number. S5, NO_ROOM for an answer's buffer under GEOSTATION_ANSWER_MAX
- * octets or a frame's under GEOSTATION_FRAME_MAX. The station's limits don't apply to a line: a
- * frame that a line passes is forwarded, and a packet that a line asks for is sent, at any rate. */
-int geostation_handle_json(geostation_handle *s, uint64_t now, uint64_t number,
-                           const uint8_t *line, size_t line_length,
-                           uint8_t *answer, size_t answer_room, size_t *answer_length,
-                           uint8_t *frame, size_t frame_room, size_t *frame_length);
-/** Deprecated: the former name of geostation_handle_json. */
-#define geostation_serve geostation_handle_json
-
-/* Reads the octets of a frame, without a station: all of them, zeros behind it are no part of a
- * frame. S3. */
-int geostation_read_frame(const uint8_t *frame, size_t length, struct geostation_packet *out);
-
-/* A sentence for a status, and for the fault of a bad frame. */
-const char *geostation_status_text(int status);
-const char *geostation_fault_text(uint32_t fault, uint32_t fault_kind);
-
-/* Writes what logs show of a status and, of GEOSTATION_BAD_FRAME, of its fault, as `S4`, `S8 B2` or
- * `S3 L5 G9 at 10`, ended by 0, and returns its length without the 0, also where the room was too
- * small and less is written, as snprintf does; `out` may be NULL with no room. A status that has no
- * code has no octets. */
-size_t geostation_code(int status, uint32_t fault, uint32_t fault_kind, size_t fault_at,
-                       char *out, size_t room);
+/** @endcond */
 
 #ifdef __cplusplus
 }

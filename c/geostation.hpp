@@ -1,5 +1,20 @@
-// geostation.hpp: the station of geostation.h for C++17. A Station frees itself and moves; results
-// are an enum and a struct, and nothing throws.
+/// @file geostation.hpp
+/// The station of geostation.h for C++17, header only.
+///
+/// A Station frees itself, and can be moved but not copied. Functions return a Status or a struct
+/// with one. Nothing throws. The rules at the top of geostation.h hold here too: times never go
+/// back, and a call whose status is not Status::Ok leaves the station unchanged.
+///
+/// @code
+/// auto station = geostation::Station::make(0x1400020000000001, 514776500, -10000, 64, 8);
+/// geostation_shb_request request{};
+/// request.port = 2002;
+/// const std::uint8_t ice[] = {'i', 'c', 'e'};
+/// geostation::Frame frame;
+/// if (station && station->send_shb(now, request, {ice, sizeof ice}, frame) == Status::Ok) {
+///     send(frame.octets.data(), frame.size); // `send` is a function of yours
+/// }
+/// @endcode
 #ifndef GEOSTATION_HPP
 #define GEOSTATION_HPP
 
@@ -13,7 +28,7 @@
 
 namespace geostation {
 
-/// What a call returns: the statuses of geostation.h.
+/// The status that a function returns: the values of enum geostation_status.
 enum class Status : int {
     Ok = GEOSTATION_OK,
     MomentEarlier = GEOSTATION_MOMENT_EARLIER,
@@ -32,44 +47,52 @@ enum class Status : int {
     OverRate = GEOSTATION_OVER_RATE
 };
 
-/// A sentence for a status.
+/// Returns a message for a status.
 inline const char *text(Status status) noexcept {
     return geostation_status_text(static_cast<int>(status));
 }
 
-/// Octets that someone else owns: a pointer, which may be null where there are none, and a length.
+/// A view of bytes that it does not own. `data` may be null if `size` is 0.
 struct Octets {
     const std::uint8_t *data = nullptr;
     std::size_t size = 0;
 };
 
-/// A frame to send, which may have no octets.
+/// A buffer for a frame to send. `size` is 0 if there is no frame.
 struct Frame {
     std::array<std::uint8_t, GEOSTATION_FRAME_MAX> octets;
     std::size_t size = 0;
 };
 
-/// The answer to a line of JSON: none to a blank one.
+/// A buffer for the answer to a JSON request. `size` is 0 for a blank line.
 struct Answer {
     std::array<std::uint8_t, GEOSTATION_ANSWER_MAX> octets;
     std::size_t size = 0;
 };
 
-/// What becomes of a frame: `payload` lies in the octets that were given to `receive`.
+/// The result of Station::receive.
+///
+/// `payload` points into the bytes that were passed to Station::receive. It is empty if nothing is
+/// delivered.
 struct Received {
     Status status;
     geostation_reception reception;
     Octets payload;
 };
 
-/// What the octets of a frame say: `payload` lies in the octets that were given to `read_frame`.
+/// The result of read_frame.
+///
+/// `payload` points into the bytes that were passed to read_frame.
 struct Packet {
     Status status;
     geostation_packet packet;
     Octets payload;
 };
 
-/// Reads the octets of a frame, without a station.
+/// Reads all fields of a frame, without a station.
+///
+/// All bytes have to belong to the frame: padding is an error here.
+/// @return status Ok, or BadFrame with the fault in `packet`
 inline Packet read_frame(Octets frame) noexcept {
     Packet got{};
     got.status = static_cast<Status>(geostation_read_frame(frame.data, frame.size, &got.packet));
@@ -80,23 +103,32 @@ inline Packet read_frame(Octets frame) noexcept {
     return got;
 }
 
-/// How many of the octets are a frame: its length where a beginning of them is one, else 0.
+/// Returns the length of the frame at the start of a buffer, or 0 if it does not start with one.
 inline std::size_t frame_length(Octets octets) noexcept {
     return geostation_frame_length(octets.data, octets.size);
 }
 
-/// What a station is usually made of: a caller writes its address and its place, and what differs.
+/// Returns the default parameters of a station. Set the address, the position and what differs.
 inline geostation_config usual_config() noexcept {
     geostation_config config;
     geostation_config_init(&config);
     return config;
 }
 
-/// A station. One thread at a time uses it; after a move from it only its end and a move to it are
-/// left.
+/// A station.
+///
+/// Never use one station in two calls at once. You may move it to another thread. A station that
+/// you moved from can only be destroyed or assigned to.
 class Station {
   public:
-    /// Makes a station; where the status isn't Ok there is none.
+    /// Creates a station.
+    /// @param address    GN address, not a group address
+    /// @param latitude   in 0.1 microdegree
+    /// @param longitude  in 0.1 microdegree
+    /// @param capacity   size of the location table, 1 to 4096
+    /// @param remember   length of each duplicate packet list, 1 to 64
+    /// @param status     receives Ok, BadArgument or NoMemory; may be null
+    /// @return the station, or nothing if the status is not Ok
     static std::optional<Station> make(std::uint64_t address, std::int32_t latitude,
                                        std::int32_t longitude, std::uint16_t capacity,
                                        std::uint8_t remember, Status *status = nullptr) noexcept {
@@ -109,7 +141,10 @@ class Station {
         return make(config, status);
     }
 
-    /// The same of a struct, with whether the station is mobile and its first sequence number.
+    /// Creates a station with the parameters in a struct: start with usual_config.
+    /// @param config  the parameters, among them `mobile` and the first sequence number
+    /// @param status  receives Ok, BadArgument or NoMemory; may be null
+    /// @return the station, or nothing if the status is not Ok
     static std::optional<Station> make(const geostation_config &config,
                                        Status *status = nullptr) noexcept {
         geostation_handle *handle = nullptr;
@@ -125,69 +160,106 @@ class Station {
 
     Station(const Station &) = delete;
     Station &operator=(const Station &) = delete;
+    /// Takes the station out of `other`.
     Station(Station &&other) noexcept : handle_(std::exchange(other.handle_, nullptr)) {}
+    /// Swaps the two stations.
     Station &operator=(Station &&other) noexcept {
         std::swap(handle_, other.handle_);
         return *this;
     }
+    /// Frees the station.
     ~Station() { geostation_free(handle_); }
 
-    /// The handle, for calls of geostation.h.
+    /// Returns the handle, for the functions of geostation.h. The station keeps its ownership.
     geostation_handle *get() const noexcept { return handle_; }
 
+    /// Sets the position of the station: geostation_move().
+    /// @return Ok, MomentEarlier, MomentTooLate or BadArgument
     Status move_to(std::uint64_t now, std::int32_t latitude, std::int32_t longitude, bool accurate,
                    std::int16_t speed, std::uint16_t heading) noexcept {
         return Status(geostation_move(handle_, now, latitude, longitude, accurate ? 1 : 0, speed,
                                       heading));
     }
+
+    /// Sets the position of the station, with the time stamp of the fix: geostation_move_at().
+    /// @return Ok, MomentEarlier, MomentTooLate or BadArgument
     Status move_at(std::uint64_t now, std::uint32_t timestamp, std::int32_t latitude,
                    std::int32_t longitude, bool accurate, std::int16_t speed,
                    std::uint16_t heading) noexcept {
         return Status(geostation_move_at(handle_, now, timestamp, latitude, longitude,
                                          accurate ? 1 : 0, speed, heading));
     }
+
+    /// Opens a port, at which payloads are delivered.
+    /// @return Ok, MomentEarlier, MomentTooLate, PortAlreadyOpen or PortsFull
     Status open_port(std::uint64_t now, std::uint16_t port) noexcept {
         return Status(geostation_open_port(handle_, now, port));
     }
+
+    /// Closes a port.
+    /// @return Ok, MomentEarlier, MomentTooLate or PortNotOpen
     Status close_port(std::uint64_t now, std::uint16_t port) noexcept {
         return Status(geostation_close_port(handle_, now, port));
     }
+
+    /// Empties the location table and closes all ports. The next packet for an area has this
+    /// sequence number.
+    /// @return Ok, MomentEarlier or MomentTooLate
     Status restart(std::uint64_t now, std::uint16_t number) noexcept {
         return Status(geostation_restart(handle_, now, number));
     }
+
+    /// Writes a beacon frame if one is due: geostation_tick(). Otherwise the size of `frame` is 0.
+    /// @return Ok, MomentEarlier, MomentTooLate, NoMemory or JitterRange
     Status tick(std::uint64_t now, std::uint16_t jitter, Frame &frame) noexcept {
         return Status(geostation_tick(handle_, now, jitter, frame.octets.data(),
                                       frame.octets.size(), &frame.size));
     }
+
+    /// Writes the frame of a single-hop broadcast, for all stations in radio range.
+    /// @return Ok, MomentEarlier, MomentTooLate, NoMemory, PayloadTooLong or OverRate
     Status send_shb(std::uint64_t now, const geostation_shb_request &request, Octets payload,
                     Frame &frame) noexcept {
         return Status(geostation_send_shb(handle_, now, &request, payload.data, payload.size,
                                           frame.octets.data(), frame.octets.size(), &frame.size));
     }
+
+    /// Writes the frame of a single-hop broadcast with this lifetime byte.
+    /// @return Ok, MomentEarlier, MomentTooLate, NoMemory, PayloadTooLong or OverRate
     Status send_shb_with_lifetime(std::uint64_t now, const geostation_shb_request &request,
                                   std::uint8_t lifetime, Octets payload, Frame &frame) noexcept {
         return Status(geostation_send_shb_with_lifetime(
             handle_, now, &request, lifetime, payload.data, payload.size, frame.octets.data(),
             frame.octets.size(), &frame.size));
     }
-    /// The former name of `send_shb_with_lifetime`.
+    /// The former name of send_shb_with_lifetime().
     [[deprecated("use send_shb_with_lifetime")]] Status
     send_shb_for(std::uint64_t now, const geostation_shb_request &request, std::uint8_t lifetime,
                  Octets payload, Frame &frame) noexcept {
         return send_shb_with_lifetime(now, request, lifetime, payload, frame);
     }
+
+    /// Writes the frame of a geobroadcast, for all stations in an area.
+    /// @return Ok, MomentEarlier, MomentTooLate, NoMemory, PayloadTooLong, HopLimitZero,
+    ///         BadArgument (the area is not valid) or OverRate
     Status send_gbc(std::uint64_t now, const geostation_area_request &request, Octets payload,
                     Frame &frame) noexcept {
         return Status(geostation_send_gbc(handle_, now, &request, payload.data, payload.size,
                                           frame.octets.data(), frame.octets.size(), &frame.size));
     }
+
+    /// Writes the frame of a geoanycast, for any one station in an area.
+    /// @return Ok, MomentEarlier, MomentTooLate, NoMemory, PayloadTooLong, HopLimitZero,
+    ///         BadArgument (the area is not valid) or OverRate
     Status send_gac(std::uint64_t now, const geostation_area_request &request, Octets payload,
                     Frame &frame) noexcept {
         return Status(geostation_send_gac(handle_, now, &request, payload.data, payload.size,
                                           frame.octets.data(), frame.octets.size(), &frame.size));
     }
 
-    /// Takes a frame; what is to be sent on is written to `relay`.
+    /// Processes a received frame. If the packet is to be forwarded, the frame to send is written
+    /// to `relay`: send it after a random wait, as geostation_receive() says.
+    /// @return status Ok, MomentEarlier, MomentTooLate, BadFrame, TableFull or NoMemory
     Received receive(std::uint64_t now, Octets frame, Frame &relay) noexcept {
         Received got{};
         got.status = Status(geostation_receive(handle_, now, frame.data, frame.size,
@@ -201,8 +273,10 @@ class Station {
         return got;
     }
 
-    /// Does what a line of JSON asks for, as the command `station`; writes the answer, and the frame
-    /// that is to be sent.
+    /// Executes one JSON request at time `now`: geostation_handle_json(). Failed calls and
+    /// malformed lines are reported inside the answer. `number` is the line number, for a malformed
+    /// line.
+    /// @return Ok or NoMemory
     Status handle_json(std::uint64_t now, std::uint64_t number, Octets line, Answer &answer,
                        Frame &frame) noexcept {
         return Status(geostation_handle_json(
@@ -210,32 +284,34 @@ class Station {
             answer.octets.size(), &answer.size, frame.octets.data(), frame.octets.size(),
             &frame.size));
     }
-    /// The former name of `handle_json`.
+    /// The former name of handle_json().
     [[deprecated("use handle_json")]] Status serve(std::uint64_t now, std::uint64_t number,
                                                    Octets line, Answer &answer,
                                                    Frame &frame) noexcept {
         return handle_json(now, number, line, answer, frame);
     }
 
-    /// How often each thing happened since the station was made.
+    /// Returns the counters of the station since it was created.
     struct ::geostation_counts counts() const noexcept {
-        struct ::geostation_counts told;
-        ::geostation_counts(handle_, &told);
-        return told;
+        struct ::geostation_counts counted;
+        ::geostation_counts(handle_, &counted);
+        return counted;
     }
 
-    /// The least moment at which `tick` with this jitter gives a beacon.
+    /// Returns the earliest time at which tick() with this jitter writes a beacon, in ms. Call it
+    /// again after you have sent a packet and after restart(), but not after receiving a frame.
+    /// @return the time, or UINT64_MAX for a jitter over 750 ms
     std::uint64_t beacon_at(std::uint16_t jitter) const noexcept {
         return geostation_beacon_at(handle_, jitter);
     }
 
-    /// The number of the next packet for an area.
+    /// Returns the sequence number of the next packet for an area.
     std::uint16_t next_number() const noexcept { return geostation_next_number(handle_); }
 
-    /// The least moment at which `tick` with no jitter gives a beacon.
+    /// Returns the earliest time at which tick() with jitter 0 writes a beacon, in ms.
     std::uint64_t next_beacon() const noexcept { return geostation_next_beacon(handle_); }
 
-    /// The vector of the live neighbour of least address above `after`.
+    /// Returns the position vector of the live neighbour with the least address above `after`.
     std::optional<geostation_vector> neighbour(std::uint64_t now,
                                                std::uint64_t after) const noexcept {
         geostation_vector vector;
@@ -243,7 +319,7 @@ class Station {
                                                                        : std::nullopt;
     }
 
-    /// The newest vector of the live source of an address.
+    /// Returns the newest position vector of the live source with this address.
     std::optional<geostation_vector> look_up(std::uint64_t now,
                                              std::uint64_t address) const noexcept {
         geostation_vector vector;

@@ -1,7 +1,7 @@
-/* The heap of the station: three functions that libgeostation.a calls, over the C library's.
+/* The heap of the station: three functions that the library calls, over malloc, realloc and free.
  *
- * A device with a heap of its own replaces this file. A block is aligned to 16 octets at least.
- * Where there is no memory, `ok` is 0 and `p` points to any octet that isn't used. */
+ * A device with its own heap replaces this file. A block is aligned to at least 16 bytes. If there
+ * is no memory, `ok` is false and `p` points to any byte that is not used. */
 #include <stdbool.h>
 #include <stddef.h>
 #include <stdlib.h>
@@ -21,17 +21,18 @@ static struct tried tried(void *p) {
     return (struct tried){ .ok = p != NULL, .p = p != NULL ? p : &none };
 }
 
-/* New memory; of no octets it is a block all the same. */
+/* Allocates a block. A size of 0 gives a block too. */
 struct tried rattle_alloc(size_t octets, size_t align) {
     return tried(malloc(octets != 0 ? octets : align));
 }
 
-/* The block with another size; its first `kept` octets stay. Where it fails, the block stays. */
+/* Resizes a block and keeps its first `kept` bytes. If it fails, the block stays as it was. */
 struct tried rattle_realloc(void *p, size_t kept, size_t octets, size_t align) {
     (void)kept;
     return tried(realloc(p, octets != 0 ? octets : align));
 }
 
+/* Frees a block. */
 void rattle_dealloc(void *p) {
     free(p);
 }

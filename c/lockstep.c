@@ -1,7 +1,6 @@
-/* Two stations through so many calls, as the command `sim` runs them: lockstep EVENTS SCENARIO
- * CAPTURE writes the scenario and the frames that the stations gave, and prints the lines that
- * `sim` prints of that scenario. The calls are drawn by a generator of its own, the same each time.
- */
+/* Takes two stations through EVENTS calls: lockstep EVENTS SCENARIO CAPTURE. It writes the same
+ * calls as a scenario, and the frames that the stations sent. It prints the lines that the command
+ * `sim` prints for that scenario. Its own random generator chooses the calls, always the same. */
 #include "geostation.h"
 #include <inttypes.h>
 #include <stdio.h>
@@ -49,7 +48,7 @@ static void write_number(uint64_t number, int octets) {
     }
 }
 
-/* The frame in the next place is sent: it goes into the capture, and stays for deliveries. */
+/* Sends the next frame: writes it into the capture, and keeps it for deliveries. */
 static void keep(uint64_t now, size_t length) {
     struct frame *f = &frames[sent++];
     f->length = length;
@@ -59,7 +58,7 @@ static void keep(uint64_t now, size_t length) {
     printf("sent %zu", sent - 1);
 }
 
-/* What a call returned that gives a frame or nothing. */
+/* Prints the result of a call that may write a frame. */
 static void tell_sent(int status, uint64_t now, size_t length, const char *nothing) {
     if (status != GEOSTATION_OK) {
         printf("refused %s", code(status));
@@ -141,7 +140,7 @@ static void send_to_area(struct geostation *s, uint64_t now, const uint8_t *payl
     tell_sent(status, now, length, "");
 }
 
-/* A request of a payload: one in fifty is too long. */
+/* A request with a payload: one in fifty is too long. */
 static void request(struct geostation *s, uint64_t now) {
     static uint8_t payload[GEOSTATION_PAYLOAD_MAX + 1];
     size_t n = drawn(50) == 0 ? sizeof payload - drawn(2) : drawn(40);
@@ -165,7 +164,7 @@ static void tell_ignored(uint32_t why) {
     printf("ignored %s", words[why - 1]);
 }
 
-/* One of the last frames comes to a station, at times to the one that sent it. */
+/* Delivers one of the last frames to a station, at times to the one that sent it. */
 static void deliver(struct geostation *s, uint64_t now) {
     size_t number = sent - 1 - drawn(sent < 6 ? (uint32_t)sent : 6);
     const struct frame *f = &frames[number];

@@ -1,5 +1,6 @@
-/* Octets that may be NULL where there are none: the proved calls are given an address always. In
- * the library c/build names those `proved_`; what is here has the header's names. */
+/* Input buffers may be NULL if their length is 0; the proved functions always need an address. In
+ * the library, c/build puts `proved_` before the names of those. The functions here have the names
+ * of the header. */
 #include "geostation.h"
 
 int proved_geostation_send_shb(geostation_handle *s, uint64_t now,
@@ -30,7 +31,7 @@ int proved_geostation_read_frame(const uint8_t *frame, size_t length,
                                  struct geostation_packet *out);
 size_t proved_geostation_frame_length(const uint8_t *octets, size_t length);
 
-/* Where no octets are. */
+/* The address of an empty buffer. */
 static const uint8_t none;
 
 static const uint8_t *address(const uint8_t *octets) {

@@ -1,6 +1,6 @@
-/* Prints how much stack the calls need, in octets, one line per kind of call. Each call runs in a
- * thread whose stack was filled with one octet before. The last line is that of a line of JSON with
- * the deepest nesting that is read. */
+/* Prints how much stack the calls need, in bytes, one line per kind of call. Each call runs in a
+ * thread whose stack was filled with one value before. The last line is for a JSON request with the
+ * deepest nesting that is read. */
 #define _GNU_SOURCE
 #include "geostation.h"
 #include <pthread.h>
@@ -48,7 +48,7 @@ static void *handle_json(void *unused) {
     return unused;
 }
 
-/* Octets of stack that a thread with this function uses. */
+/* Bytes of stack that a thread with this function uses. */
 static size_t used_by(void *(*function)(void *)) {
     uint8_t *stack = aligned_alloc(65536, SIZE);
     pthread_attr_t attributes;

@@ -13,7 +13,7 @@ static long checks;
 #define CHECK(e) do { checks++; if (!(e)) { \
     fprintf(stderr, "%s:%d: %s\n", __FILE__, __LINE__, #e); exit(1); } } while (0)
 
-/* a malloc that fails after so many calls */
+/* a malloc that fails after a given number of calls */
 static long until_fail = -1;
 void *__real_malloc(size_t n);
 void *__wrap_malloc(size_t n);
@@ -44,7 +44,7 @@ static int is_nothing(void) {
         && r.number == 0 && r.traffic_class == 0 && r.hops_left == 0;
 }
 
-/* What is told of each frame that isn't refused. */
+/* The fields of the reception that each valid frame sets. */
 static int is_of(uint64_t source, uint32_t kind, uint16_t number, uint8_t traffic_class,
                  uint8_t hops_left) {
     return r.source == source && r.kind == kind && r.number == number
@@ -124,7 +124,7 @@ static void test_beacons(void) {
     geostation_free(b);
 }
 
-/* The moment of a beacon with a jitter: 3000 ms and the jitter after the last packet, and never
+/* The time of a beacon with a jitter: 3000 ms and the jitter after the last packet, and never
  * before the last call. */
 static void test_beacon_moments(void) {
     struct geostation *a = station(A_ADDRESS, 0, 64);
@@ -140,8 +140,8 @@ static void test_beacon_moments(void) {
     geostation_free(a);
 }
 
-/* A place of another moment, and a single-hop broadcast with a lifetime of its own: the time stamp
- * is octets 34 to 37 of a frame, the lifetime its octet 16. */
+/* A position with another time stamp, and a single-hop broadcast with a lifetime of its own: the
+ * time stamp is octets 34 to 37 of a frame, the lifetime its octet 16. */
 static void test_beside(void) {
     static const struct geostation_shb_request request = { .port = 2001 };
     struct geostation *a = station(A_ADDRESS, 0, 64);
@@ -192,7 +192,7 @@ static void test_codes(void) {
     CHECK(strcmp(geostation_version(), GEOSTATION_VERSION) == 0);
 }
 
-/* The frame of a geobroadcast of A, which is at longitude 0. */
+/* A frame of a geobroadcast from A, which is at longitude 0. */
 static size_t test_sending(struct geostation *a) {
     size_t n = 99;
     struct geostation_area_request bad = AREA;
@@ -255,7 +255,7 @@ static void test_receiving(long damaged) {
     CHECK(geostation_receive(a, 24, other, m, &r, relay, ROOM) == GEOSTATION_OK);
     CHECK(r.ignored == GEOSTATION_NOT_FOR_ME);
 
-    /* octets that are no frame */
+    /* octets that are not a valid frame */
     CHECK(geostation_receive(b, 25, HI, 0, &r, relay, ROOM) == GEOSTATION_BAD_FRAME);
     CHECK(r.fault == 1 && r.fault_kind == 0 && r.fault_at == 0);
     for (size_t k = 14; k < n; k++) {
@@ -278,7 +278,7 @@ static void test_receiving(long damaged) {
     CHECK(r.fault == 3);
     free(long_one);
 
-    /* damaged frames, each in a block of just its size */
+    /* damaged frames, each in a block of exactly its size */
     for (long i = 0; i < damaged; i++) {
         size_t l = i % 7 ? n : (size_t)rand() % (n + 1);
         uint8_t *block = malloc(l != 0 ? l : 1);
@@ -309,7 +309,7 @@ static int is_vector(const struct geostation_vector *v, uint64_t address, uint32
         && v->accurate == accurate;
 }
 
-/* B hears beacons of A and of the station with address 0, and C by a packet for an area alone. */
+/* B receives beacons from A and from the station with address 0; C only a packet for an area. */
 static void test_look_ups(void) {
     const uint64_t group = B_ADDRESS | UINT64_C(1) << 40;
     struct geostation *a = station(A_ADDRESS, 0, 64), *b = station(B_ADDRESS, 900, 64);
@@ -327,7 +327,7 @@ static void test_look_ups(void) {
     CHECK(geostation_send_gbc(c, 20, &AREA, HI, 2, frame, ROOM, &n) == GEOSTATION_OK);
     CHECK(geostation_receive(b, 21, frame, n, &r, relay, ROOM) == GEOSTATION_OK);
 
-    /* a neighbour is one that was heard directly; the address 0 is above none */
+    /* a neighbour's frames arrive directly; address 0 is never above another */
     CHECK(geostation_neighbour(b, 21, 0, &v) == 1);
     CHECK(is_vector(&v, A_ADDRESS, 5, -31, -7, 900, 1));
     CHECK(geostation_neighbour(b, 21, A_ADDRESS - 1, &v) == 1 && v.address == A_ADDRESS);
@@ -341,7 +341,7 @@ static void test_look_ups(void) {
     CHECK(geostation_look_up(b, 21, B_ADDRESS, &v) == 0 && v.longitude == 0);
     CHECK(geostation_look_up(b, 21, group, &v) == 0);
 
-    /* 20000 ms after its last packet a source isn't live; an earlier or too late moment has none */
+    /* 20000 ms after its last packet a source isn't live; an earlier or too late time finds none */
     CHECK(geostation_look_up(b, 20, A_ADDRESS, &v) == 0);
     CHECK(geostation_neighbour(b, 20, 0, &v) == 0);
     CHECK(geostation_look_up(b, 20019, A_ADDRESS, &v) == 1);
@@ -414,7 +414,7 @@ static void test_frames(void) {
     geostation_free(a);
 }
 
-/* A station of a struct: its size, its ranges, whether it is mobile, and its first number. */
+/* A station from a struct: its size, its ranges, whether it is mobile, its first number. */
 static void test_config(void) {
     struct geostation_config c;
     struct geostation_packet p;
@@ -455,7 +455,7 @@ static void test_config(void) {
     geostation_free(s);
 }
 
-/* Frames that Ethernet filled up; octets that are NULL; and what is told of each frame. */
+/* Frames with Ethernet padding; octets that are NULL; and the fields that each frame sets. */
 static void test_padding(void) {
     struct geostation *a = station(A_ADDRESS, 0, 64), *b = station(B_ADDRESS, 900, 64);
     uint8_t padded[ROOM];
@@ -473,7 +473,7 @@ static void test_padding(void) {
         CHECK(status == GEOSTATION_OK ? is_of(A_ADDRESS, GEOSTATION_BEACON, 0, 0, 1)
                                       : r.fault == 4 && r.source == 0);
     }
-    padded[55] = 1; /* not zeros: no filling */
+    padded[55] = 1; /* not zero: not padding */
     CHECK(geostation_frame_length(padded, 60) == 50);
     CHECK(geostation_receive(b, 60, padded, 60, &r, relay, ROOM) == GEOSTATION_BAD_FRAME);
     CHECK(r.fault == 4);
@@ -482,7 +482,7 @@ static void test_padding(void) {
     CHECK(geostation_receive(b, 60, NULL, 0, &r, relay, ROOM) == GEOSTATION_BAD_FRAME);
     CHECK(r.fault == 1 && r.fault_kind == 0 && r.fault_at == 0);
 
-    /* an SHB with no payload, 58 octets: its payload begins where the filling did */
+    /* an SHB with no payload, 58 octets: its payload begins where the padding did */
     const struct geostation_shb_request shb = { .port = 2001, .info = 9, .traffic_class = 3 };
     CHECK(geostation_open_port(b, 60, 2001) == GEOSTATION_OK);
     CHECK(geostation_send_shb(a, 61, &shb, NULL, 0, frame, ROOM, &n) == GEOSTATION_OK && n == 58);
@@ -493,7 +493,7 @@ static void test_padding(void) {
     CHECK(r.port == 2001 && r.info == 9 && is_of(A_ADDRESS, GEOSTATION_SHB, 0, 3, 1));
     CHECK(r.fault == 0 && r.fault_kind == 0 && r.fault_at == 0);
 
-    /* a GBC goes on; its second copy is ignored, and is told of all the same */
+    /* a GBC is forwarded; its second copy is ignored, and its fields are set all the same */
     CHECK(geostation_send_gbc(a, 62, &AREA, NULL, 0, frame, ROOM, &n) == GEOSTATION_OK);
     CHECK(geostation_receive(b, 62, frame, n, &r, relay, ROOM) == GEOSTATION_OK);
     CHECK(r.relay_length == n && is_of(A_ADDRESS, GEOSTATION_GBC, 0, 2, 5));
@@ -506,7 +506,7 @@ static void test_padding(void) {
     geostation_free(b);
 }
 
-/* What is counted, and what isn't. */
+/* Which events are counted, and which are not. */
 static void test_counts(void) {
     struct geostation *a = station(A_ADDRESS, 0, 64), *b = station(B_ADDRESS, 900, 1);
     struct geostation *c = station(C_ADDRESS, 1800, 64);
@@ -568,15 +568,15 @@ static int serve(struct geostation *s, uint64_t now, const char *line) {
                                   sizeof answer, &answered, frame, ROOM, &framed);
 }
 
-/* The line is answered, by just this or, where `more` is set, by what begins so; and then a frame
- * of so many octets is to be sent. */
+/* The answer to the line is this text or, if `more` is set, begins with it; and a frame of so many
+ * octets is to be sent. */
 static int answers(struct geostation *s, uint64_t now, const char *line, const char *text, int more,
                    size_t length) {
     return serve(s, now, line) == GEOSTATION_OK && memcmp(answer, text, strlen(text)) == 0
         && (more ? answered > strlen(text) : answered == strlen(text)) && framed == length;
 }
 
-/* The octets are these digits, which a quotation mark ends. */
+/* The octets are these digits, up to a quotation mark. */
 static int are_digits(const uint8_t *digits, const uint8_t *octets, size_t n) {
     for (size_t i = 0; i < n; i++) {
         char pair[3];
@@ -644,7 +644,7 @@ static void test_lines(void) {
     geostation_free(twin);
 }
 
-/* The longest answers have room, and an allocation that fails leaves the station as it was. */
+/* The longest answers fit, and an allocation that fails leaves the station unchanged. */
 static void test_large_lines(void) {
     struct geostation *a = station(A_ADDRESS, 0, 64), *s;
     static char line[70000];
@@ -897,7 +897,7 @@ int main(int argc, char **argv) {
     test_receiving(argc > 1 ? atol(argv[1]) : 1000);
     for (int status = 0; status <= 22; status++)
         if (status <= 11 || status >= 20)
-            CHECK(strcmp(geostation_status_text(status), "no status") != 0);
+            CHECK(strcmp(geostation_status_text(status), "unknown status") != 0);
     CHECK(strcmp(geostation_fault_text(5, 9), "more hops left than the maximum") == 0);
     printf("%ld checks\n", checks);
     return 0;

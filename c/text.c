@@ -1,8 +1,8 @@
-/* Sentences and codes for statuses and faults, the version, and the free that passes over NULL: the
- * part of the library that is C, and no part of any proof. */
+/* Messages and codes for statuses and faults, the version, and geostation_free, which accepts NULL.
+ * This part of the library is C. No proof covers it. */
 #include "geostation.h"
 
-/* What the library frees a handle by; it takes no NULL. */
+/* The library's own release of a handle. It does not accept NULL. */
 void geostation_release(struct geostation *s);
 
 void geostation_free(struct geostation *s) {
@@ -16,19 +16,19 @@ const char *geostation_status_text(int status) {
     case GEOSTATION_OK: return "done";
     case GEOSTATION_MOMENT_EARLIER: return "the moment is before the last one";
     case GEOSTATION_MOMENT_TOO_LATE: return "the moment is over 2^62 ms";
-    case GEOSTATION_BAD_FRAME: return "the octets are no frame";
+    case GEOSTATION_BAD_FRAME: return "not a valid frame";
     case GEOSTATION_TABLE_FULL: return "the location table is full";
     case GEOSTATION_NO_MEMORY: return "out of memory";
     case GEOSTATION_PAYLOAD_TOO_LONG: return "the payload is over 1394 octets";
-    case GEOSTATION_HOP_LIMIT_ZERO: return "a packet of no hop";
+    case GEOSTATION_HOP_LIMIT_ZERO: return "the hop limit is 0";
     case GEOSTATION_PORT_ALREADY_OPEN: return "the port is open already";
     case GEOSTATION_JITTER_RANGE: return "the jitter is over 750 ms";
     case GEOSTATION_PORTS_FULL: return "64 ports are open";
     case GEOSTATION_PORT_NOT_OPEN: return "the port isn't open";
     case GEOSTATION_BAD_ARGUMENT: return "an argument is out of its range";
-    case GEOSTATION_NO_ROOM: return "the buffer is under 1468 octets";
+    case GEOSTATION_NO_ROOM: return "a buffer is too small";
     case GEOSTATION_OVER_RATE: return "own packets are over their rate";
-    default: return "no status";
+    default: return "unknown status";
     }
 }
 
@@ -66,7 +66,7 @@ uint32_t geostation_abi(void) { return GEOSTATION_ABI; }
 
 const char *geostation_version(void) { return GEOSTATION_VERSION; }
 
-/* Where a code is written: what has no room is counted all the same. */
+/* A buffer for a code. `length` counts bytes that did not fit, too. */
 struct code {
     char *out;
     size_t room, length;

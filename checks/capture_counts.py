@@ -1,5 +1,5 @@
 """What `geostation stats` says of a capture, computed from its frames alone, for checks/stats and
-checks/tshark. The rules are those of docs/FORMATS.md.
+checks/tshark. The rules are those of docs/commands/stats.md.
 """
 
 from __future__ import annotations

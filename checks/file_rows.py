@@ -1,7 +1,7 @@
 """Files of records in each format, what `show` prints of them and what `convert` makes of them, for
 checks/packets and checks/streams.
 
-Octets stand as docs/FORMATS.md and the formats themselves say: classic pcap and pcapng in either
+Octets stand as docs/formats/capture.md and the formats themselves say: classic pcap and pcapng in either
 order of octets, whole, cut at each octet and with what is wrong in them.
 """
 

@@ -1,6 +1,6 @@
 """Compares what the program prints in words with what it prints in JSON, over all samples.
 
-Each object is written again in words, by the rules of docs/FORMATS.md, and has to be the line.
+Each object is written again in words, by the rules of docs/formats/json.md, and has to be the line.
 Arguments: the program, and the folder of the samples.
 """
 

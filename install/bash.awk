@@ -6,7 +6,7 @@ function quoted(string) {
     return apostrophe string apostrophe
 }
 
-# What makes the words that complete a row: an array of bash, the arguments of `compgen`.
+# Makes the words that complete a row: an array of bash, the arguments of `compgen`.
 function source_of(row) {
     if (completion[row] == "file") return "(-f)"
     if (completion[row] == "interface") return "(-W \"$(ls /sys/class/net 2> /dev/null)\")"
@@ -24,7 +24,7 @@ function print_head() {
     print "    [[ $now != = ]] || now=\"\" before=\"${COMP_WORDS[COMP_CWORD - 1]}\""
 }
 
-# The first word that is no option is the command.
+# The first word that is not an option is the command.
 function print_command() {
     print "    for ((at = 1; at < COMP_CWORD; at++)); do"
     print "        case \"${COMP_WORDS[at]}\" in"
@@ -34,7 +34,8 @@ function print_command() {
     print "    done"
 }
 
-# Behind an option with a value stands that value. Where it may be left out, so may another option.
+# An option with a value is followed by that value. If the value is optional, another option may
+# follow instead.
 function print_values(    row) {
     for (row = 1; row <= rows; row++) {
         if (!is_option(row) || !takes_value(row) || may_lack_value(row)) continue
@@ -42,8 +43,8 @@ function print_values(    row) {
     }
 }
 
-# Elsewhere stands an option or an argument of the command, of which the first that has a completion
-# tells for all; for the program itself, a command.
+# Elsewhere an option or an argument of the command follows. The first argument that has a completion
+# decides for all. For the program itself, a command follows.
 function print_words(name,    row, options, source) {
     source = name == "-" && commands > 0 ? "(-W " quoted(all_commands()) ")" : "(-W '')"
     for (row = rows; row > 0; row--) {

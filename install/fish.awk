@@ -1,13 +1,13 @@
 # Makes the completion for fish: awk -v program=NAME -f rows.awk -f fish.awk NAME.options.
 
-# The condition under which a row holds.
+# The condition under which a row applies.
 function condition_of(row) {
     if (commands == 0) return ""
     if (command[row] == "-") return " -n __fish_use_subcommand"
     return " -n " quoted("__fish_seen_subcommand_from " command[row])
 }
 
-# An option is given by its long and its short form.
+# An option is written by its long and its short form.
 function forms_of(row,    at, count, forms, list) {
     count = split(word[row], forms, ", ")
     for (at = 1; at <= count; at++) {
@@ -40,7 +40,7 @@ function print_row(row,    line) {
     print line " -d " quoted(text[row])
 }
 
-# A text as a word of fish, where a backslash stands before an apostrophe.
+# A text as a word of fish, with a backslash before each apostrophe.
 function quoted(string) {
     gsub(apostrophe, "\\" apostrophe, string)
     return apostrophe string apostrophe
@@ -51,7 +51,7 @@ END {
     print "# The completion of " program " for fish, made of a table of its options."
     print "complete -c " program " -f"
     for (row = 1; row <= rows; row++) {
-        # An argument without a completion has nothing that fish could be told.
+        # There is nothing to say to fish about an argument without a completion.
         if (is_option(row) || word[row] == "-" || completion[row] != "-") print_row(row)
     }
 }

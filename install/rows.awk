@@ -1,5 +1,5 @@
-# Reads a table of options for the files that make completions of it. A row is given by its columns:
-# command, word, value, completion, text; and by what follows of them.
+# Reads a table of options for the files that make completions of it. A row has the columns command,
+# word, value, completion and text, and values that follow from them.
 
 BEGIN { FS = "  +"; apostrophe = "\047" }
 
@@ -24,7 +24,7 @@ function fail(why) {
 
 function is_option(row) { return word[row] ~ /^-./ }
 
-# An argument has its name in capitals; neither it nor an option is `-`.
+# The name of an argument is in capitals. Neither an argument nor an option is `-`.
 function is_argument(row) { return word[row] ~ /^[A-Z]/ }
 
 function takes_value(row) { return value[row] != "-" }
@@ -33,14 +33,14 @@ function may_lack_value(row) { return value[row] ~ /^\[/ }
 
 function may_repeat(row) { return value[row] ~ / \.\.$/ }
 
-# The value's name alone.
+# The name of the value only.
 function value_name(row,    name) {
     name = value[row]
     gsub(/\[|\]| \.\.$/, "", name)
     return name
 }
 
-# The values that a row names, with a space between; none where its completion is a word for others.
+# The values that a row names, separated by spaces; none if its completion is a word for others.
 function choices(row,    list) {
     list = completion[row]
     if (list ~ /^(-|file|interface|command)$/) return ""

@@ -6,7 +6,7 @@ function quoted(string) {
     return apostrophe string apostrophe
 }
 
-# A text as a part of a specification of `_arguments`, where brackets and colons mean something.
+# A text as a part of a specification of `_arguments`, in which brackets and colons are special.
 function escaped(string) {
     gsub(/\[|\]|:/, "\\\\&", string)
     return string
@@ -25,7 +25,7 @@ function print_specification(indent, specification) {
     print indent "    " quoted(specification) " \\"
 }
 
-# An option once for each of its forms; help and the version stand alone.
+# An option, once for each of its forms. Help and the version exclude other options.
 function print_option(indent, row,    at, count, forms, specification) {
     count = split(word[row], forms, ", ")
     for (at = 1; at <= count; at++) {

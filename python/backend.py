@@ -1,5 +1,5 @@
-"""Builds the package's wheel (PEP 517, PEP 660) by the standard library alone, so that pip has
-nothing to fetch: a wheel is an archive of the package's files and three of their metadata."""
+"""Builds the package's wheel (PEP 517, PEP 660) with the standard library only, so that pip fetches
+nothing. A wheel is a zip archive of the package's files and three files of metadata."""
 
 from __future__ import annotations
 
@@ -16,7 +16,7 @@ SUFFIXES = (".py", ".typed", ".so.3")
 
 
 def _project(key: str) -> str:
-    """A text of the project's table in pyproject.toml, which stands on a line of its own."""
+    """Returns a string of the table [project] in pyproject.toml. It must be on one line."""
     found = re.search(rf'^{key} = "(.*)"$', (HERE / "pyproject.toml").read_text(), re.MULTILINE)
     assert found is not None, key
     return found.group(1)
@@ -33,7 +33,7 @@ def _metadata() -> str:
 
 
 def _write(folder: str, files: Dict[str, bytes]) -> str:
-    """Writes a wheel of some files and the metadata; what it returns is its name."""
+    """Writes a wheel of these files and the metadata, and returns its name."""
     begin = f"{PACKAGE}-{_project('version')}"
     info, name = f"{begin}.dist-info", f"{begin}-py3-none-any.whl"
     files = dict(files)
@@ -58,8 +58,9 @@ def build_wheel(
     config_settings: Optional[Dict[str, Any]] = None,
     metadata_directory: Optional[str] = None,
 ) -> str:
-    """Builds a wheel of the package and its subpackages. A library beside its files goes with
-    them."""
+    """Builds a wheel of the package and its subpackages.
+
+    It includes a libgeostation.so.3 in the folder of the package."""
     paths = sorted((HERE / PACKAGE).rglob("*"))
     files: List[Tuple[str, bytes]] = [
         (path.relative_to(HERE).as_posix(), path.read_bytes())
@@ -74,5 +75,5 @@ def build_editable(
     config_settings: Optional[Dict[str, Any]] = None,
     metadata_directory: Optional[str] = None,
 ) -> str:
-    """A wheel that points to this folder (`pip install -e`)."""
+    """Builds a wheel that points to this folder (`pip install -e`)."""
     return _write(wheel_directory, {f"{PACKAGE}.pth": f"{HERE}\n".encode()})

@@ -36,9 +36,9 @@
     go(state.steps[row].event);
   });
 
-  /** @param {string} told */
-  function tell(told) {
-    byId('totals').textContent = told;
+  /** @param {string} text */
+  function tell(text) {
+    byId('totals').textContent = text;
   }
 
   /** Opens a file. If it can't be read, a sentence says why. @param {Blob} blob */
@@ -133,7 +133,7 @@
     return state.rows ? state.rows[row] : row;
   }
 
-  /** The row of what is present, or of the last one before it; -1 where there is none. */
+  /** The row of the current event or note, or the last row before it; -1 without such a row. */
   function presentRow() {
     const {run: {entries, events: {length}}, rows: listed, at, note} = state;
     const place = note !== undefined ? entries.ofNote(note)

@@ -110,8 +110,8 @@
 
     /** @param {number} station */
     isAway(station) {
-      const {at, told} = this.scene;
-      return this.hasPresence && !this.run.presence.isThere(station, told, at);
+      const {at, noted} = this.scene;
+      return this.hasPresence && !this.run.presence.isThere(station, noted, at);
     }
 
     /** Fills a square of the picture, as far as it lies inside. */
@@ -223,7 +223,7 @@
       context.stroke();
     }
 
-    /** What a click is at: the nearest station, else the nearest arc. */
+    /** What a click hits: the nearest station or, if no station is near, the nearest arc. */
     hit(_event, {x, y}) {
       let [best, far] = [-1, NEAR];
       for (let i = 0; i < this.xs.length; i += 1) {

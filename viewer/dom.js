@@ -51,7 +51,7 @@
       this.used = 0;
     }
 
-    /** @returns {any} the next element, made where there is none */
+    /** @returns {any} the next element, which is made if it does not exist */
     next() {
       if (this.used === this.items.length) {
         this.items.push(this.make());
@@ -63,7 +63,7 @@
       return item;
     }
 
-    /** Begins anew; `finish` hides what isn't taken again. */
+    /** Begins again; `finish` hides what isn't taken again. */
     begin() {
       this.used = 0;
     }

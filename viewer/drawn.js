@@ -71,7 +71,7 @@
 
     /** @param {any} station @param {number} index @param {boolean} isAnew */
     drawStation(station, index, isAnew) {
-      const {at, told, active, chosen, roles} = this.scene;
+      const {at, noted, active, chosen, roles} = this.scene;
       const place = this.run.placeAt(index, at);
       if (isAnew || place.lat !== station.place?.lat || place.lon !== station.place?.lon) {
         station.place = place;
@@ -80,7 +80,7 @@
         station.dot.setAttribute('transform', `translate(${x} ${y})`);
         this.drawTrail(station, index);
       }
-      const isThere = this.run.presence.isThere(index, told, at);
+      const isThere = this.run.presence.isThere(index, noted, at);
       const role = [roles.get(index) ?? '', index === active ? 'active' : '',
         index === chosen ? 'chosen' : '', isThere ? '' : 'away'].join(' ');
       if (role === station.role) return;

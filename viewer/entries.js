@@ -24,7 +24,7 @@
     }
 
     /**
-     * What stands at a place: an event, or a note and the event that it stands behind.
+     * What is at a place: an event, or a note and the event that it follows.
      * @param {number} place @returns {{event: number, note?: number}}
      */
     at(place) {
@@ -33,13 +33,13 @@
       return {event: this.after[notes - 1], note: notes - 1};
     }
 
-    /** How many notes stand before the line behind an event's and its notes. */
+    /** How many notes precede the line after an event's line and its notes. */
     notesUpTo(event) {
       return countUpTo(this.after, event);
     }
 
     /**
-     * How many notes are told at an event: those behind it that are later aren't yet.
+     * How many notes are shown at an event: notes that follow it at a later time are not shown yet.
      * @param {number} event
      */
     notesTold(event) {

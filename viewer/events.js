@@ -67,7 +67,7 @@
   class Events extends Table {
     /** @param {number} [capacity] */
     constructor(capacity) {
-      // `word` is the number of `why` or `code`; `sent` and `port` are -1 where there is none.
+      // `word` is the number of `why` or `code`; `sent` and `port` are -1 if the event has none.
       super({moment: Float64Array, station: Int32Array, do: Uint8Array, result: Uint8Array,
         frame: Uint32Array, sent: Int32Array, port: Int32Array, info: Uint16Array,
         word: Uint32Array, reason: Uint32Array, payload: Uint32Array, lat: Int32Array,
@@ -216,8 +216,8 @@
   /** Notes: who came and left, which frame was lost where, and which stations weren't there. */
   class Notes extends Table {
     constructor() {
-      // `after` is the event that a note stands behind, -1 where it stands before all; `id` the
-      // number of a name.
+      // `after` is the event that a note follows, -1 if it precedes all; `id` is the number of a
+      // name.
       super({kind: Uint8Array, moment: Float64Array, station: Int32Array, frame: Int32Array,
         after: Int32Array, id: Uint32Array});
       this.ids = new Words();

@@ -7,7 +7,7 @@
   const {peek} = geostation;
   const {DO, DOS, NOTE, NOTES, RESULT} = geostation.events;
   const OWN = {tick: 'beacon', shb: 'shb', gbc: 'gbc', gac: 'gac'};
-  /** The kinds that can be chosen: packets, what else a station is told to do, notes of it. */
+  /** The kinds that can be selected: packets, other requests to a station, notes of it. */
   const KINDS = ['beacon', 'shb', 'gbc', 'gac', 'move', 'open', 'close', 'restart', 'came', 'left',
     'absent'];
   const RESULTS = ['sent', 'delivered', 'accepted', 'duplicate', 'ignored', 'refused', 'lost'];

@@ -105,7 +105,7 @@
     return text;
   }
 
-  /** The octets of hexadecimal text, undefined where it is none. @param {string} text */
+  /** The octets of hexadecimal text, undefined if it isn't such text. @param {string} text */
   function fromHex(text) {
     if (text.length % 2 !== 0 || !/^[0-9a-fA-F]*$/.test(text)) return undefined;
     const octet = (_, i) => parseInt(text.slice(2 * i, 2 * i + 2), 16);

@@ -96,7 +96,7 @@
       return getComputedStyle(this.canvas).getPropertyValue('--street').trim();
     }
 
-    /** The streets in sight as an element of an SVG file; undefined if there are none. */
+    /** The visible streets as an element of an SVG file; undefined without streets. */
     element() {
       const parts = [];
       const path = {

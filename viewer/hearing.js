@@ -18,8 +18,8 @@
   }
 
   /**
-   * The square of the farthest that a frame is heard from, in square centimetres: the air's range,
-   * else the farthest that one was heard from.
+   * The square of the greatest distance of a reception, in square centimetres: the range of the
+   * radio model or, without one, the greatest distance over which a frame was received.
    * @param {import('./run.js').Run} run
    */
   function limit2(run) {

@@ -66,7 +66,7 @@
       return true;
     }
 
-    /** What stands behind `do`: the frame of a delivery, the place of a move. */
+    /** What follows `do`: the frame of a delivery, the position of a move. */
     takeDoing() {
       const {scanner, row} = this;
       if (row.do === DO.deliver) {
@@ -79,7 +79,7 @@
       return !Number.isNaN(row.lat + row.lon);
     }
 
-    /** What stands behind the result: why it was ignored, what was delivered to its port. */
+    /** What follows the result: why it was ignored, what was delivered to its port. */
     takeResult() {
       const {scanner, row, run: {events}} = this;
       if (row.result === RESULT.ignored) {
@@ -95,7 +95,7 @@
       return row.payload >= 0;
     }
 
-    /** The frame that was given. @returns {number} its length, 0 where there is none, -1 */
+    /** The frame that was sent. @returns {number} its length, 0 without a frame, -1 */
     takeSent() {
       const {scanner, row, run: {frames}} = this;
       if (!scanner.takes(KEYS.sent)) return row.result === RESULT.sent ? -1 : 0;

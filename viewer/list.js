@@ -110,7 +110,7 @@
       row.className = `row ${kind}`;
       row.title = title;
       row.style.setProperty('--hop', String(hop));
-      // Cells are kept and not made anew, as a press on one that goes gives no click.
+      // Cells are kept and not made again, because a press on a removed cell makes no click.
       while (row.children.length > cells.length) row.lastChild.remove();
       while (row.children.length < cells.length) row.append(element('span', ''));
       cells.forEach(([className, text], i) => {

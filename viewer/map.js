@@ -25,7 +25,7 @@
   /**
    * @typedef {object} Scene what is to be seen
    * @property {number} at the present event
-   * @property {number} told how many notes there were until then
+   * @property {number} noted how many notes there were until then
    * @property {number | undefined} active the present event's station
    * @property {number | undefined} chosen station
    * @property {Link[]} links

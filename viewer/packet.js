@@ -103,7 +103,7 @@
   }
 
   /**
-   * Shows the frame that was received and the one that was forwarded, or that there is none.
+   * Shows the frame that was received and the one that was forwarded, or that no frame exists.
    * @param {HTMLElement} box @param {import('./run.js').Run} run
    * @param {{came?: number, given?: number}} frames
    */

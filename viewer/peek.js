@@ -10,7 +10,7 @@
   const SOURCE = {beacon: 26, shb: 26, gbc: 30, gac: 30};
   const PORT = {shb: 54, gbc: 70, gac: 70};
 
-  /** The kind of the packet in a frame, undefined where it is none. @param {number} frame */
+  /** The kind of the packet in a frame, undefined if it isn't a packet. @param {number} frame */
   function kind(frames, frame) {
     return KINDS[frames.octet(frame, TYPE) >> 4];
   }
@@ -22,7 +22,7 @@
     return low === undefined ? undefined : 256 * frames.octet(frame, at) + low;
   }
 
-  /** The number of the address of a frame's source, 0 where there is none. @param {any} words */
+  /** The number of the address of a frame's source, 0 without one. @param {any} words */
   function source(frames, frame, words) {
     const at = SOURCE[kind(frames, frame)];
     const octets = frames.octets(frame);

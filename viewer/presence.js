@@ -1,5 +1,5 @@
-//! Who is there: stations of an air come and leave, as the notes tell. Of a station that no note
-//! tells of, what it hears and sends shows whether it is there.
+//! Who is present: stations arrive and leave, as the notes say. If no note mentions a station, what
+//! it receives and sends shows whether it is present.
 
 (function (geostation) {
   'use strict';
@@ -29,16 +29,16 @@
     }
 
     /**
-     * Whether a station is there once some notes were told, and an event was run.
-     * @param {number} station @param {number} told how many notes @param {number} at the event
+     * Whether a station is present after a number of notes, and after an event was run.
+     * @param {number} station @param {number} noted how many notes @param {number} at the event
      */
-    isThere(station, told, at) {
+    isThere(station, noted, at) {
       const {starts, members} = this.changes;
       const [from, to] = [starts[station], starts[station + 1]];
       if (from === to) {
         return this.stations[station].born <= Math.max(0, at) && !this.never.has(station);
       }
-      const next = countUpTo(members, told - 1, to, from);
+      const next = countUpTo(members, noted - 1, to, from);
       if (next === from) return this.notes.is(members[from], 'left');
       return this.notes.is(members[next - 1], 'came');
     }
@@ -55,9 +55,9 @@
   }
 
   /**
-   * Finds the stations that are never there: of such a one no note tells, and it heard nothing.
-   * Where each sends beacons it sent none, or one that is there gave a frame in its range. Where
-   * frames are lost and no note tells of it, this can't be known.
+   * Finds the stations that are never present. No note mentions such a station, and it received
+   * nothing. If all stations send beacons, it sent none, or a present one sent a frame within its
+   * range. If frames are lost without notes, this can't be known.
    * @param {import('./run.js').Run} run whose events and notes are in groups
    */
   function findNever(run) {
@@ -73,7 +73,7 @@
     }
   }
 
-  /** Which stations show that they are there: a note tells of them, they hear, or send beacons. */
+  /** Which stations show that they are present: by a note, by a reception, or by a beacon. */
   function showing({air, events, notes, presence, stations}) {
     const there = Uint8Array.from(stations, (_, i) => Number(presence.changes.of(i).length > 0));
     for (let i = 0; i < events.length; i += 1) {

@@ -105,7 +105,7 @@
     }
 
     /**
-     * Whether a station is there once an event was run, and all notes behind it were told.
+     * Whether a station is present after an event was run, and after all notes that follow it.
      * @param {number} station @param {number} at the event
      */
     isPresent(station, at) {

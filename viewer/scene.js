@@ -122,7 +122,7 @@
     return packets.map((packet) => packet?.area).filter((found) => found);
   }
 
-  /** The station of the present event or note, undefined where there is none. */
+  /** The station of the current event or note, undefined without one. */
   function activeStation({run, at, note}) {
     if (note === undefined) return run.events.at(at)?.station;
     const {station} = run.notes.at(note);
@@ -146,8 +146,8 @@
         `${grouped(count)} frames`);
     }
     if (rings.length > mostCircles) unseen.push(`${rings.length - mostCircles} circles`);
-    const told = note === undefined ? run.entries.notesTold(at) : note + 1;
-    return {at, told, active: activeStation(state), chosen: station, links: shown, circles: rings,
+    const noted = note === undefined ? run.entries.notesTold(at) : note + 1;
+    return {at, noted, active: activeStation(state), chosen: station, links: shown, circles: rings,
       unseen, areas: isEmpty ? [] : areas(state, shown),
       roles: chosen ? why.roles(steps, judgement, at) : new Map()};
   }

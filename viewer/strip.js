@@ -1,10 +1,12 @@
-//! The strip under the timeline: frames a second as bars, the share of time on the air as a line.
+//! The strip under the timeline: frames per second as bars, the share of busy time as a line.
 
 (function (geostation) {
   'use strict';
 
   const {byId} = geostation.dom;
   const {clock, columns} = geostation;
+  /** The height of the labels above the bars, and the size of their letters, in pixels. */
+  const [LABELS, LETTERS] = [13, 10.5];
 
   class Strip {
     constructor() {
@@ -24,7 +26,7 @@
       this.draw();
     }
 
-    /** The greatest frames a second and share, which the strip's height stands for. */
+    /** The greatest frames per second and share, which are the strip's full height. */
     get tops() {
       const {bins, width} = this.load;
       const frames = bins.reduce((most, bin) => Math.max(most, bin.frames), 0);
@@ -43,6 +45,7 @@
       context.setTransform(dense, 0, 0, dense, 0, 0);
       const style = getComputedStyle(document.documentElement);
       const {frames, busy} = this.tops;
+      const plot = height - LABELS;
       context.fillStyle = style.getPropertyValue('--duplicate');
       context.strokeStyle = style.getPropertyValue('--sender');
       context.lineWidth = 1.5;
@@ -50,12 +53,27 @@
       for (const bin of this.load.bins) {
         const [from, to] = this.ends(bin, width);
         const part = (1000 * bin.frames) / this.load.width / (frames || 1);
-        context.fillRect(from, height * (1 - part), Math.max(1, to - from - 0.5), height * part);
-        const y = 1 + (height - 2) * (1 - bin.most / (busy || 1));
+        const tall = plot * part;
+        context.fillRect(from, height - tall, Math.max(1, to - from - 0.5), tall);
+        const y = LABELS + 1 + (plot - 2) * (1 - bin.most / (busy || 1));
         context.moveTo(from, y);
         context.lineTo(Math.max(to, from + 1), y);
       }
       context.stroke();
+      this.label(context, width, style);
+    }
+
+    /** Says what the full height of the bars and of the line is. */
+    label(context, width, style) {
+      const {frames, busy} = this.tops;
+      const percent = (100 * busy).toFixed(busy < 0.1 ? 2 : 0);
+      context.font = `${LETTERS}px ${getComputedStyle(document.body).fontFamily}`;
+      context.textBaseline = 'top';
+      context.fillStyle = style.getPropertyValue('--quiet');
+      context.fillText(`bars: up to ${Math.round(frames)} frames/s`, 0, 0);
+      context.fillStyle = style.getPropertyValue('--sender');
+      context.textAlign = 'right';
+      context.fillText(`line: busy up to ${percent} %`, width, 0);
     }
 
     /** Where a bin begins and ends, in pixels. */

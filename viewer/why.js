@@ -156,23 +156,23 @@
   /**
    * @param {import('./run.js').Run} run @param {import('./way.js').Send} send
    * @param {number} station @param {any} found the furthest that a frame came there
-   * @param {string | undefined} told the reason, where the run's summary tells it
+   * @param {string | undefined} known the reason, if the run's summary says it
    * @returns {Miss}
    */
-  function miss(run, send, station, found, told) {
+  function miss(run, send, station, found, known) {
     if (found) {
       const {rank, event, frame} = found;
-      return {station, reason: told ?? REASONS[rank], event, frame};
+      return {station, reason: known ?? REASONS[rank], event, frame};
     }
-    const near = run.notes.length > 0 && !told ? undefined : lostNear(run, send, station);
-    if (told) return {station, reason: told, ...(told === 'lost' ? near : {})};
+    const near = run.notes.length > 0 && !known ? undefined : lostNear(run, send, station);
+    if (known) return {station, reason: known, ...(known === 'lost' ? near : {})};
     if (near && run.air) return {station, reason: 'lost', ...near};
     return {station, reason: REASONS[UNHEARD], ...(near ? {isLikely: true, ...near} : {})};
   }
 
   /**
-   * The first frame of a send that would have been heard at a station where none came: the station
-   * was in range of its giver, so that it was lost.
+   * The first frame of a send that was sent within range of a station to which none came. So that
+   * frame was lost.
    * @param {import('./run.js').Run} run @param {import('./way.js').Send} send
    * @returns {{event: number, frame: number} | undefined}
    */

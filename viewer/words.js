@@ -10,7 +10,7 @@
     return event.do === 'deliver' ? `deliver ${event.frame}` : event.do;
   }
 
-  /** What came of it, as `sim` prints it. @param {Event} event */
+  /** The result, as `sim` prints it. @param {Event} event */
   function entry(event) {
     const words = [event.result];
     if (event.why !== undefined) words.push(event.why);
@@ -31,7 +31,7 @@
   }
 
   /**
-   * The parts of a note: who, and in words of `sim` and others what became of it.
+   * The parts of a note: the station, what happened to it in the words of `sim`, and an explanation.
    * @param {import('./run.js').Run} run @param {number} number
    */
   function partsOfNote(run, number) {

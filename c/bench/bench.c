@@ -1,6 +1,6 @@
-/* A call from C beside the same call in Rust: the loops of loops.rt.txt and the same loops over
- * geostation.h, in turns. Prints for each the least nanoseconds of processor time a call, and their
- * ratio. A beacon is due at one in a thousand calls of `tick`. */
+/* Compares calls from C with the same calls in Rust: the loops of loops.rt.txt and the same loops
+ * over geostation.h, alternately. Prints the least processor time per call, in nanoseconds, and the
+ * ratio. A beacon is due in one of a thousand calls of `tick`. */
 #define _POSIX_C_SOURCE 200809L
 #include "geostation.h"
 #include <inttypes.h>
@@ -38,7 +38,7 @@ uint64_t bench_send(uint64_t address, uint8_t kind, const struct asked *asked, s
 static uint8_t frames[MANY * 100], relay[GEOSTATION_FRAME_MAX], payload[20];
 static size_t frames_length, stride;
 
-/* The same requests for the loops in C and in Rust, each a circle round another place. */
+/* The same requests for the loops in C and in Rust, each for a circle around another position. */
 static struct geostation_shb_request shbs[MANY];
 static struct geostation_area_request areas[MANY];
 static struct asked asked[MANY];
@@ -161,7 +161,7 @@ static void row(const char *what, uint64_t (*c)(uint32_t), uint64_t (*rust)(uint
            least_c / least_rust);
 }
 
-/* So many frames of this kind, one after the other. */
+/* Writes a number of frames of this kind, one after the other. */
 static void fill(int kind) {
     struct geostation *s = station(ADDRESS, 0);
     size_t n = 0;

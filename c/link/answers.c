@@ -1,13 +1,13 @@
-/* What a line of an application asks for. The library reads the line and writes the answer; what is
- * known here alone, the link and the position, is put into the answer afterwards. */
+/* Requests of applications. The library reads the line and writes the answer. What it does not
+ * know, the state of the link and of the position, is put into the answer afterwards. */
 #define _GNU_SOURCE
 #include "parts.h"
 #include <inttypes.h>
 #include <stdio.h>
 #include <string.h>
 
-/* Where an answer's result is. No text of a client is mistaken for it: in a text the quotation
- * marks would have a backslash. */
+/* Finds the result in an answer. No text of a client is mistaken for it: in a text, quotation marks
+ * have a backslash. */
 static const uint8_t *result_in(const uint8_t *answer, size_t n) {
     static const char key[] = "\"result\":\"";
     const uint8_t *at = memmem(answer, n, key, sizeof key - 1);
@@ -21,7 +21,7 @@ static bool has_result(const uint8_t *answer, size_t n, const char *word) {
         && at[length] == '"';
 }
 
-/* Makes a refusal of an answer that has a result, and returns its length. */
+/* Turns an answer that has a result into a refusal, and returns its length. */
 static size_t refuse(uint8_t *answer, size_t n, const char *code, const char *reason) {
     char text[256];
     size_t kept = (size_t)(result_in(answer, n) - answer);
@@ -43,8 +43,8 @@ static size_t serve(geostation_handle *h, struct station *s, uint64_t now, uint6
     return length;
 }
 
-/* What the probe says to a line while the station may not send: the length of a refusal if the line
- * would send or receive, otherwise 0, and the station may be asked. */
+/* Asks the probe about a line while the station may not send. Returns the length of a refusal if
+ * the line would send or receive; otherwise 0, and the station may be asked. */
 static size_t refuse_unplaced(struct station *s, uint64_t now, uint64_t number,
                               const uint8_t *line, size_t n, uint8_t *answer) {
     size_t frame_length = 0;
@@ -55,10 +55,10 @@ static size_t refuse_unplaced(struct station *s, uint64_t now, uint64_t number,
         return 0;
     }
     return refuse(answer, length, "no place",
-                  s->place->known ? "the last fix is too old" : "the station has no place yet");
+                  s->place->known ? "the last fix is too old" : "the station has no position yet");
 }
 
-/* A line moved the station: where to is what a packet of the probe says after the same line. */
+/* A line moved the station. The probe gets the same line; a packet of it has the new position. */
 static void follow_move(struct station *s, uint64_t now, const uint8_t *line, size_t n) {
     static uint8_t answer[GEOSTATION_ANSWER_MAX];
     const struct geostation_shb_request any = { .port = 0 };

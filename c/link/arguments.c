@@ -1,4 +1,4 @@
-/* What the command line says. */
+/* The options of the command line. */
 #define _GNU_SOURCE
 #include "parts.h"
 #include <getopt.h>
@@ -128,7 +128,7 @@ static bool take_port(struct options *o, const struct setting *s, struct fault *
     }
     for (size_t k = 0; k < o->port_count; k++) {
         if (o->ports[k] == number) {
-            return refuse_value(s, "the port is there already", f);
+            return refuse_value(s, "the port is already listed", f);
         }
     }
     o->ports[o->port_count++] = (uint16_t)number;
@@ -147,7 +147,7 @@ static bool take_small(const struct setting *s, uint16_t most, uint16_t *out, st
     return good;
 }
 
-/* A time, which is kept in parts of its unit. */
+/* A time, which is stored in a smaller unit. */
 static bool take_time(const struct setting *s, uint64_t least, uint64_t most, uint32_t parts,
                       uint32_t *out, struct fault *f) {
     uint64_t number;
@@ -208,19 +208,19 @@ static _Noreturn void print_and_end(bool help) {
     exit(fflush(stdout) == 0 ? 0 : FAILED);
 }
 
-/* What has to be there, and what doesn't go together. */
+/* Which options are required, and which exclude each other. */
 static bool judge(const struct options *o, struct fault *f) {
     if ((o->interface != NULL) == (o->udp != NULL)) {
         return set_fault(f, BAD_ARGUMENTS, "either --interface or --udp LOCAL:PORT is needed");
     }
     if ((o->udp != NULL) != (o->peer_count != 0)) {
-        return set_fault(f, BAD_ARGUMENTS, "--udp LOCAL:PORT and --to HOST:PORT need each other");
+        return set_fault(f, BAD_ARGUMENTS, "--udp and --to must be given together");
     }
     if (o->placed == (o->gpsd != NULL)) {
         return set_fault(f, BAD_ARGUMENTS, "either --position LAT,LON or --gpsd is needed");
     }
     if (o->addressed && o->typed) {
-        return set_fault(f, BAD_ARGUMENTS, "--address and --station-type exclude each other");
+        return set_fault(f, BAD_ARGUMENTS, "--address and --station-type cannot be given together");
     }
     if (o->udp != NULL && !o->addressed) {
         return set_fault(f, BAD_ARGUMENTS, "--udp needs --address HEX16, as UDP has no MAC");
@@ -261,7 +261,7 @@ bool read_arguments(struct options *o, int argc, char **argv, struct fault *f) {
         }
     }
     if (optind < argc) {
-        return set_fault(f, BAD_ARGUMENTS, "%s: no such argument; --help lists the options",
+        return set_fault(f, BAD_ARGUMENTS, "unexpected argument '%s'; --help lists the options",
                          argv[optind]);
     }
     return judge(o, f);

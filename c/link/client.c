@@ -1,5 +1,5 @@
-/* One application. No request is read before the answer to the one before has space, so none is
- * lost. Events are lost if the client reads too slowly; an event reports how many. */
+/* One application. A request is read only if there is space for its answer, so no answers are lost.
+ * Events are lost if the client reads too slowly; an event reports how many. */
 #define _GNU_SOURCE
 #include "parts.h"
 #include <errno.h>
@@ -23,7 +23,7 @@ struct client *client_new(int in, int out, uint64_t now) {
     return c;
 }
 
-/* Appends octets to what waits, if that makes no more than `most`. */
+/* Appends octets to the queue, if it then has no more than `most`. */
 static bool enqueue(struct client *c, const void *octets, size_t n, size_t most) {
     if (client_waiting(c) + n > most) {
         return false;
@@ -66,7 +66,7 @@ static bool is_blank(const struct client *c) {
     return k == c->line_length;
 }
 
-/* A line that is too long was kept up to one octet too many: the library says so of it. */
+/* Of a line that is too long, one octet too many is kept: the library then rejects the line. */
 static void end_line(struct clients *all, struct client *c) {
     static uint8_t answer[GEOSTATION_ANSWER_MAX + 1];
     c->lines++;
@@ -81,7 +81,7 @@ static void end_line(struct clients *all, struct client *c) {
     c->line_length = 0;
 }
 
-/* Takes what was read, line by line, as long as an answer has space. */
+/* Handles the input line by line, as long as there is space for an answer. */
 void client_take_lines(struct clients *all, struct client *c) {
     while (c->next < c->got && client_waiting(c) <= EVENTS_ROOM) {
         uint8_t octet = c->chunk[c->next++];

@@ -15,7 +15,7 @@ void clients_tell(struct clients *c, const struct text *t, uint64_t now) {
     }
 }
 
-/* Its first line says whose station it is; the next, if it is so, that the link is down. */
+/* The first line has the station's address. A second one follows if the link is down. */
 static bool add(struct clients *c, size_t k, int in, int out) {
     struct text t;
     uint64_t now = clock_now();
@@ -53,7 +53,7 @@ static void drop(struct clients *c, size_t k) {
     c->all[k] = NULL;
 }
 
-/* Did standard input end, or standard output, and no one may come by a socket? */
+/* Did standard input or output end, without a socket for other applications? */
 bool clients_is_ended(const struct clients *c) {
     return c->all[0] == NULL && c->listening < 0;
 }
@@ -66,7 +66,7 @@ size_t clients_count(const struct clients *c) {
     return count;
 }
 
-/* A place for one of the socket, or CLIENTS if all are taken: others wait then. */
+/* A free place for a client of the socket, or CLIENTS if all are taken: others wait then. */
 static size_t free_place(const struct clients *c) {
     size_t k = 1;
     while (k < CLIENTS && c->all[k] != NULL) {
@@ -86,7 +86,7 @@ static size_t idlest(const struct clients *c) {
     return found;
 }
 
-/* When a place can be had, at the latest: UINT64_MAX if that is up to the clients. */
+/* The latest time at which a place becomes free; UINT64_MAX if that depends on the clients. */
 static uint64_t place_at(const struct clients *c) {
     if (free_place(c) < CLIENTS) {
         return 0;
@@ -112,7 +112,7 @@ void clients_poll(const struct clients *c, struct pollfd *on, uint64_t now) {
     on[0] = (struct pollfd){ place ? c->listening : -1, POLLIN, 0 };
 }
 
-/* Someone waits, and this client has sent and taken nothing for too long. */
+/* Closes a client that was idle for too long while another one waits. */
 static void close_idle(struct clients *c, size_t k) {
     struct text t;
     event_closed(&t, clock_now());
@@ -134,8 +134,8 @@ static void turn_away(struct clients *c, int fd) {
     }
 }
 
-/* Without a free descriptor the spare one makes it possible to hang up on who waits: otherwise the
- * socket would be readable for ever. */
+/* Without a free descriptor, the spare one serves to turn a waiting client away. Otherwise the
+ * socket would stay readable for ever. */
 static void accept_one(struct clients *c) {
     size_t k = free_place(c);
     if (k == CLIENTS) {
@@ -152,8 +152,8 @@ static void accept_one(struct clients *c) {
     }
 }
 
-/* Standard output goes on to get events after the end of standard input if there is a socket too.
- * If no one reads it any more, it ends at once. */
+/* If there is a socket too, standard output still gets events after the end of standard input. If
+ * no one reads it any more, it ends at once. */
 static bool is_done(const struct clients *c, size_t k) {
     const struct client *one = c->all[k];
     bool stays = k == 0 && c->listening >= 0;
@@ -203,8 +203,7 @@ static bool any_writes(const struct clients *c) {
     return false;
 }
 
-/* Requests that came before the end are done, and answers written, as far as it takes no more than
- * half a second. */
+/* Handles requests that came before the end and writes their answers, for half a second at most. */
 void clients_drain(struct clients *c) {
     struct pollfd on[1 + 2 * CLIENTS];
     uint64_t start = clock_now();

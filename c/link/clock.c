@@ -1,6 +1,6 @@
-/* One clock for times of calls and time stamps. The time of day is taken once. From then on the
- * time since the machine's start leads, so that a step of the time of day moves nothing: a station
- * refuses each call that is before its last one. */
+/* One clock for the times of calls and for time stamps. The time of day is read once. From then on
+ * the time since the machine's start is added, so a step of the time of day changes nothing. A
+ * station rejects each call that is earlier than its last one. */
 #define _GNU_SOURCE
 #include "parts.h"
 #include <errno.h>

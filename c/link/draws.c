@@ -1,4 +1,4 @@
-/* Random numbers: xorshift64*, which the system's random numbers begin. */
+/* Random numbers: xorshift64*, seeded with a random number of the system. */
 #define _GNU_SOURCE
 #include "parts.h"
 #include <sys/random.h>
@@ -9,7 +9,7 @@ static uint64_t state;
 static uint64_t next(void) {
     while (state == 0) {
         if (getrandom(&state, sizeof state, GRND_NONBLOCK) != sizeof state) {
-            struct timespec t; /* early in the boot there are none yet */
+            struct timespec t; /* early in the boot the system has no random numbers yet */
             clock_gettime(CLOCK_BOOTTIME, &t);
             state = (uint64_t)t.tv_nsec * UINT64_C(0x9e3779b97f4a7c15) + (uint64_t)t.tv_sec;
         }

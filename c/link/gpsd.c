@@ -40,7 +40,7 @@ void gpsd_try(struct gpsd *g, uint64_t now) {
     }
 }
 
-/* Connected, or refused: asks for reports. */
+/* Connected, or refused: requests reports. */
 static void ask(struct gpsd *g, uint64_t now) {
     static const char watch[] = "?WATCH={\"enable\":true,\"json\":true};\n";
     int why = 0;
@@ -49,7 +49,7 @@ static void ask(struct gpsd *g, uint64_t now) {
     if (getsockopt(g->fd, SOL_SOCKET, SO_ERROR, &why, &size) != 0 || why != 0) {
         hang_up(g, now, strerror(why != 0 ? why : errno));
     } else if (send(g->fd, watch, sizeof watch - 1, MSG_NOSIGNAL) != (ssize_t)(sizeof watch - 1)) {
-        hang_up(g, now, "it takes no request");
+        hang_up(g, now, "it accepts no request");
     } else if (g->reported) {
         note("gpsd: connected");
         g->reported = false;

@@ -9,7 +9,7 @@
 
 static struct program program;
 
-/* A place that is given is accurate, and known from the start. */
+/* A position from --position is accurate, and known from the start. */
 static void start_place(struct place *p, const struct options *o) {
     p->known = p->fixed = o->placed;
     p->accurate = 1;
@@ -20,7 +20,7 @@ static void start_place(struct place *p, const struct options *o) {
     p->fix_timeout = o->gps_timeout;
 }
 
-/* If standard input, output or error is closed, no socket takes its number. */
+/* Keeps sockets from getting the number of a closed standard input, output or error. */
 static void hold_standard_files(void) {
     int fd;
     do {
@@ -63,7 +63,8 @@ int main(int argc, char **argv) {
     struct program *p = &program;
     struct fault f;
     if (geostation_abi() != GEOSTATION_ABI) {
-        fail(FAILED, "libgeostation is another version than its header");
+        fail(FAILED, "libgeostation has ABI %u, and this program was compiled for ABI %u",
+             (unsigned)geostation_abi(), (unsigned)GEOSTATION_ABI);
     }
     hold_standard_files();
     p->argc = argc;

@@ -1,6 +1,6 @@
 /* The counts for Prometheus. A file is for the textfile collector of node_exporter, which reads
- * names that end in .prom; each is written whole and takes the old one's place. A socket gives the
- * text to each that connects, and closes. */
+ * names that end in .prom; each new file replaces the old one at once. A socket writes the text
+ * to each client that connects, and closes the connection. */
 #define _GNU_SOURCE
 #include "parts.h"
 #include <errno.h>

@@ -1,5 +1,5 @@
-/* Tells a service manager that the program is ready, and that it is alive: datagrams to the socket
- * that NOTIFY_SOCKET names, as sd_notify(3) describes them. */
+/* Reports to a service manager that the program is ready, and that it is alive. It sends datagrams
+ * to the socket that NOTIFY_SOCKET names, as sd_notify(3) describes them. */
 #define _GNU_SOURCE
 #include "parts.h"
 #include <stdlib.h>
@@ -12,7 +12,7 @@ static struct sockaddr_un manager = { .sun_family = AF_UNIX };
 static socklen_t manager_length;
 static uint64_t each, due = UINT64_MAX; /* of the watchdog, in ms */
 
-/* Half of the time after which the manager takes the program for dead. */
+/* Half of the time after which the manager considers the program dead. */
 static uint64_t watchdog_time(void) {
     const char *micros = getenv("WATCHDOG_USEC"), *pid = getenv("WATCHDOG_PID");
     if (micros == NULL || (pid != NULL && strtoull(pid, NULL, 10) != (uint64_t)getpid())) {

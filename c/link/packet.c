@@ -112,7 +112,7 @@ bool packet_open(struct link *l) {
     read_mac(l);
     read_state(l);
     if (!take_address(l)) {
-        note("%s: it takes no second address: frames to the station alone may be lost", l->name);
+        note("%s: cannot add a MAC address: frames to this station alone may be lost", l->name);
     }
     return true;
 }
@@ -152,7 +152,7 @@ unsigned packet_look(struct link *l) {
     read_mac(l);
     bool changed = memcmp(old, l->mac, sizeof old) != 0;
     if (changed && !take_address(l)) {
-        note("%s: it takes no second address: frames to the station alone may be lost", l->name);
+        note("%s: cannot add a MAC address: frames to this station alone may be lost", l->name);
     }
     return (l->up != was ? NEWS_UP : NO_NEWS) | (changed ? NEWS_MAC : NO_NEWS);
 }
@@ -167,7 +167,7 @@ uint64_t packet_drops(const struct link *l) {
 }
 
 /* Did the frame come with a tag of another network (IEEE 802.1Q)? The kernel takes tags off before
- * a socket for one EtherType sees the frame, and PACKET_AUXDATA doesn't tell either. But a frame of
+ * a socket for one EtherType sees the frame, and PACKET_AUXDATA doesn't show them. But a frame of
  * a VLAN that has a device of its own is that device's; and of one that has none the kernel says
  * that it is for another host, though it is to a group or to the interface's own MAC. */
 bool packet_is_foreign(const struct link *l, const uint8_t *octets, size_t n, const void *from) {

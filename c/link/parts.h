@@ -37,7 +37,7 @@ __attribute__((format(printf, 3, 4))) bool set_fault(struct fault *f, int status
 uint16_t draw(void);
 uint32_t draw_below(uint32_t bound); /* 0 to bound - 1; 0 if bound is 0 */
 
-/* arguments.c and config.c: what the command line and the configuration file say. */
+/* arguments.c and config.c: options of the command line and of the configuration file. */
 struct address {
     struct sockaddr_storage at;
     socklen_t length;
@@ -60,14 +60,14 @@ struct options {
 struct setting { /* an option, and where it is written */
     const char *file; /* NULL: on the command line */
     int line;
-    const char *name, *value; /* value: NULL if there is none */
+    const char *name, *value; /* value: NULL if it is missing */
 };
 bool read_arguments(struct options *o, int argc, char **argv, struct fault *f);
 bool take_setting(struct options *o, int option, const struct setting *s, struct fault *f);
 bool read_config(struct options *o, const char *path, struct fault *f);
 int option_named(const char *name, int *argument); /* its letter, or -1 */
 
-/* values.c: the texts of values. Each of these sets the fault and returns false for a bad one. */
+/* values.c: reads values. Each function sets the fault and returns false for a wrong one. */
 bool number_of(const struct setting *s, uint64_t least, uint64_t most, uint64_t *out,
                struct fault *f);
 bool address_of(const struct setting *s, uint64_t *out, struct fault *f);
@@ -112,7 +112,7 @@ void link_open(struct link *l, struct options *o);
 enum sending link_send(struct link *l, const uint8_t *frame, size_t length);
 enum waiting { NONE_WAITS, SKIPPED, RECEIVED };
 enum waiting link_receive(struct link *l, const struct instant *now, struct received **r);
-unsigned link_look(struct link *l); /* looks at the interface: which news are there? */
+unsigned link_look(struct link *l); /* looks at the interface, and returns what changed */
 uint64_t link_kernel_dropped(struct link *l);
 void link_enlarge_buffer(int fd);
 void packet_wait(struct link *l);
@@ -196,7 +196,7 @@ void gpsd_start(struct gpsd *g, const struct options *o);
 void gpsd_try(struct gpsd *g, uint64_t now);
 bool gpsd_read(struct gpsd *g, struct place *p, uint64_t now); /* did the position change? */
 
-/* events.c: lines that answer no request. */
+/* events.c: lines that are not answers. */
 struct text {
     size_t length;
     char octets[4096];
@@ -214,8 +214,8 @@ void event_delivered(struct text *t, uint64_t at, const struct geostation_recept
 struct clients;
 struct station {
     geostation_handle *handle;
-    geostation_handle *probe; /* a second one, that says what a line would do */
-    geostation_handle *own;   /* a third one, whose limit on own packets is that of the lines */
+    geostation_handle *probe; /* a second station, to find out what a line would do */
+    geostation_handle *own;   /* a third station, which limits the own packets of lines */
     uint64_t address;
     uint64_t last;      /* the time of the last call */
     uint16_t jitter;    /* of the next beacon */
@@ -233,7 +233,7 @@ void station_plan_beacon(struct station *s);
 void station_change_ports(struct station *s, const struct options *old, const struct options *new);
 void station_close(struct station *s);
 
-/* answers.c: what a line of an application asks for. */
+/* answers.c: requests of applications. */
 size_t station_answer(struct station *s, uint64_t now, uint64_t number, const uint8_t *line,
                       size_t n, uint8_t answer[GEOSTATION_ANSWER_MAX]);
 void station_print_counts(struct station *s, uint64_t now);
@@ -241,11 +241,11 @@ void station_print_counts(struct station *s, uint64_t now);
 /* client.c: one application. */
 struct client {
     int in, out;                   /* in is -1 once it ended */
-    bool deaf;                     /* no one reads what is written any more */
+    bool deaf;                     /* no one reads its output any more */
     uint64_t lines, lost;          /* lines that came; events for which there was no free space */
-    uint64_t active_at;            /* when it last sent or took something */
-    size_t line_length, next, got; /* of `line`; of what was read: from where, and its end */
-    size_t begin, end;             /* of what waits in the queue */
+    uint64_t active_at;            /* when it last sent or read something */
+    size_t line_length, next, got; /* of `line`; begin and end of the unread part of `chunk` */
+    size_t begin, end;             /* of the unsent part of `queue` */
     uint8_t chunk[4096];
     uint8_t line[GEOSTATION_LINE_MAX + 1];
     uint8_t queue[EVENTS_ROOM + GEOSTATION_ANSWER_MAX + 1];
@@ -253,18 +253,18 @@ struct client {
 size_t client_waiting(const struct client *c);
 struct client *client_new(int in, int out, uint64_t now); /* NULL: out of memory */
 void client_tell(struct clients *all, struct client *c, const struct text *t, uint64_t now);
-bool client_is_done(const struct client *c); /* no more comes, and what was answered is written */
+bool client_is_done(const struct client *c); /* its input ended, and all answers are written */
 bool client_may_read(const struct client *c);
 void client_read(struct clients *all, struct client *c);
 void client_take_lines(struct clients *all, struct client *c);
 bool client_is_writing(const struct client *c);
-int client_write(struct client *c); /* 0, or why no one reads any more */
+int client_write(struct client *c); /* 0, or the errno of a client that reads no more */
 
 /* clients.c: all applications. */
 struct clients {
     struct client *all[CLIENTS];
     int listening; /* or -1 */
-    int spare;     /* a descriptor that is given up to turn a client away */
+    int spare;     /* a descriptor that is closed to turn a client away */
     const char *path;
     uint32_t timeout; /* an idle client is closed after this if others wait, in ms; 0: never */
     uint64_t events_lost, closed_idle, turned_away;
@@ -289,7 +289,7 @@ size_t counts_print_metrics(const struct station *s, uint64_t now, char *out, si
 struct metrics {
     const char *path;
     int listening;     /* or -1 */
-    uint64_t write_at; /* when the file is written next; UINT64_MAX: there is none */
+    uint64_t write_at; /* when the file is written next; UINT64_MAX: never */
     bool failed;       /* the last write failed, and was reported */
 };
 void metrics_start(struct metrics *m, const char *path);
@@ -297,16 +297,16 @@ void metrics_serve(const struct metrics *m, const struct station *s, uint64_t no
 void metrics_write(struct metrics *m, const struct station *s, uint64_t now);
 void metrics_end(const struct metrics *m);
 
-/* socket.c: a UNIX socket at a path. One at which no one listens any more is replaced. */
+/* socket.c: a UNIX socket at a path. It replaces a socket at which no one listens any more. */
 int listen_at(const char *option, const char *path, int waiting);
 
-/* notify.c: tells a service manager, if there is one. */
+/* notify.c: reports to a service manager, if there is one. */
 void notify_start(void);
 void notify(const char *state);
 void notify_alive(uint64_t now);
 uint64_t notify_due(void); /* when notify_alive sends next; UINT64_MAX: never */
 
-/* loop.c: waits for all of them, and passes on what comes, until it is to end. */
+/* loop.c: waits for all of them and handles what arrives, until the program ends. */
 struct program {
     int argc;
     char **argv;

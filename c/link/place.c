@@ -1,7 +1,7 @@
 /* Where the station is. A packet's time stamp is that of its position (EN 302 636-4-1), so a
- * position that is fixed gets a new time stamp as time goes on: otherwise no one would take its
- * packets for new. A fix of a receiver grows old: then it is no longer accurate, and later nothing
- * is sent. */
+ * position that is fixed gets a new time stamp as time goes on: otherwise others would take its
+ * packets for old ones. A fix of a receiver ages: first it is no longer accurate, later nothing is
+ * sent. */
 #include "parts.h"
 
 enum { TOLD_EACH = 1000 /* ms, at most */, OLD_AFTER = 5000 /* ms */ };

@@ -1,9 +1,9 @@
-/* The proved station: frames that come, and its beacons. */
+/* The proved station: received frames, and its beacons. */
 #define _GNU_SOURCE
 #include "parts.h"
 #include <inttypes.h>
 
-enum { SHORTEST = 60 /* octets: Ethernet fills shorter frames up with zeros */ };
+enum { SHORTEST = 60 /* octets: Ethernet pads shorter frames with zeros */ };
 
 static uint16_t draw_jitter(void) { return (uint16_t)draw_below(GEOSTATION_JITTER_MAX + 1); }
 
@@ -54,7 +54,7 @@ void station_open(struct station *s, const struct options *o, uint64_t now) {
     s->own = make(o, 1, 1, OWN_PACKETS);
     s->address = o->address;
     s->last = now;
-    /* numbers don't begin at 0 each time: who remembers the old ones would ignore the new */
+    /* The first sequence number is random: others would ignore numbers that they remember. */
     (void)geostation_restart(s->handle, now, draw());
     for (size_t k = 0; k < o->port_count; k++) {
         int status = geostation_open_port(s->handle, now, o->ports[k]);

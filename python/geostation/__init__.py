@@ -1,19 +1,22 @@
-"""An ITS station's GeoNetworking and BTP-B (EN 302 636-4-1, EN 302 636-5-1).
+"""A GeoNetworking and BTP-B station (EN 302 636-4-1, EN 302 636-5-1).
 
-`Station` is a station of the shared library, `Line` one of the program on a pipe: both have the
-same calls. Moments are milliseconds; `latitude` and `longitude` are tenths of a microdegree, and
-`degrees` a pair of degrees.
+`Station` runs a station in this process, with the shared library. `PipeStation` runs one in the
+program `geostation`, over a pipe. Both have the same methods.
+
+Times are in milliseconds. `latitude` and `longitude` are ints in 0.1 microdegree; `degrees` is a
+pair of floats in degrees.
 """
 
 from .calls import FRAME_MAX, LAST_MOMENT, PAYLOAD_MAX
 from .errors import BadArgument, BadFrame, Fault, OverRate, Refused, Status
-from .line import Ended, Line
+from .line import Ended, Line, PipeStation, ProcessExited
 from .station import Station, frame_length, read_frame
 from .values import (
     NO_LIMITS,
     Area,
     Counts,
     IgnoredCounts,
+    IgnoreReason,
     Kind,
     Limits,
     Message,
@@ -37,6 +40,7 @@ __all__ = [
     "Counts",
     "Ended",
     "Fault",
+    "IgnoreReason",
     "IgnoredCounts",
     "Kind",
     "Limits",
@@ -44,6 +48,8 @@ __all__ = [
     "Message",
     "OverRate",
     "Packet",
+    "PipeStation",
+    "ProcessExited",
     "Reception",
     "Refused",
     "RefusedCounts",

@@ -1,4 +1,4 @@
-"""`python -m geostation FILE` shows a capture, a line a record, as the program's `show` does."""
+"""`python -m geostation FILE` prints a capture, one line per record, as `geostation show` does."""
 
 from __future__ import annotations
 
@@ -12,8 +12,13 @@ from .values import Kind, Packet
 
 
 def read_record(record: capture.Record) -> Packet:
-    """The packet of a record. Of at most 60 octets, zeros behind it are no part of the frame, where
-    Ethernet may have filled it up."""
+    """Returns the packet of a record.
+
+    In a record of up to 60 bytes, zeros after the packet may be Ethernet padding: they are removed.
+
+    Raises:
+        BadFrame: The record is not a valid frame.
+    """
     octets = record.octets
     try:
         return read_frame(octets)
@@ -29,7 +34,7 @@ def read_record(record: capture.Record) -> Packet:
 
 
 def words(packet: Packet) -> List[str]:
-    """The words of a packet."""
+    """Returns the words that describe a packet."""
     v = packet.vector
     told = f"{packet.source.hex()} {packet.target.hex()} {packet.kind.name.lower()}"
     told += f" {v.address:016x} tst {v.timestamp} lat {v.latitude} lon {v.longitude}"
@@ -49,7 +54,7 @@ def words(packet: Packet) -> List[str]:
 
 
 def line(record: capture.Record) -> str:
-    """The line of a record."""
+    """Returns the line for a record."""
     if record.refused is not None:
         return f"{record.moment} refused {record.refused}"
     try:
@@ -59,7 +64,7 @@ def line(record: capture.Record) -> str:
 
 
 def show(name: str) -> int:
-    """Prints a capture; the status is 1 where something was refused."""
+    """Prints a capture. Returns 1 if a record or the file was rejected, otherwise 0."""
     status = count = 0
     with open(name, "rb") as file:
         try:
@@ -75,7 +80,7 @@ def show(name: str) -> int:
 
 
 def main() -> int:
-    """The program: one argument, a file."""
+    """Runs the command: the argument is the name of a capture."""
     if len(sys.argv) != 2 or sys.argv[1].startswith("-"):
         print("usage: python -m geostation FILE", file=sys.stderr)
         return 2

@@ -1,4 +1,4 @@
-"""The calls of a station, whatever answers them: their arguments are checked here, once."""
+"""The methods that `Station` and `PipeStation` share. They check the arguments."""
 
 from __future__ import annotations
 
@@ -10,13 +10,13 @@ from .errors import BadArgument
 from .values import Area, Counts, Reception, Vector, place, whole
 
 FRAME_MAX = 1468
-"""The longest frame, in octets."""
+"""The longest frame, in bytes."""
 ANSWER_MAX = 16384
-"""The longest answer to a line of JSON, in octets."""
+"""The longest answer to a JSON request, in bytes."""
 PAYLOAD_MAX = 1394
-"""The longest payload of a request, in octets."""
+"""The longest payload that can be sent, in bytes."""
 LAST_MOMENT = 1 << 62
-"""The last moment of a call, in ms."""
+"""The latest time that a call accepts, in ms."""
 
 Address = Union[int, str]
 Degrees = Optional[Tuple[float, float]]
@@ -24,7 +24,7 @@ Self = TypeVar("Self", bound="Calls")
 
 
 def address_of(value: Address) -> int:
-    """An address: a number, or 16 hexadecimal digits. One of a group of stations is refused."""
+    """Returns a GN address as an int. Group addresses are rejected."""
     if isinstance(value, str):
         if len(value) != 16 or not all(digit in "0123456789abcdefABCDEF" for digit in value):
             raise BadArgument("address")
@@ -36,19 +36,19 @@ def address_of(value: Address) -> int:
 
 
 def moment(now: int) -> int:
-    """A moment that a call may be given: one over `LAST_MOMENT` is refused by the station."""
+    """Returns a time after a check of its range. The station rejects one over `LAST_MOMENT`."""
     return whole("now", now, 0, (1 << 63) - 1)
 
 
 def octets(name: str, value: bytes) -> bytes:
-    """Octets, of `bytes` or what is like it."""
+    """Returns `bytes` of a bytes-like object."""
     if isinstance(value, (str, int)):
-        raise TypeError(f"{name} has octets, and {value!r} has none")
+        raise TypeError(f"{name} must be bytes, not {value!r}")
     return bytes(value)
 
 
 class _Guard:
-    """Lets one call at a time in, and only from the thread that made it."""
+    """Allows one call at a time, and only from the thread that created it."""
 
     __slots__ = ("_owner", "_busy")
 
@@ -57,7 +57,7 @@ class _Guard:
 
     def __enter__(self) -> None:
         if get_ident() != self._owner:
-            raise RuntimeError("a station is used by the thread that made it, and by no other")
+            raise RuntimeError("only the thread that created a station may use it")
         if self._busy:
             raise RuntimeError("a station is in one call at a time: this call is within another")
         self._busy = True
@@ -67,11 +67,19 @@ class _Guard:
 
 
 class Calls(ABC):
-    """A station. Only the thread that makes it may use it, one call at a time: a call from a signal
-    handler within another call raises RuntimeError. A station can't be copied or pickled.
+    """The methods of a station.
 
-    A call that is refused raises `Refused` and changed nothing. `with` frees the station at its
-    end; so does its last use.
+    A call that fails raises an exception and leaves the station unchanged. All methods raise
+
+    - `BadArgument` if an argument is out of its range, and `TypeError` if it has the wrong type,
+    - `Refused` with `Status.MOMENT_EARLIER` or `Status.MOMENT_TOO_LATE` if `now` is earlier than in
+      an earlier call, or later than `LAST_MOMENT` (`look_up` and `neighbours` then find nothing),
+    - `RuntimeError` if another thread than the one that created the station calls it, or if a
+      signal handler calls it within another call,
+    - `ValueError` if the station was freed.
+
+    A station is freed at the end of its `with` block, by `free()`, or when it is garbage-collected.
+    It cannot be copied or pickled.
     """
 
     _calling: _Guard
@@ -106,7 +114,7 @@ class Calls(ABC):
         raise TypeError("a station can't be copied or pickled")
 
     def free(self) -> None:
-        """Ends the station; a call after it raises ValueError."""
+        """Frees the station. Later calls raise `ValueError`."""
         with self._calling:
             self._end()
 
@@ -121,7 +129,17 @@ class Calls(ABC):
         speed: int = 0,
         heading: int = 0,
     ) -> None:
-        """The station stands there from now on; speed in 0.01 m/s, heading in 0.1 degree."""
+        """Sets the position of the station.
+
+        Args:
+            now: Time, in ms.
+            latitude: In 0.1 microdegree, -900000000 to 900000000.
+            longitude: In 0.1 microdegree, -1800000000 to 1800000000.
+            degrees: Latitude and longitude in degrees, instead of these two.
+            accurate: Position accuracy indicator (PAI).
+            speed: In 0.01 m/s, -16384 to 16383; negative means backwards.
+            heading: In 0.1 degree, clockwise from north, 0 to 65535.
+        """
         with self._calling:
             self._move(
                 moment(now),
@@ -132,30 +150,69 @@ class Calls(ABC):
             )
 
     def open_port(self, now: int, port: int) -> None:
-        """Opens a port, at which payloads are delivered."""
+        """Opens a port. Payloads are delivered to open ports only.
+
+        Args:
+            now: Time, in ms.
+            port: Destination port (BTP-B), 0 to 65535.
+
+        Raises:
+            Refused: The port is already open, or 64 ports are.
+        """
         with self._calling:
             self._open_port(moment(now), whole("port", port, 0, 65535))
 
     def close_port(self, now: int, port: int) -> None:
-        """Closes a port."""
+        """Closes a port.
+
+        Args:
+            now: Time, in ms.
+            port: Destination port (BTP-B), 0 to 65535.
+
+        Raises:
+            Refused: The port is not open.
+        """
         with self._calling:
             self._close_port(moment(now), whole("port", port, 0, 65535))
 
     def restart(self, now: int, number: int) -> None:
-        """The station forgets what it heard and closes its ports; its next packet for an area has
-        this sequence number."""
+        """Restarts the station: empties its location table and closes its ports.
+
+        Args:
+            now: Time, in ms.
+            number: Sequence number of the next packet for an area, 0 to 65535.
+        """
         with self._calling:
             self._restart(moment(now), whole("number", number, 0, 65535))
 
     def tick(self, now: int, jitter: int = 0) -> Optional[bytes]:
-        """The frame of a beacon, where one is due: the jitter is 0 to 750 ms."""
+        """Returns the frame of a beacon if one is due, otherwise `None`.
+
+        Args:
+            now: Time, in ms.
+            jitter: 0 to 750 ms, chosen at random for each beacon.
+
+        Raises:
+            Refused: The jitter is over 750 ms, or memory ran out.
+        """
         with self._calling:
             return self._tick(moment(now), whole("jitter", jitter, 0, 65535))
 
     def send_shb(
         self, now: int, *, port: int, payload: bytes, info: int = 0, traffic_class: int = 0
     ) -> bytes:
-        """The frame of a payload for all in reach."""
+        """Returns the frame of a single-hop broadcast (SHB), for all stations in radio range.
+
+        Args:
+            now: Time, in ms.
+            port: Destination port (BTP-B), 0 to 65535.
+            payload: At most `PAYLOAD_MAX` bytes.
+            info: Destination port info, 0 to 65535.
+            traffic_class: Traffic class byte.
+
+        Raises:
+            Refused: The payload is too long, or memory ran out.
+        """
         with self._calling:
             return self._send_shb(
                 moment(now),
@@ -177,7 +234,21 @@ class Calls(ABC):
         lifetime: int = 0x1A,
         max_hops: int = 10,
     ) -> bytes:
-        """The frame of a payload for all stations in an area."""
+        """Returns the frame of a geobroadcast (GBC), for all stations in an area.
+
+        Args:
+            now: Time, in ms.
+            port: Destination port (BTP-B), 0 to 65535.
+            payload: At most `PAYLOAD_MAX` bytes.
+            area: The destination area.
+            info: Destination port info, 0 to 65535.
+            traffic_class: Traffic class byte.
+            lifetime: Lifetime byte: 6 bits of multiplier, 2 bits of base; 0x1a is 60 s.
+            max_hops: Hop limit, 1 to 255.
+
+        Raises:
+            Refused: The payload is too long, `max_hops` is 0, or memory ran out.
+        """
         return self._send_to_area(
             "gbc", now, port, info, traffic_class, lifetime, max_hops, area, payload
         )
@@ -194,7 +265,10 @@ class Calls(ABC):
         lifetime: int = 0x1A,
         max_hops: int = 10,
     ) -> bytes:
-        """The frame of a payload for any one station in an area."""
+        """Returns the frame of a geoanycast (GAC), for any one station in an area.
+
+        The arguments and exceptions are those of `send_gbc`.
+        """
         return self._send_to_area(
             "gac", now, port, info, traffic_class, lifetime, max_hops, area, payload
         )
@@ -212,7 +286,7 @@ class Calls(ABC):
         payload: bytes,
     ) -> bytes:
         if not isinstance(area, Area):
-            raise TypeError(f"area is an Area, and {area!r} is none")
+            raise TypeError(f"area must be an Area, not {area!r}")
         with self._calling:
             return self._send_area(
                 word,
@@ -227,24 +301,44 @@ class Calls(ABC):
             )
 
     def next_beacon(self, jitter: int = 0) -> int:
-        """The least moment at which `tick` with this jitter gives a beacon, in ms: never before the
-        last call. A jitter over 750 ms is refused.
+        """Returns the earliest time at which `tick` with this jitter returns a beacon, in ms.
 
-        A program draws a jitter once for each beacon, hands it to each `tick` until that gave the
-        beacon, and asks anew after a packet of its own and after `restart`, and not after a frame
-        that came: a sleep begun anew with each of these may never end."""
+        Choose a jitter at random for each beacon, and pass it to each `tick` until one returns the
+        beacon. Call this method again after you have sent a packet and after `restart`, but not
+        after receiving a frame. The result is never earlier than the last call, so on a busy
+        channel a new wait for each frame might never end.
+
+        Args:
+            jitter: 0 to 750 ms.
+
+        Raises:
+            Refused: The jitter is over 750 ms.
+        """
         with self._calling:
             return self._next_beacon(whole("jitter", jitter, 0, 65535))
 
     def look_up(self, now: int, address: Address) -> Optional[Vector]:
-        """The newest vector of the live source of an address. There is none at a moment before the
-        last call's, nor at one over `LAST_MOMENT`."""
+        """Returns the newest position vector of a live source, or `None` if it is not known.
+
+        A source is live for 20 s after its last new packet. At a time before the last call, or over
+        `LAST_MOMENT`, the result is `None`.
+
+        Args:
+            now: Time, in ms.
+            address: GN address: an int, or 16 hexadecimal digits.
+        """
         with self._calling:
             return self._look_up(moment(now), address_of(address))
 
     def neighbours(self, now: int) -> Iterator[Vector]:
-        """The vectors of the live neighbours, which are heard directly, by ascending address. One
-        of address 0 is found by `look_up` alone."""
+        """Yields the position vectors of the live neighbours, by ascending address.
+
+        A neighbour is a live source whose frames arrive directly. One with address 0 is found by
+        `look_up` only. At a time before the last call, or over `LAST_MOMENT`, none is found.
+
+        Args:
+            now: Time, in ms.
+        """
         moment(now)
         after: Optional[int] = 0
         while after is not None:
@@ -253,12 +347,24 @@ class Calls(ABC):
             yield from told
 
     def counts(self) -> Counts:
-        """What came, was ignored, refused and sent so far; `restart` keeps it."""
+        """Returns the counters of the station. `restart` keeps them."""
         with self._calling:
             return self._counts()
 
     def receive(self, now: int, frame: bytes) -> Reception:
-        """Takes a frame that came."""
+        """Processes a received frame.
+
+        If the packet is to be forwarded, the result has the frame to send as `relay`. On a radio,
+        send it after a random wait below 2 ms.
+
+        Args:
+            now: Time, in ms.
+            frame: The received frame.
+
+        Raises:
+            BadFrame: The bytes are not a valid frame.
+            Refused: The source is new and the location table is full, or memory ran out.
+        """
         with self._calling:
             return self._receive(moment(now), octets("frame", frame))
 
@@ -317,7 +423,7 @@ class Calls(ABC):
 
     @abstractmethod
     def _neighbours(self, now: int, after: int) -> Tuple[List[Vector], Optional[int]]:
-        """Neighbours above an address, and above which there are more."""
+        """Returns neighbours above an address, and the address above which there are more."""
 
     @abstractmethod
     def _receive(self, now: int, frame: bytes) -> Reception: ...

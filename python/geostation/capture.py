@@ -1,9 +1,9 @@
-"""The records of a capture: this project's own, classic pcap and pcapng, told apart by the first
-four octets.
+"""Reads captures: this project's own format, classic pcap and pcapng. The first four bytes of a
+file show which one it is.
 
-A fault of the file ends it; its codes are those of the program, C1 and C2 of a capture of its own,
-P1 to P4 of the others. Of pcapng, sections, interfaces with their resolution and offset, and
-enhanced and simple packets are read; other blocks are passed over.
+A fault of the file ends the reading. The codes are those of the program: C1 and C2 for its own
+format, P1 to P4 for the others. In pcapng, sections, interfaces (with resolution and offset), and
+enhanced and simple packets are read. Other blocks are skipped.
 """
 
 from __future__ import annotations
@@ -22,23 +22,30 @@ PCAP = {
     b"\x4d\x3c\xb2\xa1": ("<", 1000000),
 }
 SECTION = b"\x0a\x0d\x0d\x0a"
-# The least lengths of the blocks that are read, with both of their own lengths.
+# The least length of each block that is read, including its two length fields.
 LEAST = {0x0A0D0D0A: 28, 1: 20, 3: 16, 6: 32}
 
 
 @dataclass(frozen=True)
 class Record:
-    """A record: its moment in ms, its octets, and why it can't be read (`P3`, `P4`), if so."""
+    """A record of a capture."""
 
     moment: int
+    """Time, in ms."""
     octets: bytes
+    """The captured bytes."""
     refused: Optional[str] = None
+    """The code (`P3`, `P4`) if the record cannot be read, otherwise `None`."""
     padded: bool = False
-    """Whether Ethernet may have filled the frame up with zeros."""
+    """Whether the frame may have Ethernet padding."""
 
 
 class CaptureFault(Exception):
-    """A fault of the file: `code` is the program's."""
+    """A capture that cannot be read further.
+
+    Attributes:
+        code: The code that the program reports: C1, C2, or P1 to P4.
+    """
 
     def __init__(self, code: str):
         super().__init__(code)
@@ -46,7 +53,11 @@ class CaptureFault(Exception):
 
 
 def read(file: BinaryIO) -> Iterator[Record]:
-    """The records of a file."""
+    """Yields the records of a file.
+
+    Raises:
+        CaptureFault: The file is not a valid capture.
+    """
     mark = file.read(4)
     if mark in PCAP:
         return _read_pcap(file, *PCAP[mark])
@@ -99,7 +110,7 @@ class _Interface:
     link: int
     snap: int
     ticks: int = 1_000_000
-    """How many make a second."""
+    """Time units per second."""
     offset: int = 0
 
 

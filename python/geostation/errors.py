@@ -1,4 +1,4 @@
-"""Why a call wasn't done, and what is wrong with octets that are no frame."""
+"""The exceptions of a station, and the faults of frames that are not valid."""
 
 from __future__ import annotations
 
@@ -9,7 +9,7 @@ from typing import Any, Tuple
 
 
 class Status(IntEnum):
-    """What a call returns: the statuses of geostation.h."""
+    """The statuses of geostation.h."""
 
     OK = 0
     MOMENT_EARLIER = 1
@@ -28,7 +28,7 @@ class Status(IntEnum):
     OVER_RATE = 22
 
 
-# What logs show of a status; those of arguments have no code.
+# The code of each status, as logs show it. Statuses for arguments have no code.
 CODES = {
     Status.MOMENT_EARLIER: "S1",
     Status.MOMENT_TOO_LATE: "S2",
@@ -44,21 +44,21 @@ CODES = {
 }
 STATUSES = {code: status for status, code in CODES.items()}
 
-# The sentences of the library, for a machine that hasn't got it.
+# The messages of the library, for a machine without it.
 TEXTS = {
     Status.MOMENT_EARLIER: "the moment is before the last one",
     Status.MOMENT_TOO_LATE: "the moment is over 2^62 ms",
-    Status.BAD_FRAME: "the octets are no frame",
+    Status.BAD_FRAME: "not a valid frame",
     Status.TABLE_FULL: "the location table is full",
     Status.NO_MEMORY: "out of memory",
     Status.PAYLOAD_TOO_LONG: "the payload is over 1394 octets",
-    Status.HOP_LIMIT_ZERO: "a packet of no hop",
+    Status.HOP_LIMIT_ZERO: "the hop limit is 0",
     Status.PORT_ALREADY_OPEN: "the port is open already",
     Status.JITTER_RANGE: "the jitter is over 750 ms",
     Status.PORTS_FULL: "64 ports are open",
     Status.PORT_NOT_OPEN: "the port isn't open",
     Status.BAD_ARGUMENT: "an argument is out of its range",
-    Status.NO_ROOM: "the buffer is under 1468 octets",
+    Status.NO_ROOM: "a buffer is too small",
     Status.OVER_RATE: "own packets are over their rate",
 }
 FAULT_TEXTS = {
@@ -85,18 +85,18 @@ PACKET_TEXTS = {
 
 @dataclass(frozen=True)
 class Fault:
-    """What is wrong with octets that are no frame."""
+    """Why bytes are not a valid frame. `str()` gives a message."""
 
     layer: int
-    """1 to 5, for L1 to L5."""
+    """1 to 5, for the codes L1 to L5."""
     kind: int = 0
-    """At 5 (L5): 1 to 12, for G1 to G12; else 0."""
+    """1 to 12, for G1 to G12, if `layer` is 5; otherwise 0."""
     at: int = 0
-    """At 5 (L5): the octet of the packet at which the field begins; else 0."""
+    """Offset of the faulty field in the packet, if `layer` is 5; otherwise 0."""
 
     @property
     def code(self) -> str:
-        """What logs show, as `L1` or `L5 G9 at 10`."""
+        """A short code for logs, for example `L1` or `L5 G9 at 10`."""
         return f"L5 G{self.kind} at {self.at}" if self.layer == 5 else f"L{self.layer}"
 
     def __str__(self) -> str:
@@ -106,7 +106,11 @@ class Fault:
 
 
 class Refused(Exception):
-    """A call that wasn't done: the station is as it was."""
+    """A call failed. The station is unchanged. `str()` gives a message.
+
+    Attributes:
+        status: The status of geostation.h.
+    """
 
     def __init__(self, status: Status, text: str | None = None):
         super().__init__(TEXTS[status] if text is None else text)
@@ -117,12 +121,16 @@ class Refused(Exception):
 
     @property
     def code(self) -> str:
-        """What logs show, as `S1` or `S8 B2`; of an argument nothing."""
+        """A short code for logs, for example `S1` or `S8 B2`; empty for a wrong argument."""
         return CODES.get(self.status, "")
 
 
 class BadArgument(Refused, ValueError):
-    """An argument out of its range; `name` is the argument's."""
+    """An argument is out of its range.
+
+    Attributes:
+        name: The name of the argument.
+    """
 
     def __init__(self, name: str):
         super().__init__(Status.BAD_ARGUMENT, f"{name} is out of its range")
@@ -143,7 +151,12 @@ class OverRate(Refused):
 
 
 class BadFrame(Refused):
-    """Octets that are no frame: `fault` says why."""
+    """Bytes are not a valid frame.
+
+    Attributes:
+        fault: Why they are not.
+        received: Whether a station received them. It is false for `read_frame`.
+    """
 
     def __init__(self, fault: Fault, received: bool = True):
         super().__init__(Status.BAD_FRAME, str(fault))
@@ -155,12 +168,12 @@ class BadFrame(Refused):
 
     @property
     def code(self) -> str:
-        """`S3` and the fault's code; of a frame that was read without a station the fault's."""
+        """A short code for logs: `S3` and the code of the fault; without `S3` from `read_frame`."""
         return f"S3 {self.fault.code}" if self.received else self.fault.code
 
 
 def refused_by(code: str) -> Refused:
-    """The refusal of a code, as a station on a pipe tells it."""
+    """Returns the exception for a code in an answer of the program."""
     frame = re.fullmatch(r"(S3 )?L([1-5])(?: G(\d+) at (\d+))?", code)
     if frame:
         received, layer, kind, at = frame.groups("0")

@@ -1,6 +1,6 @@
-"""The shared library: where it is, its structs and its calls.
+"""The shared library: where it is found, its structs and its functions.
 
-It is called with the interpreter's lock held (PyDLL), so that a handle is in one call at a time.
+It is called with the interpreter's lock held (PyDLL), so a handle is in one call at a time.
 """
 
 from __future__ import annotations
@@ -16,7 +16,7 @@ from .errors import Fault
 # The layouts below are those of a header with this ABI.
 ABI = 3
 NAME = f"libgeostation.so.{ABI}"
-# The moment of a beacon that never comes.
+# What geostation_beacon_at returns for a jitter out of range.
 NEVER = (1 << 64) - 1
 
 
@@ -158,7 +158,7 @@ class Packet(c.Structure):
     ]
 
 
-# The sizes that the library asserts of its structs, with pointers of 64 bits.
+# The sizes that the header asserts for its structs.
 SIZES = {
     Reception: 72,
     Config: 64,
@@ -174,7 +174,7 @@ _WRITTEN = (c.c_char_p, c.c_size_t, c.POINTER(c.c_size_t))
 _AREA = (c.c_void_p, c.c_uint64, c.POINTER(AreaRequest), *_OCTETS, *_WRITTEN)
 _FOUND = (c.c_void_p, c.c_uint64, c.c_uint64, c.POINTER(Vector))
 
-# Each call: what it returns and what it takes.
+# Each function: the type of its result, and those of its arguments.
 CALLS = {
     "config_init": (None, c.POINTER(Config)),
     "new_from_config": (c.c_int, c.POINTER(c.c_void_p), c.POINTER(Config)),
@@ -239,7 +239,7 @@ CALLS = {
 
 
 class Library:
-    """The calls of the library, each an attribute by its name without `geostation_`."""
+    """The functions of the library, as attributes without the prefix `geostation_`."""
 
     def __init__(self, shared: Any):
         for name, (result, *arguments) in CALLS.items():
@@ -248,12 +248,12 @@ class Library:
             setattr(self, name, call)
 
     def __getattr__(self, name: str) -> Any:
-        raise AttributeError(f"the library has no call {name}")
+        raise AttributeError(f"the library has no function {name}")
 
 
 def _find() -> str:
-    """The library's file: as the environment says, beside this package, or where the system's
-    loader looks."""
+    """Returns the path of the library: from the environment, in the folder of this package, or its
+    name, for the system's loader."""
     if "GEOSTATION_LIBRARY" in os.environ:
         return os.environ["GEOSTATION_LIBRARY"]
     if "GEOSTATION_PREFIX" in os.environ:
@@ -263,33 +263,33 @@ def _find() -> str:
 
 
 def check_abi(shared: Any) -> None:
-    """Refuses a library of other layouts before the first call."""
+    """Raises `ImportError` if the library has another ABI than this package."""
     shared.geostation_abi.restype = c.c_uint32
-    told = shared.geostation_abi()
-    if told != ABI:
-        raise ImportError(f"the library's layouts are of version {told}, this package's of {ABI}")
+    version = shared.geostation_abi()
+    if version != ABI:
+        raise ImportError(f"the library has ABI {version}, this package needs ABI {ABI}")
     if c.sizeof(c.c_void_p) == 8:
         for struct, size in SIZES.items():
             if c.sizeof(struct) != size:
-                raise ImportError(f"{struct.__name__} isn't laid out as the library has it")
+                raise ImportError(f"{struct.__name__} has another size than in the library")
 
 
 @lru_cache(maxsize=None)
 def load() -> Library:
-    """The library, loaded once."""
+    """Loads the library once, and returns it."""
     path = _find()
     try:
         shared = c.PyDLL(path)
     except OSError as error:
-        told = f"{error}: 'c/build PREFIX' makes it, GEOSTATION_PREFIX says where it is"
-        raise ImportError(told) from None
+        message = f"{error}: build it with 'c/build PREFIX' and set GEOSTATION_PREFIX"
+        raise ImportError(message) from None
     try:
         check_abi(shared)
         return Library(shared)
     except AttributeError as error:
-        raise ImportError(f"{path} is not this package's libgeostation: {error}") from None
+        raise ImportError(f"{path} is not the libgeostation of this package: {error}") from None
 
 
 def fault_of(struct: Any) -> Fault:
-    """The fault that a reception or a packet tells."""
+    """Returns the fault in a reception or a packet."""
     return Fault(struct.fault, struct.fault_kind, struct.fault_at)

@@ -1,4 +1,4 @@
-"""A station of the program on a pipe, for a machine that has it and not the library."""
+"""A station in the program `geostation`, over a pipe: it needs the program and no library."""
 
 from __future__ import annotations
 
@@ -13,6 +13,7 @@ from .values import (
     Area,
     Counts,
     IgnoredCounts,
+    IgnoreReason,
     Kind,
     Message,
     Packet,
@@ -21,15 +22,14 @@ from .values import (
     SentCounts,
     Shape,
     Vector,
-    Why,
 )
 
-# Where an SHB has its media-dependent data, which no line tells: behind the link's header and the
-# packet's headers up to the source's position vector.
+# The media-dependent data of an SHB: after the link header and the packet's headers up to the
+# position vector of the source. No line has it.
 MEDIA = slice(50, 54)
 
-_WHY = {str(why): why for why in Why}
-# The arguments whose keys have other names.
+_REASONS = {str(reason): reason for reason in IgnoreReason}
+# Keys that differ from the names of the arguments.
 _NAMES = {
     "at": "now",
     "lat": "latitude",
@@ -42,20 +42,45 @@ _NAMES = {
 }
 
 
-class Ended(Exception):
-    """The program ended; `status` is its own, and the text what it said on standard error."""
+class ProcessExited(Exception):
+    """The program ended. `str()` has its output on standard error.
+
+    Attributes:
+        status: Its exit status.
+    """
 
     def __init__(self, status: int, said: str):
         super().__init__(f"the program ended with status {status}: {said.strip()}")
         self.status, self._said = status, said
 
     def __reduce__(self) -> Tuple[Any, ...]:
-        return Ended, (self.status, self._said)
+        return ProcessExited, (self.status, self._said)
 
 
-class Line(Calls):
-    """A station of the program, `geostation station` on a pipe. `program` is its name, or a list
-    that begins a command; else GEOSTATION_PROGRAM names it, else it is `geostation`."""
+Ended = ProcessExited  # deprecated: the name until 0.1
+
+
+class PipeStation(Calls):
+    """A station in the program: `geostation station` over a pipe.
+
+    It has the methods of `Station` except `move_at`, `send_shb_with_lifetime`, `next_number` and
+    `handle_json`: the pipe protocol has no command for them. It rejects frames with Ethernet padding.
+
+    Args:
+        address: GN address: an int, or 16 hexadecimal digits; not a group address.
+        latitude: In 0.1 microdegree, -900000000 to 900000000.
+        longitude: In 0.1 microdegree, -1800000000 to 1800000000.
+        degrees: Latitude and longitude in degrees, instead of these two.
+        capacity: Size of the location table, 1 to 4096.
+        remember: Length of each duplicate packet list, 1 to 64.
+        program: Name of the program, or a list with the first words of a command. The default is
+            the variable `GEOSTATION_PROGRAM`, or `geostation` if that is not set.
+
+    Raises:
+        BadArgument: An argument is out of its range.
+        OSError: The program cannot be started.
+        ProcessExited: The program ended. Each method may raise it.
+    """
 
     _process: Optional[subprocess.Popen[bytes]] = None
 
@@ -85,7 +110,18 @@ class Line(Calls):
     __del__ = _end
 
     def ask(self, do: str, at: Optional[int] = None, **keys: Any) -> Dict[str, Any]:
-        """The answer to a line, as the program gives it. What the station refuses is raised."""
+        """Sends a request, and returns the answer as a dict.
+
+        Args:
+            do: The command.
+            at: Time, in ms. Queries need none.
+            keys: The other keys of the request.
+
+        Raises:
+            BadArgument: The program cannot read the request. `name` is the key.
+            Refused: The call failed.
+            ProcessExited: The program ended.
+        """
         with self._calling:
             return self._ask(do, at, **keys)
 
@@ -118,7 +154,7 @@ class Line(Calls):
         process.stdout.close()
         process.stderr.close()
         self._close_input(process)
-        raise Ended(process.wait(), said)
+        raise ProcessExited(process.wait(), said)
 
     @staticmethod
     def _close_input(process: subprocess.Popen[bytes]) -> None:
@@ -126,7 +162,7 @@ class Line(Calls):
         try:
             process.stdin.close()
         except BrokenPipeError:
-            pass  # what it hadn't read is lost with it
+            pass  # the program ended with input that it had not read
 
     def _sent(self, answer: Dict[str, Any]) -> bytes:
         return bytes.fromhex(answer["frame"])
@@ -216,7 +252,7 @@ class Line(Calls):
         return vectors, vectors[-1].address if told["more"] else None
 
     def _asked(self, do: str, at: int, **keys: Any) -> Dict[str, Any]:
-        """What is asked of what the station heard: nothing where the moment is refused."""
+        """Returns the answer to a query; empty if the time is rejected."""
         try:
             return self._ask(do, at, **keys)
         except Refused as refused:
@@ -225,7 +261,11 @@ class Line(Calls):
             raise
 
     def read_frame(self, frame: bytes) -> Packet:
-        """As `geostation.read_frame`, by the program: the station isn't asked."""
+        """Returns all fields of a frame, as `geostation.read_frame` does, but by the program.
+
+        Raises:
+            BadFrame: The bytes are not a valid frame.
+        """
         frame = octets("frame", frame)
         told = self._ask("read_frame", frame=_short(frame, FRAME_MAX).hex())
         kind = Kind[told["kind"].upper()]
@@ -249,14 +289,17 @@ class Line(Calls):
     def _receive(self, now: int, frame: bytes) -> Reception:
         answer = self._ask("receive", now, frame=_short(frame, FRAME_MAX).hex())
         if answer["result"] == "ignored":
-            return Reception(ignored=_WHY[answer["why"]])
+            return Reception(ignored=_REASONS[answer["why"]])
         delivered = _message(answer) if "payload" in answer else None
         relay = self._sent(answer) if "frame" in answer else None
         return Reception(delivered=delivered, relay=relay, source=int(answer["source"], 16))
 
 
+Line = PipeStation  # deprecated: the name until 0.1
+
+
 def _short(told: bytes, most: int) -> bytes:
-    """Octets that fit a line: of more than may be, one more is refused as all of them are."""
+    """Returns bytes that fit into a line. If there are too many, one too many is kept."""
     return told[: most + 1]
 
 

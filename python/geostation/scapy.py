@@ -1,11 +1,12 @@
-"""Layers of scapy for GeoNetworking and BTP-B, where scapy is installed: nothing else needs this.
+"""Scapy layers for GeoNetworking and BTP-B. They need scapy; the rest of the package does not.
 
-`GeoNetworking` is bound to the Ethernet type 0x8947, also behind SNAP (IEEE 802.11, radiotap), a VLAN
-tag and the header of a Linux cooked capture, and `BTPB` is bound to it. The Basic Header, the Common
-Header and the extended header of EN 302 636-4-1 are one layer, whose last fields depend on the type.
+`GeoNetworking` is bound to EtherType 0x8947: of Ethernet, of a VLAN tag, of SNAP (IEEE 802.11,
+radiotap) and of a Linux cooked capture. `BTPB` is bound to `GeoNetworking`. The Basic Header, the
+Common Header and the extended header of EN 302 636-4-1 are one layer. Its last fields depend on the
+packet type.
 
-`fuzz` is scapy's `fuzz`, but it keeps the fields that a receiver checks first, so that packets get past
-them.
+`fuzz` works as scapy's `fuzz`, but it keeps the fields that a receiver checks first. So more
+packets get past these checks.
 """
 
 from __future__ import annotations
@@ -42,7 +43,7 @@ def _is_single_hop(packet: Any) -> bool:
 
 
 class SignedBits(BitField):  # type: ignore[misc]
-    """A number of some bits, whose highest one is its sign."""
+    """A signed bit field in two's complement."""
 
     def m2i(self, pkt: Any, x: Any) -> Any:
         return x - (1 << self.size) if x >> (self.size - 1) else x
@@ -59,7 +60,7 @@ class SignedBits(BitField):  # type: ignore[misc]
 
 
 class GeoNetworking(Packet):  # type: ignore[misc]
-    """A packet of GeoNetworking: its headers."""
+    """The headers of a GeoNetworking packet."""
 
     name = "GeoNetworking"
     fields_desc = [
@@ -97,18 +98,18 @@ class GeoNetworking(Packet):  # type: ignore[misc]
     ]
 
     def extract_padding(self, s: bytes) -> Any:
-        """What follows by the length of the Common Header, and what Ethernet filled up."""
+        """Splits what follows into the payload, by the length field, and Ethernet padding."""
         return s[: self.length], s[self.length :]
 
 
 class BTPB(Packet):  # type: ignore[misc]
-    """The header of BTP-B (EN 302 636-5-1): a port and its info."""
+    """The BTP-B header (EN 302 636-5-1): destination port and destination port info."""
 
     name = "BTP-B"
     fields_desc = [ShortField("port", 0), ShortField("info", 0)]
 
 
-# Fields that lead to the rest of a packet: a receiver that finds another value in one reads no further.
+# A receiver that finds an unexpected value in one of these fields reads no further.
 LEADING = (
     "version",
     "basic_next",
@@ -125,9 +126,11 @@ LEADING = (
 
 
 def fuzz(packet: Any, keep: Iterable[str] = LEADING) -> Any:
-    """Returns a copy of a packet that draws each field that isn't set at random, as scapy's `fuzz`.
+    """Returns a copy of a packet whose unset fields are random, as scapy's `fuzz` does.
 
-    The fields of `GeoNetworking` in `keep` stay as they are.
+    Args:
+        packet: The packet.
+        keep: Fields of `GeoNetworking` that keep their default values.
     """
     fuzzed = fuzz_all(packet)
     layer = fuzzed.getlayer(GeoNetworking)

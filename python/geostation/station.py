@@ -1,4 +1,4 @@
-"""A station of the shared library."""
+"""A station in this process, with the shared library."""
 
 from __future__ import annotations
 
@@ -13,6 +13,7 @@ from .values import (
     Area,
     Counts,
     IgnoredCounts,
+    IgnoreReason,
     Kind,
     Limits,
     Message,
@@ -22,7 +23,6 @@ from .values import (
     SentCounts,
     Shape,
     Vector,
-    Why,
     place,
     whole,
 )
@@ -52,9 +52,25 @@ def _done(status: int) -> None:
 
 
 class Station(Calls):
-    """A station of the shared library, of an address and a place: whole numbers `latitude` and
-    `longitude` in tenths of a microdegree, or `degrees`, a pair. Its table has room for `capacity`
-    sources and remembers `remember` sequence numbers of each."""
+    """A station in this process, with the shared library.
+
+    Args:
+        address: GN address: an int, or 16 hexadecimal digits; not a group address.
+        latitude: In 0.1 microdegree, -900000000 to 900000000.
+        longitude: In 0.1 microdegree, -1800000000 to 1800000000.
+        degrees: Latitude and longitude in degrees, instead of these two.
+        capacity: Size of the location table, 1 to 4096.
+        remember: Length of each duplicate packet list, 1 to 64.
+        mobile: False for a road-side unit.
+        number: Sequence number of the first packet for an area. Choose it at random at each start:
+            other stations remember the numbers from before a restart for 20 s.
+        limits: Limits on what is sent. `NO_LIMITS` turns them off.
+
+    Raises:
+        BadArgument: An argument is out of its range.
+        ImportError: The library was not found, or has another ABI than the package.
+        Refused: Memory ran out.
+    """
 
     _handle: Optional[c.c_void_p] = None
 
@@ -71,8 +87,6 @@ class Station(Calls):
         number: int = 0,
         limits: Limits = Limits(),
     ):
-        """A road-side unit isn't `mobile`; `number` is the first packet's for an area. `limits` bound
-        what the station sends: `NO_LIMITS` turns them off."""
         self._mobile, self._number = bool(mobile), whole("number", number, 0, 65535)
         self._limits = limits
         super().__init__(
@@ -106,7 +120,7 @@ class Station(Calls):
         if handle is not None:
             self._library.free(handle)
 
-    # The last use may end in any thread: then no other call is running.
+    # The garbage collector may run in any thread. No other call is running then.
     __del__ = _end
 
     def _open(self) -> Any:
@@ -184,7 +198,7 @@ class Station(Calls):
             payload = frame[start : start + told.payload_length]
             delivered = Message(told.port, told.info, payload)
         return Reception(
-            Why(told.ignored) if told.ignored else None,
+            IgnoreReason(told.ignored) if told.ignored else None,
             delivered,
             c.string_at(self._frame, told.relay_length) or None,
             None if told.ignored else told.source,
@@ -208,8 +222,20 @@ class Station(Calls):
         speed: int = 0,
         heading: int = 0,
     ) -> None:
-        """As `move`, with the time stamp of the fix in place of that of `now`: milliseconds since
-        2004-01-01 TAI, modulo 2^32."""
+        """Sets the position of the station, with the time stamp of the fix.
+
+        Use it for a GNSS receiver, which reports a position that is already slightly old.
+
+        Args:
+            now: Time, in ms.
+            timestamp: Time of the fix, in ms since 2004-01-01 TAI, modulo 2^32.
+            latitude: In 0.1 microdegree, -900000000 to 900000000.
+            longitude: In 0.1 microdegree, -1800000000 to 1800000000.
+            degrees: Latitude and longitude in degrees, instead of these two.
+            accurate: Position accuracy indicator (PAI).
+            speed: In 0.01 m/s, -16384 to 16383; negative means backwards.
+            heading: In 0.1 degree, clockwise from north, 0 to 65535.
+        """
         with self._calling:
             _done(
                 self._library.move_at(
@@ -233,8 +259,20 @@ class Station(Calls):
         info: int = 0,
         traffic_class: int = 0,
     ) -> bytes:
-        """As `send_shb`, with this octet of a lifetime: a multiplier, then a base. That of
-        `send_shb` is 0x1a, 60 s."""
+        """Returns the frame of a single-hop broadcast (SHB) with a given lifetime.
+
+        Args:
+            now: Time, in ms.
+            lifetime: Lifetime byte: 6 bits of multiplier, 2 bits of base. That of `send_shb` is
+                0x1a, which is 60 s.
+            port: Destination port (BTP-B), 0 to 65535.
+            payload: At most `PAYLOAD_MAX` bytes.
+            info: Destination port info, 0 to 65535.
+            traffic_class: Traffic class byte.
+
+        Raises:
+            Refused: The payload is too long, or memory ran out.
+        """
         with self._calling:
             request = library.ShbRequest(
                 whole("port", port, 0, 65535),
@@ -247,9 +285,22 @@ class Station(Calls):
             return self._written(call, moment(now), request, octet, told, len(told))
 
     def handle_json(self, now: int, line: bytes, *, number: int = 1) -> Tuple[bytes, bytes]:
-        """Does what a line of JSON asks for, as the command `station`, at this moment: its answer,
-        which is empty for a blank line, and the frame that is to be sent, if any. `number` is the
-        line's, for the answer to one that can't be read. The limits don't apply to a line."""
+        """Executes one JSON request, as the command `geostation station` does.
+
+        Failed calls and malformed lines are reported inside the answer. The limits of the
+        station do not apply to it.
+
+        Args:
+            now: Time, in ms. An `at` key in the line is ignored.
+            line: The request.
+            number: Line number, for the answer to a malformed line.
+
+        Returns:
+            The answer, which is empty for a blank line, and the frame to send, which may be empty.
+
+        Raises:
+            Refused: Memory ran out.
+        """
         with self._calling:
             told = octets("line", line)
             answer = c.create_string_buffer(ANSWER_MAX)
@@ -272,7 +323,7 @@ class Station(Calls):
     """Deprecated: the former name of `handle_json`."""
 
     def next_number(self) -> int:
-        """The sequence number of the station's next packet for an area."""
+        """Returns the sequence number of the station's next packet for an area."""
         with self._calling:
             return int(self._library.next_number(self._open()))
 
@@ -296,14 +347,27 @@ class Station(Calls):
         return [_vector(told)], told.address
 
 
-def frame_length(told: bytes) -> int:
-    """How many of the octets are a frame: its length where a beginning of them is one, else 0."""
-    told = octets("octets", told)
-    return int(library.load().frame_length(told, len(told)))
+def frame_length(data: bytes) -> int:
+    """Returns the length of the frame at the start of some bytes, or 0 if they start with none.
+
+    Use it to strip padding.
+
+    Args:
+        data: The bytes.
+    """
+    data = octets("data", data)
+    return int(library.load().frame_length(data, len(data)))
 
 
 def read_frame(frame: bytes) -> Packet:
-    """All fields of a frame, without a station. Octets that are no frame raise `BadFrame`."""
+    """Returns all fields of a frame. It needs no station.
+
+    Args:
+        frame: The frame. All bytes have to belong to it: padding is an error here.
+
+    Raises:
+        BadFrame: The bytes are not a valid frame.
+    """
     frame = octets("frame", frame)
     told = library.Packet()
     if library.load().read_frame(frame, len(frame), told):

@@ -1,4 +1,4 @@
-"""What stations are asked and what they tell, and the ranges of it."""
+"""The values that are passed to a station and returned by it, and their ranges."""
 
 from __future__ import annotations
 
@@ -10,7 +10,7 @@ from .errors import BadArgument
 
 
 class Kind(IntEnum):
-    """The kinds of packet."""
+    """The type of a packet."""
 
     BEACON = 1
     SHB = 2
@@ -19,29 +19,36 @@ class Kind(IntEnum):
 
 
 class Shape(IntEnum):
-    """The figures of areas."""
+    """The shape of an area."""
 
     CIRCLE = 0
     RECTANGLE = 1
     ELLIPSE = 2
 
 
-class Why(IntEnum):
-    """Why a frame is ignored; it prints the word of the program."""
+class IgnoreReason(IntEnum):
+    """Why a frame was ignored. `str()` gives the keyword of the program, such as `own-source`."""
 
     NOT_FOR_ME = 1
+    """The frame is addressed to another link address."""
     OWN_SOURCE = 2
+    """The station itself is the source of the packet."""
     SENDER_MISMATCH = 3
+    """A beacon or SHB came from another link address than its source's."""
     DUPLICATE = 4
+    """The sequence number is in the duplicate packet list of the source."""
 
     def __str__(self) -> str:
         return self.name.lower().replace("_", "-")
 
 
+Why = IgnoreReason  # deprecated: the name until 0.1
+
+
 def whole(name: str, value: int, least: int, greatest: int) -> int:
-    """A whole number in its range."""
+    """Returns an int after a check of its type and range."""
     if isinstance(value, bool) or not isinstance(value, int):
-        raise TypeError(f"{name} is a whole number, and {value!r} is none")
+        raise TypeError(f"{name} must be an int, not {value!r}")
     if not least <= value <= greatest:
         raise BadArgument(name)
     return value
@@ -50,13 +57,13 @@ def whole(name: str, value: int, least: int, greatest: int) -> int:
 def place(
     latitude: Optional[int], longitude: Optional[int], degrees: Optional[Tuple[float, float]]
 ) -> Tuple[int, int]:
-    """A place by either name, in tenths of a microdegree; degrees are rounded to the nearest."""
+    """Returns a position in 0.1 microdegree. Degrees are rounded to the nearest value."""
     if degrees is not None:
         if latitude is not None or longitude is not None:
-            raise TypeError("a place is told by latitude and longitude, or by degrees")
+            raise TypeError("give either latitude and longitude, or degrees, not both")
         latitude, longitude = (round(value * 10_000_000) for value in degrees)
     if latitude is None or longitude is None:
-        raise TypeError("a place has latitude and longitude, or degrees")
+        raise TypeError("give latitude and longitude, or degrees")
     whole("latitude", latitude, -900_000_000, 900_000_000)
     whole("longitude", longitude, -1_800_000_000, 1_800_000_000)
     return latitude, longitude
@@ -64,40 +71,50 @@ def place(
 
 @dataclass(frozen=True)
 class Vector:
-    """Where a station is, by its own words: its position vector."""
+    """A position vector: where a station says that it is."""
 
     address: int
+    """GN address of the station."""
     timestamp: int
-    """The moment of the place, in ms modulo 2^32."""
+    """Time of the position, in ms modulo 2^32."""
     latitude: int
+    """In 0.1 microdegree."""
     longitude: int
-    """In tenths of a microdegree, as the latitude."""
+    """In 0.1 microdegree."""
     speed: int
-    """In 0.01 m/s, negative backwards."""
+    """In 0.01 m/s; negative means backwards."""
     heading: int
     """In 0.1 degree, clockwise from north."""
     accurate: bool
+    """Position accuracy indicator (PAI)."""
 
     @property
     def degrees(self) -> Tuple[float, float]:
-        """The place in degrees."""
+        """Latitude and longitude, in degrees."""
         return self.latitude / 10_000_000, self.longitude / 10_000_000
 
 
 @dataclass(frozen=True)
 class Area:
-    """Where a packet is to go; `circle`, `rectangle` and `ellipse` make one."""
+    """A destination area. Create one with `circle`, `rectangle` or `ellipse`.
+
+    Raises:
+        BadArgument: A value is out of its range.
+        TypeError: A value is not an int.
+    """
 
     shape: Shape
+    """Shape of the area."""
     latitude: int
+    """Latitude of the centre, in 0.1 microdegree."""
     longitude: int
-    """Of the centre, in tenths of a microdegree, as the latitude."""
+    """Longitude of the centre, in 0.1 microdegree."""
     a: int
-    """In metres, from 1; a circle's radius."""
+    """Radius, or distance from the centre along `angle`, in metres, from 1."""
     b: int = 0
-    """In metres, from 1; of a circle 0."""
+    """Distance from the centre across `angle`, in metres, from 1; 0 for a circle."""
     angle: int = 0
-    """In degrees from north, 0 to 359; of a circle 0."""
+    """Degrees clockwise from north, 0 to 359; 0 for a circle."""
 
     def __post_init__(self) -> None:
         place(self.latitude, self.longitude, None)
@@ -115,7 +132,14 @@ class Area:
         longitude: Optional[int] = None,
         degrees: Optional[Tuple[float, float]] = None,
     ) -> Area:
-        """All within a radius in metres."""
+        """Returns a circle.
+
+        Args:
+            radius: Radius in metres, 1 to 65535.
+            latitude: Latitude of the centre, in 0.1 microdegree.
+            longitude: Longitude of the centre, in 0.1 microdegree.
+            degrees: Latitude and longitude in degrees, instead of these two.
+        """
         return cls(Shape.CIRCLE, *place(latitude, longitude, degrees), radius)
 
     @classmethod
@@ -129,7 +153,16 @@ class Area:
         longitude: Optional[int] = None,
         degrees: Optional[Tuple[float, float]] = None,
     ) -> Area:
-        """A rectangle of these distances from its centre to its sides, in metres."""
+        """Returns a rectangle.
+
+        Args:
+            a: Distance from the centre to a side along `angle`, in metres, 1 to 65535.
+            b: Distance from the centre to a side across `angle`, in metres, 1 to 65535.
+            angle: Degrees clockwise from north, 0 to 359.
+            latitude: Latitude of the centre, in 0.1 microdegree.
+            longitude: Longitude of the centre, in 0.1 microdegree.
+            degrees: Latitude and longitude in degrees, instead of these two.
+        """
         return cls(Shape.RECTANGLE, *place(latitude, longitude, degrees), a, b, angle)
 
     @classmethod
@@ -143,31 +176,43 @@ class Area:
         longitude: Optional[int] = None,
         degrees: Optional[Tuple[float, float]] = None,
     ) -> Area:
-        """An ellipse of these half axes, in metres."""
+        """Returns an ellipse.
+
+        Args:
+            a: Half axis along `angle`, in metres, 1 to 65535.
+            b: Half axis across `angle`, in metres, 1 to 65535.
+            angle: Degrees clockwise from north, 0 to 359.
+            latitude: Latitude of the centre, in 0.1 microdegree.
+            longitude: Longitude of the centre, in 0.1 microdegree.
+            degrees: Latitude and longitude in degrees, instead of these two.
+        """
         return cls(Shape.ELLIPSE, *place(latitude, longitude, degrees), a, b, angle)
 
 
 @dataclass(frozen=True)
 class Message:
-    """What a packet brings to a port."""
+    """A payload and its port."""
 
     port: int
+    """Destination port (BTP-B)."""
     info: int
+    """Destination port info."""
     payload: bytes
+    """The payload."""
 
 
 @dataclass(frozen=True)
 class Reception:
-    """What became of a frame: each part where it is so."""
+    """The result of `receive`."""
 
-    ignored: Optional[Why] = None
-    """Why the frame is ignored; nothing where its packet is accepted."""
+    ignored: Optional[IgnoreReason] = None
+    """Why the frame was ignored; `None` if its packet was accepted."""
     delivered: Optional[Message] = None
-    """What is delivered to a port."""
+    """The payload that is delivered to an open port, or `None`."""
     relay: Optional[bytes] = None
-    """The frame that is to be sent on."""
+    """The frame to forward, or `None`."""
     source: Optional[int] = None
-    """The address of an accepted packet's source."""
+    """GN address of the packet's source; `None` if the frame was ignored."""
 
 
 @dataclass(frozen=True)
@@ -175,26 +220,31 @@ class Packet:
     """All fields of a frame."""
 
     target: bytes
-    """The link address to which the frame goes."""
+    """Destination link address, 6 bytes."""
     source: bytes
-    """The link address from which the frame comes."""
+    """Source link address, 6 bytes."""
     kind: Kind
+    """Type of the packet."""
     vector: Vector
-    """The vector of the packet's source."""
+    """Position vector of the source."""
     hops_left: int
+    """Remaining hop limit (RHL)."""
     max_hops: int
+    """Maximum hop limit (MHL)."""
     lifetime: int
-    """Its octet: a multiplier, then a base."""
+    """Lifetime byte: 6 bits of multiplier, 2 bits of base."""
     traffic_class: int
+    """Traffic class byte."""
     mobile: bool
+    """Whether the source is mobile."""
     media: Optional[bytes] = None
-    """Of an SHB: the media-dependent data."""
+    """SHB: the media-dependent data."""
     number: Optional[int] = None
-    """Of a GBC or GAC: its sequence number."""
+    """GBC, GAC: the sequence number."""
     area: Optional[Area] = None
-    """Of a GBC or GAC."""
+    """GBC, GAC: the destination area."""
     message: Optional[Message] = None
-    """Of all but a beacon."""
+    """SHB, GBC, GAC: payload and port."""
 
 
 @dataclass(frozen=True)
@@ -230,7 +280,7 @@ NO_LIMITS = Limits(0, 0, 0, 0, 0, 0, 0, False)
 
 @dataclass(frozen=True)
 class IgnoredCounts:
-    """How many frames were ignored for each reason."""
+    """Number of ignored frames, by `IgnoreReason`."""
 
     not_for_me: int
     own_source: int
@@ -240,19 +290,25 @@ class IgnoredCounts:
 
 @dataclass(frozen=True)
 class RefusedCounts:
-    """How many calls were refused, by S1 to S5, and by S6 to S9 together."""
+    """Number of failed calls, by code."""
 
     moment_earlier: int
+    """S1."""
     moment_too_late: int
+    """S2."""
     frame: int
+    """S3."""
     table_full: int
+    """S4."""
     no_memory: int
+    """S5."""
     other: int
+    """S6 to S9."""
 
 
 @dataclass(frozen=True)
 class SentCounts:
-    """How many frames of its own a station sent of each kind."""
+    """Number of the station's own packets, by type."""
 
     beacons: int
     single_hop: int
@@ -262,12 +318,16 @@ class SentCounts:
 
 @dataclass(frozen=True)
 class Counts:
-    """How often each thing happened since the station was made."""
+    """Counters of a station since it was created."""
 
     received: int
+    """Frames passed to `receive`."""
     accepted: int
+    """Frames whose packet was accepted."""
     delivered: int
+    """Payloads that were delivered."""
     relayed: int
+    """Frames to forward."""
     ignored: IgnoredCounts
     refused: RefusedCounts
     sent: SentCounts

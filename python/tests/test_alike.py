@@ -1,16 +1,17 @@
-"""Both back ends answer alike: random calls, of a station of the library and of one on a pipe."""
+"""Both kinds of station give the same answers to random calls: in the library and over a pipe."""
 
 import os
 import random
 import shutil
 import unittest
 
+import geostation
 from geostation import (
     NO_LIMITS,
     Area,
     BadArgument,
-    Ended,
-    Line,
+    PipeStation,
+    ProcessExited,
     Reception,
     Refused,
     Station,
@@ -129,7 +130,7 @@ class Alike(unittest.TestCase):
         traffic = Traffic(7)
         # A station on a pipe has no limits.
         with Station(0x1400020000000001, limits=NO_LIMITS, **place) as station:
-            with Line(0x1400020000000001, **place, program=PROGRAM) as line:
+            with PipeStation(0x1400020000000001, **place, program=PROGRAM) as line:
                 for number in range(1000):
                     call = traffic.call()
                     want = outcome(call, station)
@@ -153,10 +154,17 @@ class Alike(unittest.TestCase):
         return "delivered" if told.delivered else "relay" if told.relay else "accepted"
 
 
+class Names(unittest.TestCase):
+    def test_the_old_names_are_there(self):
+        self.assertIs(PipeStation, geostation.Line)
+        self.assertIs(ProcessExited, geostation.Ended)
+        self.assertIs(geostation.IgnoreReason, geostation.Why)
+
+
 @unittest.skipUnless(shutil.which(PROGRAM), "the program isn't built")
-class Lines(unittest.TestCase):
+class PipeStations(unittest.TestCase):
     def test_what_the_program_says(self):
-        line = Line(0x1400020000000001, latitude=0, longitude=0, program=[PROGRAM])
+        line = PipeStation(0x1400020000000001, latitude=0, longitude=0, program=[PROGRAM])
         answer = line.ask("open", 0, port=2002)
         self.assertEqual({"at": 0, "result": "opened"}, answer)
         with self.assertRaises(BadArgument) as told:
@@ -166,8 +174,8 @@ class Lines(unittest.TestCase):
         self.assertRaises(ValueError, lambda: line.tick(0))
 
     def test_a_program_that_ends(self):
-        line = Line(0x1400020000000001, latitude=0, longitude=0, program=["false"])
-        with self.assertRaises(Ended) as told:
+        line = PipeStation(0x1400020000000001, latitude=0, longitude=0, program=["false"])
+        with self.assertRaises(ProcessExited) as told:
             line.tick(0)
         self.assertEqual(1, told.exception.status)
 

@@ -23,6 +23,7 @@ from geostation import (
     BadArgument,
     BadFrame,
     Fault,
+    IgnoreReason,
     Kind,
     Limits,
     Message,
@@ -32,7 +33,6 @@ from geostation import (
     Shape,
     Station,
     Status,
-    Why,
     errors,
     frame_length,
     library,
@@ -54,7 +54,7 @@ class Stations(unittest.TestCase):
                 got = b.receive(11, frame)
                 self.assertEqual((None, Message(2002, 7, b"hi")), (got.ignored, got.delivered))
                 self.assertEqual(76, len(got.relay))
-                self.assertEqual(Reception(Why.OWN_SOURCE), a.receive(12, got.relay))
+                self.assertEqual(Reception(IgnoreReason.OWN_SOURCE), a.receive(12, got.relay))
                 self.assertEqual(A, got.source)
                 self.assertEqual("duplicate", str(b.receive(12, frame).ignored))
                 told = read_frame(got.relay)
@@ -374,7 +374,7 @@ class Library(unittest.TestCase):
             def geostation_abi():
                 return 77
 
-        with self.assertRaisesRegex(ImportError, "of version 77"):
+        with self.assertRaisesRegex(ImportError, "has ABI 77"):
             library.check_abi(Other)
         for struct, size in library.SIZES.items():
             self.assertEqual(size, ctypes.sizeof(struct))

@@ -316,7 +316,7 @@ class Sweeps(Folder):
             ({"seeds": 0}, "not a number of seeds"),
             ({"seeds": [-1]}, "2\\^63"),
             ({"air.loss": 1}, "without its table: loss"),
-            ({"penetration": 10}, "there are none"),
+            ({"penetration": 10}, "needs moves"),
             ({"jobs": 0, "executor": None}, "at least 1"),
             ({"part": (3, 3)}, "part 3/3"),
         ]

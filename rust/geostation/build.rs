@@ -1,6 +1,7 @@
-//! Finds the library that `c/build PREFIX` made: under `GEOSTATION_PREFIX`, or by `geostation.pc`,
-//! in which case `PKG_CONFIG_PATH` may name its folder. The archive is linked, so that a program
-//! runs alone; with `GEOSTATION_SHARED=1` the shared library is.
+//! Finds the library that `c/build PREFIX` built: under `GEOSTATION_PREFIX`, or with pkg-config,
+//! for which `PKG_CONFIG_PATH` may name the folder of `geostation.pc`. The static library is
+//! linked, so a program needs no other file. With `GEOSTATION_SHARED=1` the shared library is
+//! linked.
 
 use std::env;
 use std::fs;
@@ -16,14 +17,14 @@ fn main() {
     let (kind, file) =
         if shared { ("dylib", "libgeostation.so") } else { ("static", "libgeostation.a") };
     let library = folder.join(file);
-    assert!(library.is_file(), "there is no {}: 'c/build PREFIX' makes it", library.display());
+    assert!(library.is_file(), "there is no {}: build it with 'c/build PREFIX'", library.display());
     check_version(&folder);
     println!("cargo:rerun-if-changed={}", library.display());
     println!("cargo:rustc-link-search=native={}", folder.display());
     println!("cargo:rustc-link-lib={kind}=geostation");
 }
 
-/// Refuses a library of another version, whose structs may have other layouts than this crate's.
+/// Rejects a library of another version: its structs may differ from those of this crate.
 fn check_version(folder: &Path) {
     let file = folder.join("pkgconfig/geostation.pc");
     let told = fs::read_to_string(&file).unwrap_or_default();
@@ -31,13 +32,13 @@ fn check_version(folder: &Path) {
     let own = env!("CARGO_PKG_VERSION");
     assert!(
         version == Some(own),
-        "{} tells of version {}, and this crate is for {own}",
+        "{} is version {}, but this crate needs {own}",
         file.display(),
         version.unwrap_or("none")
     );
 }
 
-/// The folder of the library.
+/// Returns the folder of the library.
 fn library_folder() -> PathBuf {
     if let Some(prefix) = env::var_os("GEOSTATION_PREFIX") {
         return PathBuf::from(prefix).join("lib");
@@ -49,7 +50,7 @@ fn library_folder() -> PathBuf {
             PathBuf::from(String::from_utf8_lossy(&told.stdout).trim())
         }
         _ => panic!(
-            "libgeostation isn't found: set GEOSTATION_PREFIX to the PREFIX of 'c/build PREFIX', \
+            "libgeostation was not found: set GEOSTATION_PREFIX to the PREFIX of 'c/build PREFIX', \
              or PKG_CONFIG_PATH to its lib/pkgconfig"
         ),
     }

@@ -364,7 +364,7 @@ test('lines are as long as the scale bar says', async () => {
 
 test('space plays to the end and stops', async () => {
   await show(FOUR);
-  await page.value('document.getElementById("speed").value = "40"');
+  await page.value('document.getElementById("speed").value = "2"');
   await page.press('Home');
   await page.press(' ');
   const name = 'document.getElementById("play").getAttribute("aria-label")';
@@ -669,7 +669,7 @@ test('10,000 stations and a million events: painted, and what is not is said', a
   assert.equal(await page.value('geostation.app.state.station'), station);
   await page.value('document.getElementById("all").click()');
   await page.until('document.getElementById("load").textContent.startsWith("All")');
-  for (let i = 0; i < 8; i += 1) await page.click('#zoom-in');
+  for (let i = 0; i < 9; i += 1) await page.click('#zoom-in');
   assert.match(await text('#unseen'), /the trails of 10,000 stations\.$/);
   await page.click('#zoom-fit');
   const rate = await page.value(`new Promise((done) => {

@@ -38,8 +38,11 @@ function sendLine(run, send) {
     `frames ${frames} hops ${hops} last ${last}`;
 }
 
+/** The line of the totals. With `[air]` it ends with the receptions that a full table rejected. */
 function totalLine(run) {
-  return ['total', ...Object.entries(way.total(run)).flat()].join(' ');
+  const full = run.events.map(({index}) => run.events.isFull(index)).filter(Boolean).length;
+  const more = run.air && full > 0 ? ['full', full] : [];
+  return ['total', ...Object.entries(way.total(run)).flat(), ...more].join(' ');
 }
 
 /** The summary's lines of the sends, with who wasn't reached. @param {string} text */

@@ -472,7 +472,7 @@ by_moment before sorted addressed all rises stable =
     one_of m =
         record {
           ref_ptr = (0, 0);
-          now = record { id = None; filed = files.Leaves 0 m; round_station = false };
+          now = record { number = 0; id = None; filed = files.Leaves 0 m; round_station = false };
         }
 
 -- ---- at the beginning and at the end

@@ -450,9 +450,9 @@ impl<'a> Run<'a> {
     {
         let event = delivery.event();
         let entry = self.do_event(&event, sink)?;
-        self.come(&event, &entry, sink)?;
+        let came = self.come(&event, &entry, sink);
         self.world.reuse(entry);
-        Ok(())
+        came
     }
 
     /// Does one of the air's own, and puts what follows it. A tick or a send of an absent station

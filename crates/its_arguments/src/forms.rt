@@ -368,7 +368,7 @@ static RUNNERS: [Form; 3] = [
             Argument::Values(
                 "set",
                 "KEY=VALUE",
-                "Set a key of [air], in place of the scenario's value",
+                "Set a key of [air]: range, delay, loss, seed, beacons or until",
             ),
             Argument::Value(
                 "moves",

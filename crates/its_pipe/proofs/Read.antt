@@ -105,7 +105,7 @@ bad_told now members moment (key_faults.Refused key wrong) (read_faults.Bad faul
 bad_told now members moment (key_faults.Refused key wrong) (read_faults.Bad faults.Id) calls is bad like =
     absurd like
 bad_told now members moment (key_faults.Refused key wrong)
-    (read_faults.Bad (faults.Query other w)) is bad like = absurd like
+    (read_faults.Bad (faults.Query other w)) calls is bad like = absurd like
 bad_told now members moment (key_faults.Refused key wrong) read_faults.OutOfMemory calls is bad like = tt
 
 -- the fault of a key of what is asked

@@ -1,6 +1,6 @@
 -- One more step of a file after others.
 use Rattle.std.proofs.Common.{◌≡◌, ℕ, ◌+◌, List, [], ◌∷◌, ◌++◌, length, refl, sym, ap, subst, ◌∙◌}
-use Rattle.std.proofs.Common.{arith, inl, inr, length-append, ◌×◌, ◌≤◌, true, false, true≢false}
+use Rattle.std.proofs.Common.{arith, inl, inr, length-append, ◌≤◌, true, false, true≢false}
 use Rattle.std.specs.Prelude.{Bool, Result, Ok, Err, IfOk, Option, None, Some}
 use Rattle.std.proofs.lemmas.List.{append_assoc, append-nil}
 use Rattle.its_choosing.specs.declared.Choice.{Choice}
@@ -127,6 +127,20 @@ replayed_none gives choice linked file s station Took rep took =
       stands = rep;
     }
 
+-- the counts with which a file begins, and no call
+pub replayed_begun : {S : Type 0} (gives : S → S → List ℕ → Result Step SourceFault → Type 0)
+    (choice : Choice) (linked : Bool) (file : S) (s : StationModel) (station : StationState)
+    (Took : List Heard → Type 0) (counts : Replayed)
+    → counts ≡ record { read = 0; chosen = 0; fault = None }
+    → RepresentsStation station s → Took []
+    → (begun : IsReplayed gives choice linked file s file station counts Took)
+    × (length begun.given ≡ 0)
+unfolding replayed_none
+replayed_begun gives choice linked file s station Took counts is rep took =
+    subst (λ (r : Replayed). (begun : IsReplayed gives choice linked file s file station r Took)
+    × (length begun.given ≡ 0)) (sym is)
+    (replayed_none gives choice linked file s station Took rep took, refl)
+
 pub replayed_more : {S : Type 0} (gives : S → S → List ℕ → Result Step SourceFault → Type 0)
     (choice : Choice) (linked : Bool) (file : S) (s : StationModel) (left then : S)
     (station next : StationState) (counts : Replayed) (met : Gone)
@@ -160,6 +174,7 @@ pub counted_then : {S : Type 0} (gives : S → S → List ℕ → Result Step So
     → IsGone gives choice linked left before.end before.told then next met Later
     → (after : IsReplayed gives choice linked file s then next result Later)
     × (length after.given ≡ step + 1)
+unfolding replayed_more
 counted_then gives choice linked file s left then station next counts met result Took Later step
     before steps is none one =
     subst (λ (r : Replayed). (after : IsReplayed gives choice linked file s then next r Later)
@@ -189,6 +204,7 @@ pub whole_then : {S : Type 0} (gives : S → S → List ℕ → Result Step Sour
     → result ≡ counts_after counts met → counts.fault ≡ None → is_end met ≡ true
     → IsGone gives choice linked left before.end before.told then next met Later
     → IsReplayedWhole gives choice count linked file s then next result Later
+unfolding replayed_more
 whole_then gives choice count linked file s left then station next counts met result Took Later
     before is none ends one =
     subst (λ (r : Replayed). IsReplayedWhole gives choice count linked file s then next r Later)

@@ -1,11 +1,11 @@
 """Studies: a scenario run over parameters and seeds, with tables, intervals and figures.
 
-`Study.sweep` does the runs, on all processors or by any executor, and keeps each in a folder.
-`Runs` has their table, summaries and figures. `load` reads what an earlier sweep left.
+`Study.sweep` does the runs, on all processors or with any executor, and keeps each in a folder.
+`Runs` has their tables, summaries and figures. `load` reads the results of an earlier sweep.
 `python -m geostation.study` does the same on a command line.
 
-Needs the program `geostation` and nothing else. pandas, matplotlib and tqdm are used where they
-are installed: for frames, figures and a bar.
+It needs the program `geostation` and nothing else. If pandas, matplotlib and tqdm are installed, it
+uses them for data frames, figures and a progress bar.
 """
 
 from .errors import StudyError

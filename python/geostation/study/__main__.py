@@ -31,7 +31,7 @@ class _Parser(argparse.ArgumentParser):
 
 
 def _value(text: str) -> Value:
-    """Returns a value as TOML would read it, or else as a text."""
+    """Returns a value as TOML would read it, or otherwise as a string."""
     if text in ("true", "false"):
         return text == "true"
     if re.fullmatch(r"-?[0-9]+", text):
@@ -49,7 +49,7 @@ def _pair(text: str) -> Tuple[str, List[str]]:
 
 
 def _seeds(text: str) -> Any:
-    """Returns `30` as a number of seeds, `1-30` and `1,5,9` as seeds."""
+    """Reads seeds: `30` is a number of seeds, `1-30` and `1,5,9` are seeds."""
     if re.fullmatch(r"[0-9]+", text):
         return int(text)
     if found := re.fullmatch(r"([0-9]+)-([0-9]+)", text):
@@ -80,7 +80,11 @@ def _parser() -> argparse.ArgumentParser:
     sweep.add_argument("--jobs", metavar="N", type=int, help="processes [default: processors]")
     sweep.add_argument("--force", action="store_true", help="do all runs again")
     sweep.add_argument(
-        "--part", metavar="I/N", type=_part, default=(0, 1), help="do each Nth run, I from 0"
+        "--part",
+        metavar="I/N",
+        type=_part,
+        default=(0, 1),
+        help="do each Nth run, beginning with run I, from 0",
     )
     sweep.add_argument("--program", metavar="PATH", help="the program [default: geostation]")
     sweep.add_argument("-q", "--quiet", action="store_true", help="show no progress")
@@ -99,10 +103,10 @@ def _parser() -> argparse.ArgumentParser:
     plot.add_argument("-o", "--output", metavar="FILE", required=True, help=", ".join(_FIGURES))
 
     fcd = commands.add_parser("fcd", help="print traces as CSV that --moves reads")
-    fcd.add_argument("file", metavar="FILE", help="FCD as XML or CSV, or gzip; - is a pipe")
+    fcd.add_argument("file", metavar="FILE", help="FCD as XML or CSV, or gzip; - is standard input")
     fcd.add_argument("--penetration", metavar="P", type=float, help="vehicles with a station, %%")
-    fcd.add_argument("--seed", metavar="N", type=int, default=1, help="which they are [default: 1]")
-    fcd.add_argument("--keep", metavar="ID", action="append", help="a vehicle that has one anyhow")
+    fcd.add_argument("--seed", metavar="N", type=int, default=1, help="selects them [default: 1]")
+    fcd.add_argument("--keep", metavar="ID", action="append", help="a vehicle that always has one")
     return parser
 
 
@@ -122,7 +126,7 @@ def _add_results(parser: argparse.ArgumentParser) -> None:
 
 
 def _typed(study: Study, name: str, texts: List[str]) -> List[Value]:
-    """Returns values as the scenario has them: a text stays a text, such as the id `5`."""
+    """Reads values as the scenario has them: a string such as the id `5` stays a string."""
     if is_path(name):
         try:
             if isinstance(value_at(study.scenario.document(), name), str):
@@ -229,7 +233,7 @@ _COMMANDS = {"sweep": _sweep, "table": _table, "plot": _plot, "fcd": _fcd}
 
 
 def main(arguments: Optional[List[str]] = None) -> int:
-    """Runs a command. Returns 0, 1 if a run or an input failed, 2 for arguments, 3 for the
+    """Runs a command. Returns 0, 1 if a run or an input failed, 2 for arguments, or 3 for the
     system."""
     given = _parser().parse_args(arguments)
     try:
@@ -240,7 +244,7 @@ def main(arguments: Optional[List[str]] = None) -> int:
         print(f"{_NAME}: {error}", file=sys.stderr)
         return error.status
     except BrokenPipeError:
-        # Whoever read the output has ended. Python would complain at its own end too.
+        # The reader of the output has ended. Python would report that at its own end again.
         os.dup2(os.open(os.devnull, os.O_WRONLY), sys.stdout.fileno())
         return 3
     except OSError as error:

@@ -1,4 +1,4 @@
-"""Hashes of files and of what a run is made of."""
+"""Hashes of files and of the inputs of a run."""
 
 from __future__ import annotations
 
@@ -11,7 +11,7 @@ from typing import Any
 
 from .errors import cannot
 
-# Octets of a hash in the name of a folder or file, in hexadecimal digits.
+# Number of hexadecimal digits of a hash in the name of a folder or file.
 NAME_LENGTH = 16
 
 
@@ -25,7 +25,7 @@ def _digest(path: str, device: int, inode: int, size: int, changed: int) -> str:
 
 
 def digest(path: Path) -> str:
-    """Returns the SHA-256 of a file. A file that did not change since is read once per process.
+    """Returns the SHA-256 of a file. An unchanged file is read once per process.
 
     Raises `StudyError` with status 3 if the file can't be read.
     """
@@ -37,7 +37,7 @@ def digest(path: Path) -> str:
 
 
 def digest_of(value: Any) -> str:
-    """Returns the SHA-256 of a value that JSON can hold. The order of keys does not count."""
+    """Returns the SHA-256 of a JSON value. The order of keys does not count."""
     text = json.dumps(value, sort_keys=True, separators=(",", ":"))
     return hashlib.sha256(text.encode()).hexdigest()
 

@@ -1,12 +1,14 @@
-"""What a study reports when it can't go on."""
+"""The exception of studies."""
 
 from __future__ import annotations
 
 
 class StudyError(Exception):
-    """A study, a table or a figure can't be made. The text is a sentence.
+    """A study, a table or a figure can't be made. `str()` gives a message.
 
-    `status` is the exit status of the command line: 2 for arguments, 3 for the system.
+    Attributes:
+        status: Exit status of the command line: 1 for an invalid input file, 2 for arguments, 3 for
+            the system.
     """
 
     def __init__(self, text: str, status: int = 2):

@@ -1,5 +1,5 @@
-"""Figures for a paper: as wide as a column, with units, intervals, and colours, marks and dashes
-that colour-blind readers and printers without colour can tell apart."""
+"""Figures for a paper: as wide as a column, with units and intervals. Colours, marks and dashes
+stay distinct for colour-blind readers and without colour."""
 
 from __future__ import annotations
 
@@ -10,7 +10,7 @@ from .errors import StudyError
 if TYPE_CHECKING:
     from .results import Row, Runs
 
-# What an axis says of a parameter or column.
+# The label of an axis, for each parameter or column.
 LABELS = {
     "range": "Radio range (m)",
     "delay": "Delay of a hop (ms)",
@@ -40,7 +40,7 @@ LABELS = {
     "busy_p95": "Channel busy, 95th percentile (ms/s)",
     "busy_most": "Channel busy, busiest station (ms/s)",
 }
-# Okabe and Ito's colours, the yellow left out, which is too light on paper.
+# Okabe and Ito's colours without yellow, which is too light on paper.
 _COLOURS = ("#0072B2", "#D55E00", "#009E73", "#CC79A7", "#E69F00", "#56B4E9", "#000000")
 _MARKS = ("o", "s", "^", "D", "v", "P", "X")
 _DASHES = ("-", "--", "-.", ":")
@@ -58,7 +58,7 @@ _STYLE: Dict[str, Any] = {
     "lines.markersize": 4,
     "grid.linewidth": 0.4,
     "grid.color": "#cccccc",
-    # The same file each time, and letters that a journal can embed.
+    # The same file each time, and fonts that a journal can embed.
     "svg.hashsalt": "geostation",
     "pdf.fonttype": 42,
 }
@@ -67,7 +67,7 @@ _INCHES = (3.5, 2.5)
 
 
 def label(name: str) -> str:
-    """Returns what an axis says of a parameter or column: its meaning and unit, or its name."""
+    """Returns the label of an axis: meaning and unit of a parameter or column, or its name."""
     return LABELS.get(name, name)
 
 
@@ -79,7 +79,7 @@ def _figure_class() -> Any:
         raise StudyError("figures need matplotlib: install python3-matplotlib", 3) from None
 
     class PaperFigure(Figure):  # type: ignore[misc]
-        """A figure that is written without a date and with the style of a paper."""
+        """A figure that is written without a date, in the style of a paper."""
 
         def savefig(self, fname: Any, **options: Any) -> None:
             """Writes the figure, as matplotlib's own call does."""
@@ -104,7 +104,7 @@ def _is_number(value: Any) -> bool:
 
 
 def _draw_line(axes: Any, rows: List["Row"], over: str, places: Dict[Any, float], n: int) -> None:
-    """Draws the line of one value, its intervals as bars, where there are values."""
+    """Draws one line, with its intervals as bars. Rows without a value are skipped."""
     shown = [row for row in rows if row["mean"] is not None]
     x = [places[row[over]] for row in shown]
     below = [0 if row["low"] is None else row["mean"] - row["low"] for row in shown]

@@ -1,4 +1,4 @@
-"""Files and folders that are whole or aren't there."""
+"""Files and folders that are either complete or missing."""
 
 from __future__ import annotations
 
@@ -22,9 +22,9 @@ def scratch_path(path: Path) -> Path:
 
 
 def write(path: Path, parts: Iterable[bytes]) -> None:
-    """Writes a file under a temporary name, and renames it once it is whole.
+    """Writes a file under a temporary name, and renames it once it is complete.
 
-    Raises `StudyError` with status 3 if it can't be written, and what `parts` raises.
+    Raises `StudyError` with status 3 if it can't be written. Exceptions of `parts` pass through.
     """
     scratch = scratch_path(path)
     try:
@@ -41,7 +41,7 @@ def write(path: Path, parts: Iterable[bytes]) -> None:
 
 
 def _is_running(process: str) -> bool:
-    """Says whether a process of this machine runs. One that nobody waited for does not."""
+    """Returns whether a process of this machine runs. A zombie does not."""
     try:
         state = Path("/proc", process, "stat").read_text().rpartition(")")[2].split()[0]
     except (OSError, IndexError):
@@ -50,7 +50,7 @@ def _is_running(process: str) -> bool:
 
 
 def remove_leftovers(folder: Path) -> None:
-    """Removes what processes of this machine that have ended left under temporary names."""
+    """Removes temporary files of processes of this machine that have ended."""
     mark = f"-{socket.gethostname()}-"
     places = (folder, folder / "scenarios", folder / "moves")
     for path in (path for place in places for path in place.glob(f".*{mark}*")):

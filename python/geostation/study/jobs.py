@@ -1,5 +1,5 @@
-"""One run of the program, and what is kept of it. Any process may do it, on any machine that sees
-the folder of the study, the program and the traces under the same paths."""
+"""One run of the program, and its results. Any process may do it, on any machine that sees the
+folder of the study, the program and the traces under the same paths."""
 
 from __future__ import annotations
 
@@ -29,7 +29,7 @@ SENDS, LOAD, SUMMARY, MESSAGES = "sends.csv", "load.csv", "summary.jsonl", "mess
 LASTING = (0, 1, 2)
 _LONGEST_MESSAGE = 500
 
-# The programs that this process runs now. A worker that is told to end, ends them first.
+# The programs that this process runs now. A worker that gets a signal to end, ends them first.
 RUNNING: List["subprocess.Popen[bytes]"] = []
 
 
@@ -48,7 +48,7 @@ class Input:
 
 @dataclass(frozen=True)
 class Feed:
-    """Traces that come to the program through a pipe, with some of the vehicles."""
+    """Traces of some of the vehicles, which are sent to the program through a pipe."""
 
     path: str
     percent: float
@@ -82,7 +82,7 @@ class Job:
 
 @dataclass(frozen=True)
 class Outcome:
-    """How a run ended, for the figures of a sweep: what is kept of it is in its folder.
+    """How a run ended, for the figures of a sweep. Its results are in its folder.
 
     `status` is the program's, or `None` if a worker could not do the run because of `fault`.
     `seconds` are the worker's, `cpu` those of the program on its processor.
@@ -95,7 +95,7 @@ class Outcome:
 
 
 def read_record(folder: Path) -> Optional[Dict[str, Any]]:
-    """Returns the record of a run, or `None` if there is none that is whole."""
+    """Returns the record of a run, or `None` if it is missing or not whole."""
     try:
         record = json.loads((folder / RECORD).read_text())
     except (OSError, ValueError):
@@ -104,7 +104,7 @@ def read_record(folder: Path) -> Optional[Dict[str, Any]]:
 
 
 def is_lasting(record: Optional[Dict[str, Any]]) -> bool:
-    """Says whether a run needs not be done again."""
+    """Returns whether a run needs not be done again."""
     return record is not None and record.get("status") in LASTING
 
 
@@ -158,7 +158,7 @@ def _run_in(job: Job, scratch: Path, folder: Path, begun: float) -> Outcome:
 
 
 def _put(scratch: Path, folder: Path) -> None:
-    """Gives a whole result its name. An older one is moved away first."""
+    """Moves a complete result to its folder. An older one is moved away first."""
     old = scratch_path(folder)
     try:
         os.rename(folder, old)
@@ -174,7 +174,7 @@ def _put(scratch: Path, folder: Path) -> None:
 
 
 def _run_program(job: Job, scratch: Path) -> Tuple[Optional[int], str, float, int]:
-    """Runs the program: its status, what failed besides it, processor seconds and memory."""
+    """Runs the program. Returns its status, another fault, processor seconds and memory."""
     with open(scratch / SUMMARY, "wb") as printed, open(scratch / MESSAGES, "wb") as said:
         try:
             process = subprocess.Popen(
@@ -202,7 +202,7 @@ def _run_program(job: Job, scratch: Path) -> Tuple[Optional[int], str, float, in
 
 
 def _send(feed: Feed, process: "subprocess.Popen[bytes]") -> str:
-    """Sends the rows to the program. Returns what failed, of a trace that can't be read whole."""
+    """Sends the rows to the program. Returns the fault of a trace that can't be read whole."""
     assert process.stdin is not None
     try:
         with open(feed.path, "rb") as file:
@@ -234,7 +234,7 @@ def _total(path: Path) -> Optional[Dict[str, int]]:
 
 
 def _message(path: Path, status: Optional[int]) -> str:
-    """Returns what the program said, as one line."""
+    """Returns the messages of the program, as one line."""
     lines = path.read_text(errors="replace").splitlines()
     said = [line.removeprefix("geostation: ") for line in lines if line]
     if status is not None and status < 0:

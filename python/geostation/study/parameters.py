@@ -20,7 +20,7 @@ PENETRATION = "penetration"
 
 
 def is_path(name: str) -> bool:
-    """Says whether a parameter is a key of the scenario outside [air], such as `event.0.hops`."""
+    """Returns whether a parameter is the path of a key outside [air], such as `event.0.hops`."""
     return "." in name
 
 
@@ -44,9 +44,9 @@ def _check_name(name: str) -> None:
 
 
 def plain(value: Any) -> Value:
-    """Returns a value as Python's own type, so that numbers of NumPy are accepted too.
+    """Returns a value as one of Python's own types, so NumPy numbers are accepted too.
 
-    Raises `StudyError` if it is not true or false, a number or a text.
+    Raises `StudyError` if it is not a bool, a number or a string.
     """
     if isinstance(value, (bool, str)):
         return value
@@ -89,7 +89,7 @@ def _values(name: str, given: Any) -> List[Value]:
 
 
 def read_parameters(given: Mapping[str, Any]) -> Dict[str, List[Value]]:
-    """Returns the values of each parameter. One value stands for a list of one.
+    """Returns the values of each parameter. One value is the same as a list of one.
 
     Raises `StudyError` for an unknown name, a value out of its range, and a value given twice.
     """
@@ -101,10 +101,10 @@ def read_parameters(given: Mapping[str, Any]) -> Dict[str, List[Value]]:
 
 
 def read_seeds(given: Any) -> List[int]:
-    """Returns the seeds. A number N stands for the seeds 1 to N.
+    """Returns the seeds. A number N means the seeds 1 to N.
 
-    Raises `StudyError` if there is none, if one is no whole number from 0 to 2^63 - 1, and if one
-    is given twice.
+    Raises `StudyError` if the list is empty, if one is not an int from 0 to 2^63 - 1, and if one is
+    given twice.
     """
     if isinstance(given, str) or not isinstance(given, Iterable):
         count = plain(given)
@@ -120,8 +120,8 @@ def read_seeds(given: Any) -> List[int]:
 
 
 def points(parameters: Mapping[str, List[Value]], seeds: List[int]) -> List[Point]:
-    """Returns each combination of values and seeds. The last parameter changes first but for the
-    seed, which changes faster."""
+    """Returns each combination of values and seeds. The seed changes fastest, then the last
+    parameter."""
     names = [*parameters, SEED]
     columns: Tuple[List[Any], ...] = (*parameters.values(), seeds)
     return [dict(zip(names, values)) for values in itertools.product(*columns)]

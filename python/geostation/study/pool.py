@@ -11,12 +11,12 @@ from typing import Any
 
 from .jobs import RUNNING
 
-# Of prctl: the signal that a process gets when its parent ends.
+# The option of prctl for the signal that a process gets when its parent ends.
 _SET_SIGNAL_OF_PARENTS_END = 1
 
 
 def processors() -> int:
-    """Returns how many processors this process may use."""
+    """Returns the number of processors that this process may use."""
     if hasattr(os, "sched_getaffinity"):
         return len(os.sched_getaffinity(0))
     return os.cpu_count() or 1
@@ -30,7 +30,7 @@ def _end(*_: Any) -> None:
 
 
 def _begin(parent: int) -> None:
-    """Lets a worker end with its parent, whatever ends that. Otherwise it would wait forever."""
+    """Makes a worker end with its parent, however that ends. Otherwise it would wait forever."""
     signal.signal(signal.SIGTERM, _end)
     if signal.getsignal(signal.SIGINT) is not signal.SIG_IGN:
         signal.signal(signal.SIGINT, _end)
@@ -43,8 +43,8 @@ def _begin(parent: int) -> None:
 
 
 def make_pool(workers: int) -> ProcessPoolExecutor:
-    """Returns a pool of processes that begin as copies of this one, so that a script needs no guard
-    around what it does."""
+    """Returns a pool of processes that begin as copies of this one, so a script needs no
+    `if __name__ == "__main__"`."""
     forks = "fork" in multiprocessing.get_all_start_methods()
     context = multiprocessing.get_context("fork" if forks else None)
     return ProcessPoolExecutor(workers, context, _begin, (os.getpid(),))

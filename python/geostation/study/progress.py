@@ -1,4 +1,4 @@
-"""How far a sweep is: a bar where tqdm is installed, otherwise counts."""
+"""The progress of a sweep: a bar if tqdm is installed, otherwise counts."""
 
 from __future__ import annotations
 
@@ -10,7 +10,7 @@ class Progress:
     """Counts runs on standard error."""
 
     def __init__(self, total: int, found: int, shown: Optional[bool] = None):
-        """Begins at the runs that were found. `shown` is true on a terminal if it isn't given."""
+        """Begins with the runs that were found. By default it is shown on a terminal."""
         self._total = total
         self._done = found
         self._failed = 0

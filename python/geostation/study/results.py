@@ -1,4 +1,4 @@
-"""The results of a sweep: tables, summaries and figures of what its runs left."""
+"""The results of a sweep: tables, summaries and figures."""
 
 from __future__ import annotations
 
@@ -19,7 +19,7 @@ TABLES = {"sends": SENDS, "load": LOAD}
 Row = Dict[str, Any]
 Names = Union[str, Sequence[str], None]
 
-# Columns of a send that mean nothing if no station had it: the program writes 0.
+# Columns of a send that have no meaning if no station delivered it: the program writes 0.
 _OF_DELIVERIES = ("hops", "first", "p50", "p95", "last")
 _MISSING = "this run is missing: start the sweep again"
 
@@ -28,9 +28,14 @@ _MISSING = "this run is missing: start the sweep again"
 class Run:
     """A run of a sweep.
 
-    `status` is the exit status of the program, below 0 the signal that ended it, `None` if the run
-    is missing. `message` is what the program said. `complete` says whether the run went to its
-    end. `record` is its `run.json`.
+    Attributes:
+        folder: The folder of its results.
+        parameters: Its parameters and its seed.
+        status: Exit status of the program; a negative value is the signal that ended it; `None` if
+            the run is missing.
+        message: The messages of the program.
+        complete: Whether the run went to its end.
+        record: The content of its `run.json`.
     """
 
     folder: Path
@@ -42,7 +47,7 @@ class Run:
 
     @classmethod
     def read(cls, folder: Path, parameters: Point) -> "Run":
-        """Reads what is kept of a run."""
+        """Reads the results of a run."""
         record = read_record(folder)
         if record is None:
             return cls(folder, parameters, None, _MISSING, False, {})
@@ -50,7 +55,7 @@ class Run:
         return cls(folder, parameters, record.get("status"), said, whole, record)
 
     def failed(self) -> bool:
-        """Says whether the status is another one than 0."""
+        """Returns whether the status is not 0."""
         return self.status != 0
 
 
@@ -67,7 +72,7 @@ def _value(text: str) -> Any:
 
 
 def _completed(row: Row) -> Row:
-    """Returns a row of a send with the reach in percent, and without zeros that say nothing."""
+    """Returns a row of a send with the reach in percent, and without meaningless zeros."""
     if "inside" not in row:
         return row
     if not row.get("delivered"):
@@ -84,7 +89,7 @@ def _names(given: Names) -> List[str]:
 
 
 def framed(rows: List[Row]) -> Any:
-    """Returns rows as a pandas DataFrame, or as they are where pandas isn't installed."""
+    """Returns rows as a pandas DataFrame, or unchanged if pandas isn't installed."""
     try:
         import pandas
     except ImportError:
@@ -93,7 +98,7 @@ def framed(rows: List[Row]) -> Any:
 
 
 def to_csv(rows: List[Row]) -> str:
-    """Returns rows as CSV: a head, and lines that end in line feeds."""
+    """Returns rows as CSV: a header line, and lines that end in line feeds."""
     text = io.StringIO()
     writer = csv.DictWriter(text, list(rows[0]) if rows else [], lineterminator="\n")
     writer.writeheader()
@@ -106,13 +111,13 @@ def _printed(value: Any) -> Any:
 
 
 class Runs:
-    """The runs of a sweep, in the order of its parameters, whatever the order in which they ended.
+    """The runs of a sweep, in the order of its parameters.
 
-    `len(runs)` is how many there are, and iterating gives each `Run`.
+    `len(runs)` is their number. Iterating yields each `Run`.
     """
 
     def __init__(self, out: Path, record: Mapping[str, Any]):
-        """Reads what is kept of the runs that the record of a study names."""
+        """Reads the results of the runs in the record of a study."""
         self.out = out
         self.record = record
         try:
@@ -132,22 +137,25 @@ class Runs:
 
     @property
     def failed(self) -> List[Run]:
-        """The runs whose status is another one than 0, and those that are missing."""
+        """The runs whose status is not 0, and those that are missing."""
         return [run for run in self._runs if run.failed()]
 
     def rows(
         self, table: str = "sends", where: Optional[Mapping[str, Any]] = None
     ) -> List[Row]:
-        """Returns the rows of a table, with the parameters, the status and the message of their
-        run.
+        """Returns the rows of a table, each with parameters, status and message of its run.
 
-        `table` is `sends`, with a row for each warning that was sent, or `load`, with one for each
-        second. `sends` has a last column `reach`, the percentage of the stations inside that were
-        reached. Of a warning that no station had, the hops and the times are `None`. A run without
-        any row, and one that did not go to its end, has one row in which these columns are `None`.
-        `where` chooses values of parameters, such as `{"range": 250}`.
+        If no station delivered a warning, its hops and times are `None`. A run without any row, and
+        one that did not go to its end, has one row in which the table's columns are `None`.
 
-        Raises `StudyError` for another table or parameter, and if a file can't be read.
+        Args:
+            table: `sends`, with a row for each warning, or `load`, with a row for each second.
+                `sends` has a last column `reach`: the percentage of the stations inside that were
+                reached.
+            where: Values of parameters to select, such as `{"range": 250}`.
+
+        Raises:
+            StudyError: The table or a parameter is unknown, or a file can't be read.
         """
         parsed = self._parsed(table)
         columns: Dict[str, None] = {}
@@ -162,7 +170,7 @@ class Runs:
         ]
 
     def frame(self, table: str = "sends", where: Optional[Mapping[str, Any]] = None) -> Any:
-        """Returns `rows` as a pandas DataFrame, or as a list where pandas isn't installed."""
+        """Returns `rows` as a pandas DataFrame, or as a list if pandas isn't installed."""
         return framed(self.rows(table, where))
 
     def csv(self, table: str = "sends", where: Optional[Mapping[str, Any]] = None) -> str:
@@ -216,7 +224,7 @@ class Runs:
         return values
 
     def _known(self, names: Iterable[str]) -> List[str]:
-        """Returns all parameters. Raises `StudyError` if one of the names is none."""
+        """Returns all parameters. Raises `StudyError` if one of the names is unknown."""
         known = list(self._runs[0].parameters) if self._runs else []
         for name in names:
             if name not in known:
@@ -230,7 +238,7 @@ class Runs:
         return [r for r in self._runs if all(r.parameters[n] == v for n, v in wanted.items())]
 
     def _chosen(self, by: Sequence[str], where: Mapping[str, Any]) -> List[Run]:
-        """Returns the runs of `where`, if a mean for each of `by` says something.
+        """Returns the runs of `where`, if a mean for each of `by` is meaningful.
 
         Raises `StudyError` if a parameter that is in neither has several values.
         """
@@ -278,17 +286,26 @@ class Runs:
     ) -> Any:
         """Returns the mean of a column for each combination of the parameters in `by`.
 
-        Columns are those of `by`, `mean`, `low`, `high`, `n` and `failed`. The mean of a run is
-        that of its rows, and `mean` is that of the runs. `low` and `high` are the interval of the
-        mean by a bootstrap over the runs, with `resamples` resamples drawn by `seed`. `n` is how
-        many runs have a value, and `failed` how many have another status than 0. A run that an
-        `[[expect]]` failed counts in both.
+        The columns are those of `by`, `mean`, `low`, `high`, `n` and `failed`. Each run counts with
+        the mean of its rows, and `mean` is the mean over the runs. `low` and `high` are the ends of
+        its interval, by a bootstrap over the runs. `n` is the number of runs with a value. `failed`
+        is the number of runs whose status is not 0. A run in which an `[[expect]]` failed counts in
+        both.
 
-        `metric` is a column of `sends` or of `load`. `where` chooses values of parameters, such as
-        `{"range": 250}`. Returns a pandas DataFrame, or a list where pandas isn't installed.
+        Args:
+            metric: A column of `sends` or of `load`.
+            by: Names of parameters.
+            where: Values of parameters to select, such as `{"range": 250}`.
+            level: Share of the resamples that the interval holds, between 0 and 1.
+            resamples: Number of resamples.
+            seed: Seed of the resamples.
 
-        Raises `StudyError` for an unknown name, and if a parameter with several values is in
-        neither `by` nor `where`.
+        Returns:
+            A pandas DataFrame, or a list of dicts if pandas isn't installed.
+
+        Raises:
+            StudyError: A name is unknown, or a parameter with several values is in neither `by` nor
+                `where`.
         """
         return framed(self.summary_rows(metric, by, where, level, resamples, seed))
 
@@ -300,13 +317,20 @@ class Runs:
         where: Optional[Mapping[str, Any]] = None,
         level: float = LEVEL,
     ) -> Any:
-        """Returns a figure of the mean of a column over a parameter, with a line for each value of
-        `by` and the intervals as bars.
+        """Returns a figure of the mean of a column over a parameter, with the intervals as bars.
 
-        The figure is a matplotlib figure of the width of a column. Its `savefig` writes the same
-        file each time.
+        It is a matplotlib figure with the width of a column of a paper. Its `savefig` writes the
+        same file each time.
 
-        Raises `StudyError` as `summary` does, and with status 3 if matplotlib isn't installed.
+        Args:
+            metric: A column of `sends` or of `load`.
+            over: The parameter of the x axis.
+            by: A parameter; each of its values has a line.
+            where: Values of parameters to select, such as `{"range": 250}`.
+            level: Share of the resamples that the interval holds, between 0 and 1.
+
+        Raises:
+            StudyError: As for `summary`; with status 3 if matplotlib isn't installed.
         """
         from .figure import draw
 
@@ -316,7 +340,11 @@ class Runs:
 def load(out: Union[str, Path]) -> Runs:
     """Returns the runs of the last sweep into a folder, as far as they are done.
 
-    Raises `StudyError` if the folder has no record of a study.
+    Args:
+        out: The folder.
+
+    Raises:
+        StudyError: The folder has no record of a study.
     """
     path = Path(out) / STUDY
     try:

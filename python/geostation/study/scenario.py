@@ -21,7 +21,7 @@ _CHECKED = ("moves",)
 def loads(text: str) -> Dict[str, Any]:
     """Reads a TOML document.
 
-    Raises `StudyError` if it is no TOML, and if this Python has no reader of TOML.
+    Raises `StudyError` if it is not TOML, or if this Python has no reader for TOML.
     """
     if sys.version_info >= (3, 11):
         import tomllib as reader
@@ -85,7 +85,7 @@ def dumps(document: Mapping[str, Any]) -> str:
 
 
 def _step(path: str, place: Any, part: str) -> Any:
-    """Returns what a part of a path leads to."""
+    """Returns the value to which a part of a path leads."""
     if isinstance(place, list):
         if not (part.isascii() and part.isdigit()) or int(part) >= len(place):
             raise StudyError(f"{path}: {part} is not a number from 0 to {len(place) - 1}")
@@ -129,7 +129,7 @@ class Scenario:
         self._document: Optional[Dict[str, Any]] = None
 
     def document(self) -> Dict[str, Any]:
-        """Returns the document. Raises `StudyError` if it is no TOML, or can't be read here."""
+        """Returns the document. Raises `StudyError` if it is not TOML, or can't be read here."""
         if self._document is None:
             try:
                 self._document = loads(self.octets.decode("utf-8-sig"))
@@ -140,14 +140,14 @@ class Scenario:
         return self._document
 
     def with_values(self, changes: Mapping[str, Value]) -> bytes:
-        """Returns the scenario with other values at some paths: without any, to the octet.
+        """Returns the scenario with other values at some paths, or as it is without `changes`.
 
-        A key has to be in the scenario already, but for those of `[moves]`, which the program
+        A key has to be in the scenario already, except the keys of `[moves]`, which the program
         checks. Raises `StudyError` for a path that leads nowhere.
         """
         if not changes:
             return self.octets
-        # A copy, by the writer that is checked below.
+        # A copy, with the writer that is checked below.
         changed = loads(dumps(self.document()))
         for path, value in changes.items():
             _set(changed, path, value)

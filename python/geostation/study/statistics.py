@@ -1,4 +1,4 @@
-"""Means and their intervals, by the standard library, so that they are the same everywhere."""
+"""Means and their intervals, with the standard library only, so they are the same everywhere."""
 
 from __future__ import annotations
 
@@ -13,16 +13,17 @@ LEVEL = 0.95
 
 
 def mean(values: Sequence[float]) -> float:
-    """Returns the mean of one value or more."""
+    """Returns the mean of one or more values."""
     return math.fsum(values) / len(values)
 
 
 def interval(
     values: Sequence[float], level: float = LEVEL, resamples: int = RESAMPLES, seed: int = 1
 ) -> Tuple[Optional[float], Optional[float]]:
-    """Returns the interval of the mean by the percentile bootstrap: the range that holds the means
-    of `level` of the resamples, as many of which lie below it as above. Of fewer than two values
-    there is none. Equal arguments give equal results.
+    """Returns the interval of the mean by the percentile bootstrap.
+
+    The interval holds the means of a share `level` of the resamples; as many means are below it as
+    above it. With fewer than two values both ends are `None`. Equal arguments give equal results.
 
     Raises `StudyError` if `level` is not between 0 and 1, or `resamples` below 1.
     """
@@ -41,7 +42,7 @@ def interval(
 def summarise(
     values: Sequence[float], level: float, resamples: int, seed: int
 ) -> List[Optional[float]]:
-    """Returns the mean and the two ends of its interval, of which any may be missing."""
+    """Returns the mean and the two ends of its interval. Each of them may be `None`."""
     if not values:
         return [None, None, None]
     return [mean(values), *interval(values, level, resamples, seed)]

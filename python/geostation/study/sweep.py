@@ -38,7 +38,7 @@ from .results import STUDY, Runs
 from .scenario import Scenario
 from .traces import is_plain_csv, open_trace, read_rows
 
-# What the name of a run's folder is made of has this form. Another form makes other folders.
+# The form of the data from which the name of a run's folder is made.
 _FORM = 1
 _FILES_OF_SENDS = ("--sends", SENDS, "--load", LOAD)
 PathLike = Union[str, Path]
@@ -69,17 +69,23 @@ class Program:
         self.sha256 = digest(Path(self.path))
 
     def record(self) -> Dict[str, str]:
-        """Returns what a record says of the program."""
+        """Returns the program's part of a record."""
         return {"path": self.path, "version": self.version, "sha256": self.sha256}
 
 
 class Study:
-    """A scenario, with traces of vehicles or without, that is run by a program.
+    """A scenario, with or without traces of vehicles, and the program that runs it.
 
-    `scenario` is the path of a scenario with an `[air]`. `moves` is that of the traces: CSV as the
-    program reads it, or SUMO's FCD output as XML, each as gzip or not. With `{seed}` in its name
-    each seed has traces of its own, such as `town-{seed}.csv`. `program` names the program, a path
-    or a name. Otherwise `GEOSTATION_PROGRAM` names it, or it is `geostation` on the path.
+    Args:
+        scenario: Path of a scenario with a table `[air]`.
+        moves: Path of the traces: CSV as the program reads it, or SUMO's FCD output as XML, with or
+            without gzip. If the name contains `{seed}`, each seed has its own traces, for example
+            `town-{seed}.csv`.
+        program: Path or name of the program. The default is the variable `GEOSTATION_PROGRAM`, or
+            `geostation` if that is not set.
+
+    Raises:
+        StudyError: A file or the program is missing (status 3).
     """
 
     def __init__(
@@ -89,8 +95,6 @@ class Study:
         *,
         program: Optional[PathLike] = None,
     ):
-        """Reads the scenario. Raises `StudyError` with status 3 if a file or the program is
-        missing."""
         self.scenario = Scenario(Path(scenario).absolute())
         self.moves = None if moves is None else str(Path(moves).absolute())
         self.program = Program(program)
@@ -109,22 +113,26 @@ class Study:
     ) -> Runs:
         """Runs each combination of values and seeds, and returns all runs.
 
-        Each other argument is a parameter with a value or several. Its name is a key of `[air]`,
-        `penetration`, or the path of a key in the scenario, such as `"moves.capacity"` or
-        `"event.0.hops"`. `penetration` is the percentage of vehicles that have a station, drawn by
-        the seed. Vehicles that events name have one anyhow.
+        A run that fails is kept with its status and message, and the sweep continues.
 
-        `out` is the folder of the results. A run whose results are there is not done again, unless
-        `force` is true. `seeds` is a number of seeds, 1 to that number, or the seeds themselves.
-        `executor` is any executor of `concurrent.futures`. Without one it is a pool of `jobs`
-        processes, as many as there are processors if `jobs` isn't given. `progress` shows how far
-        the sweep is: on a terminal, if it isn't given. `part` is `(I, N)`, I from 0: then each Nth
-        run is done, from the Ith on, so that N sweeps into one folder share the work.
+        Args:
+            out: Folder of the results. A run whose results are there is not done again.
+            seeds: A number N, for the seeds 1 to N, or the seeds themselves.
+            executor: Any executor of `concurrent.futures`. The default is a pool of processes.
+            jobs: Number of processes of that pool (default: the number of processors).
+            force: Do all runs again.
+            progress: Whether to show the progress. By default it is shown on a terminal.
+            part: `(I, N)`: do each Nth run, beginning with run I, from 0. So N sweeps into one
+                folder can share the work.
+            parameters: Each other argument is a parameter, with one or more values. Its name is a
+                key of `[air]`, `penetration`, or the path of a key in the scenario, such as
+                `"moves.capacity"` or `"event.0.hops"`. `penetration` is the percentage of the
+                vehicles that have a station; the seed selects them. Vehicles that events name
+                always have one.
 
-        A run that fails is a run with its status and message, and the sweep goes on.
-
-        Raises `StudyError` for arguments that are wrong, and if `out` can't be written or a file
-        that is read changes meanwhile.
+        Raises:
+            StudyError: An argument is wrong, `out` can't be written, or a file that is read changes
+                during the sweep.
         """
         if jobs is not None and (executor is not None or jobs < 1):
             raise StudyError("jobs is a number of at least 1, and goes without an executor")
@@ -149,7 +157,7 @@ class _Plan:
         self._moves: Dict[int, Input] = {}
         self._scenarios: Dict[str, str] = {}
         if PENETRATION in parameters and study.moves is None:
-            raise StudyError("penetration is a share of the vehicles of moves: there are none")
+            raise StudyError("penetration needs moves: it is a share of their vehicles")
         self._always = tuple(study.scenario.senders()) if PENETRATION in parameters else ()
         try:
             out.mkdir(parents=True, exist_ok=True)
@@ -321,7 +329,7 @@ class _Plan:
         return record
 
     def _entry(self, job: Job, whole: bool) -> Dict[str, Any]:
-        """Returns what the record says of a run: once the sweep has ended, how it went too."""
+        """Returns the record's entry for a run. It has the result once the sweep has ended."""
         folder = Path(job.folder)
         entry: Dict[str, Any] = {
             "folder": folder.name,
@@ -343,9 +351,9 @@ def _now() -> str:
 
 
 def _collect(executor: Executor, jobs: List[Job], shown: Progress) -> List[Outcome]:
-    """Has an executor do all runs, and returns what became of them, in the order of the jobs.
+    """Has an executor do all runs, and returns their outcomes, in the order of the jobs.
 
-    What a worker could not do at all is an outcome without a status: its run stays missing.
+    A run that a worker could not do at all has an outcome without a status, and stays missing.
     """
     try:
         futures = [executor.submit(execute, job) for job in jobs]
@@ -376,8 +384,8 @@ def _outcome(future: Any) -> Outcome:
 
 
 def _figures(outcomes: List[Outcome], seconds: float, workers: Optional[int]) -> Dict[str, Any]:
-    """Returns the figures of a sweep: `busy` is the runs' time over that of all processes, and
-    `cpu` the programs' own processor time."""
+    """Returns the figures of a sweep: `busy` is the time of the runs divided by that of all
+    processes, and `cpu` is the processor time of the programs."""
     together = sum(outcome.seconds for outcome in outcomes)
     figures: Dict[str, Any] = {
         "run": len(outcomes),

@@ -1,5 +1,5 @@
-"""Traces of vehicles: CSV as the program reads it, SUMO's FCD output as XML, either as gzip, and
-the share of the vehicles that have a station."""
+"""Traces of vehicles: CSV as the program reads it, or SUMO's FCD output as XML, with or without
+gzip; and the share of the vehicles that have a station."""
 
 from __future__ import annotations
 
@@ -16,10 +16,10 @@ from .errors import StudyError, cannot
 
 _GZIP = b"\x1f\x8b"
 _MARK = b"\xef\xbb\xbf"
-# What is read at a time.
+# Number of bytes that are read at a time.
 _CHUNK = 1 << 18
 _HEAD = b"timestep_time;vehicle_id;vehicle_x;vehicle_y;vehicle_speed;vehicle_angle\n"
-# Ids that need no quotation marks, and those that no line of CSV can hold.
+# Ids that need no quotation marks in CSV, and characters that no id may contain.
 _PLAIN_ID = re.compile(r'[^;"\x00-\x1f\x7f]+')
 _CONTROL = re.compile(r"[\x00-\x1f\x7f]")
 
@@ -27,12 +27,12 @@ _CONTROL = re.compile(r"[\x00-\x1f\x7f]")
 class Equipped(Dict[bytes, bool]):
     """The vehicles that have a station: by id, whether it has one.
 
-    Whether a vehicle has one depends on its id and the seed only. So the vehicles of a small share
-    are among those of a larger one of the same seed, and other vehicles change nothing.
+    Whether a vehicle has one depends only on its id and the seed. So the vehicles of a small share
+    are among those of a larger share with the same seed, and other vehicles change nothing.
     """
 
     def __init__(self, percent: float, seed: int, always: Iterable[str] = ()):
-        """Draws `percent` of the vehicles by `seed`. Those of `always` have a station anyhow."""
+        """Selects `percent` of the vehicles by `seed`. Those of `always` have a station anyway."""
         super().__init__((name.encode(), True) for name in always)
         self._limit = round(percent * (1 << 64) / 100)
         self._seed = b"%d " % seed
@@ -52,7 +52,7 @@ def open_trace(path: Path) -> io.BufferedReader:
 
 
 def _unpacked(stream: io.BufferedReader) -> io.BufferedReader:
-    """Returns what a stream holds, which is unpacked if it is gzip."""
+    """Returns the content of a stream, unpacked if it is gzip."""
     if stream.peek(2)[:2] != _GZIP:
         return stream
     return io.BufferedReader(cast(io.RawIOBase, gzip.GzipFile(fileobj=stream)))
@@ -116,7 +116,7 @@ class _Fcd:
         return self._ids[name]
 
     def feed(self, octets: bytes) -> bytes:
-        """Returns the rows that the next octets complete. None are the end."""
+        """Returns the rows that the next bytes complete. No bytes mean the end."""
         try:
             self._parser.Parse(octets, not octets)
         except expat.ExpatError as error:
@@ -128,12 +128,12 @@ class _Fcd:
 
 
 def read_fcd(stream: io.BufferedReader, name: str) -> Iterator[bytes]:
-    """Yields CSV of SUMO's FCD output, in parts of whole lines. `name` is that of the file.
+    """Yields SUMO's FCD output as CSV, in parts of whole lines. `name` is the name of the file.
 
     The numbers are those that SUMO wrote, to the letter. Persons and containers are left out.
     Memory grows with the number of vehicles, not with the rows.
 
-    Raises `StudyError` with status 1 where the file is no such output, or not in degrees.
+    Raises `StudyError` with status 1 if the file is not such output, or not in degrees.
     """
     reader = _Fcd(name)
     yield _HEAD
@@ -145,7 +145,7 @@ def read_fcd(stream: io.BufferedReader, name: str) -> Iterator[bytes]:
 
 
 def _field(line: bytes, separator: bytes, column: int) -> bytes:
-    """Returns a field of a row of CSV, or no octets if the row is too short."""
+    """Returns a field of a row of CSV, or an empty one if the row is too short."""
     if b'"' not in line:
         fields = line.rstrip(b"\r\n").split(separator, column + 1)
         return fields[column] if column < len(fields) else b""
@@ -221,8 +221,10 @@ class _Joined(io.RawIOBase):
 def read_rows(
     stream: io.BufferedReader, name: str, equipped: Optional[Mapping[bytes, bool]] = None
 ) -> Iterator[bytes]:
-    """Yields the rows of a trace as CSV: of CSV or XML, as gzip or not, with stations of `equipped`
-    only if it is given. Raises `StudyError` as `read_fcd` does, and where gzip is damaged."""
+    """Yields the rows of a trace as CSV. The trace is CSV or XML, with or without gzip. If
+    `equipped` is given, only these vehicles have a station.
+
+    Raises `StudyError` as `read_fcd` does, and if gzip data are damaged."""
     try:
         opened = _unpacked(stream)
         if _is_xml(opened.peek(64)[:64]):
@@ -242,7 +244,10 @@ def read_rows(
 
 
 def is_plain_csv(path: Path) -> bool:
-    """Says whether the program reads a trace as it is. Raises `StudyError` if it can't be read."""
+    """Returns whether the program can read a trace directly.
+
+    Raises `StudyError` if the file can't be read.
+    """
     try:
         with open_trace(path) as file:
             head = file.read(64)

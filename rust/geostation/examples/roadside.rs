@@ -1,5 +1,5 @@
-//! A road-side unit and a car on UDP sockets of this machine: the unit warns all within 500 m of
-//! road works, and the car delivers that and sends it on.
+//! A road-side unit and a car on UDP sockets of this machine. The unit sends a warning of road
+//! works to all stations within 500 m. The car delivers it and forwards it.
 //!
 //! ```text
 //! cargo run --example roadside
@@ -12,7 +12,7 @@ use std::time::{Duration, Instant};
 
 const PORT: u16 = 2002;
 
-/// A station on a socket, with a clock that begins when it does.
+/// A station on a socket. Its clock begins at 0.
 struct Unit {
     station: Station,
     socket: UdpSocket,
@@ -31,7 +31,7 @@ impl Unit {
         u64::try_from(self.started.elapsed().as_millis()).unwrap_or(u64::MAX)
     }
 
-    /// Sends a warning to the stations within 500 m of a place.
+    /// Sends a warning to the stations within 500 m of a position.
     fn warn(&mut self, latitude: i32, text: &str) -> Result<(), Box<dyn Error>> {
         let shape = Shape::Circle { radius: 500 };
         let request = AreaRequest::new(PORT, Area { latitude, longitude: 0, shape });
@@ -41,7 +41,7 @@ impl Unit {
         Ok(())
     }
 
-    /// Takes the next datagram, prints what it says, and sends on what goes on.
+    /// Receives the next datagram, prints the result, and forwards the packet if it has to.
     fn listen(&mut self, name: &str) -> Result<(), Box<dyn Error>> {
         let (mut frame, mut relay) = ([0; FRAME_MAX + 1], [0; FRAME_MAX]);
         let length = self.socket.recv(&mut frame)?;

@@ -1,13 +1,13 @@
-//! Buffers to which a call writes a frame.
+//! Buffers for the frames that calls write.
 
 use crate::error::Error;
 use crate::FRAME_MAX;
 
-/// A buffer to which a call writes a frame: octets with room for [`FRAME_MAX`], or a `Vec`, which
-/// grows as it has to and is then the frame.
+/// A buffer for a frame that a call writes.
 ///
-/// Octets with less room are refused by [`Error::NoRoom`], whatever the frame. Where a call isn't
-/// done, a `Vec` is empty afterwards.
+/// It is a `Vec<u8>`, which grows and then holds exactly the frame, or an array or slice of at
+/// least [`FRAME_MAX`] bytes. With a shorter one the call fails with [`Error::NoRoom`], whatever
+/// the length of the frame. If a call fails, a `Vec` is empty afterwards.
 pub trait Buffer: sealed::Sealed {}
 
 impl Buffer for [u8] {}
@@ -15,11 +15,11 @@ impl<const N: usize> Buffer for [u8; N] {}
 impl Buffer for Vec<u8> {}
 
 pub(crate) mod sealed {
-    /// What a buffer does inside this crate.
+    /// The methods of a buffer, for this crate only.
     pub trait Sealed {
-        /// The room for a frame.
+        /// Returns the free space for a frame.
         fn room(&mut self) -> &mut [u8];
-        /// Keeps the first octets, which are the frame.
+        /// Keeps the first bytes, which are the frame, and returns them.
         fn keep(&mut self, length: usize) -> &[u8];
     }
 }
@@ -56,7 +56,7 @@ impl sealed::Sealed for Vec<u8> {
     }
 }
 
-/// The frame that a call wrote.
+/// Returns the frame that a call wrote.
 pub(crate) fn written<B: Buffer + ?Sized>(
     buffer: &mut B,
     (status, length): (i32, usize),

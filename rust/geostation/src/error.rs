@@ -1,54 +1,54 @@
-//! Why a call wasn't done, and what is wrong with octets that are no frame.
+//! Why a call failed, and why bytes are not a valid frame.
 
 use crate::ffi;
 use std::fmt;
 
-/// Why a call wasn't done. The station is as it was: its clock, its numbers, its table and its
-/// ports too.
+/// Why a call failed. The station is unchanged, including its clock, sequence number, location
+/// table and open ports.
 ///
-/// It prints a sentence for a person; [`Error::code`] prints what logs show.
+/// `Display` prints a message. [`Error::code`] is a short code for logs.
 #[derive(Clone, Copy, Debug, PartialEq, Eq, Hash)]
 #[non_exhaustive]
 pub enum Error {
-    /// S1: the moment is before that of the last call.
+    /// S1: the time is earlier than in an earlier call.
     MomentEarlier,
-    /// S2: the moment is over [`LAST_MOMENT`](crate::LAST_MOMENT).
+    /// S2: the time is later than [`LAST_MOMENT`](crate::LAST_MOMENT).
     MomentTooLate,
-    /// S3: the octets are no frame.
+    /// S3: the bytes are not a valid frame.
     BadFrame(Fault),
-    /// S4: the location table has no room for the packet's source.
+    /// S4: the packet's source is new, and the location table is full.
     TableFull,
     /// S5: an allocation failed.
     NoMemory,
-    /// S6: the payload is over [`PAYLOAD_MAX`](crate::PAYLOAD_MAX) octets.
+    /// S6: the payload is longer than [`PAYLOAD_MAX`](crate::PAYLOAD_MAX).
     PayloadTooLong,
-    /// S7: the packet would have no hop.
+    /// S7: the hop limit is 0.
     HopLimitZero,
-    /// S8 B2: the port is open already.
+    /// S8 B2: the port is already open.
     PortAlreadyOpen,
-    /// S8 B3: 64 ports are open.
+    /// S8 B3: 64 ports are open; no other can be opened.
     PortsFull,
-    /// S8 B4: the port isn't open.
+    /// S8 B4: the port is not open.
     PortNotOpen,
     /// S9: the jitter is over 750 ms.
     JitterRange,
     /// An argument is out of its range. It has no code.
     BadArgument,
-    /// The buffer has under [`FRAME_MAX`](crate::FRAME_MAX) octets. It has no code.
+    /// The buffer is shorter than [`FRAME_MAX`](crate::FRAME_MAX). It has no code.
     NoRoom,
-    /// Own packets are over their rate (`own_rate` of the limits). It has no code.
+    /// Own packets are over their rate (`own_rate` and `own_burst`). It has no code.
     OverRate,
-    /// A status of a later library. It has no code.
+    /// A status that this version of the crate does not know. It has no code.
     Unknown(i32),
 }
 
 impl Error {
-    /// What a call that isn't `receive` tells.
+    /// Converts the status of any call except `receive`.
     pub(crate) fn check(status: i32) -> Result<(), Error> {
         Error::check_frame(status, Fault::default())
     }
 
-    /// What `receive` tells: of octets that are no frame their fault.
+    /// Converts the status of `receive`, with the fault of a frame that is not valid.
     pub(crate) fn check_frame(status: i32, fault: Fault) -> Result<(), Error> {
         Err(match status {
             0 => return Ok(()),
@@ -70,7 +70,7 @@ impl Error {
         })
     }
 
-    /// The status of `geostation.h`.
+    /// Returns the status of `geostation.h`.
     pub fn status(&self) -> i32 {
         match self {
             Error::MomentEarlier => 1,
@@ -91,7 +91,8 @@ impl Error {
         }
     }
 
-    /// What logs show, as `S4`, `S8 B2` or `S3 L5 G9 at 10`; nothing where there is no code.
+    /// Returns a short code for logs, for example `S4`, `S8 B2` or `S3 L5 G9 at 10`. It prints
+    /// nothing for an error without a code.
     ///
     /// ```
     /// let error = geostation::Error::PortAlreadyOpen;
@@ -114,21 +115,21 @@ impl fmt::Display for Error {
 
 impl std::error::Error for Error {}
 
-/// What is wrong with octets that are no frame.
+/// Why bytes are not a valid frame.
 ///
-/// It prints a sentence for a person; [`Fault::code`] prints what logs show.
+/// `Display` prints a message. [`Fault::code`] is a short code for logs.
 #[derive(Clone, Copy, Debug, Default, PartialEq, Eq, Hash)]
 pub struct Fault {
-    /// 1 to 5, for L1 to L5.
+    /// 1 to 5, for the codes L1 to L5.
     pub layer: u32,
-    /// At 5 (L5): 1 to 12, for G1 to G12; else 0.
+    /// 1 to 12, for G1 to G12, if `layer` is 5; otherwise 0.
     pub kind: u32,
-    /// At 5 (L5): the octet of the packet at which the field begins; else 0.
+    /// Offset of the faulty field in the packet, if `layer` is 5; otherwise 0.
     pub at: usize,
 }
 
 impl Fault {
-    /// What logs show, as `L1` or `L5 G9 at 10`.
+    /// Returns a short code for logs, for example `L1` or `L5 G9 at 10`.
     ///
     /// ```
     /// let fault = geostation::read_frame(&[0]).unwrap_err();
@@ -152,13 +153,13 @@ impl fmt::Display for Fault {
 
 impl std::error::Error for Fault {}
 
-/// What logs show of an [`Error`] or a [`Fault`]: it prints the code.
+/// The short code of an [`Error`] or a [`Fault`]. `Display` prints it.
 #[derive(Clone, Copy, Debug, PartialEq, Eq, Hash)]
 #[non_exhaustive]
 pub enum Code {
-    /// The code of a call.
+    /// The code of a call that failed.
     OfCall(Error),
-    /// The code of a frame that was read without a station.
+    /// The code of a fault from [`read_frame`](crate::read_frame).
     OfFrame(Fault),
 }
 

@@ -1,16 +1,18 @@
-//! The calls of `geostation.h`: its structs, and a safe function for each call.
+//! The structs and functions of `geostation.h`, with a safe wrapper for each function.
 //!
-//! All `unsafe` of this crate stands here, one block a call. What each rests on: a [`Handle`] comes
-//! from `geostation_new`, is freed once, when it is dropped, and can't be in two calls at a time,
-//! since it isn't `Sync`; pointers and lengths are those of slices and references; what a call
-//! writes to is borrowed mutably, so it overlaps nothing else that the call is given. The library
-//! keeps none of these pointers.
+//! All `unsafe` code of this crate is here, one block per call. It rests on these facts:
+//!
+//! - A [`Handle`] comes from `geostation_new_from_config` and is freed once, when it is dropped.
+//! - A handle isn't `Sync`, so it can't be in two calls at once.
+//! - Pointers and lengths are those of slices and references.
+//! - What a call writes to is borrowed mutably, so it overlaps no other argument.
+//! - The library keeps none of these pointers.
 
 use crate::ANSWER_MAX;
 use std::ffi::{c_char, c_int, CStr};
 use std::ptr::{null_mut, NonNull};
 
-/// A station of the library: only its address is known here.
+/// `struct geostation`, of which only the address is known here.
 #[repr(C)]
 struct Opaque {
     _octets: [u8; 0],
@@ -156,15 +158,11 @@ pub(crate) struct Packet {
     pub(crate) fault_at: usize,
 }
 
-// The layouts of the header, as the library asserts them of itself.
-#[cfg(target_pointer_width = "64")]
+// The sizes that the header asserts. 32-bit targets are not supported.
 const _: () = {
     use std::mem::size_of;
     assert!(size_of::<Reception>() == 72 && size_of::<Packet>() == 120);
     assert!(size_of::<Message>() == 24);
-};
-const _: () = {
-    use std::mem::size_of;
     assert!(size_of::<Config>() == 32 && size_of::<Counts>() == 144);
     assert!(size_of::<ShbRequest>() == 6 && size_of::<AreaRequest>() == 24);
     assert!(size_of::<Vector>() == 32 && size_of::<Area>() == 16);
@@ -289,19 +287,19 @@ extern "C" {
     fn geostation_fault_text(fault: u32, fault_kind: u32) -> *const c_char;
 }
 
-/// What a call returns that may write a frame: its status, and the frame's length.
+/// The result of a call that may write a frame: its status, and the length of the frame.
 pub(crate) type Written = (c_int, usize);
 
-/// A station of the library, which ends with this value.
+/// A station of the library, which is freed with this value.
 pub(crate) struct Handle(NonNull<Opaque>);
 
-// SAFETY: the library has no global state and no thread of its own, so that a handle is bound to
-// none. It isn't `Sync`, as its look-ups count as calls too.
+// SAFETY: the library has no global state and no thread-local data, so a handle is not bound to a
+// thread. It isn't `Sync`, because queries count as calls too.
 unsafe impl Send for Handle {}
 
 impl Drop for Handle {
     fn drop(&mut self) {
-        // SAFETY: the handle comes from `geostation_new`, and isn't used after this.
+        // SAFETY: the handle comes from `geostation_new_from_config`, and isn't used after this.
         unsafe { geostation_free(self.0.as_ptr()) }
     }
 }
@@ -309,8 +307,7 @@ impl Drop for Handle {
 impl Handle {
     pub(crate) fn new(config: &Config) -> Result<Handle, c_int> {
         let mut out = null_mut();
-        // SAFETY: `out` is a pointer's place, to which the call writes a handle or NULL; the config
-        // is read alone.
+        // SAFETY: the call writes a handle or NULL to `out`, and only reads the config.
         let status = unsafe { geostation_new_from_config(&mut out, config) };
         NonNull::new(out).map(Handle).ok_or(status)
     }
@@ -324,7 +321,7 @@ impl Handle {
         heading: u16,
     ) -> c_int {
         let (s, accurate) = (self.0.as_ptr(), accurate.into());
-        // SAFETY: the handle lives, and is in this call alone.
+        // SAFETY: the handle is valid, and in no other call.
         unsafe { geostation_move(s, now, latitude, longitude, accurate, speed, heading) }
     }
 
@@ -338,30 +335,30 @@ impl Handle {
         heading: u16,
     ) -> c_int {
         let (s, accurate) = (self.0.as_ptr(), accurate.into());
-        // SAFETY: the handle lives, and is in this call alone.
+        // SAFETY: the handle is valid, and in no other call.
         unsafe {
             geostation_move_at(s, now, timestamp, latitude, longitude, accurate, speed, heading)
         }
     }
 
     pub(crate) fn open_port(&mut self, now: u64, port: u16) -> c_int {
-        // SAFETY: the handle lives, and is in this call alone.
+        // SAFETY: the handle is valid, and in no other call.
         unsafe { geostation_open_port(self.0.as_ptr(), now, port) }
     }
 
     pub(crate) fn close_port(&mut self, now: u64, port: u16) -> c_int {
-        // SAFETY: the handle lives, and is in this call alone.
+        // SAFETY: the handle is valid, and in no other call.
         unsafe { geostation_close_port(self.0.as_ptr(), now, port) }
     }
 
     pub(crate) fn restart(&mut self, now: u64, number: u16) -> c_int {
-        // SAFETY: the handle lives, and is in this call alone.
+        // SAFETY: the handle is valid, and in no other call.
         unsafe { geostation_restart(self.0.as_ptr(), now, number) }
     }
 
     pub(crate) fn tick(&mut self, now: u64, jitter: u16, frame: &mut [u8]) -> Written {
         let (s, mut length) = (self.0.as_ptr(), 0);
-        // SAFETY: the handle lives, and is in this call alone; the buffer is as long as is said.
+        // SAFETY: the handle is valid, and in no other call; the buffer has the given length.
         let status = unsafe {
             geostation_tick(s, now, jitter, frame.as_mut_ptr(), frame.len(), &mut length)
         };
@@ -378,7 +375,7 @@ impl Handle {
         let (s, mut length) = (self.0.as_ptr(), 0);
         let (octets, room) = (frame.as_mut_ptr(), frame.len());
         let (given, count) = (payload.as_ptr(), payload.len());
-        // SAFETY: the handle lives, and is in this call alone; both slices are as long as is said,
+        // SAFETY: the handle is valid, and in no other call; both slices have the given lengths,
         // and don't overlap, as one of them is borrowed mutably.
         let status = unsafe {
             geostation_send_shb(s, now, request, given, count, octets, room, &mut length)
@@ -458,7 +455,7 @@ impl Handle {
     ) -> (c_int, Reception) {
         let (s, mut out) = (self.0.as_ptr(), Reception::default());
         let (octets, room) = (relay.as_mut_ptr(), relay.len());
-        // SAFETY: the handle lives, and is in this call alone; both slices are as long as is said,
+        // SAFETY: the handle is valid, and in no other call; both slices have the given lengths,
         // and don't overlap, as one of them is borrowed mutably.
         let status = unsafe {
             geostation_receive(s, now, frame.as_ptr(), frame.len(), &mut out, octets, room)
@@ -466,7 +463,7 @@ impl Handle {
         (status, out)
     }
 
-    /// The answer's length is that of its buffer afterwards.
+    /// Afterwards, `answer` holds exactly the answer.
     pub(crate) fn handle_json(
         &mut self,
         now: u64,
@@ -480,8 +477,8 @@ impl Handle {
         let (text, text_room) = (answer.as_mut_ptr(), answer.len());
         let (octets, room) = (frame.as_mut_ptr(), frame.len());
         let (asked, count) = (line.as_ptr(), line.len());
-        // SAFETY: the handle lives, and is in this call alone; the three slices are as long as is
-        // said, and don't overlap, as two of them are borrowed mutably.
+        // SAFETY: the handle is valid, and in no other call; the three slices have the given
+        // lengths, and don't overlap, as two of them are borrowed mutably.
         let status = unsafe {
             geostation_handle_json(
                 s,
@@ -502,67 +499,67 @@ impl Handle {
     }
 
     pub(crate) fn next_number(&self) -> u16 {
-        // SAFETY: the handle lives, and is in this call alone, since it isn't `Sync`.
+        // SAFETY: the handle is valid, and in no other call, since it isn't `Sync`.
         unsafe { geostation_next_number(self.0.as_ptr()) }
     }
 
     pub(crate) fn beacon_at(&self, jitter: u16) -> u64 {
-        // SAFETY: the handle lives, and is in this call alone, since it isn't `Sync`.
+        // SAFETY: the handle is valid, and in no other call, since it isn't `Sync`.
         unsafe { geostation_beacon_at(self.0.as_ptr(), jitter) }
     }
 
     pub(crate) fn counts(&self) -> Counts {
         let mut out = Counts::default();
-        // SAFETY: the handle lives, and is in this call alone, since it isn't `Sync`.
+        // SAFETY: the handle is valid, and in no other call, since it isn't `Sync`.
         unsafe { geostation_counts(self.0.as_ptr(), &mut out) }
         out
     }
 
     pub(crate) fn neighbour(&self, now: u64, after: u64) -> Option<Vector> {
         let mut out = Vector::default();
-        // SAFETY: the handle lives, and is in this call alone, since it isn't `Sync`.
+        // SAFETY: the handle is valid, and in no other call, since it isn't `Sync`.
         let found = unsafe { geostation_neighbour(self.0.as_ptr(), now, after, &mut out) };
         (found == 1).then_some(out)
     }
 
     pub(crate) fn look_up(&self, now: u64, address: u64) -> Option<Vector> {
         let mut out = Vector::default();
-        // SAFETY: the handle lives, and is in this call alone, since it isn't `Sync`.
+        // SAFETY: the handle is valid, and in no other call, since it isn't `Sync`.
         let found = unsafe { geostation_look_up(self.0.as_ptr(), now, address, &mut out) };
         (found == 1).then_some(out)
     }
 }
 
-/// A config as the library fills it.
+/// Returns the default parameters of the library.
 pub(crate) fn usual_config() -> Config {
     let mut config = Config::default();
-    // SAFETY: the call writes the struct, whose layout is the header's.
+    // SAFETY: the call writes the struct, which has the layout of the header.
     unsafe { geostation_config_init(&mut config) }
     config
 }
 
-/// How many of the octets are a frame.
+/// Returns the length of the frame at the start of a buffer, or 0.
 pub(crate) fn frame_length(octets: &[u8]) -> usize {
-    // SAFETY: the slice is as long as is said.
+    // SAFETY: the slice has the given length.
     unsafe { geostation_frame_length(octets.as_ptr(), octets.len()) }
 }
 
-/// All fields of a frame, or its fault.
+/// Reads all fields of a frame, or its fault.
 pub(crate) fn read_frame(frame: &[u8]) -> (c_int, Packet) {
     let mut out = Packet::default();
-    // SAFETY: the slice is as long as is said.
+    // SAFETY: the slice has the given length.
     let status = unsafe { geostation_read_frame(frame.as_ptr(), frame.len(), &mut out) };
     (status, out)
 }
 
-/// A sentence for a status.
+/// Returns the message for a status.
 pub(crate) fn status_text(status: c_int) -> &'static CStr {
-    // SAFETY: the call gives a string literal, whatever the number.
+    // SAFETY: the call returns a string literal for any number.
     unsafe { CStr::from_ptr(geostation_status_text(status)) }
 }
 
-/// A sentence for a frame's fault.
+/// Returns the message for the fault of a frame.
 pub(crate) fn fault_text(fault: u32, kind: u32) -> &'static CStr {
-    // SAFETY: the call gives a string literal, whatever the numbers.
+    // SAFETY: the call returns a string literal for any numbers.
     unsafe { CStr::from_ptr(geostation_fault_text(fault, kind)) }
 }

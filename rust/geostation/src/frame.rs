@@ -1,39 +1,39 @@
-//! What frames say: kinds, areas, vectors and messages.
+//! The content of frames: areas, position vectors and payloads.
 
 use crate::error::Fault;
 use crate::ffi;
 
-/// The figure of an area and its size, in metres, each from 1; an angle is in degrees, clockwise
-/// from north, 0 to 359.
+/// The shape and size of an area. Sizes are in metres, from 1. Angles are in degrees clockwise from
+/// north, 0 to 359.
 #[derive(Clone, Copy, Debug, PartialEq, Eq, Hash)]
 pub enum Shape {
-    /// All within the radius.
+    /// A circle.
     Circle {
-        /// In metres.
+        /// Radius, in metres.
         radius: u16,
     },
-    /// A rectangle of these distances from its centre to its sides.
+    /// A rectangle.
     Rectangle {
-        /// To the side along the angle, in metres.
+        /// Distance from the centre to a side along `angle`, in metres.
         a: u16,
-        /// To the other side, in metres.
+        /// Distance from the centre to a side across `angle`, in metres.
         b: u16,
-        /// Of the side `a`, in degrees from north.
+        /// Direction of `a`, in degrees clockwise from north.
         angle: u16,
     },
-    /// An ellipse of these half axes.
+    /// An ellipse.
     Ellipse {
-        /// The half axis along the angle, in metres.
+        /// Half axis along `angle`, in metres.
         a: u16,
-        /// The other half axis, in metres.
+        /// Half axis across `angle`, in metres.
         b: u16,
-        /// Of the half axis `a`, in degrees from north.
+        /// Direction of `a`, in degrees clockwise from north.
         angle: u16,
     },
 }
 
 impl Shape {
-    /// The numbers of the header: shape, a, b, angle.
+    /// Returns the fields of the C struct: shape, a, b, angle.
     pub(crate) fn numbers(self) -> (u8, u16, u16, u16) {
         match self {
             Shape::Circle { radius } => (0, radius, 0, 0),
@@ -43,14 +43,14 @@ impl Shape {
     }
 }
 
-/// Where a packet is to go.
+/// The destination area of a packet.
 #[derive(Clone, Copy, Debug, PartialEq, Eq, Hash)]
 pub struct Area {
-    /// Of the centre, in 0.1 microdegree.
+    /// Latitude of the centre, in 0.1 microdegree.
     pub latitude: i32,
-    /// Of the centre, in 0.1 microdegree.
+    /// Longitude of the centre, in 0.1 microdegree.
     pub longitude: i32,
-    /// Its figure and size.
+    /// Its shape and size.
     pub shape: Shape,
 }
 
@@ -67,22 +67,22 @@ impl Area {
     }
 }
 
-/// Where a station is, by its own words: its position vector.
+/// A position vector: where a station says that it is.
 #[derive(Clone, Copy, Debug, PartialEq, Eq, Hash)]
 pub struct Vector {
-    /// The station's address.
+    /// GN address of the station.
     pub address: u64,
-    /// The moment of the place, in ms modulo 2^32.
+    /// Time of the position, in ms modulo 2^32.
     pub timestamp: u32,
     /// In 0.1 microdegree.
     pub latitude: i32,
     /// In 0.1 microdegree.
     pub longitude: i32,
-    /// In 0.01 m/s, -16384 to 16383, negative backwards.
+    /// In 0.01 m/s, -16384 to 16383; negative means backwards.
     pub speed: i16,
     /// In 0.1 degree, clockwise from north.
     pub heading: u16,
-    /// Whether the place is accurate (PAI).
+    /// Position accuracy indicator (PAI).
     pub accurate: bool,
 }
 
@@ -100,75 +100,75 @@ impl Vector {
     }
 }
 
-/// What a packet brings to a port: the payload is a part of the frame.
+/// A payload and its port. The payload borrows the frame.
 #[derive(Clone, Copy, Debug, PartialEq, Eq, Hash)]
 pub struct Message<'a> {
     /// The destination port (BTP-B).
     pub port: u16,
     /// The destination port info.
     pub info: u16,
-    /// What is for the port.
+    /// The payload.
     pub payload: &'a [u8],
 }
 
-/// What a packet has by its kind.
+/// The content of a packet, by its type.
 #[derive(Clone, Copy, Debug, PartialEq, Eq, Hash)]
 pub enum Content<'a> {
-    /// A beacon brings its source's vector alone.
+    /// A beacon: it carries only the position vector of its source.
     Beacon,
-    /// A single-hop broadcast (SHB), to all in reach.
+    /// A single-hop broadcast (SHB), for all stations in radio range.
     SingleHop {
         /// The media-dependent data.
         media: [u8; 4],
-        /// What it brings.
+        /// Its payload and port.
         message: Message<'a>,
     },
-    /// A geobroadcast (GBC), to all stations in an area.
+    /// A geobroadcast (GBC), for all stations in an area.
     Geobroadcast {
         /// Its sequence number.
         number: u16,
-        /// Where it is to go.
+        /// Its destination area.
         area: Area,
-        /// What it brings.
+        /// Its payload and port.
         message: Message<'a>,
     },
-    /// A geoanycast (GAC), to any one station in an area.
+    /// A geoanycast (GAC), for any one station in an area.
     Geoanycast {
         /// Its sequence number.
         number: u16,
-        /// Where it is to go.
+        /// Its destination area.
         area: Area,
-        /// What it brings.
+        /// Its payload and port.
         message: Message<'a>,
     },
 }
 
-/// All fields of a frame, whose payload it borrows.
+/// All fields of a frame. The payload borrows the frame.
 #[derive(Clone, Copy, Debug, PartialEq, Eq, Hash)]
 #[non_exhaustive]
 pub struct Packet<'a> {
-    /// The link address to which the frame goes.
+    /// Destination link address.
     pub target: [u8; 6],
-    /// The link address from which the frame comes.
+    /// Source link address.
     pub source: [u8; 6],
-    /// The vector of the packet's source.
+    /// Position vector of the source.
     pub vector: Vector,
-    /// How many hops are left (RHL), from 1.
+    /// Remaining hop limit (RHL), from 1.
     pub hops_left: u8,
-    /// How many hops there may be (MHL), from 1.
+    /// Maximum hop limit (MHL), from 1.
     pub max_hops: u8,
-    /// The octet of the lifetime: a multiplier, then a base.
+    /// Lifetime byte: 6 bits of multiplier, 2 bits of base.
     pub lifetime: u8,
-    /// The octet of the traffic class.
+    /// Traffic class byte.
     pub traffic_class: u8,
     /// Whether the source is mobile.
     pub mobile: bool,
-    /// What it has by its kind.
+    /// The content, by the type of the packet.
     pub content: Content<'a>,
 }
 
 impl<'a> Packet<'a> {
-    /// What it brings to a port: nothing where it is a beacon.
+    /// Returns the payload and its port; `None` for a beacon.
     pub fn message(&self) -> Option<Message<'a>> {
         match self.content {
             Content::Beacon => None,
@@ -179,17 +179,19 @@ impl<'a> Packet<'a> {
     }
 }
 
-/// How many of the octets are a frame: its length where a beginning of them is one, of which there
-/// is one at most, else 0.
+/// Returns the length of the frame at the start of a buffer, or 0 if it does not start with one. At
+/// most one length gives a valid frame. Use it to strip padding.
 pub fn frame_length(octets: &[u8]) -> usize {
     ffi::frame_length(octets)
 }
 
-/// Reads the octets of a frame, without a station.
+/// Reads all fields of a frame, without a station.
+///
+/// All bytes have to belong to the frame: padding is an error here.
 ///
 /// # Errors
 ///
-/// The first fault of octets that are no frame.
+/// The first [`Fault`] of bytes that are not a valid frame.
 ///
 /// ```
 /// let beacon = [

@@ -1,8 +1,14 @@
-//! An ITS station's GeoNetworking and BTP-B (EN 302 636-4-1, EN 302 636-5-1), by the proved library
+//! A GeoNetworking and BTP-B station (EN 302 636-4-1, EN 302 636-5-1), over the proved library
 //! `libgeostation`.
 //!
-//! The library has no global state, does no input or output and reads no clock: octets, places and
-//! moments come in; payloads and frames to send go out.
+//! The library has no global state, does no input or output, and reads no clock. You pass in the
+//! time, the position and the received frames. You get payloads, and frames to send.
+//!
+//! - [`Station`] has all calls. Times are in milliseconds and never go back. Coordinates are in 0.1
+//!   microdegree.
+//! - A call that returns an [`Error`] leaves the station unchanged.
+//! - A call that writes a frame needs a [`Buffer`]: a `Vec<u8>` or an array.
+//! - [`read_frame`] reads the fields of a frame, without a station.
 //!
 //! ```
 //! use geostation::{Area, AreaRequest, Config, Shape, Station};
@@ -30,20 +36,24 @@ pub use buffer::Buffer;
 pub use error::{Code, Error, Fault};
 pub use frame::{frame_length, read_frame, Area, Content, Message, Packet, Shape, Vector};
 pub use station::{
-    AreaRequest, Config, Counts, IgnoredCounts, Limits, Neighbours, Place, Received, RefusedCounts,
-    SentCounts, ShbRequest, Station, Why,
+    AreaRequest, Config, Counts, IgnoreReason, IgnoredCounts, Limits, Neighbours, Place, Received,
+    RefusedCounts, SentCounts, ShbRequest, Station,
 };
 
-/// The longest frame, in octets: a buffer has room for it.
+/// The name of [`IgnoreReason`] until 0.1.
+#[deprecated(note = "use IgnoreReason")]
+pub type Why = IgnoreReason;
+
+/// The longest frame, in bytes. A buffer that is not a `Vec` needs this size.
 pub const FRAME_MAX: usize = 1468;
-/// The longest answer to a line of JSON, in octets.
+/// The longest answer to a JSON request, in bytes.
 pub const ANSWER_MAX: usize = 16384;
-/// The longest payload of a request, in octets.
+/// The longest payload that can be sent, in bytes.
 pub const PAYLOAD_MAX: usize = 1394;
-/// The last moment of a call, in ms.
+/// The latest time that a call accepts, in ms.
 pub const LAST_MOMENT: u64 = 1 << 62;
 
-/// The page of the documents on this crate, whose examples are run too.
+/// The page docs/RUST.md. Its examples are run by `cargo test`.
 #[cfg(doctest)]
 #[doc = include_str!("../../../docs/RUST.md")]
 struct Page;

@@ -1,4 +1,4 @@
-//! A station, and what it is asked and tells.
+//! A station, its requests and its results.
 
 use crate::buffer::{written, Buffer};
 use crate::error::{Error, Fault};
@@ -7,7 +7,7 @@ use crate::frame::{Area, Message, Vector};
 use std::fmt;
 use std::iter::FusedIterator;
 
-/// The kinds of packets for an area, as the library tells them.
+/// The types of packets for an area, as in `enum geostation_kind`.
 const GBC: u32 = 3;
 const GAC: u32 = 4;
 
@@ -63,32 +63,33 @@ impl Default for Limits {
     }
 }
 
-/// What a station is made of.
+/// The parameters of a station.
 #[derive(Clone, Copy, Debug, PartialEq, Eq, Hash)]
 #[non_exhaustive]
 pub struct Config {
-    /// Its GN address.
+    /// GN address, not a group address.
     pub address: u64,
-    /// Where it stands, in 0.1 microdegree, -900000000 to 900000000.
+    /// In 0.1 microdegree, -900000000 to 900000000.
     pub latitude: i32,
-    /// Where it stands, in 0.1 microdegree, -1800000000 to 1800000000.
+    /// In 0.1 microdegree, -1800000000 to 1800000000.
     pub longitude: i32,
-    /// For how many sources its location table has room, 1 to 4096.
+    /// Size of the location table, 1 to 4096.
     pub capacity: u16,
-    /// How many sequence numbers of a source it remembers, 1 to 64.
+    /// Length of each duplicate packet list, 1 to 64.
     pub remember: u8,
-    /// Whether its packets say that it is mobile: a road-side unit isn't.
+    /// Whether its packets say that it is mobile. Set it to `false` for a road-side unit.
     pub mobile: bool,
-    /// The sequence number of its first packet for an area.
+    /// Sequence number of its first packet for an area. Choose it at random at each start: other
+    /// stations remember the numbers from before a restart for 20 s.
     pub number: u16,
     /// Limits on what it sends.
     pub limits: Limits,
 }
 
 impl Config {
-    /// A mobile station of an address at a place, which has room for 64 sources and remembers 8
-    /// numbers of each; its first packet for an area has number 0, and its limits are the default
-    /// ones.
+    /// Returns the parameters of a mobile station with this address and position. The location
+    /// table has 64 entries, each duplicate packet list has length 8, the first sequence number is 0,
+    /// and the limits are the defaults.
     pub fn new(address: u64, latitude: i32, longitude: i32) -> Config {
         Config {
             address,
@@ -103,51 +104,51 @@ impl Config {
     }
 }
 
-/// Where a station stands.
+/// The position of a station.
 #[derive(Clone, Copy, Debug, PartialEq, Eq, Hash)]
 pub struct Place {
     /// In 0.1 microdegree, -900000000 to 900000000.
     pub latitude: i32,
     /// In 0.1 microdegree, -1800000000 to 1800000000.
     pub longitude: i32,
-    /// Whether the place is accurate (PAI).
+    /// Position accuracy indicator (PAI).
     pub accurate: bool,
-    /// In 0.01 m/s, -16384 to 16383, negative backwards.
+    /// In 0.01 m/s, -16384 to 16383; negative means backwards.
     pub speed: i16,
     /// In 0.1 degree, clockwise from north.
     pub heading: u16,
 }
 
-/// A payload for all stations in reach.
+/// A request for a single-hop broadcast (SHB).
 #[derive(Clone, Copy, Debug, Default, PartialEq, Eq, Hash)]
 pub struct ShbRequest {
     /// The destination port (BTP-B).
     pub port: u16,
     /// The destination port info.
     pub info: u16,
-    /// The octet of the traffic class.
+    /// Traffic class byte.
     pub traffic_class: u8,
 }
 
-/// A payload for the stations in an area.
+/// A request for a geobroadcast (GBC) or a geoanycast (GAC).
 #[derive(Clone, Copy, Debug, PartialEq, Eq, Hash)]
 pub struct AreaRequest {
     /// The destination port (BTP-B).
     pub port: u16,
     /// The destination port info.
     pub info: u16,
-    /// The octet of the traffic class.
+    /// Traffic class byte.
     pub traffic_class: u8,
-    /// The octet of the lifetime: a multiplier, then a base.
+    /// Lifetime byte: 6 bits of multiplier, 2 bits of base.
     pub lifetime: u8,
-    /// How many hops the packet may take, from 1.
+    /// Hop limit, from 1.
     pub max_hops: u8,
-    /// Where it is to go.
+    /// The destination area.
     pub area: Area,
 }
 
 impl AreaRequest {
-    /// A request for a port in an area, of ten hops and a lifetime of 60 s (0x1a).
+    /// Returns a request for a port in an area, with hop limit 10 and a lifetime of 60 s (0x1a).
     pub fn new(port: u16, area: Area) -> AreaRequest {
         AreaRequest { port, info: 0, traffic_class: 0, lifetime: 0x1a, max_hops: 10, area }
     }
@@ -170,82 +171,82 @@ impl AreaRequest {
     }
 }
 
-/// Why a frame is ignored.
+/// Why a frame was ignored. `Display` prints the keyword of the program, such as `own-source`.
 #[derive(Clone, Copy, Debug, PartialEq, Eq, Hash)]
 #[non_exhaustive]
-pub enum Why {
-    /// It is to another link address.
+pub enum IgnoreReason {
+    /// The frame is addressed to another link address.
     NotForMe,
-    /// Its packet is the station's own.
+    /// The station itself is the source of the packet.
     OwnSource,
-    /// A beacon or SHB not from its source's link address.
+    /// A beacon or SHB came from another link address than its source's.
     SenderMismatch,
-    /// A GBC or GAC whose sequence number is remembered.
+    /// The sequence number of a GBC or GAC is in the duplicate packet list of its source.
     Duplicate,
 }
 
-impl fmt::Display for Why {
+impl fmt::Display for IgnoreReason {
     fn fmt(&self, f: &mut fmt::Formatter<'_>) -> fmt::Result {
         f.write_str(match self {
-            Why::NotForMe => "not-for-me",
-            Why::OwnSource => "own-source",
-            Why::SenderMismatch => "sender-mismatch",
-            Why::Duplicate => "duplicate",
+            IgnoreReason::NotForMe => "not-for-me",
+            IgnoreReason::OwnSource => "own-source",
+            IgnoreReason::SenderMismatch => "sender-mismatch",
+            IgnoreReason::Duplicate => "duplicate",
         })
     }
 }
 
-/// What became of a frame that came: it borrows the frame, and the buffer of what goes on.
+/// The result of [`Station::receive`]. It borrows the received frame, and the buffer of `relay`.
 #[derive(Clone, Copy, Debug, PartialEq, Eq, Hash)]
 #[non_exhaustive]
 pub struct Received<'a> {
-    /// Why the frame is ignored; nothing where its packet is accepted.
-    pub ignored: Option<Why>,
-    /// What is delivered to a port, a part of the frame.
+    /// Why the frame was ignored; `None` if its packet was accepted.
+    pub ignored: Option<IgnoreReason>,
+    /// The payload that is delivered to an open port. It borrows the received frame.
     pub delivered: Option<Message<'a>>,
-    /// The frame that is to be sent on.
+    /// The frame to forward. It borrows the buffer.
     pub relay: Option<&'a [u8]>,
-    /// The address of the packet's source.
+    /// GN address of the packet's source.
     pub source: u64,
-    /// How many hops the packet has left, from 1.
+    /// Remaining hop limit (RHL) of the packet, from 1.
     pub hops_left: u8,
-    /// The octet of its traffic class, which the frame that goes on has too.
+    /// Traffic class byte. The forwarded frame has the same.
     pub traffic_class: u8,
-    /// Its sequence number, where it is for an area.
+    /// Sequence number of a GBC or GAC.
     pub number: Option<u16>,
 }
 
-/// How many frames were ignored for each reason: see [`Why`].
+/// Number of ignored frames, by [`IgnoreReason`].
 #[derive(Clone, Copy, Debug, Default, PartialEq, Eq, Hash)]
 pub struct IgnoredCounts {
-    /// To another link address.
+    /// [`IgnoreReason::NotForMe`]
     pub not_for_me: u64,
-    /// The station's own packet.
+    /// [`IgnoreReason::OwnSource`]
     pub own_source: u64,
-    /// Not from its source's link address.
+    /// [`IgnoreReason::SenderMismatch`]
     pub sender_mismatch: u64,
-    /// A number that is remembered.
+    /// [`IgnoreReason::Duplicate`]
     pub duplicate: u64,
 }
 
-/// How many calls were refused, by S1 to S5, and by S6 to S9 together.
+/// Number of failed calls, by [`Error`].
 #[derive(Clone, Copy, Debug, Default, PartialEq, Eq, Hash)]
 pub struct RefusedCounts {
-    /// S1: the moment was before the last one.
+    /// [`Error::MomentEarlier`] (S1)
     pub moment_earlier: u64,
-    /// S2: the moment was over 2^62 ms.
+    /// [`Error::MomentTooLate`] (S2)
     pub moment_too_late: u64,
-    /// S3: the octets were no frame.
+    /// [`Error::BadFrame`] (S3)
     pub frame: u64,
-    /// S4: the location table had no room.
+    /// [`Error::TableFull`] (S4)
     pub table_full: u64,
-    /// S5: an allocation failed.
+    /// [`Error::NoMemory`] (S5)
     pub no_memory: u64,
-    /// S6 to S9.
+    /// All other errors with a code: S6 to S9.
     pub other: u64,
 }
 
-/// How many frames of its own a station sent of each kind.
+/// Number of the station's own packets, by type.
 #[derive(Clone, Copy, Debug, Default, PartialEq, Eq, Hash)]
 pub struct SentCounts {
     /// BEACON.
@@ -258,22 +259,22 @@ pub struct SentCounts {
     pub geoanycasts: u64,
 }
 
-/// How often each thing happened since a station was made.
+/// Counters of a station since it was created.
 #[derive(Clone, Copy, Debug, Default, PartialEq, Eq, Hash)]
 pub struct Counts {
-    /// Frames that came, whatever became of them.
+    /// Frames passed to [`Station::receive`].
     pub received: u64,
-    /// Those whose packet was accepted.
+    /// Frames whose packet was accepted.
     pub accepted: u64,
     /// Payloads that were delivered.
     pub delivered: u64,
-    /// Frames that were passed on.
+    /// Frames to forward.
     pub relayed: u64,
-    /// Frames that were ignored.
+    /// Ignored frames.
     pub ignored: IgnoredCounts,
-    /// Calls that were refused.
+    /// Failed calls.
     pub refused: RefusedCounts,
-    /// Frames of its own.
+    /// The station's own packets.
     pub sent: SentCounts,
     /// Frames that were not forwarded, for a limit or as an echo.
     pub suppressed: u64,
@@ -310,10 +311,11 @@ impl Counts {
     }
 }
 
-/// An ITS station's GeoNetworking and BTP-B.
+/// A GeoNetworking and BTP-B station.
 ///
-/// Moments `now` are in milliseconds and never go back. A call that isn't done changed nothing. A
-/// station may go to another thread, and is in one thread at a time: it is `Send`, and not `Sync`.
+/// Times (`now`) are in milliseconds and never go back. A call that returns an [`Error`] leaves the
+/// station unchanged. `Station` is `Send` but not `Sync`: you can move it to another thread, but
+/// you cannot share it between threads.
 ///
 /// ```
 /// fn sent<T: Send>() {}
@@ -335,11 +337,12 @@ impl fmt::Debug for Station {
 }
 
 impl Station {
-    /// Makes a station to which nothing happened yet.
+    /// Creates a station.
     ///
     /// # Errors
     ///
-    /// [`Error::BadArgument`] where a number is out of its range, and [`Error::NoMemory`].
+    /// - [`Error::BadArgument`] if a parameter is out of its range.
+    /// - [`Error::NoMemory`] if an allocation fails.
     pub fn new(config: &Config) -> Result<Station, Error> {
         let limits = config.limits;
         let config = ffi::Config {
@@ -366,34 +369,40 @@ impl Station {
         }
     }
 
-    /// The station stands there from now on.
+    /// Sets the position of the station. Its time stamp is `now`.
     ///
     /// # Errors
     ///
-    /// S1, S2, and [`Error::BadArgument`] where a number is out of its range.
+    /// - [`Error::MomentEarlier`] if `now` is earlier than in an earlier call,
+    ///   [`Error::MomentTooLate`] if it is over [`LAST_MOMENT`](crate::LAST_MOMENT).
+    /// - [`Error::BadArgument`] if a value is out of its range.
     pub fn move_to(&mut self, now: u64, place: &Place) -> Result<(), Error> {
         let Place { latitude, longitude, accurate, speed, heading } = *place;
         let there = (latitude, longitude);
         Error::check(self.handle.move_to(now, there, accurate, speed, heading))
     }
 
-    /// As [`Station::move_to`], with the time stamp of the fix in place of that of `now`: in ms
-    /// since 2004-01-01 TAI, modulo 2^32.
+    /// Sets the position of the station, with the time stamp of the fix: in ms since 2004-01-01
+    /// TAI, modulo 2^32. Use it for a GNSS receiver, which reports a position that is already
+    /// slightly old.
     ///
     /// # Errors
     ///
-    /// As of [`Station::move_to`].
+    /// Those of [`Station::move_to`].
     pub fn move_at(&mut self, now: u64, timestamp: u32, place: &Place) -> Result<(), Error> {
         let Place { latitude, longitude, accurate, speed, heading } = *place;
         let there = (latitude, longitude);
         Error::check(self.handle.move_at(now, timestamp, there, accurate, speed, heading))
     }
 
-    /// Opens a port, at which payloads are delivered.
+    /// Opens a port. Payloads are delivered to open ports only.
     ///
     /// # Errors
     ///
-    /// S1, S2, and S8 where it is open already or 64 ports are open.
+    /// - [`Error::MomentEarlier`] if `now` is earlier than in an earlier call,
+    ///   [`Error::MomentTooLate`] if it is over [`LAST_MOMENT`](crate::LAST_MOMENT).
+    /// - [`Error::PortAlreadyOpen`] if it is already open.
+    /// - [`Error::PortsFull`] if 64 ports are open.
     pub fn open_port(&mut self, now: u64, port: u16) -> Result<(), Error> {
         Error::check(self.handle.open_port(now, port))
     }
@@ -402,26 +411,34 @@ impl Station {
     ///
     /// # Errors
     ///
-    /// S1, S2, and S8 where it isn't open.
+    /// - [`Error::MomentEarlier`] if `now` is earlier than in an earlier call,
+    ///   [`Error::MomentTooLate`] if it is over [`LAST_MOMENT`](crate::LAST_MOMENT).
+    /// - [`Error::PortNotOpen`] if it is not open.
     pub fn close_port(&mut self, now: u64, port: u16) -> Result<(), Error> {
         Error::check(self.handle.close_port(now, port))
     }
 
-    /// The station forgets what it heard and closes its ports; its next packet for an area has this
-    /// sequence number.
+    /// Restarts the station: empties its location table and closes its ports. Its next packet for
+    /// an area has this sequence number.
     ///
     /// # Errors
     ///
-    /// S1, S2.
+    /// - [`Error::MomentEarlier`] if `now` is earlier than in an earlier call,
+    ///   [`Error::MomentTooLate`] if it is over [`LAST_MOMENT`](crate::LAST_MOMENT).
     pub fn restart(&mut self, now: u64, number: u16) -> Result<(), Error> {
         Error::check(self.handle.restart(now, number))
     }
 
-    /// The frame of a beacon, where one is due: `jitter` is 0 to 750 ms, drawn once for each.
+    /// Writes the frame of a beacon if one is due, and returns it. `jitter` is 0 to 750 ms, chosen
+    /// at random for each beacon. [`Station::beacon_at`] says when to call this.
     ///
     /// # Errors
     ///
-    /// S1, S2, S5, S9, and [`Error::NoRoom`].
+    /// - [`Error::MomentEarlier`] if `now` is earlier than in an earlier call,
+    ///   [`Error::MomentTooLate`] if it is over [`LAST_MOMENT`](crate::LAST_MOMENT).
+    /// - [`Error::JitterRange`] if the jitter is over 750 ms.
+    /// - [`Error::NoMemory`] if an allocation fails.
+    /// - [`Error::NoRoom`] if the buffer is too short.
     pub fn tick<'a, B: Buffer + ?Sized>(
         &mut self,
         now: u64,
@@ -432,11 +449,18 @@ impl Station {
         written(buffer, told).map(|frame| (!frame.is_empty()).then_some(frame))
     }
 
-    /// The frame of a payload for all stations in reach (SHB).
+    /// Writes and returns the frame of a single-hop broadcast (SHB), for all stations in radio
+    /// range.
     ///
     /// # Errors
     ///
-    /// S1, S2, S5, S6, [`Error::NoRoom`], and [`Error::OverRate`].
+    /// - [`Error::MomentEarlier`] if `now` is earlier than in an earlier call,
+    ///   [`Error::MomentTooLate`] if it is over [`LAST_MOMENT`](crate::LAST_MOMENT).
+    /// - [`Error::PayloadTooLong`] if the payload is over [`PAYLOAD_MAX`](crate::PAYLOAD_MAX)
+    ///   bytes.
+    /// - [`Error::NoMemory`] if an allocation fails.
+    /// - [`Error::NoRoom`] if the buffer is too short.
+    /// - [`Error::OverRate`] if own packets are over their rate.
     pub fn send_shb<'a, B: Buffer + ?Sized>(
         &mut self,
         now: u64,
@@ -450,12 +474,12 @@ impl Station {
         written(buffer, told)
     }
 
-    /// As [`Station::send_shb`], with this octet of a lifetime: a multiplier, then a base. That of
-    /// `send_shb` is 0x1a, 60 s.
+    /// Writes and returns the frame of a single-hop broadcast (SHB) with this lifetime byte: 6 bits
+    /// of multiplier, 2 bits of base. [`Station::send_shb`] uses 0x1a, which is 60 s.
     ///
     /// # Errors
     ///
-    /// As of [`Station::send_shb`].
+    /// Those of [`Station::send_shb`].
     pub fn send_shb_with_lifetime<'a, B: Buffer + ?Sized>(
         &mut self,
         now: u64,
@@ -475,7 +499,7 @@ impl Station {
     ///
     /// # Errors
     ///
-    /// As of [`Station::send_shb`].
+    /// Those of [`Station::send_shb`].
     #[deprecated(note = "use send_shb_with_lifetime")]
     pub fn send_shb_for<'a, B: Buffer + ?Sized>(
         &mut self,
@@ -488,12 +512,35 @@ impl Station {
         self.send_shb_with_lifetime(now, request, lifetime, payload, buffer)
     }
 
-    /// The frame of a payload for all stations in an area (GBC).
+    /// Writes and returns the frame of a geobroadcast (GBC), for all stations in an area.
+    ///
+    /// ```
+    /// # use geostation::{Area, AreaRequest, Config, Shape, Station};
+    /// # fn main() -> Result<(), geostation::Error> {
+    /// let mut station = Station::new(&Config::new(0x1400_0200_0000_0001, 514776500, -10000))?;
+    /// let shape = Shape::Circle { radius: 500 };
+    /// let area = Area { latitude: 514776500, longitude: -10000, shape };
+    /// let mut buffer = Vec::new();
+    /// let frame = station.send_gbc(1000, &AreaRequest::new(2002, area), b"ice", &mut buffer)?;
+    /// // Send `frame`: here it is read again.
+    /// let packet = geostation::read_frame(frame).unwrap();
+    /// assert_eq!(b"ice", packet.message().unwrap().payload);
+    /// assert_eq!(10, packet.hops_left);
+    /// # Ok(())
+    /// # }
+    /// ```
     ///
     /// # Errors
     ///
-    /// S1, S2, S5, S6, S7, [`Error::BadArgument`] where there is no such area,
-    /// [`Error::NoRoom`], and [`Error::OverRate`].
+    /// - [`Error::MomentEarlier`] if `now` is earlier than in an earlier call,
+    ///   [`Error::MomentTooLate`] if it is over [`LAST_MOMENT`](crate::LAST_MOMENT).
+    /// - [`Error::BadArgument`] if the area is not valid.
+    /// - [`Error::PayloadTooLong`] if the payload is over [`PAYLOAD_MAX`](crate::PAYLOAD_MAX)
+    ///   bytes.
+    /// - [`Error::HopLimitZero`] if the hop limit is 0.
+    /// - [`Error::NoMemory`] if an allocation fails.
+    /// - [`Error::NoRoom`] if the buffer is too short.
+    /// - [`Error::OverRate`] if own packets are over their rate.
     pub fn send_gbc<'a, B: Buffer + ?Sized>(
         &mut self,
         now: u64,
@@ -505,11 +552,11 @@ impl Station {
         written(buffer, told)
     }
 
-    /// The frame of a payload for any one station in an area (GAC).
+    /// Writes and returns the frame of a geoanycast (GAC), for any one station in an area.
     ///
     /// # Errors
     ///
-    /// As of [`Station::send_gbc`].
+    /// Those of [`Station::send_gbc`].
     pub fn send_gac<'a, B: Buffer + ?Sized>(
         &mut self,
         now: u64,
@@ -521,14 +568,25 @@ impl Station {
         written(buffer, told)
     }
 
-    /// Takes a frame that came. What is to be sent on is written to the buffer.
+    /// Processes a received frame. If the packet is to be forwarded, the frame to send is written
+    /// to the buffer. On a radio, send it after a random wait below 2 ms: otherwise the frames of
+    /// all stations that forward it collide.
+    ///
+    /// In frames of up to 60 bytes, zeros after the packet are ignored: Ethernet pads short frames.
     ///
     /// # Errors
     ///
-    /// S1 to S5, and [`Error::NoRoom`].
+    /// - [`Error::MomentEarlier`] if `now` is earlier than in an earlier call,
+    ///   [`Error::MomentTooLate`] if it is over [`LAST_MOMENT`](crate::LAST_MOMENT).
+    /// - [`Error::BadFrame`] if the bytes are not a valid frame.
+    /// - [`Error::TableFull`] if the source is new and the location table is full.
+    /// - [`Error::NoMemory`] if an allocation fails.
+    /// - [`Error::NoRoom`] if the buffer is too short.
     ///
-    /// What is delivered is a part of the frame, and what goes on of the buffer: neither may end
-    /// before them.
+    /// # Borrowing
+    ///
+    /// The payload borrows the frame, and `relay` borrows the buffer. The borrow checker rejects a
+    /// program that drops or reuses either of them too early.
     ///
     /// ```compile_fail,E0597
     /// # use geostation::{Config, Station};
@@ -562,10 +620,10 @@ impl Station {
         Ok(Received {
             ignored: match r.ignored {
                 0 => None,
-                1 => Some(Why::NotForMe),
-                2 => Some(Why::OwnSource),
-                3 => Some(Why::SenderMismatch),
-                _ => Some(Why::Duplicate),
+                1 => Some(IgnoreReason::NotForMe),
+                2 => Some(IgnoreReason::OwnSource),
+                3 => Some(IgnoreReason::SenderMismatch),
+                _ => Some(IgnoreReason::Duplicate),
             },
             delivered: (r.delivered != 0).then(|| Message {
                 port: r.port,
@@ -580,25 +638,34 @@ impl Station {
         })
     }
 
-    /// The least moment at which [`Station::tick`] with this jitter gives a beacon, in ms: never
-    /// before the last call. There is none for a jitter over 750 ms.
+    /// Returns the earliest time at which [`Station::tick`] with this jitter returns a beacon, in
+    /// ms; `None` if the jitter is over 750 ms.
     ///
-    /// A program draws a jitter once for each beacon, hands it to each `tick` until that gave the
-    /// beacon, and asks anew after a packet of its own and after a restart, and not after a frame
-    /// that came: a sleep that begins anew with each of these may never end.
+    /// Choose a jitter at random for each beacon, and pass it to each `tick` until one returns the
+    /// beacon. Call `beacon_at` again after you have sent a packet and after a restart, but not
+    /// after receiving a frame. The result is never earlier than the last call, so on a busy
+    /// channel a new wait for each frame might never end.
     pub fn beacon_at(&self, jitter: u16) -> Option<u64> {
         Some(self.handle.beacon_at(jitter)).filter(|moment| *moment != u64::MAX)
     }
 
-    /// The least moment at which [`Station::tick`] with no jitter gives a beacon, in ms.
+    /// Returns the earliest time at which [`Station::tick`] with jitter 0 returns a beacon, in ms.
     pub fn next_beacon(&self) -> u64 {
         self.handle.beacon_at(0)
     }
 
-    /// Does what a line of JSON asks for at the moment `now`, as the command `station` does; what
-    /// stands under `at` isn't looked at. `answer` is one JSON object without a line feed
-    /// afterwards, or empty for a blank line, and returned is the frame that is to be sent, if any.
-    /// `number` is the line's, for the answer to one that can't be read.
+    /// Executes one JSON request at time `now`, as the command `geostation station` does. An `at`
+    /// key in the line is ignored.
+    ///
+    /// Afterwards `answer` holds one JSON object without a line feed; it is empty for a blank line.
+    /// Failed calls and malformed lines are reported there. `number` is the line number for a
+    /// malformed line. Returns the frame to send, which may be empty. A thread that calls this
+    /// should have 96 KB of stack.
+    ///
+    /// # Errors
+    ///
+    /// - [`Error::NoMemory`] if an allocation fails.
+    /// - [`Error::NoRoom`] if the buffer is too short.
     ///
     /// ```
     /// # use geostation::{Config, Station};
@@ -626,7 +693,7 @@ impl Station {
     ///
     /// # Errors
     ///
-    /// As of [`Station::handle_json`].
+    /// Those of [`Station::handle_json`].
     #[deprecated(note = "use handle_json")]
     pub fn serve<'b, B: Buffer + ?Sized>(
         &mut self,
@@ -639,26 +706,29 @@ impl Station {
         self.handle_json(now, number, line, answer, buffer)
     }
 
-    /// The sequence number of the station's next packet for an area.
+    /// Returns the sequence number of the station's next packet for an area.
     pub fn next_number(&self) -> u16 {
         self.handle.next_number()
     }
 
-    /// What came, was ignored, refused and sent so far; a restart keeps it.
+    /// Returns the counters of the station. A restart keeps them.
     pub fn counts(&self) -> Counts {
         Counts::shown(&self.handle.counts())
     }
 
-    /// The newest vector of the live source of an address. There is none at a moment before the
-    /// last call's, nor at one over [`LAST_MOMENT`](crate::LAST_MOMENT).
+    /// Returns the newest position vector of the live source with this address. A source is live
+    /// for 20 s after its last new packet.
+    ///
+    /// It is `None` at a time before the last call, or over [`LAST_MOMENT`](crate::LAST_MOMENT).
     pub fn look_up(&self, now: u64, address: u64) -> Option<Vector> {
         self.handle.look_up(now, address).as_ref().map(Vector::shown)
     }
 
-    /// The vectors of the live neighbours, which are heard directly, by ascending address. There
-    /// are none at a moment before the last call's, nor at one over
-    /// [`LAST_MOMENT`](crate::LAST_MOMENT); one of address 0 is found by [`Station::look_up`]
-    /// alone.
+    /// Iterates over the position vectors of the live neighbours, by ascending address. A neighbour
+    /// is a live source whose frames arrive directly.
+    ///
+    /// It is empty at a time before the last call, or over [`LAST_MOMENT`](crate::LAST_MOMENT). A
+    /// neighbour with address 0 is found by [`Station::look_up`] only.
     ///
     /// ```compile_fail,E0502
     /// # use geostation::{Config, Station};
@@ -672,7 +742,7 @@ impl Station {
     }
 }
 
-/// The vectors of a station's live neighbours, by ascending address: [`Station::neighbours`].
+/// An iterator over the position vectors of live neighbours: see [`Station::neighbours`].
 #[derive(Debug)]
 pub struct Neighbours<'a> {
     station: &'a Station,

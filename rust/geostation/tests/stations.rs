@@ -2,8 +2,8 @@
 //! moments of beacons are those of EN 302 636-4-1, clause 10.3.6 (3 s after the last packet).
 
 use geostation::{
-    frame_length, read_frame, Area, AreaRequest, Config, Content, Error, Fault, Limits, Place,
-    Shape, ShbRequest, Station, Why, FRAME_MAX, LAST_MOMENT, PAYLOAD_MAX,
+    frame_length, read_frame, Area, AreaRequest, Config, Content, Error, Fault, IgnoreReason,
+    Limits, Place, Shape, ShbRequest, Station, FRAME_MAX, LAST_MOMENT, PAYLOAD_MAX,
 };
 
 const A: u64 = 0x1400_0200_0000_0001;
@@ -38,10 +38,16 @@ fn delivered_relayed_and_heard_again() {
     let relay = got.relay.unwrap();
     assert_eq!((None, 76), (got.ignored, relay.len()));
     let back = a.receive(12, relay, &mut none).unwrap();
-    assert_eq!((Some(Why::OwnSource), None, None), (back.ignored, back.delivered, back.relay));
+    assert_eq!(
+        (Some(IgnoreReason::OwnSource), None, None),
+        (back.ignored, back.delivered, back.relay)
+    );
     let again = b.receive(12, frame, &mut none).unwrap();
-    assert_eq!(Some(Why::Duplicate), again.ignored);
-    assert_eq!("own-source duplicate", format!("{} {}", Why::OwnSource, Why::Duplicate));
+    assert_eq!(Some(IgnoreReason::Duplicate), again.ignored);
+    assert_eq!(
+        "own-source duplicate",
+        format!("{} {}", IgnoreReason::OwnSource, IgnoreReason::Duplicate)
+    );
 }
 
 #[test]

@@ -1,6 +1,7 @@
 use Rattle.std.proofs.Common.{◌≤◌, ◌+◌, ◌-◌, ◌^◌, ◌∙◌, ap, sym, subst, arith, inl, inr, refl}
 use Rattle.its_replay.specs.declared.replaying.Replayed.{Replayed}
 use Rattle.its_replay.proofs.Records.{chosen_grows, fault_stays, read_grows, counted_then, whole_then}
+use Rattle.its_replay.proofs.Records.{replayed_begun}
 use Rattle.its_replay.proofs.replaying.replay_records.Goals as goal
 
 pub returns-then-is_end : goal.returns-then-is_end
@@ -33,3 +34,23 @@ loop-step-preserved g c = record {
       c.after-replayed.ensures c.loop-step.invariant.good
       (c.in_ok-met.ensures before.end before.told before.stands before.took);
 }
+
+pub loop-step-init : goal.loop-step-init
+loop-step-init g c = record {
+  read = subst (λ (r : Replayed). r.read ≤ 0) (sym c.begin-replayed.ensures) (omega arith);
+  chosen = subst (λ (r : Replayed). r.chosen ≤ r.read) (sym c.begin-replayed.ensures) (omega arith);
+  good = ap (λ (r : Replayed). r.fault) c.begin-replayed.ensures;
+  received = λ s rep took.
+      replayed_begun {S = g.row.S.Denot} g.S.RecordSource.GivesStep c.args.selection.now.choice
+      c.args.linked c.args.source.now s c.args.station.now (g.K.HeardSink.Took c.args.sink.now)
+      c.begin-replayed.result c.begin-replayed.ensures rep took;
+}
+
+-- no file has so many steps
+pub returns : goal.returns
+returns g c = λ s rep took.
+    let (before, steps) = c.loop-step.invariant.received s rep took in
+    record {
+      replayed = before;
+      ended = inr (inr (inr (omega (arith, steps, c.loop-step.auto.step-end))));
+    }

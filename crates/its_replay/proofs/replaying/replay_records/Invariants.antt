@@ -1,4 +1,4 @@
-use Rattle.std.proofs.Common.{◌≡◌, ◌≤◌, ◌×◌, [], None, length}
+use Rattle.std.proofs.Common.{◌≡◌, ◌≤◌, [], None, length}
 use Rattle.its_model.specs.Station.{StationModel}
 use Rattle.its_station.specs.State.{RepresentsStation}
 use Rattle.its_replay.specs.Replays.{IsReplayed}

@@ -1,18 +1,18 @@
 use Rattle.std.proofs.Common.{◌≡◌, ◌∙◌, [], ◌∷◌, ◌++◌, ap, sym, subst, refl, List, Bool, cond}
 use Rattle.std.proofs.Common.{false}
-use Rattle.std.specs.Prelude.{Vec}
+use Rattle.std.specs.Prelude.{OnOk, Vec}
 use Rattle.std.specs.declared.alloc.Global.{Global}
 use Rattle.its_model.specs.World.{Event, opening, world_run}
 use Rattle.its_simulation.specs.Simulated.{IsSimulated}
 use Rattle.its_world.specs.Events.{event_of}
 use Rattle.its_world.specs.State.{WorldState}
 use Rattle.its_queue.specs.Keeps.{Keeps}
-use Rattle.its_air.specs.Keeps.{IsAnswered}
+use Rattle.its_air.specs.Keeps.{IsAnswered, IsTimed}
 use Rattle.its_queue.specs.Waiting.{delivery_of, happening_of}
 use Rattle.its_air.specs.Runs.{SaysAsBefore}
 use Rattle.its_air_model.specs.Timetable.{come, comes, is_passed_over}
-use Rattle.its_air_model.specs.Timetable.{present_after, spread}
-use Rattle.its_queue.specs.Waits.{planned_of}
+use Rattle.its_air_model.specs.Timetable.{present_after, spread, take_one}
+use Rattle.its_queue.specs.Waits.{pending_of, planned_of}
 use Rattle.its_queue.proofs.Keeping.{on_ok, on_ok_both}
 use Rattle.its_air.proofs.Keeping.{goes_on, same_file}
 use Rattle.its_air.proofs.Stepping.{own_done}
@@ -24,7 +24,10 @@ returns-clause-run g c = λ configs events before.
     let e = event_of c.event-event.result in
     let done = c.do_event.new.self in
     let After = g.S.EventSink.Took c.come.new.sink in
-    on_ok c.come.result _ _
+    subst (λ (v : WorldState). OnOk c.come.result
+    ((more : List Event) × IsSimulated configs (events ++ more) v After)) (sym c.reuse.ensures)
+    (on_ok c.come.result _ ((more : List Event)
+    × IsSimulated configs (events ++ more) c.come.new.self.world After)
     (λ says. (
       e ∷ [],
       subst (λ (x : WorldState). IsSimulated configs (events ++ e ∷ []) x After)
@@ -32,7 +35,7 @@ returns-clause-run g c = λ configs events before.
           (told_on configs (events ++ e ∷ []) done.world (g.S.EventSink.Took c.do_event.new.sink)
           After says (c.in_ok-entry.ensures.run configs events before)),
     ))
-    c.come.ensures.told
+    c.come.ensures.told)
 
 pub returns-clause-timed : goal.returns-clause-timed
 returns-clause-timed g c = λ rules configs a h.
@@ -70,7 +73,11 @@ returns-clause-timed g c = λ rules configs a h.
     let Presence : Type 0 = last.present.items ≡ present_after done.present.items ev after in
     let Timing : Type 0 = Keeps last.queue last.draws
     (cond (comes done.present.items ev after) (come rules ev.station ev.moment t) t) in
-    on_ok_both c.come.result _ _ _
+    subst (λ (v : WorldState). OnOk c.come.result (IsTimed rules configs
+    (take_one rules configs a (pending_of w) a.timetable) (record last { world = v }) After))
+    (sym c.reuse.ensures)
+    (on_ok_both c.come.result _ _ (IsTimed rules configs
+    (take_one rules configs a (pending_of w) a.timetable) last After)
     (λ (says : SaysAsBefore Before After) (both : Presence × Timing).
     own_done rules configs a w last After run_it goes_last
     (subst (λ (x : WorldState). IsSimulated configs (a.done ++ e ∷ []) x After)
@@ -85,7 +92,7 @@ returns-clause-timed g c = λ rules configs a h.
     both.0)))
     c.come.ensures.told
     (on_ok_both c.come.result Presence Timing _ (λ x y. (x, y)) (c.come.ensures.present after said)
-    (c.come.ensures.come rules after t goes said kept))
+    (c.come.ensures.come rules after t goes said kept)))
 
 pub returns-clause-file : goal.returns-clause-file
 returns-clause-file g c =
