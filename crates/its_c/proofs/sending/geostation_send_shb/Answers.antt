@@ -12,6 +12,17 @@ use Rattle.its_c.proofs.sending.geostation_send_shb.Goals as goal
 pub invariant_of-s : goal.invariant_of-s
 invariant_of-s c =
     record {
+      represents = subst IsOpen (sym c.is_over_rate.ensures.unchanged) c.args.s.now.represents;
+      governs = c.is_over_rate.ensures.governs;
+    }
+
+pub take-station-requires : goal.take-station-requires
+take-station-requires c =
+    subst IsOpen (sym c.is_over_rate.ensures.unchanged) c.args.s.now.represents
+
+pub invariant_of-s-2 : goal.invariant_of-s-2
+invariant_of-s-2 c =
+    record {
       represents = stays_open (TellsSent) c.send_shb-said.result c.deref_mut.result.now
           c.send_shb-said.new.self
           (λ m. station_step m c.args.now (Own (SendShb (shb_request
