@@ -1,7 +1,9 @@
 -- The limit on own packets, of a handle's station and governor.
 use Rattle.std.proofs.Common.{◌≡◌, ℕ, ◌^◌, Bool, true, false, ◌&&◌, not, leb, Option, Some, None}
 use Rattle.std.proofs.Common.{refl, sym, ap, ◌∙◌}
+use Rattle.std.proofs.lemmas.Bool.{false≢true}
 use Rattle.std.proofs.lemmas.Option.{same_Some}
+use Rattle.std.specs.Prelude.{Result, Ok, Err, IsOk, OnOk, OnErr}
 use Rattle.its_model.specs.Station.{StationModel}
 use Rattle.its_station.specs.State.{StationState}
 use Rattle.its_governor.specs.declared.bucket.Bucket.{Bucket}
@@ -48,3 +50,14 @@ pub of_governor : (value after : Option Governor) (h : Governor) (f : Governor �
     → value ≡ Some h → after ≡ Some (f h) → (g : Governor) → value ≡ Some g → after ≡ Some (f g)
 of_governor value after h f had is g has =
     is ∙ ap (λ (x : Governor). Some (f x)) (same_governor value h g had has)
+
+-- what holds of an answer that is no refusal
+pub ok_fact : {X E : Type 0} (said : Result X E) (P : Type 0) → IsOk said → OnOk said P → P
+ok_fact (Ok x) P ok fact = fact
+ok_fact (Err e) P ok fact = absurd (false≢true ok)
+
+-- a part of what holds of a refusal
+pub err_part : {X E : Type 0} (said : Result X E) (P Q : Type 0) → OnErr said (P × Q)
+    → OnErr said Q
+err_part (Ok x) P Q fact = tt
+err_part (Err e) P Q fact = fact.1

@@ -86,6 +86,7 @@ pub(crate) fn told_outcome(
     ensures status { result ≡ status_in said.entry }
     ensures shown { ShowsReceived frame.now heard reception.new relay.new said.entry }
     ensures memory { result ≡ pos 5 → said.entry ≡ Err Refused.NoMemory }
+    ensures done { result ≡ pos 0 → IsOk said.entry }
 {
     match said {
         Ok(Outcome::Ignored(why)) => {
