@@ -3,7 +3,12 @@ use Rattle.std.proofs.Common.{◌≡◌, ℕ, ◌^◌, Bool, true, false, ◌&&�
 use Rattle.std.proofs.Common.{refl, sym, ap, ◌∙◌}
 use Rattle.std.proofs.lemmas.Bool.{false≢true}
 use Rattle.std.proofs.lemmas.Option.{same_Some}
-use Rattle.std.specs.Prelude.{Result, Ok, Err, IsOk, OnOk, OnErr}
+use Rattle.std.proofs.Common.{ℤ, pos, arith}
+use Rattle.std.specs.Prelude.{Result, Ok, Err, IsOk, OnOk, OnErr, nat_abs}
+use Rattle.its_btp.specs.declared.ports.PortFault.TheVariants as ports
+use Rattle.its_station.specs.declared.refused.Refused.{Refused}
+use Rattle.its_station.specs.declared.refused.Refused.TheVariants as refused
+use Rattle.its_c.specs.Status.{status_of, status_in}
 use Rattle.its_model.specs.Station.{StationModel}
 use Rattle.its_station.specs.State.{StationState}
 use Rattle.its_governor.specs.declared.bucket.Bucket.{Bucket}
@@ -61,3 +66,21 @@ pub err_part : {X E : Type 0} (said : Result X E) (P Q : Type 0) → OnErr said 
     → OnErr said Q
 err_part (Ok x) P Q fact = tt
 err_part (Err e) P Q fact = fact.1
+
+-- the status of a refusal is not 0
+never : (e : Refused) → status_of e ≡ pos 0 → ⊥
+never refused.MomentEarlier is = omega (arith, ap (λ (z : ℤ). nat_abs z) is)
+never refused.MomentTooLate is = omega (arith, ap (λ (z : ℤ). nat_abs z) is)
+never (refused.Frame fault) is = omega (arith, ap (λ (z : ℤ). nat_abs z) is)
+never refused.TableFull is = omega (arith, ap (λ (z : ℤ). nat_abs z) is)
+never refused.NoMemory is = omega (arith, ap (λ (z : ℤ). nat_abs z) is)
+never refused.PayloadTooLong is = omega (arith, ap (λ (z : ℤ). nat_abs z) is)
+never refused.HopLimitZero is = omega (arith, ap (λ (z : ℤ). nat_abs z) is)
+never (refused.Port ports.AlreadyOpen) is = omega (arith, ap (λ (z : ℤ). nat_abs z) is)
+never refused.JitterRange is = omega (arith, ap (λ (z : ℤ). nat_abs z) is)
+never (refused.Port ports.Full) is = omega (arith, ap (λ (z : ℤ). nat_abs z) is)
+never (refused.Port ports.NotOpen) is = omega (arith, ap (λ (z : ℤ). nat_abs z) is)
+
+pub ok_of_status : {X : Type 0} (said : Result X Refused) → status_in said ≡ pos 0 → IsOk said
+ok_of_status (Ok x) is = refl
+ok_of_status (Err e) is = absurd (never e is)

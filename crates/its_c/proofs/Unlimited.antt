@@ -30,16 +30,16 @@ no_echo g now t none =
 
 forwards : (g : Governor) → HasNoLimits g → (now : ℕ) (t : Transmission) → t.hops_left ≤ 255
     → may_forward g now t ≡ true
-forwards g no now t few =
+forwards g free now t few =
     let source = t.pdu.vector.address in
     ap (λ (c : ℕ). leb t.hops_left c && room_in g.forward now && source_room g.sources source now
-    && not (is_echo g.delivered now t)) no.hop_cap
+    && not (is_echo g.delivered now t)) free.hop_cap
     ∙ ap (λ (f : Option Bucket). leb t.hops_left 255 && room_in f now
-    && source_room g.sources source now && not (is_echo g.delivered now t)) no.forward
+    && source_room g.sources source now && not (is_echo g.delivered now t)) free.forward
     ∙ ap (λ (s : Option SourceState). leb t.hops_left 255 && true && source_room s source now
-    && not (is_echo g.delivered now t)) no.sources
+    && not (is_echo g.delivered now t)) free.sources
     ∙ ap (λ (e : Bool). leb t.hops_left 255 && true && true && not e)
-    (no_echo g now t no.delivered)
+    (no_echo g now t free.delivered)
     ∙ ap (λ (b : Bool). b && true && true && true) (le-leb t.hops_left 255 few)
 
 kept_all : {A : Type 0} (b : Bool) (o : Option A) → b ≡ true → kept (is_some o && b) o ≡ o
@@ -48,21 +48,21 @@ kept_all b (Some x) is = ap (λ (c : Bool). kept c (Some x)) is
 
 same_answer : (g : Governor) → HasNoLimits g → (now : ℕ) (t : Transmission) → t.hops_left ≤ 255
     → (a : Answer Transmission) → governed g now (Some t) a ≡ a
-same_answer g no now t few model.Answer.Moved = refl
-same_answer g no now t few model.Answer.Opened = refl
-same_answer g no now t few model.Answer.Closed = refl
-same_answer g no now t few model.Answer.Restarted = refl
-same_answer g no now t few model.Answer.Quiet = refl
-same_answer g no now t few (model.Answer.Sent frame) = refl
-same_answer g no now t few (model.Answer.Ignored why) = refl
-same_answer g no now t few (model.Answer.Refused refusal) = refl
-same_answer g no now t few (model.Answer.Accepted handed relayed) =
+same_answer g free now t few model.Answer.Moved = refl
+same_answer g free now t few model.Answer.Opened = refl
+same_answer g free now t few model.Answer.Closed = refl
+same_answer g free now t few model.Answer.Restarted = refl
+same_answer g free now t few model.Answer.Quiet = refl
+same_answer g free now t few (model.Answer.Sent frame) = refl
+same_answer g free now t few (model.Answer.Ignored why) = refl
+same_answer g free now t few (model.Answer.Refused refusal) = refl
+same_answer g free now t few (model.Answer.Accepted handed relayed) =
     let delivers = not (is_echo g.delivered now t) in
     let passes = may_forward g now t in
     ap (λ (h : Option Message). model.Answer.Accepted h (kept (is_some relayed && passes) relayed))
-    (kept_all delivers handed (ap not (no_echo g now t no.delivered)))
+    (kept_all delivers handed (ap not (no_echo g now t free.delivered)))
     ∙ ap (λ (r : Option Transmission). model.Answer.Accepted handed r)
-    (kept_all passes relayed (forwards g no now t few))
+    (kept_all passes relayed (forwards g free now t few))
 
 junk : (g : Governor) (now : ℕ) (m : StationModel) (fault : FrameFault) (o : Option Refusal)
     → governed_step g now (model.Call.Junk fault) (junk_step_by m fault o)
@@ -74,11 +74,11 @@ junk g now m fault (Some refusal) = refl
 pub unlimited_step : (g : Governor) → HasNoLimits g → (now : ℕ) (w : List ℕ) (call : Call)
     → IsFrameCall w call → (m : StationModel)
     → governed_step g now call (station_step m now call) ≡ station_step m now call
-unlimited_step g no now w (model.Call.Own own) is m = absurd is
-unlimited_step g no now w (model.Call.Receive t) is m =
+unlimited_step g free now w (model.Call.Own own) is m = absurd is
+unlimited_step g free now w (model.Call.Receive t) is m =
     let step = station_step m now (model.Call.Receive t) in
     let left = is.fields.packet.left_below in
     let most = is.fields.packet.max_hops in
     ap (λ (a : Answer Transmission). record { answer = a; station = step.station })
-    (same_answer g no now t (omega (arith, left, most)) step.answer)
-unlimited_step g no now w (model.Call.Junk fault) is m = junk g now m fault (moment_refusal m now)
+    (same_answer g free now t (omega (arith, left, most)) step.answer)
+unlimited_step g free now w (model.Call.Junk fault) is m = junk g now m fault (moment_refusal m now)

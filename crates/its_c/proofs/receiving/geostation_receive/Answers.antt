@@ -1,12 +1,15 @@
-use Rattle.std.proofs.Common.{◌≡◌, rules, ap, ◌∙◌, subst, Some, false}
+use Rattle.std.proofs.Common.{◌≡◌, rules, sym, ap, ◌∙◌, subst, Some, false}
 use Rattle.its_model.specs.Station.{Step, station_step}
 use Rattle.its_station.specs.Receiving.{Tells}
+use mir.Syntax.{w32}
+use mir.Val.{to_z, of_z}
+use Rattle.its_c.specs.Status.{status_in}
 use Rattle.its_station.specs.Steps.{IsStepOf}
 use Rattle.its_governor.specs.declared.governor.Governor.{Governor}
 use Rattle.its_governor.specs.Governing.{governed_step, after_call, frame_in}
 use Rattle.its_c.specs.Told.{ShowsReceived}
 use Rattle.its_c.specs.declared.layout.Reception.{Reception}
-use Rattle.its_c.proofs.Limits.{same_governor, ok_fact, err_part}
+use Rattle.its_c.proofs.Limits.{same_governor, ok_fact, ok_of_status, err_part}
 use Rattle.its_c.proofs.Opens.{held_model, is_there, stays_open}
 use Rattle.its_c.proofs.Unlimited.{unlimited_step}
 use Rattle.its_c.proofs.receiving.geostation_receive.Goals as goal
@@ -54,9 +57,9 @@ returns-clause-step c = λ long.
               counts = search rules;
             },
             λ zero.
-                let put : c.put.new.self.value ≡ Some c.hear-said.new.governor = search rules in
+                let code : to_z w32 (of_z w32 c.told_outcome.result) ≡ status_in said = search rules in let put : c.put.new.self.value ≡ Some c.hear-said.new.governor = search rules in
                 put
-                ∙ ap (λ (x : Governor). Some x) (ok_fact said _ (c.told_outcome.ensures.done zero)
+                ∙ ap (λ (x : Governor). Some x) (ok_fact said _ (ok_of_status said (sym code ∙ zero))
                 done.1)
                 ∙ ap (λ (x : Governor). Some (after_call x c.args.now false (frame_in call)
                 step.answer)) same,
@@ -74,7 +77,7 @@ returns-clause-unlimited c = λ long.
       c.without_padding-frame.ensures,
       call,
       found.1,
-      λ m g model has no. let rep = held_model c.args.s.now.held.station c.deref_mut.result.now m
+      λ m g model has free. let rep = held_model c.args.s.now.held.station c.deref_mut.result.now m
           (search rules) model in
           let step = station_step m c.args.now call in
           let same = same_governor c.args.s.now.governor.value h g (search rules) has in
@@ -85,7 +88,7 @@ returns-clause-unlimited c = λ long.
             after = c.hear-said.new.station;
             held = search rules;
             done = subst (λ (x : Step). IsStepOf Tells said c.hear-said.new.station x)
-                (unlimited_step g no c.args.now w call found.1 m) governed;
+                (unlimited_step g free c.args.now w call found.1 m) governed;
             code = search rules;
             shown = subst (λ (heard : Reception). ShowsReceived w heard
                 c.told_outcome.new.reception c.told_outcome.new.relay said)
