@@ -78,7 +78,7 @@ extern "C" {
  */
 
 /** The version of the library. */
-#define GEOSTATION_VERSION "0.1.0"
+#define GEOSTATION_VERSION "0.2.0"
 /** The version of the structs and functions in this header. */
 #define GEOSTATION_ABI 3
 

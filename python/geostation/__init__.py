@@ -62,4 +62,4 @@ __all__ = [
     "frame_length",
     "read_frame",
 ]
-__version__ = "0.1.0"
+__version__ = "0.2.0"

@@ -1,5 +1,5 @@
 -- What a line asks for by the members of its object.
-use Rattle.std.proofs.Common.{ℕ, Ok, Err, Option, None, refl, sym, subst}
+use Rattle.std.proofs.Common.{ℕ, Ok, Err, Option, None, codes, inl, inr, refl, sym, subst}
 use Rattle.std.specs.Prelude.{Result, IfOk, IsFalse}
 use Rattle.std.specs.declared.alloc.AllocError.{AllocError}
 use Rattle.serde_json.specs.Data.{Data}
@@ -9,7 +9,7 @@ use Rattle.its_keys.specs.declared.key.Key.TheVariants as keys
 use Rattle.its_keys.specs.declared.key.Key.{Key}
 use Rattle.its_pipe.specs.Requests.{Asks, AsksIn, AsksOf, IsBadCallKey, IsBadKey, IsBadOf, IsId}
 use Rattle.its_pipe.specs.Requests.{IsIdFault, IsMomentOf, IsObject, IsQueryFault, IsQueryWord}
-use Rattle.its_pipe.specs.Requests.{IsBadCallKeyOf, IsToldAs}
+use Rattle.its_pipe.specs.Requests.{IsBadCallKeyOf, IsToldAs, IsWord}
 use Rattle.its_pipe.specs.Lines.{IsBlank, LineText}
 use Rattle.its_pipe.specs.declared.reading.ReadFault.{ReadFault}
 use Rattle.its_pipe.specs.declared.reading.ReadFault.TheVariants as read_faults
@@ -76,6 +76,19 @@ bad_moment now members none =
       moment = λ _. refl;
       call = λ moment is. absurd (none moment is);
     }
+
+-- a word that is none of those asks nothing of what the station knows
+pub not_query : (members : Data) → (¬ IsWord members (codes "next_beacon"))
+    → (¬ IsWord members (codes "neighbours")) → (¬ IsWord members (codes "look_up"))
+    → (¬ IsWord members (codes "read_frame")) → (¬ IsWord members (codes "counts"))
+    → IsQueryWord members → ⊥
+not_query members next_beacon neighbours look_up read_frame counts (inl is) = next_beacon is
+not_query members next_beacon neighbours look_up read_frame counts (inr (inl is)) = neighbours is
+not_query members next_beacon neighbours look_up read_frame counts (inr (inr (inl is))) = look_up is
+not_query members next_beacon neighbours look_up read_frame counts (inr (inr (inr (inl is)))) =
+    read_frame is
+not_query members next_beacon neighbours look_up read_frame counts (inr (inr (inr (inr is)))) =
+    counts is
 
 -- where there is one, it is that of the call
 pub bad_call : (now : Option ℕ) (members : Data) (moment : ℕ) (key : Key)

@@ -109,7 +109,7 @@ fn first_neighbours(
     Ok(Known::Neighbours { vectors, more })
 }
 
-/// Whether octets are a frame; if they are none, their first fault.
+/// Returns whether octets are a frame, and otherwise their first fault.
 fn known_frame(octets: Vec<u8>) -> Known
     ensures { TellsFrame octets.items result }
 {

@@ -216,14 +216,16 @@ fn read_query(alloc: Global, members: &Members<'_>) -> Result<Option<Query>, Rea
         (¬ IsQueryWord (view members.now.0.now))) }
     ensures fault { IfErr result (IsQueryFault (view members.now.0.now)) }
 {
-    Ok(match word_under(members) {
-        Some(LineWord::NextBeacon) => Some(Query::NextBeacon(read_jitter(members)?)),
-        Some(LineWord::Neighbours) => Some(Query::Neighbours(read_after(members)?)),
-        Some(LineWord::LookUp) => Some(Query::LookUp(read_address(members, QueryKey::Address)?)),
-        Some(LineWord::ReadFrame) => Some(Query::ReadFrame(read_octets(alloc, members)?)),
-        Some(LineWord::Counts) => Some(Query::Counts),
-        _ => None,
-    })
+    match word_under(members) {
+        Some(LineWord::NextBeacon) => Ok(Some(Query::NextBeacon(read_jitter(members)?))),
+        Some(LineWord::Neighbours) => Ok(Some(Query::Neighbours(read_after(members)?))),
+        Some(LineWord::LookUp) => {
+            Ok(Some(Query::LookUp(read_address(members, QueryKey::Address)?)))
+        }
+        Some(LineWord::ReadFrame) => Ok(Some(Query::ReadFrame(read_octets(alloc, members)?))),
+        Some(LineWord::Counts) => Ok(Some(Query::Counts)),
+        _ => Ok(None),
+    }
 }
 
 /// The word under `do`, where it is one of a line's.

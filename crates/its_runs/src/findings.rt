@@ -97,7 +97,7 @@ impl<'s, 'a, W: Write + Drop> Findings<'s, 'a, W> {
     ) -> Result<Status, Fault<'a>>
         requires { IfOk ran IsCommandStatus }
         ensures status { IfOk result IsCommandStatus }
-        ensures done { result ≡ Ok Status.Done → ran.entry ≡ Ok Status.Done }
+        ensures done { result ≡ Ok Status.Done → ran ≡ Ok Status.Done }
     {
         let told = match ran {
             Ok(status) => self.conclude(status, io),

@@ -23,19 +23,19 @@ pub returns-clause-run : goal.returns-clause-run
 returns-clause-run g c = λ configs events before.
     let e = event_of c.event-event.result in
     let done = c.do_event.new.self in
-    let After = g.S.EventSink.Took c.come.new.sink in
-    subst (λ (v : WorldState). OnOk c.come.result
+    let After = g.S.EventSink.Took c.come-came.new.sink in
+    subst (λ (v : WorldState). OnOk c.come-came.result
     ((more : List Event) × IsSimulated configs (events ++ more) v After)) (sym c.reuse.ensures)
-    (on_ok c.come.result _ ((more : List Event)
-    × IsSimulated configs (events ++ more) c.come.new.self.world After)
+    (on_ok c.come-came.result _ ((more : List Event)
+    × IsSimulated configs (events ++ more) c.come-came.new.self.world After)
     (λ says. (
       e ∷ [],
       subst (λ (x : WorldState). IsSimulated configs (events ++ e ∷ []) x After)
-          (sym c.come.ensures.world.world)
+          (sym c.come-came.ensures.world.world)
           (told_on configs (events ++ e ∷ []) done.world (g.S.EventSink.Took c.do_event.new.sink)
           After says (c.in_ok-entry.ensures.run configs events before)),
     ))
-    c.come.ensures.told)
+    c.come-came.ensures.told)
 
 pub returns-clause-timed : goal.returns-clause-timed
 returns-clause-timed g c = λ rules configs a h.
@@ -45,14 +45,14 @@ returns-clause-timed g c = λ rules configs a h.
     let e = happening_of w in
     let is : ev ≡ e = c.event-event.ensures.event in
     let done = c.do_event.new.self in
-    let last = c.come.new.self in
+    let last = c.come-came.new.self in
     let Before = g.S.EventSink.Took c.do_event.new.sink in
-    let After = g.S.EventSink.Took c.come.new.sink in
+    let After = g.S.EventSink.Took c.come-came.new.sink in
     let after = world_run (opening configs) (a.done ++ e ∷ []) in
     let goes = goes_on rules run done h.goes_by c.do_event.ensures.air c.do_event.ensures.every
     c.do_event.ensures.file.until in
-    let goes_last = goes_on rules done last goes c.come.ensures.world.air
-    c.come.ensures.world.every c.come.ensures.file.until in
+    let goes_last = goes_on rules done last goes c.come-came.ensures.world.air
+    c.come-came.ensures.world.every c.come-came.ensures.file.until in
     let present : done.present.items ≡ a.present =
     ap (λ (v : Vec Bool Global). v.items) c.do_event.ensures.present ∙ h.present in
     let run_it : is_passed_over a.present (planned_of w) ≡ false = refl in
@@ -73,15 +73,15 @@ returns-clause-timed g c = λ rules configs a h.
     let Presence : Type 0 = last.present.items ≡ present_after done.present.items ev after in
     let Timing : Type 0 = Keeps last.queue last.draws
     (cond (comes done.present.items ev after) (come rules ev.station ev.moment t) t) in
-    subst (λ (v : WorldState). OnOk c.come.result (IsTimed rules configs
+    subst (λ (v : WorldState). OnOk c.come-came.result (IsTimed rules configs
     (take_one rules configs a (pending_of w) a.timetable) (record last { world = v }) After))
     (sym c.reuse.ensures)
-    (on_ok_both c.come.result _ _ (IsTimed rules configs
+    (on_ok_both c.come-came.result _ _ (IsTimed rules configs
     (take_one rules configs a (pending_of w) a.timetable) last After)
     (λ (says : SaysAsBefore Before After) (both : Presence × Timing).
     own_done rules configs a w last After run_it goes_last
     (subst (λ (x : WorldState). IsSimulated configs (a.done ++ e ∷ []) x After)
-    (sym c.come.ensures.world.world)
+    (sym c.come-came.ensures.world.world)
     (told_on configs (a.done ++ e ∷ []) done.world Before After says told))
     (subst (λ (l : List Bool). Keeps last.queue last.draws
     (cond (comes l e after) (come rules e.station e.moment t) t)) present
@@ -90,11 +90,11 @@ returns-clause-timed g c = λ rules configs a h.
     (subst (λ (l : List Bool). last.present.items ≡ present_after l e after) present
     (subst (λ (x : Event). last.present.items ≡ present_after done.present.items x after) is
     both.0)))
-    c.come.ensures.told
-    (on_ok_both c.come.result Presence Timing _ (λ x y. (x, y)) (c.come.ensures.present after said)
-    (c.come.ensures.come rules after t goes said kept)))
+    c.come-came.ensures.told
+    (on_ok_both c.come-came.result Presence Timing _ (λ x y. (x, y)) (c.come-came.ensures.present after said)
+    (c.come-came.ensures.come rules after t goes said kept)))
 
 pub returns-clause-file : goal.returns-clause-file
 returns-clause-file g c =
-    same_file c.args.self.now.queue c.do_event.new.self.queue c.come.new.self.queue
-    c.do_event.ensures.file c.come.ensures.file
+    same_file c.args.self.now.queue c.do_event.new.self.queue c.come-came.new.self.queue
+    c.do_event.ensures.file c.come-came.ensures.file
