@@ -163,7 +163,7 @@ const _: () = {
     use std::mem::size_of;
     assert!(size_of::<Reception>() == 72 && size_of::<Packet>() == 120);
     assert!(size_of::<Message>() == 24);
-    assert!(size_of::<Config>() == 32 && size_of::<Counts>() == 144);
+    assert!(size_of::<Config>() == 64 && size_of::<Counts>() == 168);
     assert!(size_of::<ShbRequest>() == 6 && size_of::<AreaRequest>() == 24);
     assert!(size_of::<Vector>() == 32 && size_of::<Area>() == 16);
 };
