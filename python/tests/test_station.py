@@ -297,7 +297,7 @@ class Misuse(unittest.TestCase):
             capture_output=True,
             text=True,
         )
-        self.assertIn(f"ImportError: {other} is not this package's libgeostation", told.stderr)
+        self.assertIn(f"ImportError: {other} is not the libgeostation of this package", told.stderr)
 
 
 class TestLimits(unittest.TestCase):
