@@ -43,7 +43,7 @@ static geostation_handle *make(const struct options *o, uint16_t capacity, uint1
     if (status != GEOSTATION_OK) {
         fail(FAILED, "out of memory: --capacity %u and --remember %u need %u kB of the limit "
              "(ulimit -v, MemoryMax=)", o->capacity, o->remember,
-             (31048 + o->capacity * (58 + 2u * o->remember)) / 1000 + 1);
+             (31384 + o->capacity * (58 + 2u * o->remember)) / 1000 + 1);
     }
     return handle;
 }
