@@ -326,7 +326,7 @@ static void serve(geostation_handle *s, uint64_t at) {
     const size_t length = write_line();
     size_t said = 0, sent = 0;
     const uint64_t number = drawn(100);
-    const int status = geostation_serve(s, at, number, line, length, answer, sizeof answer,
+    const int status = geostation_handle_json(s, at, number, line, length, answer, sizeof answer,
                                         &said, out, sizeof out, &sent);
     add(said);
     add_octets(answer, said);

@@ -126,7 +126,7 @@ int main(int argc, char **argv) {
     config.longitude = -10000;
     config.mobile = 0;
     config.number = (uint16_t)drawn();
-    int status = geostation_new_with(&s, &config);
+    int status = geostation_new_from_config(&s, &config);
     if (status != GEOSTATION_OK) {
         return fail("new", status);
     }

@@ -2,7 +2,7 @@
  * @file geostation.h
  * A GeoNetworking and BTP-B station (EN 302 636-4-1, EN 302 636-5-1) for C11 and C++.
  *
- * Link with `libgeostation.a` or `libgeostation.so.0`. The library has no global state, does no
+ * Link with `libgeostation.a` or `libgeostation.so.3`. The library has no global state, does no
  * input or output, and reads no clock. You pass in the time, the position and the frames that you
  * received. You get payloads, and frames to send.
  *
@@ -50,8 +50,9 @@
  *   buffers.
  * - A buffer must be as long as you say, and at most `PTRDIFF_MAX` bytes. What a function writes to
  *   must be aligned as its type requires.
- * - A handle comes from geostation_new() or geostation_new_with(). Do not use it after
- *   geostation_free(). Do not use it in two calls at once; calls with a const handle count too.
+ * - A handle comes from geostation_new() or geostation_new_from_config(). Do not use it
+ *   after geostation_free(). Do not use it in two calls at once; calls with a const handle count
+ *   too.
  *
  * The library cannot check the last four rules.
  */
@@ -79,7 +80,7 @@ extern "C" {
 /** The version of the library. */
 #define GEOSTATION_VERSION "0.2.0"
 /** The version of the structs and functions in this header. */
-#define GEOSTATION_ABI 2
+#define GEOSTATION_ABI 3
 
 /** @} */
 
@@ -90,14 +91,16 @@ extern "C" {
 
 /** The longest frame, in bytes. A buffer to which a frame is written needs this size. */
 #define GEOSTATION_FRAME_MAX 1468
-/** The longest line that geostation_serve() reads, in bytes. A longer one is malformed. */
+/** The longest line that geostation_handle_json() reads, in bytes. A longer one is malformed. */
 #define GEOSTATION_LINE_MAX 65536
-/** The longest answer of geostation_serve(), in bytes. A buffer for answers needs this size. */
+/** The longest answer of geostation_handle_json(), in bytes. A buffer for it needs this size. */
 #define GEOSTATION_ANSWER_MAX 16384
 /** The longest payload that can be sent, in bytes. */
 #define GEOSTATION_PAYLOAD_MAX 1394
 /** The greatest jitter of a beacon, in ms. */
 #define GEOSTATION_JITTER_MAX 750
+/** The greatest rate and the greatest burst of a limit, in frames per second and in frames. */
+#define GEOSTATION_RATE_MAX 1000000
 /** The latest time that a call accepts, in ms. */
 #define GEOSTATION_LAST_MOMENT (UINT64_C(1) << 62)
 
@@ -137,7 +140,9 @@ enum geostation_status {
     /** An argument is out of its range. It has no code. */
     GEOSTATION_BAD_ARGUMENT = 20,
     /** A buffer is smaller than #GEOSTATION_FRAME_MAX or #GEOSTATION_ANSWER_MAX. It has no code. */
-    GEOSTATION_NO_ROOM = 21
+    GEOSTATION_NO_ROOM = 21,
+    /** Own packets are over their rate (`own_rate` and `own_burst`). It has no code. */
+    GEOSTATION_OVER_RATE = 22
 };
 
 /** Why a frame was ignored. */
@@ -222,6 +227,16 @@ struct geostation_config {
     uint16_t remember;  /**< length of each duplicate packet list, 1 to 64 (default 8) */
     uint16_t mobile;    /**< 0 for a station that does not move, otherwise not 0 (default 1) */
     uint16_t number;    /**< sequence number of the first packet for an area (default 0) */
+
+    /* Limits on what is sent. A rate or a burst of 0 turns a limit off. */
+    uint32_t forward_rate;  /**< forwarded frames per second, 0 to 1000000 (default 100) */
+    uint32_t forward_burst; /**< frames forwarded at once, 0 to 1000000 (default 50) */
+    uint32_t source_rate;   /**< forwarded frames per second of each source (default 20) */
+    uint32_t source_burst;  /**< frames of each source forwarded at once (default 20) */
+    uint32_t own_rate;      /**< own packets per second, without beacons (default 50) */
+    uint32_t own_burst;     /**< own packets sent at once (default 50) */
+    uint32_t hop_cap;       /**< greatest RHL that is forwarded, 0 to 255; 0: any (default 10) */
+    uint32_t deliver_once;  /**< 0: a packet for an area may be delivered twice (default 1) */
 };
 
 /** Counters of a station since it was created. A counter stops at `UINT64_MAX`. */
@@ -253,6 +268,9 @@ struct geostation_counts {
         uint64_t geobroadcasts; /**< GBC */
         uint64_t geoanycasts;   /**< GAC */
     } sent;
+    uint64_t suppressed; /**< frames that were not forwarded because of a limit */
+    uint64_t repeated;   /**< payloads that were not delivered because they were delivered before */
+    uint64_t over_rate;  /**< calls that failed with #GEOSTATION_OVER_RATE */
 };
 
 /** A request for a single-hop broadcast (SHB). */
@@ -355,8 +373,8 @@ const char *geostation_version(void);
 /**
  * Creates a station.
  *
- * The station is mobile, and its first packet for an area has sequence number 0. Use
- * geostation_new_with() for other values.
+ * The station is mobile, its first packet for an area has sequence number 0, and its limits are the
+ * defaults of geostation_config. Use geostation_new_from_config() for other values.
  *
  * @param[out] out   the handle, or NULL if the status is not #GEOSTATION_OK
  * @param address    GN address, not a group address
@@ -386,7 +404,9 @@ void geostation_config_init(struct geostation_config *config);
  * @return #GEOSTATION_OK, #GEOSTATION_BAD_ARGUMENT (also if `size` is wrong) or
  *         #GEOSTATION_NO_MEMORY
  */
-int geostation_new_with(geostation_handle **out, const struct geostation_config *config);
+int geostation_new_from_config(geostation_handle **out, const struct geostation_config *config);
+/** Deprecated: the former name of geostation_new_from_config(). */
+#define geostation_new_with geostation_new_from_config
 
 /**
  * Frees a station.
@@ -513,7 +533,8 @@ int geostation_tick(geostation_handle *s, uint64_t now, uint16_t jitter,
  * @param room            size of `frame`, at least #GEOSTATION_FRAME_MAX
  * @param[out] length     length of the frame
  * @return #GEOSTATION_OK, #GEOSTATION_MOMENT_EARLIER, #GEOSTATION_MOMENT_TOO_LATE,
- *         #GEOSTATION_NO_MEMORY, #GEOSTATION_PAYLOAD_TOO_LONG or #GEOSTATION_NO_ROOM
+ *         #GEOSTATION_NO_MEMORY, #GEOSTATION_PAYLOAD_TOO_LONG, #GEOSTATION_NO_ROOM or
+ *         #GEOSTATION_OVER_RATE
  */
 int geostation_send_shb(geostation_handle *s, uint64_t now,
                         const struct geostation_shb_request *request,
@@ -533,7 +554,8 @@ int geostation_send_shb(geostation_handle *s, uint64_t now,
  * @param[out] length     length of the frame
  * @return #GEOSTATION_OK, #GEOSTATION_MOMENT_EARLIER, #GEOSTATION_MOMENT_TOO_LATE,
  *         #GEOSTATION_NO_MEMORY, #GEOSTATION_PAYLOAD_TOO_LONG, #GEOSTATION_HOP_LIMIT_ZERO,
- *         #GEOSTATION_BAD_ARGUMENT (the area is not valid) or #GEOSTATION_NO_ROOM
+ *         #GEOSTATION_BAD_ARGUMENT (the area is not valid), #GEOSTATION_NO_ROOM or
+ *         #GEOSTATION_OVER_RATE
  */
 int geostation_send_gbc(geostation_handle *s, uint64_t now,
                         const struct geostation_area_request *request,
@@ -553,7 +575,8 @@ int geostation_send_gbc(geostation_handle *s, uint64_t now,
  * @param[out] length     length of the frame
  * @return #GEOSTATION_OK, #GEOSTATION_MOMENT_EARLIER, #GEOSTATION_MOMENT_TOO_LATE,
  *         #GEOSTATION_NO_MEMORY, #GEOSTATION_PAYLOAD_TOO_LONG, #GEOSTATION_HOP_LIMIT_ZERO,
- *         #GEOSTATION_BAD_ARGUMENT (the area is not valid) or #GEOSTATION_NO_ROOM
+ *         #GEOSTATION_BAD_ARGUMENT (the area is not valid), #GEOSTATION_NO_ROOM or
+ *         #GEOSTATION_OVER_RATE
  */
 int geostation_send_gac(geostation_handle *s, uint64_t now,
                         const struct geostation_area_request *request,
@@ -573,12 +596,16 @@ int geostation_send_gac(geostation_handle *s, uint64_t now,
  * @param room            size of `frame`, at least #GEOSTATION_FRAME_MAX
  * @param[out] length     length of the frame
  * @return #GEOSTATION_OK, #GEOSTATION_MOMENT_EARLIER, #GEOSTATION_MOMENT_TOO_LATE,
- *         #GEOSTATION_NO_MEMORY, #GEOSTATION_PAYLOAD_TOO_LONG or #GEOSTATION_NO_ROOM
+ *         #GEOSTATION_NO_MEMORY, #GEOSTATION_PAYLOAD_TOO_LONG, #GEOSTATION_NO_ROOM or
+ *         #GEOSTATION_OVER_RATE
  */
-int geostation_send_shb_for(geostation_handle *s, uint64_t now,
-                            const struct geostation_shb_request *request, uint8_t lifetime,
-                            const uint8_t *payload, size_t payload_length,
-                            uint8_t *frame, size_t room, size_t *length);
+int geostation_send_shb_with_lifetime(geostation_handle *s, uint64_t now,
+                                      const struct geostation_shb_request *request,
+                                      uint8_t lifetime,
+                                      const uint8_t *payload, size_t payload_length,
+                                      uint8_t *frame, size_t room, size_t *length);
+/** Deprecated: the former name of geostation_send_shb_with_lifetime(). */
+#define geostation_send_shb_for geostation_send_shb_with_lifetime
 
 /** @} */
 
@@ -590,7 +617,9 @@ int geostation_send_shb_for(geostation_handle *s, uint64_t now,
 /**
  * Processes a received frame.
  *
- * If the packet is to be forwarded, the frame to send is written to `relay`. All stations that
+ * If the packet is to be forwarded, the frame to send is written to `relay`. The limits of the
+ * station may hold it back; then `relay_length` is 0, and the payload is delivered all the same. A
+ * packet for an area that was delivered before is not delivered again. All stations that
  * received the same broadcast frame would forward it at the same time. So wait for a random time
  * below 2 ms before you send it, unless it goes to one station (the lowest bit of its first byte is
  * 0).
@@ -737,6 +766,7 @@ int geostation_look_up(const geostation_handle *s, uint64_t now, uint64_t addres
  * Writes the counters of the station.
  *
  * Calls that return #GEOSTATION_BAD_ARGUMENT or #GEOSTATION_NO_ROOM are not counted.
+ * #GEOSTATION_OVER_RATE is counted in `over_rate` only.
  * geostation_restart() keeps the counters.
  *
  * @param s         the station
@@ -762,6 +792,8 @@ void geostation_counts(const geostation_handle *s, struct geostation_counts *out
  * calls and malformed lines are reported inside the answer. `answer` and `frame` are not terminated
  * by 0. A thread that calls this function should have 96 KB of stack.
  *
+ * The limits of the station do not apply to a line: it is executed at any rate.
+ *
  * @param s                   the station
  * @param now                 time, in ms
  * @param number              line number, for the answer to a malformed line
@@ -775,10 +807,12 @@ void geostation_counts(const geostation_handle *s, struct geostation_counts *out
  * @param[out] frame_length   length of the frame, or 0
  * @return #GEOSTATION_OK, #GEOSTATION_NO_MEMORY or #GEOSTATION_NO_ROOM
  */
-int geostation_serve(geostation_handle *s, uint64_t now, uint64_t number,
-                     const uint8_t *line, size_t line_length,
-                     uint8_t *answer, size_t answer_room, size_t *answer_length,
-                     uint8_t *frame, size_t frame_room, size_t *frame_length);
+int geostation_handle_json(geostation_handle *s, uint64_t now, uint64_t number,
+                           const uint8_t *line, size_t line_length,
+                           uint8_t *answer, size_t answer_room, size_t *answer_length,
+                           uint8_t *frame, size_t frame_room, size_t *frame_length);
+/** Deprecated: the former name of geostation_handle_json(). */
+#define geostation_serve geostation_handle_json
 
 /** @} */
 
@@ -842,7 +876,7 @@ GEOSTATION_AT(vector, longitude, 16);
 GEOSTATION_AT(vector, speed, 20);
 GEOSTATION_AT(vector, heading, 22);
 GEOSTATION_AT(vector, accurate, 24);
-GEOSTATION_SIZE(config, 32);
+GEOSTATION_SIZE(config, 64);
 GEOSTATION_AT(config, address, 8);
 GEOSTATION_AT(config, latitude, 16);
 GEOSTATION_AT(config, longitude, 20);
@@ -850,7 +884,15 @@ GEOSTATION_AT(config, capacity, 24);
 GEOSTATION_AT(config, remember, 26);
 GEOSTATION_AT(config, mobile, 28);
 GEOSTATION_AT(config, number, 30);
-GEOSTATION_SIZE(counts, 144);
+GEOSTATION_AT(config, forward_rate, 32);
+GEOSTATION_AT(config, forward_burst, 36);
+GEOSTATION_AT(config, source_rate, 40);
+GEOSTATION_AT(config, source_burst, 44);
+GEOSTATION_AT(config, own_rate, 48);
+GEOSTATION_AT(config, own_burst, 52);
+GEOSTATION_AT(config, hop_cap, 56);
+GEOSTATION_AT(config, deliver_once, 60);
+GEOSTATION_SIZE(counts, 168);
 GEOSTATION_AT(counts, accepted, 8);
 GEOSTATION_AT(counts, delivered, 16);
 GEOSTATION_AT(counts, relayed, 24);
@@ -860,6 +902,9 @@ GEOSTATION_AT(counts, refused.moment_earlier, 64);
 GEOSTATION_AT(counts, refused.other, 104);
 GEOSTATION_AT(counts, sent.beacons, 112);
 GEOSTATION_AT(counts, sent.geoanycasts, 136);
+GEOSTATION_AT(counts, suppressed, 144);
+GEOSTATION_AT(counts, repeated, 152);
+GEOSTATION_AT(counts, over_rate, 160);
 GEOSTATION_SIZE(shb_request, 6);
 GEOSTATION_AT(shb_request, info, 2);
 GEOSTATION_AT(shb_request, traffic_class, 4);

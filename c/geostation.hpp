@@ -43,7 +43,8 @@ enum class Status : int {
     PortsFull = GEOSTATION_PORTS_FULL,                   ///< (S8 B3) 64 ports are open
     PortNotOpen = GEOSTATION_PORT_NOT_OPEN,              ///< (S8 B4) the port is not open
     BadArgument = GEOSTATION_BAD_ARGUMENT,               ///< an argument is out of its range
-    NoRoom = GEOSTATION_NO_ROOM                          ///< a buffer is too small
+    NoRoom = GEOSTATION_NO_ROOM,                         ///< a buffer is too small
+    OverRate = GEOSTATION_OVER_RATE                      ///< own packets are over their rate
 };
 
 /// Returns a message for a status.
@@ -147,7 +148,7 @@ class Station {
     static std::optional<Station> make(const geostation_config &config,
                                        Status *status = nullptr) noexcept {
         geostation_handle *handle = nullptr;
-        const int got = geostation_new_with(&handle, &config);
+        const int got = geostation_new_from_config(&handle, &config);
         if (status != nullptr) {
             *status = static_cast<Status>(got);
         }
@@ -216,7 +217,7 @@ class Station {
     }
 
     /// Writes the frame of a single-hop broadcast, for all stations in radio range.
-    /// @return Ok, MomentEarlier, MomentTooLate, NoMemory or PayloadTooLong
+    /// @return Ok, MomentEarlier, MomentTooLate, NoMemory, PayloadTooLong or OverRate
     Status send_shb(std::uint64_t now, const geostation_shb_request &request, Octets payload,
                     Frame &frame) noexcept {
         return Status(geostation_send_shb(handle_, now, &request, payload.data, payload.size,
@@ -224,17 +225,23 @@ class Station {
     }
 
     /// Writes the frame of a single-hop broadcast with this lifetime byte.
-    /// @return Ok, MomentEarlier, MomentTooLate, NoMemory or PayloadTooLong
-    Status send_shb_for(std::uint64_t now, const geostation_shb_request &request,
-                        std::uint8_t lifetime, Octets payload, Frame &frame) noexcept {
-        return Status(geostation_send_shb_for(handle_, now, &request, lifetime, payload.data,
-                                              payload.size, frame.octets.data(),
-                                              frame.octets.size(), &frame.size));
+    /// @return Ok, MomentEarlier, MomentTooLate, NoMemory, PayloadTooLong or OverRate
+    Status send_shb_with_lifetime(std::uint64_t now, const geostation_shb_request &request,
+                                  std::uint8_t lifetime, Octets payload, Frame &frame) noexcept {
+        return Status(geostation_send_shb_with_lifetime(
+            handle_, now, &request, lifetime, payload.data, payload.size, frame.octets.data(),
+            frame.octets.size(), &frame.size));
+    }
+    /// The former name of send_shb_with_lifetime().
+    [[deprecated("use send_shb_with_lifetime")]] Status
+    send_shb_for(std::uint64_t now, const geostation_shb_request &request, std::uint8_t lifetime,
+                 Octets payload, Frame &frame) noexcept {
+        return send_shb_with_lifetime(now, request, lifetime, payload, frame);
     }
 
     /// Writes the frame of a geobroadcast, for all stations in an area.
-    /// @return Ok, MomentEarlier, MomentTooLate, NoMemory, PayloadTooLong, HopLimitZero or
-    ///         BadArgument (the area is not valid)
+    /// @return Ok, MomentEarlier, MomentTooLate, NoMemory, PayloadTooLong, HopLimitZero,
+    ///         BadArgument (the area is not valid) or OverRate
     Status send_gbc(std::uint64_t now, const geostation_area_request &request, Octets payload,
                     Frame &frame) noexcept {
         return Status(geostation_send_gbc(handle_, now, &request, payload.data, payload.size,
@@ -242,8 +249,8 @@ class Station {
     }
 
     /// Writes the frame of a geoanycast, for any one station in an area.
-    /// @return Ok, MomentEarlier, MomentTooLate, NoMemory, PayloadTooLong, HopLimitZero or
-    ///         BadArgument (the area is not valid)
+    /// @return Ok, MomentEarlier, MomentTooLate, NoMemory, PayloadTooLong, HopLimitZero,
+    ///         BadArgument (the area is not valid) or OverRate
     Status send_gac(std::uint64_t now, const geostation_area_request &request, Octets payload,
                     Frame &frame) noexcept {
         return Status(geostation_send_gac(handle_, now, &request, payload.data, payload.size,
@@ -266,14 +273,22 @@ class Station {
         return got;
     }
 
-    /// Executes one JSON request at time `now`: geostation_serve(). Failed calls and malformed
-    /// lines are reported inside the answer. `number` is the line number, for a malformed line.
+    /// Executes one JSON request at time `now`: geostation_handle_json(). Failed calls and
+    /// malformed lines are reported inside the answer. `number` is the line number, for a malformed
+    /// line.
     /// @return Ok or NoMemory
-    Status serve(std::uint64_t now, std::uint64_t number, Octets line, Answer &answer,
-                 Frame &frame) noexcept {
-        return Status(geostation_serve(handle_, now, number, line.data, line.size,
-                                       answer.octets.data(), answer.octets.size(), &answer.size,
-                                       frame.octets.data(), frame.octets.size(), &frame.size));
+    Status handle_json(std::uint64_t now, std::uint64_t number, Octets line, Answer &answer,
+                       Frame &frame) noexcept {
+        return Status(geostation_handle_json(
+            handle_, now, number, line.data, line.size, answer.octets.data(),
+            answer.octets.size(), &answer.size, frame.octets.data(), frame.octets.size(),
+            &frame.size));
+    }
+    /// The former name of handle_json().
+    [[deprecated("use handle_json")]] Status serve(std::uint64_t now, std::uint64_t number,
+                                                   Octets line, Answer &answer,
+                                                   Frame &frame) noexcept {
+        return handle_json(now, number, line, answer, frame);
     }
 
     /// Returns the counters of the station since it was created.

@@ -227,7 +227,10 @@ int main(int argc, char **argv) {
         return 1;
     }
     for (int i = 0; i < 2; i++) {
-        if (geostation_new(&station[i], ADDRESS[i], 0, LONGITUDE[i], 64, 8) != GEOSTATION_OK) {
+        /* `sim` has no limits */
+        struct geostation_config config = { .size = sizeof config, .address = ADDRESS[i],
+            .longitude = LONGITUDE[i], .capacity = 64, .remember = 8, .mobile = 1 };
+        if (geostation_new_from_config(&station[i], &config) != GEOSTATION_OK) {
             return 1;
         }
         fprintf(scenario, "[[station]]\naddress = \"%016" PRIx64 "\"\nlat = 0\nlon = %" PRId32 "\n",

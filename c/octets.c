@@ -7,10 +7,11 @@ int proved_geostation_send_shb(geostation_handle *s, uint64_t now,
                                const struct geostation_shb_request *request,
                                const uint8_t *payload, size_t payload_length,
                                uint8_t *frame, size_t room, size_t *length);
-int proved_geostation_send_shb_for(geostation_handle *s, uint64_t now,
-                                   const struct geostation_shb_request *request, uint8_t lifetime,
-                                   const uint8_t *payload, size_t payload_length,
-                                   uint8_t *frame, size_t room, size_t *length);
+int proved_geostation_send_shb_with_lifetime(geostation_handle *s, uint64_t now,
+                                             const struct geostation_shb_request *request,
+                                             uint8_t lifetime,
+                                             const uint8_t *payload, size_t payload_length,
+                                             uint8_t *frame, size_t room, size_t *length);
 int proved_geostation_send_gbc(geostation_handle *s, uint64_t now,
                                const struct geostation_area_request *request,
                                const uint8_t *payload, size_t payload_length,
@@ -22,10 +23,10 @@ int proved_geostation_send_gac(geostation_handle *s, uint64_t now,
 int proved_geostation_receive(geostation_handle *s, uint64_t now, const uint8_t *frame,
                               size_t length, struct geostation_reception *out, uint8_t *relay,
                               size_t room);
-int proved_geostation_serve(geostation_handle *s, uint64_t now, uint64_t number,
-                            const uint8_t *line, size_t line_length,
-                            uint8_t *answer, size_t answer_room, size_t *answer_length,
-                            uint8_t *frame, size_t frame_room, size_t *frame_length);
+int proved_geostation_handle_json(geostation_handle *s, uint64_t now, uint64_t number,
+                                  const uint8_t *line, size_t line_length,
+                                  uint8_t *answer, size_t answer_room, size_t *answer_length,
+                                  uint8_t *frame, size_t frame_room, size_t *frame_length);
 int proved_geostation_read_frame(const uint8_t *frame, size_t length,
                                  struct geostation_packet *out);
 size_t proved_geostation_frame_length(const uint8_t *octets, size_t length);
@@ -45,12 +46,13 @@ int geostation_send_shb(geostation_handle *s, uint64_t now,
                                       room, length);
 }
 
-int geostation_send_shb_for(geostation_handle *s, uint64_t now,
-                            const struct geostation_shb_request *request, uint8_t lifetime,
-                            const uint8_t *payload, size_t payload_length,
-                            uint8_t *frame, size_t room, size_t *length) {
-    return proved_geostation_send_shb_for(s, now, request, lifetime, address(payload),
-                                          payload_length, frame, room, length);
+int geostation_send_shb_with_lifetime(geostation_handle *s, uint64_t now,
+                                      const struct geostation_shb_request *request,
+                                      uint8_t lifetime,
+                                      const uint8_t *payload, size_t payload_length,
+                                      uint8_t *frame, size_t room, size_t *length) {
+    return proved_geostation_send_shb_with_lifetime(s, now, request, lifetime, address(payload),
+                                                    payload_length, frame, room, length);
 }
 
 int geostation_send_gbc(geostation_handle *s, uint64_t now,
@@ -74,12 +76,13 @@ int geostation_receive(geostation_handle *s, uint64_t now, const uint8_t *frame,
     return proved_geostation_receive(s, now, address(frame), length, out, relay, room);
 }
 
-int geostation_serve(geostation_handle *s, uint64_t now, uint64_t number,
-                     const uint8_t *line, size_t line_length,
-                     uint8_t *answer, size_t answer_room, size_t *answer_length,
-                     uint8_t *frame, size_t frame_room, size_t *frame_length) {
-    return proved_geostation_serve(s, now, number, address(line), line_length, answer, answer_room,
-                                   answer_length, frame, frame_room, frame_length);
+int geostation_handle_json(geostation_handle *s, uint64_t now, uint64_t number,
+                           const uint8_t *line, size_t line_length,
+                           uint8_t *answer, size_t answer_room, size_t *answer_length,
+                           uint8_t *frame, size_t frame_room, size_t *frame_length) {
+    return proved_geostation_handle_json(s, now, number, address(line), line_length, answer,
+                                         answer_room, answer_length, frame, frame_room,
+                                         frame_length);
 }
 
 int geostation_read_frame(const uint8_t *frame, size_t length, struct geostation_packet *out) {

@@ -43,7 +43,7 @@ static void *receive(void *unused) {
 
 static void *handle_json(void *unused) {
     size_t said = 0, sent = 0;
-    geostation_serve(station, 1, 1, line, line_length, answer, sizeof answer, &said, frame,
+    geostation_handle_json(station, 1, 1, line, line_length, answer, sizeof answer, &said, frame,
                      sizeof frame, &sent);
     return unused;
 }

@@ -150,12 +150,12 @@ static void test_beside(void) {
     CHECK(geostation_move_at(a, 19, 5, 449, 0, 1, 0, 0) == GEOSTATION_MOMENT_EARLIER);
     CHECK(geostation_move_at(a, 20, 5, 900000001, 0, 1, 0, 0) == GEOSTATION_BAD_ARGUMENT);
     CHECK(geostation_move_at(a, 20, 5, 449, 0, 1, 16384, 0) == GEOSTATION_BAD_ARGUMENT);
-    CHECK(geostation_send_shb_for(a, 20, &request, 0x05, HI, 2, frame, ROOM, &n)
+    CHECK(geostation_send_shb_with_lifetime(a, 20, &request, 0x05, HI, 2, frame, ROOM, &n)
           == GEOSTATION_OK && n == 60);
     CHECK(frame[16] == 0x05 && memcmp(frame + 34, "\1\2\3\4", 4) == 0);
-    CHECK(geostation_send_shb_for(a, 20, &request, 0x05, payload, 1395, frame, ROOM, &n)
+    CHECK(geostation_send_shb_with_lifetime(a, 20, &request, 0x05, payload, 1395, frame, ROOM, &n)
           == GEOSTATION_PAYLOAD_TOO_LONG && n == 0);
-    CHECK(geostation_send_shb_for(a, 20, &request, 0x05, HI, 2, frame, ROOM - 1, &n)
+    CHECK(geostation_send_shb_with_lifetime(a, 20, &request, 0x05, HI, 2, frame, ROOM - 1, &n)
           == GEOSTATION_NO_ROOM && n == 0);
     CHECK(geostation_send_shb(a, 20, &request, HI, 2, frame, ROOM, &n) == GEOSTATION_OK);
     CHECK(frame[16] == 0x1a);
@@ -184,6 +184,7 @@ static void test_codes(void) {
     check_code("S3 L1", GEOSTATION_BAD_FRAME, 1, 0, 0);
     check_code("S3 L5 G9 at 10", GEOSTATION_BAD_FRAME, 5, 9, 10);
     check_code("", GEOSTATION_NO_ROOM, 0, 0, 0);
+    check_code("", GEOSTATION_OVER_RATE, 0, 0, 0);
     CHECK(geostation_code(GEOSTATION_BAD_FRAME, 5, 12, 140, NULL, 0) == 16);
     CHECK(geostation_code(GEOSTATION_BAD_FRAME, 5, 9, 10, code, sizeof code) == 14);
     CHECK(strcmp(code, "S3 L5") == 0);
@@ -291,10 +292,11 @@ static void test_receiving(long damaged) {
         free(block);
     }
 
-    /* a restart closes the ports and empties the location table: old packets are new again */
+    /* a restart closes the ports, and what was heard is new again; the packet that was delivered
+     * before is not forwarded again */
     CHECK(geostation_restart(b, 30, 500) == GEOSTATION_OK);
     CHECK(geostation_receive(b, 31, frame, n, &r, relay, ROOM) == GEOSTATION_OK);
-    CHECK(r.ignored == 0 && r.delivered == 0 && r.relay_length == n);
+    CHECK(r.ignored == 0 && r.delivered == 0 && r.relay_length == 0);
     geostation_free(a);
     geostation_free(b);
     geostation_free(c);
@@ -422,6 +424,9 @@ static void test_config(void) {
     geostation_config_init(&c);
     CHECK(c.size == sizeof c && c.address == 0 && c.latitude == 0 && c.longitude == 0);
     CHECK(c.capacity == 64 && c.remember == 8 && c.mobile == 1 && c.number == 0);
+    CHECK(c.forward_rate == 100 && c.forward_burst == 50 && c.source_rate == 20
+          && c.source_burst == 20 && c.own_rate == 50 && c.own_burst == 50);
+    CHECK(c.hop_cap == 10 && c.deliver_once == 1);
     c.address = A_ADDRESS;
     c.latitude = 449;
     c.mobile = 0;
@@ -434,12 +439,12 @@ static void test_config(void) {
         struct geostation_config b = c;
         b.size = bad[i].size, b.capacity = bad[i].capacity, b.remember = bad[i].remember;
         s = (struct geostation *)frame;
-        CHECK(geostation_new_with(&s, &b) == GEOSTATION_BAD_ARGUMENT && s == NULL);
+        CHECK(geostation_new_from_config(&s, &b) == GEOSTATION_BAD_ARGUMENT && s == NULL);
     }
     c.latitude = 900000001;
-    CHECK(geostation_new_with(&s, &c) == GEOSTATION_BAD_ARGUMENT && s == NULL);
+    CHECK(geostation_new_from_config(&s, &c) == GEOSTATION_BAD_ARGUMENT && s == NULL);
     c.latitude = 449;
-    CHECK(geostation_new_with(&s, &c) == GEOSTATION_OK && s != NULL);
+    CHECK(geostation_new_from_config(&s, &c) == GEOSTATION_OK && s != NULL);
     CHECK(geostation_next_number(s) == 65535);
     CHECK(geostation_tick(s, 0, 0, frame, ROOM, &n) == GEOSTATION_OK && n == 50);
     CHECK(geostation_read_frame(frame, n, &p) == GEOSTATION_OK && p.mobile == 0);
@@ -525,7 +530,8 @@ static void test_counts(void) {
     CHECK(geostation_receive(b, 2, frame, n, &r, relay, ROOM) == GEOSTATION_TABLE_FULL);
     CHECK(geostation_send_gac(a, 2, &AREA, HI, 2, frame, ROOM, &n) == GEOSTATION_OK);
     CHECK(geostation_send_shb(a, 2, &shb, HI, 2, frame, ROOM, &n) == GEOSTATION_OK);
-    CHECK(geostation_send_shb_for(a, 2, &shb, 5, HI, 2, frame, ROOM, &n) == GEOSTATION_OK);
+    CHECK(geostation_send_shb_with_lifetime(a, 2, &shb, 5, HI, 2, frame, ROOM, &n)
+          == GEOSTATION_OK);
     CHECK(geostation_tick(a, 2, 0, frame, ROOM, &n) == GEOSTATION_OK && n == 0);
     CHECK(geostation_tick(a, 3002, 0, frame, ROOM, &n) == GEOSTATION_OK && n == 50);
     CHECK(geostation_tick(a, 3002, 751, frame, ROOM, &n) == GEOSTATION_JITTER_RANGE);
@@ -558,8 +564,8 @@ static size_t answered, framed;
 
 static int serve(struct geostation *s, uint64_t now, const char *line) {
     answered = framed = 99;
-    return geostation_serve(s, now, 5, (const uint8_t *)line, strlen(line), answer, sizeof answer,
-                            &answered, frame, ROOM, &framed);
+    return geostation_handle_json(s, now, 5, (const uint8_t *)line, strlen(line), answer,
+                                  sizeof answer, &answered, frame, ROOM, &framed);
 }
 
 /* The answer to the line is this text or, if `more` is set, begins with it; and a frame of so many
@@ -625,13 +631,13 @@ static void test_lines(void) {
     CHECK(answers(a, 3007, "{\"do\":\"counts\"}",
                   "{\"at\":3007,\"result\":\"counts\",\"received\":0,", 1, 0));
     CHECK(answers(a, 3007, " \t\r", "", 0, 0));
-    CHECK(geostation_serve(a, 3007, 1, NULL, 0, answer, sizeof answer, &n, frame, ROOM, &m)
+    CHECK(geostation_handle_json(a, 3007, 1, NULL, 0, answer, sizeof answer, &n, frame, ROOM, &m)
               == GEOSTATION_OK && n == 0 && m == 0);
     n = m = 99;
-    CHECK(geostation_serve(a, 3007, 1, HI, 2, answer, sizeof answer - 1, &n, frame, ROOM, &m)
+    CHECK(geostation_handle_json(a, 3007, 1, HI, 2, answer, sizeof answer - 1, &n, frame, ROOM, &m)
               == GEOSTATION_NO_ROOM && n == 0 && m == 0);
     n = m = 99;
-    CHECK(geostation_serve(a, 3007, 1, HI, 2, answer, sizeof answer, &n, frame, ROOM - 1, &m)
+    CHECK(geostation_handle_json(a, 3007, 1, HI, 2, answer, sizeof answer, &n, frame, ROOM - 1, &m)
               == GEOSTATION_NO_ROOM && n == 0 && m == 0);
     geostation_free(a);
     geostation_free(b);
@@ -679,7 +685,202 @@ static void test_large_lines(void) {
     geostation_free(a);
 }
 
+/* A config without limits. */
+static struct geostation_config unlimited(uint64_t address, int32_t longitude) {
+    struct geostation_config c;
+    geostation_config_init(&c);
+    c.address = address, c.latitude = 449, c.longitude = longitude;
+    c.forward_rate = c.forward_burst = c.source_rate = c.source_burst = 0;
+    c.own_rate = c.own_burst = c.hop_cap = c.deliver_once = 0;
+    return c;
+}
+
+static struct geostation *made(const struct geostation_config *c) {
+    struct geostation *s = NULL;
+    CHECK(geostation_new_from_config(&s, c) == GEOSTATION_OK && s != NULL);
+    return s;
+}
+
+/* The greatest rate, burst and hop cap, and numbers above them. */
+static void test_limit_ranges(void) {
+    struct geostation_config c = unlimited(A_ADDRESS, 0), good = c;
+    uint32_t *const numbers[] = { &c.forward_rate, &c.forward_burst, &c.source_rate,
+        &c.source_burst, &c.own_rate, &c.own_burst };
+    struct geostation *s;
+    for (size_t i = 0; i < sizeof numbers / sizeof numbers[0]; i++) {
+        c = good;
+        *numbers[i] = GEOSTATION_RATE_MAX;
+        geostation_free(made(&c));
+        *numbers[i] = GEOSTATION_RATE_MAX + 1;
+        CHECK(geostation_new_from_config(&s, &c) == GEOSTATION_BAD_ARGUMENT && s == NULL);
+    }
+    c = good, c.hop_cap = 255;
+    geostation_free(made(&c));
+    c.hop_cap = 256;
+    CHECK(geostation_new_from_config(&s, &c) == GEOSTATION_BAD_ARGUMENT && s == NULL);
+}
+
+/* Sends a GBC of A, with so many hops, and has it received: whether it is forwarded. */
+static int forwards(struct geostation *a, struct geostation *b, uint64_t now, uint8_t hops) {
+    struct geostation_area_request request = AREA;
+    size_t n;
+    request.max_hops = hops;
+    CHECK(geostation_send_gbc(a, now, &request, HI, 2, frame, ROOM, &n) == GEOSTATION_OK);
+    CHECK(geostation_receive(b, now, frame, n, &r, relay, ROOM) == GEOSTATION_OK);
+    CHECK(r.ignored == 0 && (r.relay_length == 0 || r.relay_length == n));
+    return r.relay_length != 0;
+}
+
+/* Two own packets at once and ten per second: each takes 100 ms to come back. A packet over the
+ * rate leaves the station as it was, and a beacon passes all the same. */
+static void test_own_rate(void) {
+    static const struct geostation_shb_request shb = { .port = 2001 };
+    struct geostation_config c = unlimited(A_ADDRESS, 0);
+    struct geostation_counts k;
+    c.own_rate = 10, c.own_burst = 2;
+    struct geostation *a = made(&c);
+    size_t n = 99;
+    CHECK(geostation_send_shb(a, 1000, &shb, HI, 2, frame, ROOM, &n) == GEOSTATION_OK);
+    CHECK(geostation_send_gbc(a, 1000, &AREA, HI, 2, frame, ROOM, &n) == GEOSTATION_OK);
+    CHECK(geostation_next_number(a) == 1);
+    CHECK(geostation_send_gbc(a, 1000, &AREA, HI, 2, frame, ROOM, &n) == GEOSTATION_OVER_RATE);
+    CHECK(n == 0 && geostation_next_number(a) == 1);
+    CHECK(geostation_send_gac(a, 1000, &AREA, HI, 2, frame, ROOM, &n) == GEOSTATION_OVER_RATE);
+    CHECK(geostation_send_shb(a, 1000, &shb, HI, 2, frame, ROOM, &n) == GEOSTATION_OVER_RATE);
+    CHECK(geostation_send_shb_with_lifetime(a, 1000, &shb, 5, HI, 2, frame, ROOM, &n)
+          == GEOSTATION_OVER_RATE && n == 0);
+    /* the beacon is due 3 s after the packet of 1000, not after those that were refused */
+    CHECK(geostation_send_shb(a, 1099, &shb, HI, 2, frame, ROOM, &n) == GEOSTATION_OVER_RATE);
+    CHECK(geostation_beacon_at(a, 0) == 4000);
+    CHECK(geostation_send_shb(a, 1100, &shb, HI, 2, frame, ROOM, &n) == GEOSTATION_OK && n == 60);
+    CHECK(geostation_send_shb(a, 1199, &shb, HI, 2, frame, ROOM, &n) == GEOSTATION_OVER_RATE);
+    CHECK(geostation_send_shb(a, 1200, &shb, HI, 2, frame, ROOM, &n) == GEOSTATION_OK);
+    /* other refusals come first if the time is refused, and after it otherwise */
+    CHECK(geostation_send_shb(a, 1199, &shb, HI, 2, frame, ROOM, &n) == GEOSTATION_MOMENT_EARLIER);
+    CHECK(geostation_send_shb(a, GEOSTATION_LAST_MOMENT + 1, &shb, HI, 2, frame, ROOM, &n)
+          == GEOSTATION_MOMENT_TOO_LATE);
+    CHECK(geostation_send_shb(a, 1200, &shb, payload, 1395, frame, ROOM, &n)
+          == GEOSTATION_OVER_RATE);
+    CHECK(geostation_send_shb(a, 1200, &shb, HI, 2, frame, ROOM - 1, &n) == GEOSTATION_NO_ROOM);
+    CHECK(geostation_tick(a, 4200, 0, frame, ROOM, &n) == GEOSTATION_OK && n == 50);
+    /* full again after a long time: two at once, and no third */
+    CHECK(geostation_send_shb(a, 9000, &shb, payload, 1395, frame, ROOM, &n)
+          == GEOSTATION_PAYLOAD_TOO_LONG);
+    CHECK(geostation_send_shb(a, 9000, &shb, HI, 2, frame, ROOM, &n) == GEOSTATION_OK);
+    CHECK(geostation_send_shb(a, 9000, &shb, HI, 2, frame, ROOM, &n) == GEOSTATION_OK);
+    CHECK(geostation_send_shb(a, 9000, &shb, HI, 2, frame, ROOM, &n) == GEOSTATION_OVER_RATE);
+    geostation_counts(a, &k);
+    CHECK(k.over_rate == 8 && k.suppressed == 0 && k.repeated == 0);
+    CHECK(k.sent.single_hop == 5 && k.sent.geobroadcasts == 1 && k.sent.geoanycasts == 0);
+    CHECK(k.sent.beacons == 1 && k.refused.other == 1 && k.refused.moment_earlier == 1);
+    geostation_free(a);
+    /* a rate or a burst of 0 is no limit */
+    for (int without = 0; without < 2; without++) {
+        c.own_rate = without ? 0 : 1, c.own_burst = without ? 1 : 0;
+        a = made(&c);
+        for (int i = 0; i < 200; i++)
+            CHECK(geostation_send_shb(a, 5, &shb, HI, 2, frame, ROOM, &n) == GEOSTATION_OK);
+        geostation_free(a);
+    }
+}
+
+/* Two frames at once and ten per second are forwarded. A frame over that is still delivered. */
+static void test_forward_rate(void) {
+    struct geostation_config plain = unlimited(A_ADDRESS, 0), c = unlimited(B_ADDRESS, 900);
+    struct geostation_counts k;
+    c.forward_rate = 10, c.forward_burst = 2;
+    struct geostation *a = made(&plain), *b = made(&c);
+    CHECK(geostation_open_port(b, 0, 2002) == GEOSTATION_OK);
+    CHECK(forwards(a, b, 1000, 5) && forwards(a, b, 1000, 5));
+    CHECK(!forwards(a, b, 1000, 5) && r.delivered == 1);
+    CHECK(!forwards(a, b, 1099, 5) && forwards(a, b, 1100, 5) && !forwards(a, b, 1100, 5));
+    CHECK(forwards(a, b, 9000, 5) && forwards(a, b, 9000, 5) && !forwards(a, b, 9000, 5));
+    geostation_counts(b, &k);
+    CHECK(k.received == 9 && k.accepted == 9 && k.delivered == 9 && k.relayed == 5);
+    CHECK(k.suppressed == 4 && k.repeated == 0 && k.over_rate == 0);
+    geostation_free(b);
+    for (int without = 0; without < 2; without++) {
+        c.forward_rate = without ? 0 : 1, c.forward_burst = without ? 1 : 0;
+        b = made(&c);
+        for (uint64_t i = 0; i < 200; i++) CHECK(forwards(a, b, 9000, 5));
+        geostation_free(b);
+    }
+    geostation_free(a);
+}
+
+/* The frames of one source don't use up the rate of another. */
+static void test_source_rate(void) {
+    struct geostation_config plain = unlimited(A_ADDRESS, 0), other_one = unlimited(C_ADDRESS, 5);
+    struct geostation_config limited = unlimited(B_ADDRESS, 900);
+    limited.source_rate = 1, limited.source_burst = 1;
+    struct geostation *a = made(&plain), *c = made(&other_one), *b = made(&limited);
+    CHECK(forwards(a, b, 1000, 5) && !forwards(a, b, 1000, 5) && forwards(c, b, 1000, 5));
+    CHECK(!forwards(c, b, 1999, 5) && !forwards(a, b, 1999, 5));
+    CHECK(forwards(c, b, 2000, 5) && forwards(a, b, 2000, 5) && !forwards(a, b, 2000, 5));
+    geostation_free(b);
+    limited.source_rate = 0;
+    b = made(&limited);
+    for (int i = 0; i < 50; i++) CHECK(forwards(a, b, 2000, 5));
+    geostation_free(a);
+    geostation_free(b);
+    geostation_free(c);
+}
+
+/* A packet with more hops left than the cap is not forwarded; 0 is no cap. */
+static void test_hop_cap(void) {
+    struct geostation_config plain = unlimited(A_ADDRESS, 0), c = unlimited(B_ADDRESS, 900);
+    struct geostation_counts k;
+    c.hop_cap = 4;
+    struct geostation *a = made(&plain), *b = made(&c);
+    CHECK(geostation_open_port(b, 0, 2002) == GEOSTATION_OK);
+    CHECK(forwards(a, b, 10, 4) && !forwards(a, b, 10, 5) && r.delivered == 1);
+    CHECK(!forwards(a, b, 10, 255) && forwards(a, b, 10, 2));
+    geostation_counts(b, &k);
+    CHECK(k.suppressed == 2 && k.relayed == 2);
+    geostation_free(b);
+    c.hop_cap = 0;
+    b = made(&c);
+    CHECK(forwards(a, b, 10, 255));
+    geostation_free(a);
+    geostation_free(b);
+}
+
+/* The station remembers one sequence number, so that an older packet is new to it. The limit on
+ * deliveries knows it within its lifetime of 60 s (0x1a). */
+static void test_echo(void) {
+    struct geostation_config plain = unlimited(A_ADDRESS, 0), c = unlimited(B_ADDRESS, 900);
+    struct geostation_counts k;
+    for (uint32_t once = 0; once < 2; once++) {
+        uint8_t echo[ROOM];
+        c.deliver_once = once, c.remember = 1;
+        struct geostation *a = made(&plain), *b = made(&c);
+        CHECK(geostation_open_port(b, 0, 2002) == GEOSTATION_OK);
+        CHECK(forwards(a, b, 1000, 5) && r.delivered == 1);
+        const size_t n = r.payload_start + r.payload_length;
+        memcpy(echo, frame, n);
+        CHECK(forwards(a, b, 1001, 5) && r.delivered == 1);
+        CHECK(geostation_receive(b, 1002, echo, n, &r, relay, ROOM) == GEOSTATION_OK);
+        CHECK(r.ignored == 0 && r.delivered == !once && (r.relay_length == 0) == (once != 0));
+        CHECK(forwards(a, b, 60999, 5));
+        CHECK(geostation_receive(b, 60999, echo, n, &r, relay, ROOM) == GEOSTATION_OK);
+        CHECK(r.ignored == 0 && r.delivered == !once);
+        CHECK(forwards(a, b, 61000, 5));
+        CHECK(geostation_receive(b, 61000, echo, n, &r, relay, ROOM) == GEOSTATION_OK);
+        CHECK(r.ignored == 0 && r.delivered == 1 && r.relay_length == n);
+        geostation_counts(b, &k);
+        CHECK(k.repeated == (once ? 2u : 0u) && k.suppressed == k.repeated);
+        geostation_free(a);
+        geostation_free(b);
+    }
+}
+
 int main(int argc, char **argv) {
+    test_limit_ranges();
+    test_own_rate();
+    test_forward_rate();
+    test_source_rate();
+    test_hop_cap();
+    test_echo();
     test_new();
     test_config();
     test_padding();
@@ -694,7 +895,7 @@ int main(int argc, char **argv) {
     test_look_ups();
     test_frames();
     test_receiving(argc > 1 ? atol(argv[1]) : 1000);
-    for (int status = 0; status <= 21; status++)
+    for (int status = 0; status <= 22; status++)
         if (status <= 11 || status >= 20)
             CHECK(strcmp(geostation_status_text(status), "unknown status") != 0);
     CHECK(strcmp(geostation_fault_text(5, 9), "more hops left than the maximum") == 0);

@@ -27,6 +27,7 @@ const char *geostation_status_text(int status) {
     case GEOSTATION_PORT_NOT_OPEN: return "the port isn't open";
     case GEOSTATION_BAD_ARGUMENT: return "an argument is out of its range";
     case GEOSTATION_NO_ROOM: return "a buffer is too small";
+    case GEOSTATION_OVER_RATE: return "own packets are over their rate";
     default: return "unknown status";
     }
 }

@@ -12,7 +12,7 @@ from typing import Any, Dict, List, Optional, Tuple
 
 HERE = Path(__file__).resolve().parent
 PACKAGE = "geostation"
-SUFFIXES = (".py", ".typed", ".so.0")
+SUFFIXES = (".py", ".typed", ".so.3")
 
 
 def _project(key: str) -> str:
@@ -60,7 +60,7 @@ def build_wheel(
 ) -> str:
     """Builds a wheel of the package and its subpackages.
 
-    It includes a libgeostation.so.0 in the folder of the package."""
+    It includes a libgeostation.so.3 in the folder of the package."""
     paths = sorted((HERE / PACKAGE).rglob("*"))
     files: List[Tuple[str, bytes]] = [
         (path.relative_to(HERE).as_posix(), path.read_bytes())

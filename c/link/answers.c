@@ -34,8 +34,8 @@ static size_t refuse(uint8_t *answer, size_t n, const char *code, const char *re
 static size_t serve(geostation_handle *h, struct station *s, uint64_t now, uint64_t number,
                     const uint8_t *line, size_t n, uint8_t *answer, size_t *frame_length) {
     size_t length = 0;
-    int status = geostation_serve(h, now, number, line, n, answer, GEOSTATION_ANSWER_MAX, &length,
-                                  s->frame, sizeof s->frame, frame_length);
+    int status = geostation_handle_json(h, now, number, line, n, answer, GEOSTATION_ANSWER_MAX,
+                                        &length, s->frame, sizeof s->frame, frame_length);
     if (status == GEOSTATION_NO_MEMORY) {
         return (size_t)snprintf((char *)answer, GEOSTATION_ANSWER_MAX,
                                 "{\"at\":%" PRIu64 ",\"result\":\"refused\",\"code\":\"S5\"}", now);
@@ -72,8 +72,21 @@ static void follow_move(struct station *s, uint64_t now, const uint8_t *line, si
     }
 }
 
+/* Whether the rate of own packets has room for one more, which is then counted. */
+static bool has_rate(struct station *s, uint64_t now) {
+    static uint8_t frame[GEOSTATION_FRAME_MAX];
+    const struct geostation_shb_request any = { .port = 0 };
+    size_t length = 0;
+    return geostation_send_shb(s->own, now, &any, NULL, 0, frame, sizeof frame, &length)
+        != GEOSTATION_OVER_RATE;
+}
+
 /* Sends the station's own frame. An answer says `sent` only if the link took it. */
-static size_t send_own(struct station *s, size_t frame_length, uint8_t *answer, size_t n) {
+static size_t send_own(struct station *s, uint64_t now, size_t frame_length, uint8_t *answer,
+                       size_t n) {
+    if (!has_rate(s, now)) {
+        return refuse(answer, n, "over rate", "own packets are over their rate");
+    }
     switch (link_send(s->link, s->frame, frame_length)) {
     case LINK_DOWN: return refuse(answer, n, "link down", "the link is down: nothing was sent");
     case QUEUE_FULL: return refuse(answer, n, "queue full", "the link takes no more frames now");
@@ -102,7 +115,7 @@ static size_t do_line(struct station *s, uint64_t now, uint64_t number, const ui
         station_plan_beacon(s);
     }
     if (frame_length != 0 && sent) {
-        return send_own(s, frame_length, answer, length);
+        return send_own(s, now, frame_length, answer, length);
     }
     if (frame_length != 0) {
         forwards_put(s->forwards, s->frame, frame_length);

@@ -20,6 +20,18 @@ static const char usage[] =
     "  --forward-spread MS   Wait for a random time below MS milliseconds before a broadcast\n"
     "                        frame is forwarded, 0 to 1000; 0 turns it off [default: 2]\n"
     "\n"
+    "Limits, each 0 to 1000000; 0 turns a limit off:\n"
+    "  --forward-rate N      Forward at most N frames per second [default: 100]\n"
+    "  --forward-burst N     Forward at most N frames at once [default: 50]\n"
+    "  --source-rate N       Forward at most N frames per second of each source [default: 20]\n"
+    "  --source-burst N      Forward at most N frames at once of each source [default: 20]\n"
+    "  --own-rate N          Send at most N own packets per second, without beacons\n"
+    "                        [default: 50]\n"
+    "  --own-burst N         Send at most N own packets at once [default: 50]\n"
+    "  --hop-cap N           Don't forward packets with more hops left, 0 to 255 [default: 10]\n"
+    "  --deliver-once N      Don't deliver or forward again a packet for an area that was\n"
+    "                        delivered within its lifetime, 0 or 1 [default: 1]\n"
+    "\n"
     "The station:\n"
     "  --position LAT,LON    Position in degrees, with up to 7 decimals\n"
     "  --gpsd [HOST:PORT]    Take the position from gpsd [default: 127.0.0.1:2947]\n"
@@ -53,6 +65,14 @@ static const struct option table[] = {
     { "udp", required_argument, NULL, 'u' },
     { "to", required_argument, NULL, 't' },
     { "forward-spread", required_argument, NULL, 'f' },
+    { "forward-rate", required_argument, NULL, 'R' },
+    { "forward-burst", required_argument, NULL, 'B' },
+    { "source-rate", required_argument, NULL, 'x' },
+    { "source-burst", required_argument, NULL, 'X' },
+    { "own-rate", required_argument, NULL, 'n' },
+    { "own-burst", required_argument, NULL, 'N' },
+    { "hop-cap", required_argument, NULL, 'H' },
+    { "deliver-once", required_argument, NULL, 'd' },
     { "position", required_argument, NULL, 'p' },
     { "gpsd", optional_argument, NULL, 'g' },
     { "gps-timeout", required_argument, NULL, 'G' },
@@ -136,6 +156,17 @@ static bool take_time(const struct setting *s, uint64_t least, uint64_t most, ui
     return good;
 }
 
+static bool take_number(const struct setting *s, uint16_t most, uint16_t *out, struct fault *f) {
+    uint64_t number;
+    bool good = number_of(s, 0, most, &number, f);
+    *out = good ? (uint16_t)number : *out;
+    return good;
+}
+
+static bool take_rate(const struct setting *s, uint32_t *out, struct fault *f) {
+    return take_time(s, 0, GEOSTATION_RATE_MAX, 1, out, f);
+}
+
 bool take_setting(struct options *o, int option, const struct setting *s, struct fault *f) {
     switch (option) {
     case 'i': o->interface = s->value; return true;
@@ -143,6 +174,14 @@ bool take_setting(struct options *o, int option, const struct setting *s, struct
     case 'u': o->udp = s->value; return host_port_of(s, f);
     case 't': return take_peer(o, s, f);
     case 'f': return take_time(s, 0, 1000, 1000, &o->forward_spread, f);
+    case 'R': return take_rate(s, &o->forward_rate, f);
+    case 'B': return take_rate(s, &o->forward_burst, f);
+    case 'x': return take_rate(s, &o->source_rate, f);
+    case 'X': return take_rate(s, &o->source_burst, f);
+    case 'n': return take_rate(s, &o->own_rate, f);
+    case 'N': return take_rate(s, &o->own_burst, f);
+    case 'H': return take_number(s, 255, &o->hop_cap, f);
+    case 'd': return take_number(s, 1, &o->deliver_once, f);
     case 'p': return position_of(s, o, f);
     case 'g': return take_gpsd(o, s, f);
     case 'G': return take_time(s, 1, 3600, 1000, &o->gps_timeout, f);
@@ -198,9 +237,16 @@ static const char *value_of(int option, int argc, char **argv) {
 }
 
 bool read_arguments(struct options *o, int argc, char **argv, struct fault *f) {
-    *o = (struct options){ .station_type = 15, .capacity = 4096, .remember = 64,
-                           .forward_spread = 2000, .client_timeout = 60000,
-                           .gps_timeout = 60000 };
+    struct geostation_config usual;
+    geostation_config_init(&usual);
+    *o = (struct options){
+        .station_type = 15, .capacity = 4096, .remember = 64, .forward_spread = 2000,
+        .client_timeout = 60000, .gps_timeout = 60000, .forward_rate = usual.forward_rate,
+        .forward_burst = usual.forward_burst, .source_rate = usual.source_rate,
+        .source_burst = usual.source_burst, .own_rate = usual.own_rate,
+        .own_burst = usual.own_burst, .hop_cap = (uint16_t)usual.hop_cap,
+        .deliver_once = (uint16_t)usual.deliver_once,
+    };
     optind = 0; /* this may be called again */
     for (int option; (option = getopt_long(argc, argv, "", table, NULL)) != -1;) {
         struct setting s = { NULL, 0, name_of(option), value_of(option, argc, argv) };

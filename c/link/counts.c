@@ -7,13 +7,18 @@
 /* What follows the last key of an answer: a comma, the key `link`, and the end of the answer. */
 size_t counts_print_link(const struct station *s, char *out, size_t room) {
     struct link *l = s->link;
+    struct geostation_counts station, own;
+    geostation_counts(s->handle, &station);
+    geostation_counts(s->own, &own);
     int n = snprintf(out, room,
                      ",\"link\":{\"frames\":%" PRIu64 ",\"padded\":%" PRIu64 ",\"tagged\":%" PRIu64
                      ",\"dropped\":%" PRIu64 ",\"kernel_dropped\":%" PRIu64
                      ",\"forward_dropped\":%" PRIu64 ",\"suppressed\":%" PRIu64
+                     ",\"repeated\":%" PRIu64 ",\"over_rate\":%" PRIu64
                      ",\"events_lost\":%" PRIu64 "}}",
                      l->frames, l->padded, l->tagged, l->dropped, link_kernel_dropped(l),
-                     s->forwards->dropped, l->suppressed, s->clients->events_lost);
+                     s->forwards->dropped, station.suppressed, station.repeated, own.over_rate,
+                     s->clients->events_lost);
     return n > 0 && (size_t)n < room ? (size_t)n : 0;
 }
 
@@ -87,6 +92,8 @@ static void put_station(struct page *p, const struct geostation_counts *c) {
     labelled(p, "ignored_total", "why", "Frames that it ignored", ignored, 4);
     labelled(p, "refused_total", "why", "Frames and calls that it refused", refused, 6);
     labelled(p, "sent_total", "kind", "Packets of its own", sent, 4);
+    counter(p, "suppressed_total", "Frames that a limit kept from being forwarded", c->suppressed);
+    counter(p, "repeated_total", "Payloads that were not delivered a second time", c->repeated);
 }
 
 static void put_link(struct page *p, const struct station *s) {
@@ -98,7 +105,6 @@ static void put_link(struct page *p, const struct station *s) {
     counter(p, "link_dropped_total", "Frames to send that the link did not take", l->dropped);
     counter(p, "forward_dropped_total", "Frames to forward that found no free place",
             s->forwards->dropped);
-    counter(p, "suppressed_total", "Frames that a limit kept from being forwarded", l->suppressed);
     gauge(p, "link_up", "Whether the link is up", l->up);
 }
 
@@ -122,6 +128,8 @@ size_t counts_print_metrics(const struct station *s, uint64_t now, char *out, si
     struct geostation_counts counts;
     geostation_counts(s->handle, &counts);
     put_station(&p, &counts);
+    geostation_counts(s->own, &counts);
+    counter(&p, "over_rate_total", "Own packets that were over their rate", counts.over_rate);
     put_link(&p, s);
     put_clients(&p, s->clients);
     put_position(&p, s->place, now);

@@ -51,6 +51,9 @@ struct options {
     int32_t latitude, longitude; /* 0.1 microdegree */
     uint16_t capacity, remember, ports[PORTS];
     uint32_t forward_spread;              /* microseconds */
+    uint32_t forward_rate, forward_burst; /* limits: frames per second, frames at once; 0: none */
+    uint32_t source_rate, source_burst, own_rate, own_burst;
+    uint16_t hop_cap, deliver_once;       /* 0: none */
     uint32_t client_timeout, gps_timeout; /* milliseconds */
     char config[CONFIG_ROOM];             /* the text of the file, to which the pointers lead */
 };
@@ -96,7 +99,7 @@ struct link {
     const struct address *peers;
     size_t peer_count;
     uint64_t empty_at; /* the last time at which no frame waited */
-    uint64_t frames, padded, tagged, dropped, kernel_dropped, suppressed;
+    uint64_t frames, padded, tagged, dropped, kernel_dropped;
 };
 struct received {
     size_t length;
@@ -212,6 +215,7 @@ struct clients;
 struct station {
     geostation_handle *handle;
     geostation_handle *probe; /* a second station, to find out what a line would do */
+    geostation_handle *own;   /* a third station, which limits the own packets of lines */
     uint64_t address;
     uint64_t last;      /* the time of the last call */
     uint16_t jitter;    /* of the next beacon */

@@ -12,7 +12,12 @@ void station_plan_beacon(struct station *s) {
     s->beacon_at = geostation_beacon_at(s->handle, s->jitter);
 }
 
-static geostation_handle *make(const struct options *o, uint16_t capacity, uint16_t remember) {
+/* What a handle limits: the library limits no line, so own packets have a handle of their own. */
+enum limited { NOTHING, FORWARDS_AND_DELIVERIES, OWN_PACKETS };
+
+static geostation_handle *make(const struct options *o, uint16_t capacity, uint16_t remember,
+                               enum limited limited) {
+    const bool forwards = limited == FORWARDS_AND_DELIVERIES;
     struct geostation_config config;
     geostation_handle *handle;
     geostation_config_init(&config);
@@ -22,7 +27,15 @@ static geostation_handle *make(const struct options *o, uint16_t capacity, uint1
     config.capacity = capacity;
     config.remember = remember;
     config.mobile = !o->stationary;
-    int status = geostation_new_with(&handle, &config);
+    config.forward_rate = forwards ? o->forward_rate : 0;
+    config.forward_burst = o->forward_burst;
+    config.source_rate = forwards ? o->source_rate : 0;
+    config.source_burst = o->source_burst;
+    config.own_rate = limited == OWN_PACKETS ? o->own_rate : 0;
+    config.own_burst = o->own_burst;
+    config.hop_cap = forwards ? o->hop_cap : 0;
+    config.deliver_once = forwards ? o->deliver_once : 0;
+    int status = geostation_new_from_config(&handle, &config);
     if (status == GEOSTATION_BAD_ARGUMENT) {
         fail(BAD_ARGUMENTS, "--address %016" PRIx64 ": %s", o->address,
              geostation_status_text(status));
@@ -30,14 +43,15 @@ static geostation_handle *make(const struct options *o, uint16_t capacity, uint1
     if (status != GEOSTATION_OK) {
         fail(FAILED, "out of memory: --capacity %u and --remember %u need %u kB of the limit "
              "(ulimit -v, MemoryMax=)", o->capacity, o->remember,
-             (472 + o->capacity * (58 + 2u * o->remember)) / 1000 + 1);
+             (31384 + o->capacity * (58 + 2u * o->remember)) / 1000 + 1);
     }
     return handle;
 }
 
 void station_open(struct station *s, const struct options *o, uint64_t now) {
-    s->handle = make(o, o->capacity, o->remember);
-    s->probe = make(o, 1, 1);
+    s->handle = make(o, o->capacity, o->remember, FORWARDS_AND_DELIVERIES);
+    s->probe = make(o, 1, 1, NOTHING);
+    s->own = make(o, 1, 1, OWN_PACKETS);
     s->address = o->address;
     s->last = now;
     /* The first sequence number is random: others would ignore numbers that they remember. */
@@ -130,6 +144,7 @@ void station_beacon(struct station *s, uint64_t now) {
 }
 
 void station_close(struct station *s) {
+    geostation_free(s->own);
     geostation_free(s->probe);
     geostation_free(s->handle);
 }

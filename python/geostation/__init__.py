@@ -8,15 +8,17 @@ pair of floats in degrees.
 """
 
 from .calls import FRAME_MAX, LAST_MOMENT, PAYLOAD_MAX
-from .errors import BadArgument, BadFrame, Fault, Refused, Status
+from .errors import BadArgument, BadFrame, Fault, OverRate, Refused, Status
 from .line import Ended, Line, PipeStation, ProcessExited
 from .station import Station, frame_length, read_frame
 from .values import (
+    NO_LIMITS,
     Area,
     Counts,
     IgnoredCounts,
     IgnoreReason,
     Kind,
+    Limits,
     Message,
     Packet,
     Reception,
@@ -30,6 +32,7 @@ from .values import (
 __all__ = [
     "FRAME_MAX",
     "LAST_MOMENT",
+    "NO_LIMITS",
     "PAYLOAD_MAX",
     "Area",
     "BadArgument",
@@ -40,8 +43,10 @@ __all__ = [
     "IgnoreReason",
     "IgnoredCounts",
     "Kind",
+    "Limits",
     "Line",
     "Message",
+    "OverRate",
     "Packet",
     "PipeStation",
     "ProcessExited",

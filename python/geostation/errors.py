@@ -25,6 +25,7 @@ class Status(IntEnum):
     PORT_NOT_OPEN = 11
     BAD_ARGUMENT = 20
     NO_ROOM = 21
+    OVER_RATE = 22
 
 
 # The code of each status, as logs show it. Statuses for arguments have no code.
@@ -58,6 +59,7 @@ TEXTS = {
     Status.PORT_NOT_OPEN: "the port isn't open",
     Status.BAD_ARGUMENT: "an argument is out of its range",
     Status.NO_ROOM: "a buffer is too small",
+    Status.OVER_RATE: "own packets are over their rate",
 }
 FAULT_TEXTS = {
     1: "a frame of fewer than 14 octets",
@@ -136,6 +138,16 @@ class BadArgument(Refused, ValueError):
 
     def __reduce__(self) -> Tuple[Any, ...]:
         return BadArgument, (self.name,)
+
+
+class OverRate(Refused):
+    """An own packet that was not sent, because own packets are over their rate (`own_rate`)."""
+
+    def __init__(self) -> None:
+        super().__init__(Status.OVER_RATE)
+
+    def __reduce__(self) -> Tuple[Any, ...]:
+        return OverRate, ()
 
 
 class BadFrame(Refused):

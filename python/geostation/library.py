@@ -13,9 +13,9 @@ from typing import Any
 
 from .errors import Fault
 
-NAME = "libgeostation.so.0"
 # The layouts below are those of a header with this ABI.
-ABI = 2
+ABI = 3
+NAME = f"libgeostation.so.{ABI}"
 # What geostation_beacon_at returns for a jitter out of range.
 NEVER = (1 << 64) - 1
 
@@ -50,6 +50,14 @@ class Config(c.Structure):
         ("remember", c.c_uint16),
         ("mobile", c.c_uint16),
         ("number", c.c_uint16),
+        ("forward_rate", c.c_uint32),
+        ("forward_burst", c.c_uint32),
+        ("source_rate", c.c_uint32),
+        ("source_burst", c.c_uint32),
+        ("own_rate", c.c_uint32),
+        ("own_burst", c.c_uint32),
+        ("hop_cap", c.c_uint32),
+        ("deliver_once", c.c_uint32),
     ]
 
 
@@ -71,6 +79,9 @@ class Counts(c.Structure):
             ),
         ),
         ("sent", _counters("beacons", "single_hop", "geobroadcasts", "geoanycasts")),
+        ("suppressed", c.c_uint64),
+        ("repeated", c.c_uint64),
+        ("over_rate", c.c_uint64),
     ]
 
 
@@ -150,8 +161,8 @@ class Packet(c.Structure):
 # The sizes that the header asserts for its structs.
 SIZES = {
     Reception: 72,
-    Config: 32,
-    Counts: 144,
+    Config: 64,
+    Counts: 168,
     ShbRequest: 6,
     AreaRequest: 24,
     Vector: 32,
@@ -166,7 +177,7 @@ _FOUND = (c.c_void_p, c.c_uint64, c.c_uint64, c.POINTER(Vector))
 # Each function: the type of its result, and those of its arguments.
 CALLS = {
     "config_init": (None, c.POINTER(Config)),
-    "new_with": (c.c_int, c.POINTER(c.c_void_p), c.POINTER(Config)),
+    "new_from_config": (c.c_int, c.POINTER(c.c_void_p), c.POINTER(Config)),
     "free": (None, c.c_void_p),
     "move": (
         c.c_int,
@@ -194,7 +205,7 @@ CALLS = {
     "restart": (c.c_int, c.c_void_p, c.c_uint64, c.c_uint16),
     "tick": (c.c_int, c.c_void_p, c.c_uint64, c.c_uint16, *_WRITTEN),
     "send_shb": (c.c_int, c.c_void_p, c.c_uint64, c.POINTER(ShbRequest), *_OCTETS, *_WRITTEN),
-    "send_shb_for": (
+    "send_shb_with_lifetime": (
         c.c_int,
         c.c_void_p,
         c.c_uint64,
@@ -214,7 +225,7 @@ CALLS = {
         c.c_char_p,
         c.c_size_t,
     ),
-    "serve": (c.c_int, c.c_void_p, c.c_uint64, c.c_uint64, *_OCTETS, *_WRITTEN, *_WRITTEN),
+    "handle_json": (c.c_int, c.c_void_p, c.c_uint64, c.c_uint64, *_OCTETS, *_WRITTEN, *_WRITTEN),
     "beacon_at": (c.c_uint64, c.c_void_p, c.c_uint16),
     "next_number": (c.c_uint16, c.c_void_p),
     "counts": (None, c.c_void_p, c.POINTER(Counts)),

@@ -63,8 +63,8 @@ Ended = ProcessExited  # deprecated: the name until 0.1
 class PipeStation(Calls):
     """A station in the program: `geostation station` over a pipe.
 
-    It has the methods of `Station` except `move_at`, `send_shb_for`, `next_number` and `serve`: the
-    pipe protocol has no command for them. It rejects frames with Ethernet padding.
+    It has the methods of `Station` except `move_at`, `send_shb_with_lifetime`, `next_number` and
+    `handle_json`: the pipe protocol has no command for them. It rejects frames with Ethernet padding.
 
     Args:
         address: GN address: an int, or 16 hexadecimal digits; not a group address.

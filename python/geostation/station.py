@@ -3,17 +3,19 @@
 from __future__ import annotations
 
 import ctypes as c
+from dataclasses import fields
 from typing import Any, List, Optional, Tuple
 
 from . import library
 from .calls import ANSWER_MAX, FRAME_MAX, Address, Calls, Degrees, moment, octets
-from .errors import BadFrame, Refused, Status
+from .errors import BadFrame, OverRate, Refused, Status
 from .values import (
     Area,
     Counts,
     IgnoredCounts,
     IgnoreReason,
     Kind,
+    Limits,
     Message,
     Packet,
     Reception,
@@ -43,6 +45,8 @@ def _numbers(counters: Any) -> List[int]:
 
 
 def _done(status: int) -> None:
+    if status == Status.OVER_RATE:
+        raise OverRate()
     if status:
         raise Refused(Status(status))
 
@@ -60,6 +64,7 @@ class Station(Calls):
         mobile: False for a road-side unit.
         number: Sequence number of the first packet for an area. Choose it at random at each start:
             other stations remember the numbers from before a restart for 20 s.
+        limits: Limits on what is sent. `NO_LIMITS` turns them off.
 
     Raises:
         BadArgument: An argument is out of its range.
@@ -80,8 +85,10 @@ class Station(Calls):
         remember: int = 8,
         mobile: bool = True,
         number: int = 0,
+        limits: Limits = Limits(),
     ):
         self._mobile, self._number = bool(mobile), whole("number", number, 0, 65535)
+        self._limits = limits
         super().__init__(
             address,
             latitude=latitude,
@@ -100,7 +107,9 @@ class Station(Calls):
         config.address, config.latitude, config.longitude = address, latitude, longitude
         config.capacity, config.remember = capacity, remember
         config.mobile, config.number = self._mobile, self._number
-        _done(self._library.new_with(handle, config))
+        for field in fields(self._limits):
+            setattr(config, field.name, int(getattr(self._limits, field.name)))
+        _done(self._library.new_from_config(handle, config))
         self._handle = handle
         self._frame = c.create_string_buffer(FRAME_MAX)
         self._length = c.c_size_t()
@@ -240,7 +249,7 @@ class Station(Calls):
                 )
             )
 
-    def send_shb_for(
+    def send_shb_with_lifetime(
         self,
         now: int,
         lifetime: int,
@@ -272,13 +281,14 @@ class Station(Calls):
             )
             told = octets("payload", payload)
             octet = whole("lifetime", lifetime, 0, 255)
-            call = self._library.send_shb_for
+            call = self._library.send_shb_with_lifetime
             return self._written(call, moment(now), request, octet, told, len(told))
 
-    def serve(self, now: int, line: bytes, *, number: int = 1) -> Tuple[bytes, bytes]:
+    def handle_json(self, now: int, line: bytes, *, number: int = 1) -> Tuple[bytes, bytes]:
         """Executes one JSON request, as the command `geostation station` does.
 
-        Failed calls and malformed lines are reported inside the answer.
+        Failed calls and malformed lines are reported inside the answer. The limits of the
+        station do not apply to it.
 
         Args:
             now: Time, in ms. An `at` key in the line is ignored.
@@ -296,7 +306,7 @@ class Station(Calls):
             answer = c.create_string_buffer(ANSWER_MAX)
             length = c.c_size_t()
             frame = self._written(
-                self._library.serve,
+                self._library.handle_json,
                 moment(now),
                 whole("number", number, 0, (1 << 64) - 1),
                 told,
@@ -306,6 +316,11 @@ class Station(Calls):
                 length,
             )
             return c.string_at(answer, length.value), frame
+
+    send_shb_for = send_shb_with_lifetime
+    """Deprecated: the former name of `send_shb_with_lifetime`."""
+    serve = handle_json
+    """Deprecated: the former name of `handle_json`."""
 
     def next_number(self) -> int:
         """Returns the sequence number of the station's next packet for an area."""
@@ -318,7 +333,8 @@ class Station(Calls):
         first = (told.received, told.accepted, told.delivered, told.relayed)
         ignored, refused = _numbers(told.ignored), _numbers(told.refused)
         parts = (IgnoredCounts(*ignored), RefusedCounts(*refused))
-        return Counts(*first, *parts, SentCounts(*_numbers(told.sent)))
+        withheld = (told.suppressed, told.repeated, told.over_rate)
+        return Counts(*first, *parts, SentCounts(*_numbers(told.sent)), *withheld)
 
     def _look_up(self, now: int, address: int) -> Optional[Vector]:
         told = library.Vector()

@@ -248,6 +248,37 @@ class Packet:
 
 
 @dataclass(frozen=True)
+class Limits:
+    """Limits on what a station sends. A rate is in frames per second, and a burst in frames that may
+    go out at once, both 0 to 1000000. There is no limit if the rate or the burst is 0."""
+
+    forward_rate: int = 100
+    """All frames that the station forwards."""
+    forward_burst: int = 50
+    source_rate: int = 20
+    """Frames of each source that the station forwards."""
+    source_burst: int = 20
+    own_rate: int = 50
+    """Own packets, without beacons."""
+    own_burst: int = 50
+    hop_cap: int = 10
+    """Packets with more hops left are not forwarded, 0 to 255. 0 is no cap."""
+    deliver_once: bool = True
+    """Whether a GBC or GAC that was delivered is not delivered again."""
+
+    def __post_init__(self) -> None:
+        for name in ("forward_rate", "forward_burst", "source_rate", "source_burst"):
+            whole(name, getattr(self, name), 0, 1_000_000)
+        for name in ("own_rate", "own_burst"):
+            whole(name, getattr(self, name), 0, 1_000_000)
+        whole("hop_cap", self.hop_cap, 0, 255)
+
+
+NO_LIMITS = Limits(0, 0, 0, 0, 0, 0, 0, False)
+"""All frames pass."""
+
+
+@dataclass(frozen=True)
 class IgnoredCounts:
     """Number of ignored frames, by `IgnoreReason`."""
 
@@ -300,3 +331,9 @@ class Counts:
     ignored: IgnoredCounts
     refused: RefusedCounts
     sent: SentCounts
+    suppressed: int = 0
+    """Frames that were not forwarded, for a limit or as an echo."""
+    repeated: int = 0
+    """Payloads that were not delivered, because they were delivered before."""
+    over_rate: int = 0
+    """Own packets that were refused for their rate."""

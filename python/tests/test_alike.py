@@ -6,7 +6,16 @@ import shutil
 import unittest
 
 import geostation
-from geostation import Area, BadArgument, PipeStation, ProcessExited, Reception, Refused, Station
+from geostation import (
+    NO_LIMITS,
+    Area,
+    BadArgument,
+    PipeStation,
+    ProcessExited,
+    Reception,
+    Refused,
+    Station,
+)
 
 PROGRAM = os.environ.get("GEOSTATION_PROGRAM", "geostation")
 PORTS = (1, 2, 2002)
@@ -27,7 +36,8 @@ class Traffic:
         self.draws = random.Random(seed)
         self.now = 0
         self.others = [
-            Station(0x1400020000000100 + n, latitude=n, longitude=0) for n in range(6)
+            Station(0x1400020000000100 + n, latitude=n, longitude=0, limits=NO_LIMITS)
+            for n in range(6)
         ]
 
     def place(self):
@@ -118,7 +128,8 @@ class Alike(unittest.TestCase):
         place = {"latitude": 3, "longitude": -3, "capacity": 4, "remember": 2}
         kinds = set()
         traffic = Traffic(7)
-        with Station(0x1400020000000001, **place) as station:
+        # A station on a pipe has no limits.
+        with Station(0x1400020000000001, limits=NO_LIMITS, **place) as station:
             with PipeStation(0x1400020000000001, **place, program=PROGRAM) as line:
                 for number in range(1000):
                     call = traffic.call()

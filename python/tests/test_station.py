@@ -18,13 +18,16 @@ import unittest
 from pathlib import Path
 
 from geostation import (
+    NO_LIMITS,
     Area,
     BadArgument,
     BadFrame,
     Fault,
     IgnoreReason,
     Kind,
+    Limits,
     Message,
+    OverRate,
     Reception,
     Refused,
     Shape,
@@ -90,7 +93,7 @@ class Stations(unittest.TestCase):
     def test_a_fix_a_lifetime_and_a_number(self):
         a = Station(A, latitude=0, longitude=0)
         a.move_at(1000, 4294967295, latitude=5, longitude=6, accurate=False)
-        told = read_frame(a.send_shb_for(1000, 0x05, port=9, payload=b"x"))
+        told = read_frame(a.send_shb_with_lifetime(1000, 0x05, port=9, payload=b"x"))
         self.assertEqual((0x05, 4294967295), (told.lifetime, told.vector.timestamp))
         self.assertEqual((5, 6, False), dataclasses.astuple(told.vector)[2:4] + (False,))
         self.assertEqual(0x1A, read_frame(a.send_shb(1000, port=9, payload=b"x")).lifetime)
@@ -123,13 +126,13 @@ class Stations(unittest.TestCase):
         with Station(A, latitude=449, longitude=0) as a, Station(
             A, latitude=449, longitude=0
         ) as twin:
-            answer, frame = a.serve(5, b'{"do":"shb","port":2002,"info":7,"tc":2,"payload":"6869"}')
+            answer, frame = a.handle_json(5, b'{"do":"shb","port":2002,"info":7,"tc":2,"payload":"6869"}')
             sent = twin.send_shb(5, port=2002, info=7, traffic_class=2, payload=b"hi")
             self.assertEqual(sent, frame)
             told = b'{"at":5,"result":"sent","frame":"' + frame.hex().encode() + b'"}'
             self.assertEqual(told, answer)
-            self.assertEqual((b"", b""), a.serve(5, b""))
-            answer, frame = a.serve(5, b"{}", number=9)
+            self.assertEqual((b"", b""), a.handle_json(5, b""))
+            answer, frame = a.handle_json(5, b"{}", number=9)
             self.assertTrue(answer.startswith(b'{"line":9,"error":"do"'))
             self.assertEqual(b"", frame)
 
@@ -295,6 +298,63 @@ class Misuse(unittest.TestCase):
             text=True,
         )
         self.assertIn(f"ImportError: {other} is not the libgeostation of this package", told.stderr)
+
+
+class TestLimits(unittest.TestCase):
+    """Buckets as RFC 3290 describes them: a burst at once, then so many per second."""
+
+    def test_defaults_are_the_librarys(self):
+        config = library.Config()
+        library.load().config_init(config)
+        for field in dataclasses.fields(Limits):
+            with self.subTest(field.name):
+                self.assertEqual(getattr(config, field.name), getattr(Limits(), field.name))
+
+    def test_ranges(self):
+        names = [f.name for f in dataclasses.fields(Limits) if f.name != "deliver_once"]
+        for name in names:
+            for wrong in (-1, 256 if name == "hop_cap" else 1_000_001):
+                with self.subTest(name=name, wrong=wrong):
+                    with self.assertRaises(BadArgument) as told:
+                        Limits(**{name: wrong})
+                    self.assertEqual(name, told.exception.name)
+        Station(A, latitude=0, longitude=0, limits=Limits(hop_cap=255, own_rate=1_000_000))
+
+    def test_own_packets_over_their_rate(self):
+        limits = dataclasses.replace(NO_LIMITS, own_rate=10, own_burst=2)
+        a = Station(A, latitude=0, longitude=0, limits=limits)
+        a.send_shb(1000, port=9, payload=b"")
+        a.send_gbc(1000, port=9, payload=b"", area=CIRCLE)
+        for now in (1000, 1099):
+            with self.assertRaises(OverRate) as told:
+                a.send_gbc(now, port=9, payload=b"", area=CIRCLE)
+        self.assertEqual(("", 1), (told.exception.code, a.next_number()))
+        self.assertEqual("own packets are over their rate", str(told.exception))
+        again = pickle.loads(pickle.dumps(told.exception))
+        self.assertEqual((OverRate, 22), (type(again), again.status))
+        a.send_gbc(1100, port=9, payload=b"", area=CIRCLE)
+        counts = a.counts()
+        self.assertEqual((0, 0, 2), (counts.suppressed, counts.repeated, counts.over_rate))
+        self.assertEqual((0, 1, 2, 0), dataclasses.astuple(counts.sent))
+
+    def test_forwarded_frames_hops_and_echoes(self):
+        a = Station(A, latitude=0, longitude=0, limits=NO_LIMITS)
+        limits = Limits(forward_rate=10, forward_burst=2, source_rate=0, hop_cap=4)
+        b = Station(B, latitude=0, longitude=9, remember=1, limits=limits)
+        b.open_port(0, 9)
+        relayed = []
+        frames = [a.send_gbc(10, port=9, payload=b"x", area=CIRCLE, max_hops=n)
+                  for n in (5, 4, 4, 4)]
+        for frame in frames:
+            told = b.receive(10, frame)
+            self.assertIsNotNone(told.delivered)
+            relayed.append(told.relay is not None)
+        self.assertEqual([False, True, True, False], relayed)
+        echo = b.receive(10, frames[1])
+        self.assertEqual((None, None, None), (echo.ignored, echo.delivered, echo.relay))
+        counts = b.counts()
+        self.assertEqual((3, 1, 0), (counts.suppressed, counts.repeated, counts.over_rate))
+        self.assertEqual((4, 2), (counts.delivered, counts.relayed))
 
 
 class Library(unittest.TestCase):

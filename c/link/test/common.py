@@ -6,7 +6,7 @@ import sys
 import time
 
 import frames
-from net import PATIENCE, Daemon
+from net import NO_LIMITS, PATIENCE, Daemon
 
 PROGRAM = sys.argv[1]
 OTHER = 0x1400020000000009
@@ -48,7 +48,7 @@ def connect_once_it_listens(path):
 def udp_command(number, port, *to, place=PLACE):
     peers = [x for t in to for x in ("--to", t)]
     return [PROGRAM, "--udp", f"127.0.0.1:{port}", *peers, "--address",
-            f"3c0002000000000{number}", *place, "--port", "2002"]
+            f"3c0002000000000{number}", *place, "--port", "2002", *NO_LIMITS]
 
 
 def udp(number, port, *to, place=PLACE):

@@ -19,6 +19,8 @@ PATIENCE = 120
 LIBC = ctypes.CDLL(None, use_errno=True)
 CLONE_NEWNET = 0x40000000
 GEONETWORKING = 0x8947
+NO_LIMITS = ("--forward-rate", "0", "--source-rate", "0", "--own-rate", "0", "--hop-cap", "0",
+             "--deliver-once", "0")
 
 
 def ip(*arguments):
@@ -95,8 +97,10 @@ class Net(ExitStack):
     def enter(self, k, *command):
         return ["nsenter", f"--net=/run/netns/{self.names[k]}", *map(str, command)]
 
-    def station(self, k, *arguments, place=("--position", "51.47765,-0.001")):
-        d = Daemon(self.enter(k, self.program, "--interface", "v", *place, *arguments))
+    def station(self, k, *arguments, place=("--position", "51.47765,-0.001"), limits=False):
+        """A station, without limits on what it sends unless they are asked for."""
+        more = () if limits else NO_LIMITS
+        d = Daemon(self.enter(k, self.program, "--interface", "v", *place, *more, *arguments))
         self.callback(d.end)
         return d
 

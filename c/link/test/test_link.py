@@ -17,6 +17,7 @@ from pathlib import Path
 import frames
 import test_faults
 import test_fixes
+import test_limits
 import test_service
 from air import Air
 from common import (OTHER, PROGRAM, connect, connect_once_it_listens, has, notes, stamp,
@@ -102,7 +103,7 @@ def test_padded():
         counts = d.until(lambda n: n["link"]["frames"] == 4)
         assert counts["link"] == {"frames": 4, "padded": 1, "tagged": 0, "dropped": 0,
                                   "kernel_dropped": 0, "forward_dropped": 0, "suppressed": 0,
-                                  "events_lost": 0}, counts
+                                  "repeated": 0, "over_rate": 0, "events_lost": 0}, counts
         assert (counts["accepted"], counts["refused"]["frame"]) == (2, 2), counts
 
 
@@ -391,6 +392,7 @@ def test_arguments():
         *(["--interface", "lo", *place, *more.split()] for more in (
             "--station-type 32", "--capacity 4097", "--capacity 0", "--remember 65",
             "--port 65536", "--forward-spread 1001", "--gps-timeout 0", "--client-timeout 86401",
+            "--forward-rate 1000001", "--source-burst -1", "--hop-cap 256", "--deliver-once 2",
             "--config /nosuch", "--address 3c00030000000000", "--address 3c0002000000000")),
         *(["--interface", "lo", "--position", p] for p in
           ("91,0", "x", "1,2x", "1", "0,180.0000001", "1.12345678,0", "1.,0", "+1,0", "-,0")),
@@ -415,7 +417,7 @@ def test_arguments():
 
 def main():
     tests = {}
-    for module in (sys.modules[__name__], test_fixes, test_faults, test_service):
+    for module in (sys.modules[__name__], test_fixes, test_faults, test_limits, test_service):
         named = ((k, v) for k, v in vars(module).items() if k.startswith("test_"))
         tests.update((k, v) for k, v in named if callable(v))
     failed = []

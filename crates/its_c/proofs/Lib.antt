@@ -1,6 +1,9 @@
 pub mod Values
 pub mod StationPtrs
+pub mod GovernorPtrs
 pub mod Opens
 pub mod Restarts
 pub mod Lookups
 pub mod Messages
+pub mod Unlimited
+pub mod Limits

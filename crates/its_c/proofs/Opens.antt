@@ -86,3 +86,7 @@ stays_asked said old new c d Tells held after tells same was now opened =
     ∥∥₁_map opened (λ found. let kept = answered said old new c d Tells tells same
     (found.0, held_model held old found.0 was found.1) in
     (kept.0, model_held after new kept.0 now kept.1))
+
+-- what holds a governor still does
+pub is_there : {A : Type 0} (o : Option A) (x : A) → o ≡ Some x → IsSome o
+is_there {A = A} o x is = subst (λ (p : Option A). IsSome p) (sym is) refl

@@ -1,5 +1,7 @@
 -- The counts that a handle has.
 use Rattle.its_station.specs.declared.counts.Counts.{Counts}
+use Rattle.its_governor.specs.declared.governor.WithheldCounts.{WithheldCounts}
+use Rattle.its_c.specs.declared.layout.AllCounts.{AllCounts}
 use Rattle.its_c.specs.declared.layout.ToldCounts.{ToldCounts}
 
 -- the counts of C's struct, as the station's library has them
@@ -31,3 +33,8 @@ counts_of c =
         geoanycasts = c.geoanycasts;
       };
     }
+
+-- of C's whole struct, what the limits withheld
+abbrev pub withheld_in : AllCounts → WithheldCounts
+withheld_in c =
+    record { suppressed = c.suppressed; repeated = c.repeated; over_rate = c.over_rate }

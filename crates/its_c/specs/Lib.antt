@@ -2,6 +2,7 @@ pub mod Arguments
 pub mod Configs
 pub mod Counted
 pub mod Frames
+pub mod Governed
 pub mod Handles
 pub mod Lookups
 pub mod Open

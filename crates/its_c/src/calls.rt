@@ -36,6 +36,7 @@ pub extern "C" fn geostation_move(
     ensures refused { result ≡ pos 20 → AreForMove latitude longitude speed → ⊥ }
     ensures taken { result ≢ pos 20 → AreForMove latitude longitude speed }
     ensures nothing { result ≡ pos 20 → s.new ≡ s.old }
+    ensures governor { s.new.governor.value ≡ s.old.governor.value }
     ensures unchanged { result ≢ pos 0 → s.new.held.station ≡ s.old.held.station }
     ensures memory { result ≢ pos 5 }
 {
@@ -72,6 +73,7 @@ pub extern "C" fn geostation_move_at(
     ensures refused { result ≡ pos 20 → AreForMove latitude longitude speed → ⊥ }
     ensures taken { result ≢ pos 20 → AreForMove latitude longitude speed }
     ensures nothing { result ≡ pos 20 → s.new ≡ s.old }
+    ensures governor { s.new.governor.value ≡ s.old.governor.value }
     ensures unchanged { result ≢ pos 0 → s.new.held.station ≡ s.old.held.station }
     ensures memory { result ≢ pos 5 }
 {
@@ -99,6 +101,7 @@ pub extern "C" fn geostation_open_port(
 ) -> i32
     ensures step { (m : StationModel) → HoldsModel s.old.held.station m →
         IsToldDone Opened result s.old s.new (station_step m now (Own (Open port))) }
+    ensures governor { s.new.governor.value ≡ s.old.governor.value }
     ensures unchanged { result ≢ pos 0 → s.new.held.station ≡ s.old.held.station }
     ensures memory { result ≢ pos 5 }
 {
@@ -119,6 +122,7 @@ pub extern "C" fn geostation_close_port(
 ) -> i32
     ensures step { (m : StationModel) → HoldsModel s.old.held.station m →
         IsToldDone Closed result s.old s.new (station_step m now (Own (Close port))) }
+    ensures governor { s.new.governor.value ≡ s.old.governor.value }
     ensures unchanged { result ≢ pos 0 → s.new.held.station ≡ s.old.held.station }
     ensures memory { result ≢ pos 5 }
 {
@@ -141,6 +145,7 @@ pub extern "C" fn geostation_restart(
     ensures step { (m : StationModel) → HoldsModel s.old.held.station m →
         IsToldDone Restarted result s.old s.new
         (station_step m now (Own (Restart number))) }
+    ensures governor { s.new.governor.value ≡ s.old.governor.value }
     ensures unchanged { result ≢ pos 0 → s.new.held.station ≡ s.old.held.station }
     ensures memory { result ≢ pos 5 }
 {

@@ -1,32 +1,76 @@
 //! What a new station is made of.
 
-ghost use Rattle.std.specs.Prelude.{◌≡◌, ◌↔◌, IfSome, IsTrue};
+ghost use Rattle.std.specs.Prelude.{◌≡◌, ◌↔◌, ◌≤◌, IfSome, IsTrue};
 ghost use Rattle.its_station.specs.State.{RepresentsStation};
-ghost use Rattle.its_c.specs.Configs.{HasSizes, usual_config, station_at};
+ghost use Rattle.its_c.specs.Configs.{HasSizes, HasLimits, usual_config, station_at};
+ghost use Rattle.its_c.specs.Configs.{limits_of, rate_of, cap_of};
 
 use crate::layout::{CONFIG_SIZE, Config};
 use its_gnvalue::{GnAddress, Place};
+use its_governor::{Limits, Rate};
 use its_loctable::SortedTable;
 use its_station::Station;
 use std::alloc::Global;
 
 /// Writes what a station is usually made of: room for 64 sources, of each of which 8 sequence
-/// numbers are remembered, mobile, with the first number 0; its address and its place, which are 0,
-/// are the caller's to write.
+/// numbers are remembered, mobile, with the first number 0, and the limits that a channel of
+/// 6 Mbit/s bears (`Limits::CHANNEL`). The address and the place are 0: the caller writes them.
 #[unsafe(no_mangle)]
 pub extern "C" fn geostation_config_init(config: &mut Config)
     ensures { config.new ≡ usual_config }
 {
-    *config = Config {
-        size: CONFIG_SIZE,
-        address: 0,
-        latitude: 0,
-        longitude: 0,
-        capacity: 64,
-        remember: 8,
-        mobile: 1,
-        number: 0,
-    };
+    *config = Config::USUAL;
+}
+
+/// The greatest rate and the greatest burst of a limit.
+const GREATEST: u32 = 1_000_000;
+
+/// Whether the limits are in their ranges.
+pub(crate) fn has_limits(config: &Config) -> bool
+    ensures { IsTrue result ↔ HasLimits config.now }
+{
+    config.forward_rate <= GREATEST
+        && config.forward_burst <= GREATEST
+        && config.source_rate <= GREATEST
+        && config.source_burst <= GREATEST
+        && config.own_rate <= GREATEST
+        && config.own_burst <= GREATEST
+        && config.hop_cap <= 255
+}
+
+/// The limits of a config.
+pub(crate) fn limits_of(config: &Config) -> Limits
+    requires { HasLimits config.now }
+    ensures { result ≡ limits_of config.now }
+{
+    Limits {
+        forward: rate_of(config.forward_rate, config.forward_burst),
+        source: rate_of(config.source_rate, config.source_burst),
+        own: rate_of(config.own_rate, config.own_burst),
+        hop_cap: cap_of(config.hop_cap),
+        delivers_once: config.deliver_once != 0,
+    }
+}
+
+/// A rate, or none if a number of it is 0.
+fn rate_of(per_second: u32, burst: u32) -> Option<Rate>
+    ensures { result ≡ rate_of per_second burst }
+{
+    if per_second == 0 || burst == 0 {
+        return None;
+    }
+    Some(Rate { burst, per_second })
+}
+
+/// The greatest number of hops left with which a packet is forwarded.
+fn cap_of(hops: u32) -> u8
+    requires { hops ≤ 255 }
+    ensures { result ≡ cap_of hops }
+{
+    if hops == 0 {
+        return 255;
+    }
+    hops as u8
 }
 
 /// Whether the struct has the size of this one, and the table's sizes are in their ranges.

@@ -1,23 +1,37 @@
 //! What a handle counts: how often each thing happened since its station was made.
 
-ghost use Rattle.std.specs.Prelude.{◌≡◌};
+ghost use Rattle.std.specs.Prelude.{◌≡◌, Some};
+ghost use Rattle.its_governor.specs.declared.governor.Governor.{Governor};
 ghost use Rattle.its_station.specs.Counting.{counted, counted_done, counted_send, counted_tick};
-ghost use Rattle.its_c.specs.Counted.{counts_of};
+ghost use Rattle.its_c.specs.Counted.{counts_of, withheld_in};
 
 use crate::handle::Geostation;
-use crate::layout::ToldCounts;
+use crate::layout::{AllCounts, ToldCounts};
 use its_headers::Kind;
 use its_station::{Counts, IgnoredCounts, Outcome, Refused, RefusedCounts, SentCounts};
+use std::alloc::Global;
 
 /// Writes how often each thing happened since the station was made: frames that came and what
-/// became of them, calls that were refused, by code, and what was sent. A call that returns
-/// `BAD_ARGUMENT` or `NO_ROOM` isn't counted, and a restart keeps the counts.
+/// became of them, calls that were refused, by code, what was sent, and what the limits withheld. A
+/// call that returns `BAD_ARGUMENT` or `NO_ROOM` isn't counted, and a restart keeps the counts.
 #[unsafe(no_mangle)]
-pub extern "C" fn geostation_counts(s: &mut Geostation, counts: &mut ToldCounts)
-    ensures told { counts.new ≡ s.old.counts }
-    ensures unchanged { s.new ≡ s.old }
+pub extern "C" fn geostation_counts(alloc: Global, s: &mut Geostation, counts: &mut AllCounts)
+    ensures told { counts.new.told ≡ s.old.counts }
+    ensures withheld { (g : Governor) → s.old.governor.value ≡ Some g →
+        withheld_in counts.new ≡ g.counts }
+    ensures unchanged { s.new.held ≡ s.old.held }
+    ensures governor { s.new.governor.value ≡ s.old.governor.value }
+    ensures counts { s.new.counts ≡ s.old.counts }
 {
-    *counts = s.counts;
+    let governor = s.governor.take(alloc);
+    let withheld = governor.counts();
+    s.governor.put(governor);
+    *counts = AllCounts {
+        told: s.counts,
+        suppressed: withheld.suppressed,
+        repeated: withheld.repeated,
+        over_rate: withheld.over_rate,
+    };
 }
 
 /// Counts what came of a call that tells nothing but its status.

@@ -6,27 +6,31 @@ ghost use Rattle.its_model.specs.Station.{new_station};
 ghost use Rattle.its_station.specs.Counting.{nothing};
 ghost use Rattle.its_c.specs.Arguments.{AreForNew, place_of};
 ghost use Rattle.its_c.specs.Counted.{counts_of};
-ghost use Rattle.its_c.specs.Configs.{IsForNew, HasSizes, station_for, station_at};
+ghost use Rattle.its_c.specs.Configs.{IsForNew, HasSizes, HasLimits, station_for, station_at};
+ghost use Rattle.its_c.specs.Configs.{limits_of, usual_config};
+ghost use Rattle.its_governor.specs.Governing.{IsNewGovernor};
 ghost use Rattle.its_c.specs.Handles.{handle_owns};
 ghost use Rattle.its_c.specs.Open.{HoldsModel};
 ghost use Rattle.its_c.specs.declared.handle.Geostation.{Geostation as Handle};
 
-use crate::config::{has_sizes, station_at};
+use crate::config::{has_limits, has_sizes, limits_of, station_at};
+use crate::governor_ptr::GovernorPtr;
 use crate::handle::Geostation;
 use crate::handle_out::HandleOut;
-use crate::layout::{CONFIG_SIZE, Config};
+use crate::layout::Config;
 use crate::raw_box::RawBox;
 use crate::station_ptr::StationPtr;
 use crate::status::{BAD_ARGUMENT, NO_MEMORY, OK};
 use its_gnvalue::{GnAddress, Place};
+use its_governor::Governor;
 use std::alloc::Global;
 use std::ptr::null_mut;
 
 /// Makes a station to which nothing happened yet, and writes the pointer to its handle: of this
 /// address, at these coordinates in 0.1 microdegree, with a location table for `capacity` sources,
-/// 1 to 4096, that remembers the last `remember` sequence numbers of each, 1 to 64. Where the
-/// status isn't 0 there is no handle, and the pointer is null: `BAD_ARGUMENT` for an argument out
-/// of its range, and `NO_MEMORY`.
+/// 1 to 4096, that remembers the last `remember` sequence numbers of each, 1 to 64. Its limits are
+/// those that `geostation_config_init` writes. Where the status isn't 0 there is no handle, and the
+/// pointer is null: `BAD_ARGUMENT` for an argument out of its range, and `NO_MEMORY`.
 #[unsafe(no_mangle)]
 pub extern "C" fn geostation_new(
     alloc: Global,
@@ -40,6 +44,8 @@ pub extern "C" fn geostation_new(
     ensures new { result ≡ pos 0 → IsSomeAnd out.new.handle (λ h. HoldsModel h.held.station
         (new_station address (place_of latitude longitude) capacity remember)) }
     ensures counts { result ≡ pos 0 → IsSomeAnd out.new.handle (λ h. counts_of h.counts ≡ nothing) }
+    ensures governor { result ≡ pos 0 → IsSomeAnd out.new.handle (λ h.
+        IsSomeAnd h.governor.value (IsNewGovernor (limits_of usual_config))) }
     ensures none { result ≢ pos 0 → out.new.handle ≡ None }
     ensures only { (result ≡ pos 0) ⊎ (result ≡ pos 5) ⊎ (result ≡ pos 20) }
     ensures refused { result ≡ pos 20 →
@@ -47,25 +53,30 @@ pub extern "C" fn geostation_new(
     ensures taken { result ≢ pos 20 → AreForNew address latitude longitude capacity remember }
 {
     let config = Config {
-        size: CONFIG_SIZE,
         address,
         latitude,
         longitude,
         capacity,
         remember: u16::from(remember),
-        mobile: 1,
-        number: 0,
+        ..Config::USUAL
     };
-    geostation_new_with(alloc, out, &config)
+    geostation_new_from_config(alloc, out, &config)
 }
 
-/// The same of a struct, with whether the station is mobile and the sequence number of its first
-/// packet for an area. A struct of another size is `BAD_ARGUMENT` too.
+/// Makes a station as `geostation_new` does, from a struct that also has whether the station is
+/// mobile, the sequence number of its first packet for an area, and its limits. A struct of another
+/// size is `BAD_ARGUMENT` too.
 #[unsafe(no_mangle)]
-pub extern "C" fn geostation_new_with(alloc: Global, out: &mut HandleOut, config: &Config) -> i32
+pub extern "C" fn geostation_new_from_config(
+    alloc: Global,
+    out: &mut HandleOut,
+    config: &Config,
+) -> i32
     ensures new { result ≡ pos 0 → IsSomeAnd out.new.handle (λ h. HoldsModel h.held.station
         (station_for config.now)) }
     ensures counts { result ≡ pos 0 → IsSomeAnd out.new.handle (λ h. counts_of h.counts ≡ nothing) }
+    ensures governor { result ≡ pos 0 → IsSomeAnd out.new.handle (λ h.
+        IsSomeAnd h.governor.value (IsNewGovernor (limits_of config.now))) }
     ensures none { result ≢ pos 0 → out.new.handle ≡ None }
     ensures only { (result ≡ pos 0) ⊎ (result ≡ pos 5) ⊎ (result ≡ pos 20) }
     ensures refused { result ≡ pos 20 → IsForNew config.now → ⊥ }
@@ -74,6 +85,9 @@ pub extern "C" fn geostation_new_with(alloc: Global, out: &mut HandleOut, config
     let at: *mut Geostation = null_mut();
     *out = HandleOut::none(at, alloc);
     if !has_sizes(config) {
+        return BAD_ARGUMENT;
+    }
+    if !has_limits(config) {
         return BAD_ARGUMENT;
     }
     let Ok(address) = GnAddress::from_u64(config.address) else {
@@ -91,24 +105,35 @@ pub extern "C" fn geostation_new_with(alloc: Global, out: &mut HandleOut, config
 
 /// The handle of a new station on the heap, or none where an allocation failed.
 fn make(alloc: Global, address: GnAddress, place: Place, config: &Config) -> Option<Box<Geostation>>
-    requires { HasSizes config.now }
+    requires sizes { HasSizes config.now }
+    requires limits { HasLimits config.now }
     ensures model { IfSome result (λ h. HoldsModel h.value.held.station
         (station_at address place config.now)) }
     ensures counts { IfSome result (λ h. counts_of h.value.counts ≡ nothing) }
+    ensures governor { IfSome result (λ h.
+        IsSomeAnd h.value.governor.value (IsNewGovernor (limits_of config.now))) }
 {
+    let governor = Governor::new(alloc, &limits_of(config)).ok()?;
+    let governor = Box::new(alloc, governor).ok()?;
     let station = station_at(alloc, address, place, config)?;
     let station = Box::new(alloc, station).ok()?;
-    match Box::new(alloc, Geostation::new(StationPtr::new(station))) {
+    let handle = Geostation::new(StationPtr::new(station), GovernorPtr::new(governor));
+    match Box::new(alloc, handle) {
         Ok(handle) => Some(handle),
         Err(failed) => {
-            let Geostation { mut held, .. } = failed.value;
+            let Geostation {
+                mut held,
+                mut governor,
+                ..
+            } = failed.value;
             drop(held.take(alloc));
+            drop(governor.take(alloc));
             None
         }
     }
 }
 
-/// Gives the memory of a handle back, and that of its station.
+/// Gives the memory of a handle back, and that of its station and its governor.
 #[unsafe(no_mangle)]
 pub unsafe extern "C" fn geostation_release(alloc: Global, s: *mut Geostation)
     ghost handle: { Handle }
@@ -120,6 +145,11 @@ pub unsafe extern "C" fn geostation_release(alloc: Global, s: *mut Geostation)
 fn release(raw_box: RawBox<Geostation, Global>) {
     let handle = raw_box.into_box();
     let alloc = *Box::allocator(&handle);
-    let Geostation { mut held, .. } = Box::into_inner(handle);
+    let Geostation {
+        mut held,
+        mut governor,
+        ..
+    } = Box::into_inner(handle);
     drop(held.take(alloc));
+    drop(governor.take(alloc));
 }

@@ -245,7 +245,7 @@ impl Packet {
     };
 }
 
-/// What a station is made of: `struct geostation_config` of C, 32 octets without gaps.
+/// What a station is made of: `struct geostation_config` of C, 64 octets without gaps.
 #[repr(C)]
 #[derive(Clone, Copy)]
 pub struct Config {
@@ -265,12 +265,65 @@ pub struct Config {
     pub mobile: u16,
     /// The sequence number of its first packet for an area.
     pub number: u16,
+    /// Frames that the station forwards per second, 0 to 1000000. 0 is no limit.
+    pub forward_rate: u32,
+    /// Frames that it may forward at once, 0 to 1000000. 0 is no limit.
+    pub forward_burst: u32,
+    /// Frames of each source that it forwards per second, 0 to 1000000. 0 is no limit.
+    pub source_rate: u32,
+    /// Frames of each source that it may forward at once, 0 to 1000000. 0 is no limit.
+    pub source_burst: u32,
+    /// Own packets that it sends per second, beacons aside, 0 to 1000000. 0 is no limit.
+    pub own_rate: u32,
+    /// Own packets that it may send at once, 0 to 1000000. 0 is no limit.
+    pub own_burst: u32,
+    /// A packet with more hops left than this is not forwarded, 0 to 255. 0 is no limit.
+    pub hop_cap: u32,
+    /// Whether a packet for an area that was delivered is not delivered again: 0 or not.
+    pub deliver_once: u32,
+}
+
+impl Config {
+    /// What `geostation_config_init` writes. The limits are those of `Limits::CHANNEL`.
+    pub(crate) const USUAL: Config = Config {
+        size: CONFIG_SIZE,
+        address: 0,
+        latitude: 0,
+        longitude: 0,
+        capacity: 64,
+        remember: 8,
+        mobile: 1,
+        number: 0,
+        forward_rate: 100,
+        forward_burst: 50,
+        source_rate: 20,
+        source_burst: 20,
+        own_rate: 50,
+        own_burst: 50,
+        hop_cap: 10,
+        deliver_once: 1,
+    };
 }
 
 /// The octets of a config.
-pub(crate) const CONFIG_SIZE: u64 = 32;
+pub(crate) const CONFIG_SIZE: u64 = 64;
 
-/// How often each thing happened: `struct geostation_counts` of C.
+/// How often each thing happened, as C sees it: `struct geostation_counts` of C.
+#[repr(C)]
+#[derive(Clone, Copy)]
+pub struct AllCounts {
+    /// What the handle counts.
+    pub told: ToldCounts,
+    /// Frames that were not forwarded, for a limit or as an echo.
+    pub suppressed: u64,
+    /// Payloads that were not delivered, as they were delivered before.
+    pub repeated: u64,
+    /// Own packets that were refused for their rate.
+    pub over_rate: u64,
+}
+
+/// How often each thing happened in calls of the station: the first part of `struct
+/// geostation_counts` of C.
 #[repr(C)]
 #[derive(Clone, Copy)]
 pub struct ToldCounts {

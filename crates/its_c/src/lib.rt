@@ -4,12 +4,17 @@
 //! (`status`), and writes what it gives into the caller's buffers; it has no state but the
 //! handle's, does no input or output and reads no clock. Its contract is the station's own over
 //! the handle's station, with what C finds in its memory in place of the answer.
+//!
+//! The handle has a governor next to its station. It limits what goes out: forwarded frames, and own
+//! packets of the calls that send one. A line of `geostation_handle_json` passes no governor.
 #![tactic(auto)]
 
 mod calls;
 mod config;
 mod counting;
 mod fault;
+mod governing;
+mod governor_ptr;
 mod handle;
 mod handle_out;
 mod heap;
@@ -28,6 +33,6 @@ mod told;
 pub use handle::Geostation;
 pub use handle_out::HandleOut;
 pub use layout::{
-    AreaRequest, Config, Packet, PacketArea, PacketMessage, Reception, ShbRequest, ToldCounts,
-    Vector,
+    AllCounts, AreaRequest, Config, Packet, PacketArea, PacketMessage, Reception, ShbRequest,
+    ToldCounts, Vector,
 };

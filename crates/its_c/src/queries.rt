@@ -36,6 +36,7 @@ pub extern "C" fn geostation_beacon_at(alloc: Global, s: &mut Geostation, jitter
         ((station_step m now (Own (Tick jitter))).answer ≡ Quiet)
         ⊎ ((station_step m now (Own (Tick jitter))).answer ≡ IsRefused MomentEarlier) }
     ensures never { 750 < jitter → result ≡ 2 ^ 64 - 1 }
+    ensures governor { s.new.governor.value ≡ s.old.governor.value }
     ensures unchanged { s.new.held.station ≡ s.old.held.station }
     ensures counts { s.new.counts ≡ s.old.counts }
 {
@@ -50,6 +51,7 @@ pub extern "C" fn geostation_beacon_at(alloc: Global, s: &mut Geostation, jitter
 pub extern "C" fn geostation_next_number(alloc: Global, s: &mut Geostation) -> u16
     ensures number { (m : StationModel) → HoldsModel s.old.held.station m →
         result ≡ m.next_number }
+    ensures governor { s.new.governor.value ≡ s.old.governor.value }
     ensures unchanged { s.new.held.station ≡ s.old.held.station }
     ensures counts { s.new.counts ≡ s.old.counts }
 {
@@ -71,6 +73,7 @@ pub extern "C" fn geostation_next_beacon(alloc: Global, s: &mut Geostation) -> u
         now < result → now ≤ 2 ^ 62 →
         ((station_step m now (Own (Tick 0))).answer ≡ Quiet)
         ⊎ ((station_step m now (Own (Tick 0))).answer ≡ IsRefused MomentEarlier) }
+    ensures governor { s.new.governor.value ≡ s.old.governor.value }
     ensures unchanged { s.new.held.station ≡ s.old.held.station }
     ensures counts { s.new.counts ≡ s.old.counts }
 {
@@ -95,6 +98,7 @@ pub extern "C" fn geostation_neighbour(
         TellsFound (neighbour_above m now after) result vector.new }
     ensures none { (m : StationModel) → HoldsModel s.old.held.station m → ¬ IsMoment m now →
         TellsFound None result vector.new }
+    ensures governor { s.new.governor.value ≡ s.old.governor.value }
     ensures unchanged { s.new.held.station ≡ s.old.held.station }
     ensures counts { s.new.counts ≡ s.old.counts }
 {
@@ -119,6 +123,7 @@ pub extern "C" fn geostation_look_up(
     ensures none { (m : StationModel) → HoldsModel s.old.held.station m → ¬ IsMoment m now →
         TellsFound None result vector.new }
     ensures group { IsGroup address → TellsFound None result vector.new }
+    ensures governor { s.new.governor.value ≡ s.old.governor.value }
     ensures unchanged { s.new.held.station ≡ s.old.held.station }
     ensures counts { s.new.counts ≡ s.old.counts }
 {

@@ -1,6 +1,10 @@
 //! The calls that take a frame, or a beginning of octets that is one.
 
 ghost use Rattle.std.specs.Prelude.{◌≡◌, ◌≢◌, ◌≤◌, ◌<◌, ℕ, pos, length, Err, IfOk, OnErr, List};
+ghost use Rattle.std.specs.Prelude.{OnOk, Some, false};
+ghost use Rattle.its_governor.specs.declared.governor.Governor.{Governor as Limited};
+ghost use Rattle.its_governor.specs.Governing.{governed_step, after_call, frame_in};
+ghost use Rattle.its_c.specs.Governed.{HasNoLimits};
 ghost use Rattle.its_linkframe.specs.Frames.{EncodesFrame, transmission_of};
 ghost use Rattle.its_linkframe.specs.Padding.{IsFrameEnd, IsUnpadded};
 ghost use Rattle.its_model.specs.Calls.{Call};
@@ -22,6 +26,7 @@ use crate::layout::Reception;
 use crate::reading::kind_number;
 use crate::status::NO_ROOM;
 use crate::told::told_outcome;
+use its_governor::Governor;
 use its_linkframe::{FrameView, LONGEST_FRAME, frame_length, read_frame, without_padding};
 use its_loctable::SortedTable;
 use its_station::{Outcome, Refused, Station};
@@ -38,7 +43,8 @@ pub extern "C" fn geostation_frame_length(octets: &[u8]) -> usize
 }
 
 /// Takes the octets that came, and writes what became of them; the frame in which the packet goes
-/// on is written into `relay`. Of at most 60 octets that begin with a frame the zeros behind it
+/// on is written into `relay`, if the limits let it pass. A payload that was delivered before is not
+/// delivered again. Of at most 60 octets that begin with a frame the zeros behind it
 /// are left out: Ethernet fills a short frame up with them. Refused by `NO_ROOM` for a buffer under
 /// 1468 octets, for its moment (S1, S2), for octets that are no frame (S3), whose fault the
 /// reception has, for a table that is full (S4), and for memory (S5).
@@ -54,10 +60,20 @@ pub extern "C" fn geostation_receive(
     ensures room { length relay.old < 1468 → (result ≡ pos 21) × (s.new ≡ s.old) }
     ensures step { 1468 ≤ length relay.old → (w : List ℕ) × IsUnpadded frame.now w
         × (call : Call) × IsFrameCall w call
-        × ((m : StationModel) → HoldsModel s.old.held.station m →
+        × ((m : StationModel) (g : Limited) → HoldsModel s.old.held.station m →
+        s.old.governor.value ≡ Some g →
+        IsTold Tells (ShowsReceived w (reception_in call) reception.new relay.new) counted result
+        s.old s.new (governed_step g now call (station_step m now call))
+        × (result ≡ pos 0 → s.new.governor.value
+        ≡ Some (after_call g now false (frame_in call) (station_step m now call).answer))) }
+    ensures unlimited { 1468 ≤ length relay.old → (w : List ℕ) × IsUnpadded frame.now w
+        × (call : Call) × IsFrameCall w call
+        × ((m : StationModel) (g : Limited) → HoldsModel s.old.held.station m →
+        s.old.governor.value ≡ Some g → HasNoLimits g →
         IsTold Tells (ShowsReceived w (reception_in call) reception.new relay.new) counted result
         s.old s.new (station_step m now call)) }
     ensures unchanged { result ≢ pos 0 → s.new.held.station ≡ s.old.held.station }
+    ensures governor { result ≢ pos 0 → s.new.governor.value ≡ s.old.governor.value }
     ensures nothing { result ≢ pos 0 → result ≢ pos 3 → reception.new ≡ nothing_received }
     ensures memory { result ≡ pos 5 → (w : List ℕ) × IsUnpadded frame.now w
         × (t : Transmission) × EncodesFrame t w
@@ -70,16 +86,19 @@ pub extern "C" fn geostation_receive(
     }
     let frame = without_padding(frame);
     let mut station = s.held.take(alloc);
-    let said = hear(&mut station, now, frame, reception);
+    let mut governor = s.governor.take(alloc);
+    let said = hear(&mut station, &mut governor, now, frame, reception);
+    s.governor.put(governor);
     s.held.put(station);
     count_received(&mut s.counts, &said);
     let heard = *reception;
     told_outcome(said, heard, frame, reception, relay)
 }
 
-/// Hands the station octets that came, and writes what is told of each frame.
+/// Passes the station octets that came, by its governor, and writes what is told of each frame.
 fn hear<'a>(
     station: &mut Station<SortedTable>,
+    governor: &mut Governor,
     now: u64,
     frame: &'a [u8],
     heard: &mut Reception,
@@ -88,20 +107,24 @@ fn hear<'a>(
     ensures heard { IsHeard heard.new }
     ensures step { (call : Call) × IsFrameCall frame.now call × (heard.new ≡ reception_in call)
         × ((m : StationModel) → RepresentsStation station.old m →
-        IsStepOf Tells result station.new (station_step m now call)) }
+        IsStepOf Tells result station.new
+        (governed_step governor.old now call (station_step m now call))
+        × OnOk result (governor.new
+        ≡ after_call governor.old now false (frame_in call) (station_step m now call).answer)) }
     ensures memory { result ≡ Err Refused.NoMemory → (t : Transmission) × EncodesFrame t frame.now
         × ((m : StationModel) → RepresentsStation station.old m →
         (verdict m now t ≡ stations.Verdict.Accept) × TakesMemory m now t) }
-    ensures unchanged { OnErr result (station.new ≡ station.old) }
+    ensures unchanged { OnErr result ((governor.new ≡ governor.old)
+        × (station.new ≡ station.old)) }
     ensures payload { IfOk result (DeliversEndOf frame.now) }
     ensures short_frame { IfOk result (SendsAtMost 1468) }
 {
     match read_frame(frame) {
         Ok(view) => {
             *heard = reception_of(&view);
-            station.receive_frame(now, &view)
+            governor.receive_frame(station, now, &view)
         }
-        Err(_) => station.receive(now, frame),
+        Err(_) => governor.receive(station, now, frame),
     }
 }
 

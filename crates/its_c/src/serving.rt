@@ -25,9 +25,9 @@ const LONGEST_ANSWER: usize = 16384;
 /// JSON object without a line feed, or nothing to a blank line, and the frame that is to be sent, if
 /// any. `number` is the line's among all, for the answer to one that can't be read. Refused by
 /// `NO_ROOM` for an `answer` under 16384 octets or a `frame` under 1468, and for memory (S5); a
-/// refusal of the station's is in the answer.
+/// refusal of the station's is in the answer. The limits don't apply to what a line asks for.
 #[unsafe(no_mangle)]
-pub extern "C" fn geostation_serve(
+pub extern "C" fn geostation_handle_json(
     alloc: Global,
     s: &mut Geostation,
     now: u64,
@@ -44,6 +44,7 @@ pub extern "C" fn geostation_serve(
         (told : Option ToldLine) × IsServedLine now number line.now m s.old s.new told
         × ShowsAnswer answer_length.new answer.new told
         × ShowsFitting frame_length.new frame.new (frame_in told) }
+    ensures governor { s.new.governor.value ≡ s.old.governor.value }
     ensures unchanged { result ≢ pos 0 → s.new.held.station ≡ s.old.held.station }
     ensures nothing { result ≢ pos 0 → (answer_length.new ≡ 0) × (frame_length.new ≡ 0) }
     ensures only { (result ≡ pos 0) ⊎ (result ≡ pos 5) ⊎ (result ≡ pos 21) }

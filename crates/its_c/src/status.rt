@@ -1,6 +1,6 @@
 //! The statuses that calls from C return.
 
-ghost use Rattle.std.specs.Prelude.{◌≡◌, pos};
+ghost use Rattle.std.specs.Prelude.{◌≡◌, ◌≢◌, pos};
 ghost use Rattle.its_c.specs.Status.{status_of};
 
 use its_btp::PortFault;
@@ -21,10 +21,15 @@ pub(crate) const BAD_ARGUMENT: i32 = 20;
 /// The buffer has no room for the longest frame.
 pub(crate) const NO_ROOM: i32 = 21;
 
+/// An own packet is over its rate.
+pub(crate) const OVER_RATE: i32 = 22;
+
 /// The status of a refusal: that of S1 is 1, and so on to S9; S8 is 8, 10 or 11.
 pub(crate) fn status_of(refused: Refused) -> i32
     ensures status { result ≡ status_of refused }
     ensures memory { result ≡ pos 5 → refused ≡ Refused.NoMemory }
+    ensures rate { result ≢ pos 22 }
+    ensures refused { result ≢ pos 0 }
 {
     match refused {
         Refused::MomentEarlier => 1,

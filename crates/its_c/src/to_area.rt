@@ -1,7 +1,9 @@
 //! The calls that send to an area: geobroadcasts and geoanycasts, written into the caller's buffer.
 
 ghost use Rattle.std.specs.Prelude.{◌≡◌, ◌≢◌, ◌≤◌, ◌<◌, pos, length};
-ghost use Rattle.std.specs.Prelude.{None, IfSome};
+ghost use Rattle.std.specs.Prelude.{None, Some, IfSome, IsTrue};
+ghost use Rattle.its_governor.specs.declared.governor.Governor.{Governor as Limited};
+ghost use Rattle.its_governor.specs.Governing.{is_over_rate, after_sent};
 ghost use Rattle.its_geometry.specs.Area.{GeoArea};
 ghost use Rattle.its_headers.specs.declared.kind.Kind.TheVariants as kinds;
 ghost use Rattle.its_model.specs.Calls.{Own, area_call};
@@ -11,13 +13,15 @@ ghost use Rattle.its_model.specs.Station.{first, moment_refusal, own_refusal};
 ghost use Rattle.its_station.specs.Counting.{counted_send};
 ghost use Rattle.its_station.specs.Requests.{TellsSent, gbc_request, kind_cast, kind_of_cast};
 ghost use Rattle.its_c.specs.Arguments.{IsAreaOf, gbc_asked};
+ghost use Rattle.its_c.specs.Governed.{IsOverRate};
 ghost use Rattle.its_c.specs.Open.{HoldsModel};
 ghost use Rattle.its_c.specs.Told.{IsTold, ShowsFrame};
 
 use crate::counting::count_send;
+use crate::governing::{is_over_rate, note_sent};
 use crate::handle::Geostation;
 use crate::layout::AreaRequest;
-use crate::status::{BAD_ARGUMENT, NO_ROOM};
+use crate::status::{BAD_ARGUMENT, NO_ROOM, OVER_RATE};
 use crate::told::told_frame;
 use its_geometry::Area;
 use its_gnvalue::{Lifetime, Place, TrafficClass};
@@ -27,8 +31,8 @@ use std::alloc::Global;
 
 /// Writes the frame of a geobroadcast (GBC), to all stations in an area, with the station's next
 /// sequence number. Refused by `NO_ROOM` for a buffer under 1468 octets, by `BAD_ARGUMENT` for a
-/// request that has no area, for its moment (S1, S2), for a payload over 1394 octets (S6), for no
-/// hop (S7), and for memory (S5).
+/// request that has no area, by `OVER_RATE` if own packets are over their rate, for its moment (S1,
+/// S2), for a payload over 1394 octets (S6), for no hop (S7), and for memory (S5).
 #[unsafe(no_mangle)]
 pub extern "C" fn geostation_send_gbc(
     alloc: Global,
@@ -41,13 +45,23 @@ pub extern "C" fn geostation_send_gbc(
 ) -> i32
     ensures room { length frame.old < 1468 → (result ≡ pos 21) × (s.new ≡ s.old) }
     ensures step { (m : StationModel) → 1468 ≤ length frame.old →
-        HoldsModel s.old.held.station m → result ≢ pos 20 →
+        HoldsModel s.old.held.station m → result ≢ pos 20 → result ≢ pos 22 →
         (area : GeoArea) × IsAreaOf request.now area ×
         IsTold TellsSent (ShowsFrame written.new frame.new) (counted_send kinds.Gbc) result
         s.old s.new
         (station_step m now (Own (SendGbc (gbc_asked request.now area payload.now)))) }
     ensures refused { result ≡ pos 20 → (area : GeoArea) → IsAreaOf request.now area → ⊥ }
     ensures argument { result ≡ pos 20 → s.new ≡ s.old }
+    ensures over_rate { result ≡ pos 22 → IsOverRate now s.old s.new }
+    ensures limit { (m : StationModel) (g : Limited) → 1468 ≤ length frame.old →
+        HoldsModel s.old.held.station m → s.old.governor.value ≡ Some g →
+        result ≢ pos 20 → IsTrue (is_over_rate g m.clock now) → result ≡ pos 22 }
+    ensures unlimited { (g : Limited) → s.old.governor.value ≡ Some g → g.own ≡ None →
+        result ≢ pos 22 }
+    ensures sent { (g : Limited) → s.old.governor.value ≡ Some g → result ≡ pos 0 →
+        s.new.governor.value ≡ Some (after_sent g now) }
+    ensures governor { result ≢ pos 0 → result ≢ pos 22 →
+        s.new.governor.value ≡ s.old.governor.value }
     ensures unchanged { result ≢ pos 0 → s.new.held.station ≡ s.old.held.station }
     ensures nothing { result ≢ pos 0 → written.new ≡ 0 }
     ensures memory { (m : StationModel) → HoldsModel s.old.held.station m → result ≡ pos 5 →
@@ -81,13 +95,23 @@ pub extern "C" fn geostation_send_gac(
 ) -> i32
     ensures room { length frame.old < 1468 → (result ≡ pos 21) × (s.new ≡ s.old) }
     ensures step { (m : StationModel) → 1468 ≤ length frame.old →
-        HoldsModel s.old.held.station m → result ≢ pos 20 →
+        HoldsModel s.old.held.station m → result ≢ pos 20 → result ≢ pos 22 →
         (area : GeoArea) × IsAreaOf request.now area ×
         IsTold TellsSent (ShowsFrame written.new frame.new) (counted_send kinds.Gac) result
         s.old s.new
         (station_step m now (Own (SendGac (gbc_asked request.now area payload.now)))) }
     ensures refused { result ≡ pos 20 → (area : GeoArea) → IsAreaOf request.now area → ⊥ }
     ensures argument { result ≡ pos 20 → s.new ≡ s.old }
+    ensures over_rate { result ≡ pos 22 → IsOverRate now s.old s.new }
+    ensures limit { (m : StationModel) (g : Limited) → 1468 ≤ length frame.old →
+        HoldsModel s.old.held.station m → s.old.governor.value ≡ Some g →
+        result ≢ pos 20 → IsTrue (is_over_rate g m.clock now) → result ≡ pos 22 }
+    ensures unlimited { (g : Limited) → s.old.governor.value ≡ Some g → g.own ≡ None →
+        result ≢ pos 22 }
+    ensures sent { (g : Limited) → s.old.governor.value ≡ Some g → result ≡ pos 0 →
+        s.new.governor.value ≡ Some (after_sent g now) }
+    ensures governor { result ≢ pos 0 → result ≢ pos 22 →
+        s.new.governor.value ≡ s.old.governor.value }
     ensures unchanged { result ≢ pos 0 → s.new.held.station ≡ s.old.held.station }
     ensures nothing { result ≢ pos 0 → written.new ≡ 0 }
     ensures memory { (m : StationModel) → HoldsModel s.old.held.station m → result ≡ pos 5 →
@@ -121,7 +145,7 @@ fn send_to_area(
 ) -> i32
     ensures room { length frame.old < 1468 → (result ≡ pos 21) × (s.new ≡ s.old) }
     ensures step { (m : StationModel) → 1468 ≤ length frame.old →
-        HoldsModel s.old.held.station m → result ≢ pos 20 →
+        HoldsModel s.old.held.station m → result ≢ pos 20 → result ≢ pos 22 →
         (area : GeoArea) × IsAreaOf request.now area ×
         IsTold TellsSent (ShowsFrame written.new frame.new) (counted_send (kind_cast cast))
         result s.old s.new
@@ -129,6 +153,16 @@ fn send_to_area(
         (Own (area_call (kind_of_cast cast) (gbc_asked request.now area payload.now)))) }
     ensures refused { result ≡ pos 20 → (area : GeoArea) → IsAreaOf request.now area → ⊥ }
     ensures argument { result ≡ pos 20 → s.new ≡ s.old }
+    ensures over_rate { result ≡ pos 22 → IsOverRate now s.old s.new }
+    ensures limit { (m : StationModel) (g : Limited) → 1468 ≤ length frame.old →
+        HoldsModel s.old.held.station m → s.old.governor.value ≡ Some g →
+        result ≢ pos 20 → IsTrue (is_over_rate g m.clock now) → result ≡ pos 22 }
+    ensures unlimited { (g : Limited) → s.old.governor.value ≡ Some g → g.own ≡ None →
+        result ≢ pos 22 }
+    ensures sent { (g : Limited) → s.old.governor.value ≡ Some g → result ≡ pos 0 →
+        s.new.governor.value ≡ Some (after_sent g now) }
+    ensures governor { result ≢ pos 0 → result ≢ pos 22 →
+        s.new.governor.value ≡ s.old.governor.value }
     ensures unchanged { result ≢ pos 0 → s.new.held.station ≡ s.old.held.station }
     ensures nothing { result ≢ pos 0 → written.new ≡ 0 }
     ensures memory { (m : StationModel) → HoldsModel s.old.held.station m → result ≡ pos 5 →
@@ -143,10 +177,14 @@ fn send_to_area(
     let Some(area) = area_of(request) else {
         return BAD_ARGUMENT;
     };
+    if is_over_rate(alloc, &mut s.held, &mut s.governor, now) {
+        return OVER_RATE;
+    }
     let r = area_request(request, area, payload);
     let mut station = s.held.take(alloc);
     let said = station.send_to_area(now, cast, &r);
     s.held.put(station);
+    note_sent(alloc, &mut s.governor, now, &said);
     count_send(&mut s.counts, cast.kind(), &said);
     told_frame(said, frame, written)
 }

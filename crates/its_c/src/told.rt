@@ -1,6 +1,6 @@
 //! What a call tells C: its status, and what it writes into the caller's buffers.
 
-ghost use Rattle.std.specs.Prelude.{◌≡◌, ◌≤◌, pos, length, Err, IfOk, IfSome};
+ghost use Rattle.std.specs.Prelude.{◌≡◌, ◌≢◌, ◌≤◌, pos, length, Err, IfOk, IfSome, IsOk, IsErr};
 ghost use Rattle.its_station.specs.Receiving.{DeliversEndOf, HandsOutEndOf, SendsAtMost};
 ghost use Rattle.its_c.specs.Status.{status_in};
 ghost use Rattle.its_c.specs.Told.{Holds, ShowsFrame, ShowsBeacon, ShowsHanded, ShowsReceived};
@@ -34,6 +34,9 @@ pub(crate) fn told_frame(
     ensures status { result ≡ status_in said }
     ensures shown { ShowsFrame written.new frame.new said }
     ensures memory { result ≡ pos 5 → said ≡ Err Refused.NoMemory }
+    ensures rate { result ≢ pos 22 }
+    ensures done { result ≡ pos 0 → IsOk said }
+    ensures failed { result ≢ pos 0 → IsErr said }
 {
     match said {
         Ok(octets) => {
@@ -83,6 +86,7 @@ pub(crate) fn told_outcome(
     ensures status { result ≡ status_in said.entry }
     ensures shown { ShowsReceived frame.now heard reception.new relay.new said.entry }
     ensures memory { result ≡ pos 5 → said.entry ≡ Err Refused.NoMemory }
+    ensures done { result ≡ pos 0 → IsOk said.entry }
 {
     match said {
         Ok(Outcome::Ignored(why)) => {

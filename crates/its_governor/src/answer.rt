@@ -17,7 +17,7 @@ ghost use Rattle.its_governor.specs.Governing.{is_over_rate};
 ghost use Rattle.its_governor.specs.Runs.{is_request, forwards, sends, is_forwarded, is_own_sent};
 ghost use Rattle.its_governor.specs.Runs.{IsGovernedStep, IsSourceOf, IsSourceDraw};
 
-use crate::governor::{Governor, Passed};
+use crate::governor::{Accepted, Governor, Passed};
 use its_gnvalue::NoMemory;
 use its_linkframe::laws::one_frame_fault;
 use its_linkframe::{FrameView, read_frame};
@@ -131,7 +131,7 @@ impl Governor {
         ensures own { self.new.own ≡ self.old.own }
     {
         match frame_of(call) {
-            Some(frame) => self.judge(moment, &frame, handed, sent),
+            Some(frame) => self.judge(moment, &frame, Accepted { handed, sent }),
             None => Passed {
                 delivers: handed,
                 forwards: false,

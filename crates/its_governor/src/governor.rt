@@ -27,6 +27,15 @@ pub struct WithheldCounts {
     pub over_rate: u64,
 }
 
+/// What a station does with a packet that it accepts.
+#[derive(Clone, Copy, Debug, PartialEq, Eq)]
+pub struct Accepted {
+    /// Whether it delivers the payload.
+    pub handed: bool,
+    /// Whether it would forward the packet.
+    pub sent: bool,
+}
+
 /// What passes of an accepted packet.
 #[derive(Clone, Copy, Debug, PartialEq, Eq)]
 pub struct Passed {
@@ -84,23 +93,29 @@ impl Governor {
 
     /// What passes of a packet that a station accepted: whether it is delivered, and whether it is
     /// forwarded. A packet that is remembered as delivered passes neither way.
-    pub fn judge(&mut self, now: u64, frame: &FrameView<'_>, handed: bool, sent: bool) -> Passed
-        ensures passed { result ≡ passed_of self.old now (transmission_of frame.now) handed sent }
-        ensures state { self.new
-            ≡ after_judging self.old now (transmission_of frame.now) handed sent }
+    pub fn judge(&mut self, now: u64, frame: &FrameView<'_>, accepted: Accepted) -> Passed
+        ensures passed { result ≡ passed_of self.old now (transmission_of frame.now)
+            accepted.handed accepted.sent }
+        ensures state { self.new ≡ after_judging self.old now (transmission_of frame.now)
+            accepted.handed accepted.sent }
         ensures once { IsTrue (is_echo self.old.delivered now (transmission_of frame.now)) →
             IsFalse result.delivers }
         ensures open { IsTrue (may_forward self.old now (transmission_of frame.now)) →
-            result ≡ record { delivers = handed; forwards = sent } }
-        ensures deliveries { self.old.delivered ≡ None → result.delivers ≡ handed }
+            result ≡ record { delivers = accepted.handed; forwards = accepted.sent } }
+        ensures deliveries { self.old.delivered ≡ None → result.delivers ≡ accepted.handed }
         ensures room { IsDraw self.old.forward result.forwards now self.new.forward }
         ensures source { IsDrawOf self.old.sources (transmission_of frame.now).pdu.vector.address
             result.forwards now self.new.sources }
     {
-        let forwards = sent && self.may_forward(now, frame);
-        let delivers = handed && !self.is_echo(now, frame);
-        self.note_forwarding(now, frame.packet.vector().address(), sent, forwards);
-        self.note_delivery(now, frame, handed, delivers);
+        let forwards = accepted.sent && self.may_forward(now, frame);
+        let delivers = accepted.handed && !self.is_echo(now, frame);
+        self.note_forwarding(
+            now,
+            frame.packet.vector().address(),
+            accepted.sent,
+            forwards,
+        );
+        self.note_delivery(now, frame, accepted.handed, delivers);
         Passed { delivers, forwards }
     }
 

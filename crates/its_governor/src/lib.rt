@@ -36,7 +36,7 @@ mod sources;
 
 pub use answer::GovernedReply;
 pub use bucket::Bucket;
-pub use governor::{Governor, Passed, WithheldCounts};
+pub use governor::{Accepted, Governor, Passed, WithheldCounts};
 pub use memory::{DeliveredPacket, DeliveryMemory};
 pub use rate::{Limits, Rate};
 pub use run::GovernedRan;

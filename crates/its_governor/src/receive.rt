@@ -1,20 +1,23 @@
 //! A frame that a station behind a governor receives.
 
-ghost use Rattle.std.specs.Prelude.{◌≡◌, ℕ, List, Option, Some, None, IfOk, OnErr, OnOk, true, false};
+ghost use Rattle.std.specs.Prelude.{◌≡◌, ℕ, List, Option, Some, None, Err, IfOk, OnErr, OnOk};
+ghost use Rattle.std.specs.Prelude.{true, false};
 ghost use Rattle.its_model.specs.Packet.{Transmission};
 ghost use Rattle.its_model.specs.Calls.{Answer, Call};
 ghost use Rattle.its_model.specs.Calls.Call.{Receive};
-ghost use Rattle.its_model.specs.Station.{StationModel, station_step};
+ghost use Rattle.its_model.specs.Station as stations;
+ghost use Rattle.its_model.specs.Station.{StationModel, station_step, verdict};
 ghost use Rattle.its_headers.specs.Encoding.{payload_of};
-ghost use Rattle.its_linkframe.specs.Frames.{transmission_of};
+ghost use Rattle.its_linkframe.specs.Frames.{EncodesFrame, IsFrame, transmission_of};
 ghost use Rattle.its_station.specs.State.{RepresentsStation};
 ghost use Rattle.its_station.specs.Steps.{IsStepOf};
-ghost use Rattle.its_station.specs.Receiving.{IsFrameCall, Tells, DeliversEndOf, SendsAtMost};
+ghost use Rattle.its_station.specs.Receiving.{IsFrameCall, TakesMemory, Tells, DeliversEndOf};
+ghost use Rattle.its_station.specs.Receiving.{SendsAtMost};
 ghost use Rattle.its_governor.specs.Governing.{frame_in, governed, governed_step, after_call};
 ghost use Rattle.its_governor.specs.Governing.{IsDraw};
 ghost use Rattle.its_governor.specs.Runs.{outcome_forwards};
 
-use crate::governor::Governor;
+use crate::governor::{Accepted, Governor};
 use its_linkframe::{FrameView, read_frame};
 use its_loctable::LocationStore;
 use its_station::{Outcome, Refused, Station};
@@ -22,7 +25,7 @@ use its_station::{Outcome, Refused, Station};
 impl Governor {
     /// Receives the octets that came, as `Station::receive` does, and keeps what passes of its
     /// outcome: a frame that doesn't pass is not sent, and a payload that was delivered before is
-    /// not delivered. It is refused as there, and then nothing changes.
+    /// not delivered. It is refused as there, also for memory, and then nothing changes.
     pub fn receive<'a, S: LocationStore>(
         &mut self,
         station: &mut Station<S>,
@@ -35,6 +38,10 @@ impl Governor {
             (governed_step self.old now call (station_step s now call))
             × OnOk result (self.new
             ≡ after_call self.old now false (frame_in call) (station_step s now call).answer)) }
+        ensures memory { (s : StationModel) (t : Transmission) → RepresentsStation station.old s →
+            EncodesFrame t frame.now → result ≡ Err Refused.NoMemory →
+            (verdict s now t ≡ stations.Verdict.Accept) × TakesMemory s now t }
+        ensures junk { result ≡ Err Refused.NoMemory → IsFrame frame.now }
         ensures unchanged { OnErr result ((self.new ≡ self.old) × (station.new ≡ station.old)) }
         ensures forward { IfOk result (λ outcome.
             IsDraw self.old.forward (outcome_forwards outcome) now self.new.forward) }
@@ -65,6 +72,10 @@ impl Governor {
             × OnOk result (self.new
             ≡ after_call self.old now false (Some (transmission_of frame.now))
             (station_step s now (Receive (transmission_of frame.now))).answer) }
+        ensures memory { (s : StationModel) → RepresentsStation station.old s →
+            result ≡ Err Refused.NoMemory →
+            (verdict s now (transmission_of frame.now) ≡ stations.Verdict.Accept)
+            × TakesMemory s now (transmission_of frame.now) }
         ensures unchanged { OnErr result ((self.new ≡ self.old) × (station.new ≡ station.old)) }
         ensures forward { IfOk result (λ outcome.
             IsDraw self.old.forward (outcome_forwards outcome) now self.new.forward) }
@@ -94,7 +105,11 @@ impl Governor {
         match outcome {
             Outcome::Ignored(why) => Outcome::Ignored(why),
             Outcome::Accepted { handed, sent } => {
-                let passed = self.judge(now, frame, handed.is_some(), sent.is_some());
+                let accepted = Accepted {
+                    handed: handed.is_some(),
+                    sent: sent.is_some(),
+                };
+                let passed = self.judge(now, frame, accepted);
                 Outcome::Accepted {
                     handed: if passed.delivers { handed } else { None },
                     sent: if passed.forwards { sent } else { None },

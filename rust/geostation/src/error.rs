@@ -36,6 +36,8 @@ pub enum Error {
     BadArgument,
     /// The buffer is shorter than [`FRAME_MAX`](crate::FRAME_MAX). It has no code.
     NoRoom,
+    /// Own packets are over their rate (`own_rate` and `own_burst`). It has no code.
+    OverRate,
     /// A status that this version of the crate does not know. It has no code.
     Unknown(i32),
 }
@@ -63,6 +65,7 @@ impl Error {
             11 => Error::PortNotOpen,
             20 => Error::BadArgument,
             21 => Error::NoRoom,
+            22 => Error::OverRate,
             other => Error::Unknown(other),
         })
     }
@@ -83,6 +86,7 @@ impl Error {
             Error::PortNotOpen => 11,
             Error::BadArgument => 20,
             Error::NoRoom => 21,
+            Error::OverRate => 22,
             Error::Unknown(status) => *status,
         }
     }
@@ -168,7 +172,9 @@ impl fmt::Display for Code {
             Code::OfCall(Error::PortAlreadyOpen) => f.write_str("S8 B2"),
             Code::OfCall(Error::PortsFull) => f.write_str("S8 B3"),
             Code::OfCall(Error::PortNotOpen) => f.write_str("S8 B4"),
-            Code::OfCall(Error::BadArgument | Error::NoRoom | Error::Unknown(_)) => Ok(()),
+            Code::OfCall(
+                Error::BadArgument | Error::NoRoom | Error::OverRate | Error::Unknown(_),
+            ) => Ok(()),
             Code::OfCall(error) => write!(f, "S{}", error.status()),
         }
     }

@@ -2,7 +2,7 @@
 //!
 //! All `unsafe` code of this crate is here, one block per call. It rests on these facts:
 //!
-//! - A [`Handle`] comes from `geostation_new_with` and is freed once, when it is dropped.
+//! - A [`Handle`] comes from `geostation_new_from_config` and is freed once, when it is dropped.
 //! - A handle isn't `Sync`, so it can't be in two calls at once.
 //! - Pointers and lengths are those of slices and references.
 //! - What a call writes to is borrowed mutably, so it overlaps no other argument.
@@ -51,6 +51,14 @@ pub(crate) struct Config {
     pub(crate) remember: u16,
     pub(crate) mobile: u16,
     pub(crate) number: u16,
+    pub(crate) forward_rate: u32,
+    pub(crate) forward_burst: u32,
+    pub(crate) source_rate: u32,
+    pub(crate) source_burst: u32,
+    pub(crate) own_rate: u32,
+    pub(crate) own_burst: u32,
+    pub(crate) hop_cap: u32,
+    pub(crate) deliver_once: u32,
 }
 
 /// `struct geostation_counts`.
@@ -64,6 +72,9 @@ pub(crate) struct Counts {
     pub(crate) ignored: [u64; 4],
     pub(crate) refused: [u64; 6],
     pub(crate) sent: [u64; 4],
+    pub(crate) suppressed: u64,
+    pub(crate) repeated: u64,
+    pub(crate) over_rate: u64,
 }
 
 /// `struct geostation_shb_request`.
@@ -152,7 +163,7 @@ const _: () = {
     use std::mem::size_of;
     assert!(size_of::<Reception>() == 72 && size_of::<Packet>() == 120);
     assert!(size_of::<Message>() == 24);
-    assert!(size_of::<Config>() == 32 && size_of::<Counts>() == 144);
+    assert!(size_of::<Config>() == 64 && size_of::<Counts>() == 168);
     assert!(size_of::<ShbRequest>() == 6 && size_of::<AreaRequest>() == 24);
     assert!(size_of::<Vector>() == 32 && size_of::<Area>() == 16);
 };
@@ -170,7 +181,7 @@ type SendToArea = unsafe extern "C" fn(
 
 extern "C" {
     fn geostation_config_init(config: *mut Config);
-    fn geostation_new_with(out: *mut *mut Opaque, config: *const Config) -> c_int;
+    fn geostation_new_from_config(out: *mut *mut Opaque, config: *const Config) -> c_int;
     fn geostation_free(s: *mut Opaque);
     fn geostation_move(
         s: *mut Opaque,
@@ -212,7 +223,7 @@ extern "C" {
         room: usize,
         length: *mut usize,
     ) -> c_int;
-    fn geostation_send_shb_for(
+    fn geostation_send_shb_with_lifetime(
         s: *mut Opaque,
         now: u64,
         request: *const ShbRequest,
@@ -252,7 +263,7 @@ extern "C" {
         relay: *mut u8,
         room: usize,
     ) -> c_int;
-    fn geostation_serve(
+    fn geostation_handle_json(
         s: *mut Opaque,
         now: u64,
         number: u64,
@@ -288,7 +299,7 @@ unsafe impl Send for Handle {}
 
 impl Drop for Handle {
     fn drop(&mut self) {
-        // SAFETY: the handle comes from `geostation_new_with`, and isn't used after this.
+        // SAFETY: the handle comes from `geostation_new_from_config`, and isn't used after this.
         unsafe { geostation_free(self.0.as_ptr()) }
     }
 }
@@ -297,7 +308,7 @@ impl Handle {
     pub(crate) fn new(config: &Config) -> Result<Handle, c_int> {
         let mut out = null_mut();
         // SAFETY: the call writes a handle or NULL to `out`, and only reads the config.
-        let status = unsafe { geostation_new_with(&mut out, config) };
+        let status = unsafe { geostation_new_from_config(&mut out, config) };
         NonNull::new(out).map(Handle).ok_or(status)
     }
 
@@ -372,7 +383,7 @@ impl Handle {
         (status, length)
     }
 
-    pub(crate) fn send_shb_for(
+    pub(crate) fn send_shb_with_lifetime(
         &mut self,
         now: u64,
         request: &ShbRequest,
@@ -385,7 +396,7 @@ impl Handle {
         let (given, count) = (payload.as_ptr(), payload.len());
         // SAFETY: as for `geostation_send_shb`.
         let status = unsafe {
-            geostation_send_shb_for(
+            geostation_send_shb_with_lifetime(
                 s,
                 now,
                 request,
@@ -453,7 +464,7 @@ impl Handle {
     }
 
     /// Afterwards, `answer` holds exactly the answer.
-    pub(crate) fn serve(
+    pub(crate) fn handle_json(
         &mut self,
         now: u64,
         number: u64,
@@ -469,7 +480,7 @@ impl Handle {
         // SAFETY: the handle is valid, and in no other call; the three slices have the given
         // lengths, and don't overlap, as two of them are borrowed mutably.
         let status = unsafe {
-            geostation_serve(
+            geostation_handle_json(
                 s,
                 now,
                 number,

@@ -36,7 +36,7 @@ pub use buffer::Buffer;
 pub use error::{Code, Error, Fault};
 pub use frame::{frame_length, read_frame, Area, Content, Message, Packet, Shape, Vector};
 pub use station::{
-    AreaRequest, Config, Counts, IgnoreReason, IgnoredCounts, Neighbours, Place, Received,
+    AreaRequest, Config, Counts, IgnoreReason, IgnoredCounts, Limits, Neighbours, Place, Received,
     RefusedCounts, SentCounts, ShbRequest, Station,
 };
 

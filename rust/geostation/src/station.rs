@@ -11,6 +11,58 @@ use std::iter::FusedIterator;
 const GBC: u32 = 3;
 const GAC: u32 = 4;
 
+/// Limits on what a station sends. A rate is in frames per second, and a burst in frames that may go
+/// out at once, both 0 to 1000000. There is no limit if the rate or the burst is 0.
+#[derive(Clone, Copy, Debug, PartialEq, Eq, Hash)]
+pub struct Limits {
+    /// All frames that the station forwards, per second.
+    pub forward_rate: u32,
+    /// All frames that the station may forward at once.
+    pub forward_burst: u32,
+    /// Frames of each source that the station forwards, per second.
+    pub source_rate: u32,
+    /// Frames of each source that the station may forward at once.
+    pub source_burst: u32,
+    /// Own packets without beacons, per second.
+    pub own_rate: u32,
+    /// Own packets without beacons that may be sent at once.
+    pub own_burst: u32,
+    /// Packets with more hops left are not forwarded. 0 is no cap.
+    pub hop_cap: u8,
+    /// Whether a GBC or GAC that was delivered is not delivered again.
+    pub deliver_once: bool,
+}
+
+impl Limits {
+    /// No limit: all frames pass.
+    pub const NONE: Limits = Limits {
+        forward_rate: 0,
+        forward_burst: 0,
+        source_rate: 0,
+        source_burst: 0,
+        own_rate: 0,
+        own_burst: 0,
+        hop_cap: 0,
+        deliver_once: false,
+    };
+}
+
+impl Default for Limits {
+    /// The limits that a channel of 6 Mbit/s bears.
+    fn default() -> Limits {
+        Limits {
+            forward_rate: 100,
+            forward_burst: 50,
+            source_rate: 20,
+            source_burst: 20,
+            own_rate: 50,
+            own_burst: 50,
+            hop_cap: 10,
+            deliver_once: true,
+        }
+    }
+}
+
 /// The parameters of a station.
 #[derive(Clone, Copy, Debug, PartialEq, Eq, Hash)]
 #[non_exhaustive]
@@ -30,14 +82,25 @@ pub struct Config {
     /// Sequence number of its first packet for an area. Choose it at random at each start: other
     /// stations remember the numbers from before a restart for 20 s.
     pub number: u16,
+    /// Limits on what it sends.
+    pub limits: Limits,
 }
 
 impl Config {
     /// Returns the parameters of a mobile station with this address and position. The location
-    /// table has 64 entries, each duplicate packet list has length 8, and the first sequence number
-    /// is 0.
+    /// table has 64 entries, each duplicate packet list has length 8, the first sequence number is 0,
+    /// and the limits are the defaults.
     pub fn new(address: u64, latitude: i32, longitude: i32) -> Config {
-        Config { address, latitude, longitude, capacity: 64, remember: 8, mobile: true, number: 0 }
+        Config {
+            address,
+            latitude,
+            longitude,
+            capacity: 64,
+            remember: 8,
+            mobile: true,
+            number: 0,
+            limits: Limits::default(),
+        }
     }
 }
 
@@ -213,6 +276,12 @@ pub struct Counts {
     pub refused: RefusedCounts,
     /// The station's own packets.
     pub sent: SentCounts,
+    /// Frames that were not forwarded, for a limit or as an echo.
+    pub suppressed: u64,
+    /// Payloads that were not delivered, because they were delivered before.
+    pub repeated: u64,
+    /// Own packets that were refused for their rate ([`Error::OverRate`]).
+    pub over_rate: u64,
 }
 
 impl Counts {
@@ -235,6 +304,9 @@ impl Counts {
                 other,
             },
             sent: SentCounts { beacons, single_hop, geobroadcasts, geoanycasts },
+            suppressed: told.suppressed,
+            repeated: told.repeated,
+            over_rate: told.over_rate,
         }
     }
 }
@@ -272,6 +344,7 @@ impl Station {
     /// - [`Error::BadArgument`] if a parameter is out of its range.
     /// - [`Error::NoMemory`] if an allocation fails.
     pub fn new(config: &Config) -> Result<Station, Error> {
+        let limits = config.limits;
         let config = ffi::Config {
             address: config.address,
             latitude: config.latitude,
@@ -280,6 +353,14 @@ impl Station {
             remember: config.remember.into(),
             mobile: config.mobile.into(),
             number: config.number,
+            forward_rate: limits.forward_rate,
+            forward_burst: limits.forward_burst,
+            source_rate: limits.source_rate,
+            source_burst: limits.source_burst,
+            own_rate: limits.own_rate,
+            own_burst: limits.own_burst,
+            hop_cap: limits.hop_cap.into(),
+            deliver_once: limits.deliver_once.into(),
             ..ffi::usual_config()
         };
         match Handle::new(&config) {
@@ -379,6 +460,7 @@ impl Station {
     ///   bytes.
     /// - [`Error::NoMemory`] if an allocation fails.
     /// - [`Error::NoRoom`] if the buffer is too short.
+    /// - [`Error::OverRate`] if own packets are over their rate.
     pub fn send_shb<'a, B: Buffer + ?Sized>(
         &mut self,
         now: u64,
@@ -398,7 +480,7 @@ impl Station {
     /// # Errors
     ///
     /// Those of [`Station::send_shb`].
-    pub fn send_shb_for<'a, B: Buffer + ?Sized>(
+    pub fn send_shb_with_lifetime<'a, B: Buffer + ?Sized>(
         &mut self,
         now: u64,
         request: &ShbRequest,
@@ -408,8 +490,26 @@ impl Station {
     ) -> Result<&'a [u8], Error> {
         let ShbRequest { port, info, traffic_class } = *request;
         let request = ffi::ShbRequest { port, info, traffic_class };
-        let told = self.handle.send_shb_for(now, &request, lifetime, payload, buffer.room());
+        let handle = &mut self.handle;
+        let told = handle.send_shb_with_lifetime(now, &request, lifetime, payload, buffer.room());
         written(buffer, told)
+    }
+
+    /// The former name of [`Station::send_shb_with_lifetime`].
+    ///
+    /// # Errors
+    ///
+    /// Those of [`Station::send_shb`].
+    #[deprecated(note = "use send_shb_with_lifetime")]
+    pub fn send_shb_for<'a, B: Buffer + ?Sized>(
+        &mut self,
+        now: u64,
+        request: &ShbRequest,
+        lifetime: u8,
+        payload: &[u8],
+        buffer: &'a mut B,
+    ) -> Result<&'a [u8], Error> {
+        self.send_shb_with_lifetime(now, request, lifetime, payload, buffer)
     }
 
     /// Writes and returns the frame of a geobroadcast (GBC), for all stations in an area.
@@ -440,6 +540,7 @@ impl Station {
     /// - [`Error::HopLimitZero`] if the hop limit is 0.
     /// - [`Error::NoMemory`] if an allocation fails.
     /// - [`Error::NoRoom`] if the buffer is too short.
+    /// - [`Error::OverRate`] if own packets are over their rate.
     pub fn send_gbc<'a, B: Buffer + ?Sized>(
         &mut self,
         now: u64,
@@ -571,11 +672,29 @@ impl Station {
     /// # fn main() -> Result<(), geostation::Error> {
     /// let mut station = Station::new(&Config::new(0x1400_0200_0000_0001, 0, 0))?;
     /// let (mut answer, mut frame) = (Vec::new(), Vec::new());
-    /// station.serve(7, 1, br#"{"do":"open","port":2002}"#, &mut answer, &mut frame)?;
+    /// station.handle_json(7, 1, br#"{"do":"open","port":2002}"#, &mut answer, &mut frame)?;
     /// assert_eq!(answer, br#"{"at":7,"result":"opened"}"#);
     /// # Ok(())
     /// # }
     /// ```
+    pub fn handle_json<'b, B: Buffer + ?Sized>(
+        &mut self,
+        now: u64,
+        number: u64,
+        line: &[u8],
+        answer: &mut Vec<u8>,
+        buffer: &'b mut B,
+    ) -> Result<&'b [u8], Error> {
+        let done = self.handle.handle_json(now, number, line, answer, buffer.room());
+        written(buffer, done)
+    }
+
+    /// The former name of [`Station::handle_json`].
+    ///
+    /// # Errors
+    ///
+    /// Those of [`Station::handle_json`].
+    #[deprecated(note = "use handle_json")]
     pub fn serve<'b, B: Buffer + ?Sized>(
         &mut self,
         now: u64,
@@ -584,8 +703,7 @@ impl Station {
         answer: &mut Vec<u8>,
         buffer: &'b mut B,
     ) -> Result<&'b [u8], Error> {
-        let done = self.handle.serve(now, number, line, answer, buffer.room());
-        written(buffer, done)
+        self.handle_json(now, number, line, answer, buffer)
     }
 
     /// Returns the sequence number of the station's next packet for an area.

@@ -3,7 +3,7 @@
 
 use geostation::{
     frame_length, read_frame, Area, AreaRequest, Config, Content, Error, Fault, IgnoreReason,
-    Place, Shape, ShbRequest, Station, FRAME_MAX, LAST_MOMENT, PAYLOAD_MAX,
+    Limits, Place, Shape, ShbRequest, Station, FRAME_MAX, LAST_MOMENT, PAYLOAD_MAX,
 };
 
 const A: u64 = 0x1400_0200_0000_0001;
@@ -171,7 +171,7 @@ fn a_fix_a_lifetime_and_a_number() {
     let place = Place { latitude: 5, longitude: 6, accurate: false, speed: 0, heading: 0 };
     a.move_at(1000, 4_294_967_295, &place).unwrap();
     let request = ShbRequest { port: 9, ..ShbRequest::default() };
-    let frame = a.send_shb_for(1000, &request, 0x05, b"x", &mut out).unwrap();
+    let frame = a.send_shb_with_lifetime(1000, &request, 0x05, b"x", &mut out).unwrap();
     let told = read_frame(frame).unwrap();
     assert_eq!((0x05, 4_294_967_295, 5), (told.lifetime, told.vector.timestamp, 5));
     assert_eq!((5, 6, false), (told.vector.latitude, told.vector.longitude, false));
@@ -212,20 +212,77 @@ fn lines_are_answered_and_frames_are_those_of_calls() {
     let (mut twin, _) = pair();
     let (mut answer, mut frame, mut other) = (Vec::new(), Vec::new(), Vec::new());
     let line = br#"{"id":1,"do":"shb","port":2002,"info":7,"tc":2,"payload":"6869"}"#;
-    let sent = a.serve(5, 1, line, &mut answer, &mut frame).unwrap();
+    let sent = a.handle_json(5, 1, line, &mut answer, &mut frame).unwrap();
     let request = ShbRequest { port: 2002, info: 7, traffic_class: 2 };
     assert_eq!(twin.send_shb(5, &request, b"hi", &mut other).unwrap(), sent);
     let digits: String = frame.iter().map(|octet| format!("{octet:02x}")).collect();
     let told = format!(r#"{{"id":1,"at":5,"result":"sent","frame":"{digits}"}}"#);
     assert_eq!(answer, told.as_bytes());
 
-    assert!(a.serve(5, 2, b" ", &mut answer, &mut frame).unwrap().is_empty());
+    assert!(a.handle_json(5, 2, b" ", &mut answer, &mut frame).unwrap().is_empty());
     assert!(answer.is_empty());
-    a.serve(5, 3, br#"{"do":"open"}"#, &mut answer, &mut frame).unwrap();
+    a.handle_json(5, 3, br#"{"do":"open"}"#, &mut answer, &mut frame).unwrap();
     assert!(answer.starts_with(br#"{"line":3,"error":"port","reason":""#));
     let mut short = [0; FRAME_MAX - 1];
-    assert_eq!(a.serve(5, 3, line, &mut answer, &mut short), Err(Error::NoRoom));
+    assert_eq!(a.handle_json(5, 3, line, &mut answer, &mut short), Err(Error::NoRoom));
     assert!(answer.is_empty());
+}
+
+fn limited(address: u64, longitude: i32, limits: Limits) -> Station {
+    let mut config = Config::new(address, 449, longitude);
+    config.limits = limits;
+    Station::new(&config).unwrap()
+}
+
+/// Two at once and ten per second: each takes 100 ms to come back.
+#[test]
+fn own_packets_over_their_rate_are_refused() {
+    let mut a = limited(A, 0, Limits { own_rate: 10, own_burst: 2, ..Limits::NONE });
+    let (mut out, request) = (Vec::new(), ShbRequest::default());
+    a.send_shb(1000, &request, b"", &mut out).unwrap();
+    a.send_gbc(1000, &warning(), b"", &mut out).unwrap();
+    for now in [1000, 1099] {
+        let refused = a.send_gbc(now, &warning(), b"", &mut out).unwrap_err();
+        assert_eq!((Error::OverRate, 22, 1), (refused, refused.status(), a.next_number()));
+        assert_eq!("own packets are over their rate", refused.to_string());
+        assert_eq!("", refused.code().to_string());
+    }
+    a.send_gbc(1100, &warning(), b"", &mut out).unwrap();
+    let counts = a.counts();
+    assert_eq!((0, 0, 2), (counts.suppressed, counts.repeated, counts.over_rate));
+    assert_eq!((1, 2), (counts.sent.single_hop, counts.sent.geobroadcasts));
+    let mut config = Config::new(A, 449, 0);
+    config.limits.own_rate = 1_000_001;
+    assert_eq!(Some(Error::BadArgument), Station::new(&config).err());
+}
+
+#[test]
+fn forwarded_frames_hops_and_echoes_have_limits() {
+    let mut a = limited(A, 0, Limits::NONE);
+    let mut config = Config::new(B, 449, 900);
+    config.remember = 1;
+    config.limits =
+        Limits { forward_rate: 10, forward_burst: 2, source_rate: 0, hop_cap: 4, ..config.limits };
+    let mut b = Station::new(&config).unwrap();
+    b.open_port(0, 2002).unwrap();
+    let (mut sent, mut relay, mut passed) = (Vec::new(), Vec::new(), Vec::new());
+    let mut second = Vec::new();
+    for hops in [5, 4, 4, 4] {
+        let request = AreaRequest { max_hops: hops, ..warning() };
+        let frame = a.send_gbc(10, &request, b"x", &mut sent).unwrap();
+        let got = b.receive(10, frame, &mut relay).unwrap();
+        assert!(got.delivered.is_some());
+        passed.push(got.relay.is_some());
+        if passed.len() == 2 {
+            second = frame.to_vec();
+        }
+    }
+    assert_eq!(vec![false, true, true, false], passed);
+    let echo = b.receive(10, &second, &mut relay).unwrap();
+    assert_eq!((None, None, None), (echo.ignored, echo.delivered, echo.relay));
+    let counts = b.counts();
+    assert_eq!((3, 1, 0), (counts.suppressed, counts.repeated, counts.over_rate));
+    assert_eq!((4, 2), (counts.delivered, counts.relayed));
 }
 
 #[test]

@@ -18,4 +18,5 @@ invariant_of-s c =
           (to_z w16 (of_z w16 c.args.speed)) c.args.heading))) c.args.s.now.held.station
           c.put.new.self.station c.move_to-said.ensures.step c.move_to-said.ensures.unchanged
           (search rules) (search rules) c.args.s.now.represents;
+      governs = c.args.s.now.governs;
     }

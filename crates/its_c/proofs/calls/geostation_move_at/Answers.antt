@@ -18,4 +18,5 @@ invariant_of-s c =
           c.args.s.now.held.station
           c.put.new.self.station c.move_at-said.ensures.step c.move_at-said.ensures.unchanged
           (search rules) (search rules) c.args.s.now.represents;
+      governs = c.args.s.now.governs;
     }

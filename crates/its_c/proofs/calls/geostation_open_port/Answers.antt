@@ -14,4 +14,5 @@ invariant_of-s c =
           (λ m. station_step m c.args.now (Own (Open c.args.port))) c.args.s.now.held.station
           c.put.new.self.station c.open-said.ensures.step c.open-said.ensures.unchanged
           (search rules) (search rules) c.args.s.now.represents;
+      governs = c.args.s.now.governs;
     }

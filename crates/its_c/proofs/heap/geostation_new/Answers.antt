@@ -7,7 +7,7 @@ use Rattle.its_c.proofs.heap.geostation_new.Goals as goal
 
 pub returns-clause-taken : goal.returns-clause-taken
 returns-clause-taken c = λ other.
-    let taken = c.geostation_new_with.ensures.taken
+    let taken = c.geostation_new_from_config.ensures.taken
     (λ is. other (ap (λ (z : ℤ). to_z w32 (of_z w32 z)) is)) in (
       taken.1,
       subst IsLatitude (to_z-of_z {w = w32} c.ranges.latitude) taken.2,

@@ -7,4 +7,5 @@ invariant_of-s c =
     record {
       represents = still_open c.args.s.now.held.station c.put.new.self.station
           c.take-station.result.value (search rules) (search rules) c.args.s.now.represents;
+      governs = c.args.s.now.governs;
     }

@@ -14,6 +14,7 @@ invariant_of-s c =
           (λ m. station_step m c.args.now (Own (Tick c.args.jitter))) c.args.s.now.held.station
           c.put.new.self.station c.tick-said.ensures.step c.tick-said.ensures.unchanged
           (search rules) (search rules) c.args.s.now.represents;
+      governs = c.args.s.now.governs;
     }
 
 pub returns-clause-step : goal.returns-clause-step

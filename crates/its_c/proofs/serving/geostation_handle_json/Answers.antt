@@ -5,7 +5,7 @@ use Rattle.its_pipe.specs.Serving.{TellsLine, told_in}
 use Rattle.its_pipe.specs.declared.response.Response.{Response}
 use Rattle.its_c.specs.Counted.{counts_of}
 use Rattle.its_c.proofs.Opens.{held_model, stays_asked}
-use Rattle.its_c.proofs.serving.geostation_serve.Goals as goal
+use Rattle.its_c.proofs.serving.geostation_handle_json.Goals as goal
 
 pub invariant_of-s : goal.invariant_of-s
 invariant_of-s c =
@@ -17,6 +17,7 @@ invariant_of-s c =
           next) c.args.s.now.held.station c.put.new.self.station c.answer_line-said.ensures.tells
           c.answer_line-said.ensures.unchanged (search rules) (search rules)
           c.args.s.now.represents;
+      governs = c.args.s.now.governs;
     }
 
 pub returns-clause-served : goal.returns-clause-served

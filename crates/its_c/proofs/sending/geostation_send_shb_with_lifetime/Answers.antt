@@ -1,27 +1,43 @@
-use Rattle.std.proofs.Common.{rules, subst, ℕ}
+use Rattle.std.proofs.Common.{rules, sym, Option, subst, ℕ}
 use Rattle.its_model.specs.Calls.{ShbRequest}
 use Rattle.its_station.specs.Beside.{send_shb_for_step}
 use Rattle.its_station.specs.Requests.{TellsSent, shb_request}
 use Rattle.its_station.specs.Steps.{IsStepOf}
 use Rattle.its_c.specs.Arguments.{shb_asked}
+use Rattle.its_station.specs.State.{StationState}
+use Rattle.its_c.specs.Open.{HoldsModel, IsOpen}
 use Rattle.its_c.proofs.Opens.{held_model, stays_open}
-use Rattle.its_c.proofs.sending.geostation_send_shb_for.Goals as goal
+use Rattle.its_c.proofs.sending.geostation_send_shb_with_lifetime.Goals as goal
 
 pub invariant_of-s : goal.invariant_of-s
 invariant_of-s c =
     record {
+      represents = subst IsOpen (sym c.is_over_rate.ensures.unchanged) c.args.s.now.represents;
+      governs = c.is_over_rate.ensures.governs;
+    }
+
+pub take-station-requires : goal.take-station-requires
+take-station-requires c =
+    subst IsOpen (sym c.is_over_rate.ensures.unchanged) c.args.s.now.represents
+
+pub invariant_of-s-2 : goal.invariant_of-s-2
+invariant_of-s-2 c =
+    record {
       represents = stays_open (TellsSent) c.send_shb_for-said.result c.deref_mut.result.now
           c.send_shb_for-said.new.self
           (λ m. send_shb_for_step m c.args.now c.from_octet.result (shb_request
-          c.single_hop_request-r.result)) c.args.s.now.held.station
+          c.single_hop_request-r.result)) c.is_over_rate.new.held.station
           c.put.new.self.station c.send_shb_for-said.ensures.step
           c.send_shb_for-said.ensures.unchanged
-          (search rules) (search rules) c.args.s.now.represents;
+          (search rules) (search rules)
+          (subst IsOpen (sym c.is_over_rate.ensures.unchanged) c.args.s.now.represents);
+      governs = c.note_sent.ensures.governs;
     }
 
 pub returns-clause-step : goal.returns-clause-step
-returns-clause-step c = λ m long model.
-    let rep = held_model c.args.s.now.held.station c.deref_mut.result.now m (search rules) model in
+returns-clause-step c = λ m long model limited.
+    let rep = held_model c.is_over_rate.new.held.station c.deref_mut.result.now m (search rules)
+    (subst (λ (h : Option StationState). HoldsModel h m) (sym c.is_over_rate.ensures.unchanged) model) in
     let said = c.send_shb_for-said.result in
     let new = c.send_shb_for-said.new.self in
     let asked = subst (λ (r : ShbRequest).

@@ -1,0 +1,84 @@
+-- Without limits what passes of an answer is the answer.
+use Rattle.std.proofs.Common.{◌≡◌, ℕ, ◌≤◌, Bool, true, false, ◌&&◌, not, leb, Option, Some, None}
+use Rattle.std.proofs.Common.{List, refl, ap, ◌∙◌, subst, is_some, arith}
+use Rattle.std.proofs.lemmas.Bool.{le-leb}
+use Rattle.std.specs.Prelude.{IsSome}
+use Rattle.its_faults.specs.declared.frame.FrameFault.{FrameFault}
+use Rattle.its_model.specs.Packet.{Message, Transmission, number_in}
+use Rattle.its_model.specs.Calls as model
+use Rattle.its_model.specs.Calls.{Answer, Call, Refusal}
+use Rattle.its_model.specs.Station.{StationModel, Step, station_step, moment_refusal}
+use Rattle.its_model.specs.Station.{junk_step_by}
+use Rattle.its_station.specs.Receiving.{IsFrameCall}
+use Rattle.its_governor.specs.declared.bucket.Bucket.{Bucket}
+use Rattle.its_governor.specs.declared.governor.Governor.{Governor}
+use Rattle.its_governor.specs.Sources.{SourceState}
+use Rattle.its_governor.specs.Memory.{MemoryState}
+use Rattle.its_governor.specs.Governing.{governed, governed_step, kept, may_forward, is_echo}
+use Rattle.its_governor.specs.Governing.{is_repeat, room_in, source_room}
+use Rattle.its_c.specs.Governed.{HasNoLimits}
+
+no_repeat : (number : Option ℕ) (source now : ℕ) → is_repeat None number source now ≡ false
+no_repeat None source now = refl
+no_repeat (Some n) source now = refl
+
+no_echo : (g : Governor) (now : ℕ) (t : Transmission) → g.delivered ≡ None
+    → is_echo g.delivered now t ≡ false
+no_echo g now t none =
+    ap (λ (m : Option MemoryState). is_echo m now t) none
+    ∙ no_repeat (number_in t.pdu.body) t.pdu.vector.address now
+
+forwards : (g : Governor) → HasNoLimits g → (now : ℕ) (t : Transmission) → t.hops_left ≤ 255
+    → may_forward g now t ≡ true
+forwards g free now t few =
+    let source = t.pdu.vector.address in
+    ap (λ (c : ℕ). leb t.hops_left c && room_in g.forward now && source_room g.sources source now
+    && not (is_echo g.delivered now t)) free.hop_cap
+    ∙ ap (λ (f : Option Bucket). leb t.hops_left 255 && room_in f now
+    && source_room g.sources source now && not (is_echo g.delivered now t)) free.forward
+    ∙ ap (λ (s : Option SourceState). leb t.hops_left 255 && true && source_room s source now
+    && not (is_echo g.delivered now t)) free.sources
+    ∙ ap (λ (e : Bool). leb t.hops_left 255 && true && true && not e)
+    (no_echo g now t free.delivered)
+    ∙ ap (λ (b : Bool). b && true && true && true) (le-leb t.hops_left 255 few)
+
+kept_all : {A : Type 0} (b : Bool) (o : Option A) → b ≡ true → kept (is_some o && b) o ≡ o
+kept_all b None is = refl
+kept_all b (Some x) is = ap (λ (c : Bool). kept c (Some x)) is
+
+same_answer : (g : Governor) → HasNoLimits g → (now : ℕ) (t : Transmission) → t.hops_left ≤ 255
+    → (a : Answer Transmission) → governed g now (Some t) a ≡ a
+same_answer g free now t few model.Answer.Moved = refl
+same_answer g free now t few model.Answer.Opened = refl
+same_answer g free now t few model.Answer.Closed = refl
+same_answer g free now t few model.Answer.Restarted = refl
+same_answer g free now t few model.Answer.Quiet = refl
+same_answer g free now t few (model.Answer.Sent frame) = refl
+same_answer g free now t few (model.Answer.Ignored why) = refl
+same_answer g free now t few (model.Answer.Refused refusal) = refl
+same_answer g free now t few (model.Answer.Accepted handed relayed) =
+    let delivers = not (is_echo g.delivered now t) in
+    let passes = may_forward g now t in
+    ap (λ (h : Option Message). model.Answer.Accepted h (kept (is_some relayed && passes) relayed))
+    (kept_all delivers handed (ap not (no_echo g now t free.delivered)))
+    ∙ ap (λ (r : Option Transmission). model.Answer.Accepted handed r)
+    (kept_all passes relayed (forwards g free now t few))
+
+junk : (g : Governor) (now : ℕ) (m : StationModel) (fault : FrameFault) (o : Option Refusal)
+    → governed_step g now (model.Call.Junk fault) (junk_step_by m fault o)
+    ≡ junk_step_by m fault o
+junk g now m fault None = refl
+junk g now m fault (Some refusal) = refl
+
+-- the governed step of octets that came is the model's
+pub unlimited_step : (g : Governor) → HasNoLimits g → (now : ℕ) (w : List ℕ) (call : Call)
+    → IsFrameCall w call → (m : StationModel)
+    → governed_step g now call (station_step m now call) ≡ station_step m now call
+unlimited_step g free now w (model.Call.Own own) is m = absurd is
+unlimited_step g free now w (model.Call.Receive t) is m =
+    let step = station_step m now (model.Call.Receive t) in
+    let left = is.fields.packet.left_below in
+    let most = is.fields.packet.max_hops in
+    ap (λ (a : Answer Transmission). record { answer = a; station = step.station })
+    (same_answer g free now t (omega (arith, left, most)) step.answer)
+unlimited_step g free now w (model.Call.Junk fault) is m = junk g now m fault (moment_refusal m now)
