@@ -100,7 +100,7 @@ class MovesHelper {
                 continue; // an empty line, or a time step of SUMO without vehicles
             }
             const ns3::Time moment = ns3::Seconds(std::stod(row[at]) / second) - begin;
-            if (moment.IsNegative()) {
+            if (moment.IsStrictlyNegative()) {
                 continue;
             }
             if (moment > until) {

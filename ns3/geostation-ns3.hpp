@@ -414,7 +414,7 @@ class StationApplication : public ns3::Application {
     // Passes the node's position to the station, unless the last one is recent enough.
     void Fix() {
         const ns3::Time now = ns3::Simulator::Now();
-        if (!fixed_.IsNegative() && (now == fixed_ || now - fixed_ < fix_interval_)) {
+        if (fixed_.IsPositive() && (now == fixed_ || now - fixed_ < fix_interval_)) {
             return;
         }
         fixed_ = now;

@@ -20,7 +20,8 @@ from pathlib import Path
 from statistics import mean
 
 TOP = Path(__file__).resolve().parent.parent
-TOOLS = Path(os.environ.get("SUMO_HOME", "/usr/share/sumo")) / "tools"
+os.environ.setdefault("SUMO_HOME", "/usr/share/sumo")
+TOOLS = Path(os.environ["SUMO_HOME"]) / "tools"
 # The run: 0.85 s of traffic from this second of SUMO on, with the warning in the middle.
 BEGIN, AT, UNTIL = 240, 0.5, 0.85
 RANGE, RADIUS, RATE, BYTES = 300, 400, 10, 300
