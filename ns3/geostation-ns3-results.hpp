@@ -1,6 +1,5 @@
 // geostation-ns3-results.hpp: the results of a run in the columns of `geostation sim --sends` and
-// `--stations`, so that `geostation.study` and other tools read both. It needs the modules of
-// geostation-ns3.hpp.
+// `--stations`, so that one script reads both. It needs the modules of geostation-ns3.hpp.
 #ifndef GEOSTATION_NS3_RESULTS_HPP
 #define GEOSTATION_NS3_RESULTS_HPP
 
