@@ -197,7 +197,14 @@ class StationApplication : public ns3::Application {
 
     /// Opens a port. Before the start the port is remembered. `Restart` keeps it open.
     Status OpenPort(std::uint16_t port) {
-        const Status status = station_ ? station_->open_port(Now(), port) : Status::Ok;
+        Status status = Status::Ok;
+        if (station_) {
+            status = station_->open_port(Now(), port);
+        } else if (IsOpen(port)) {
+            status = Status::PortAlreadyOpen;
+        } else if (ports_.size() >= kMaxPorts) {
+            status = Status::PortsFull;
+        }
         if (status == Status::Ok) {
             ports_.push_back(port);
         }
@@ -206,7 +213,9 @@ class StationApplication : public ns3::Application {
 
     /// Closes a port.
     Status ClosePort(std::uint16_t port) {
-        const Status status = station_ ? station_->close_port(Now(), port) : Status::Ok;
+        const Status status = station_       ? station_->close_port(Now(), port)
+                              : IsOpen(port) ? Status::Ok
+                                             : Status::PortNotOpen;
         if (status == Status::Ok) {
             ports_.erase(std::remove(ports_.begin(), ports_.end(), port), ports_.end());
         }
@@ -302,7 +311,9 @@ class StationApplication : public ns3::Application {
 
     /// Returns the current position of the node.
     Place GetPlace() const {
-        return GetPlane().ToPlace(GetNode()->GetObject<ns3::MobilityModel>()->GetPosition());
+        return station_ ? plane_.ToPlace(mobility_->GetPosition())
+                        : GetPlane().ToPlace(
+                              GetNode()->GetObject<ns3::MobilityModel>()->GetPosition());
     }
 
   protected:
@@ -329,6 +340,7 @@ class StationApplication : public ns3::Application {
   private:
     static constexpr std::size_t kHeader = 14; // target, source and EtherType, before a packet
     static constexpr std::size_t kTrafficClass = kHeader + 4 + 2;
+    static constexpr std::size_t kMaxPorts = 64;
 
     static std::uint64_t Now() {
         return static_cast<std::uint64_t>(ns3::Simulator::Now().GetMilliSeconds());
@@ -414,7 +426,7 @@ class StationApplication : public ns3::Application {
     // Passes the node's position to the station, unless the last one is recent enough.
     void Fix() {
         const ns3::Time now = ns3::Simulator::Now();
-        if (fixed_.IsPositive() && (now == fixed_ || now - fixed_ < fix_interval_)) {
+        if (fixed_.IsPositive() && now - fixed_ < fix_interval_) {
             return;
         }
         fixed_ = now;
