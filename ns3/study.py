@@ -24,7 +24,7 @@ os.environ.setdefault("SUMO_HOME", "/usr/share/sumo")
 TOOLS = Path(os.environ["SUMO_HOME"]) / "tools"
 # The run: 0.85 s of traffic from this second of SUMO on, with the warning in the middle.
 BEGIN, AT, UNTIL = 240, 0.5, 0.85
-RANGE, RADIUS, RATE, BYTES = 300, 400, 10, 300
+RANGE, RADIUS, RATE, BYTES = 300, 400, 5, 600
 # Seconds between two vehicles that set out, for each density.
 PERIODS = [2.8, 1.4, 0.7, 0.45]
 RULES = ["now", "spread", "contention"]

@@ -1,8 +1,9 @@
 // The same road over YansWifiChannel and over the channel with a grid. Prints a hash of all
 // receptions (time, station, frame), their number, the events and the processor seconds.
 //
-//     grid CHANNEL LOSS VEHICLES LENGTH SECONDS     CHANNEL is yans, grid, or all (a grid channel
-//                                                   without a limit of the distance)
+//     grid CHANNEL LOSS VEHICLES LENGTH SECONDS
+//
+// CHANNEL is yans, grid, a grid with a limit of the distance in m, or 0 for one without a limit.
 #include "common.hpp"
 
 #include "ns3/constant-velocity-mobility-model.h"
@@ -38,8 +39,8 @@ int main(int argc, char **argv) {
         }
     }
     const auto channel = MakeChannel(argv[2], 300, kind != "yans");
-    if (kind == "all") {
-        channel->SetAttribute("Reach", DoubleValue(0));
+    if (kind != "yans" && kind != "grid") {
+        channel->SetAttribute("Reach", DoubleValue(std::atof(argv[1])));
     }
     geostation::ItsG5Helper radio(channel);
     const NetDeviceContainer devices = radio.Install(nodes);
