@@ -77,13 +77,16 @@ class Awareness {
         random->SetStream(stream);
         for (auto it = stations.Begin(); it != stations.End(); ++it) {
             const auto station = ns3::DynamicCast<geostation::StationApplication>(*it);
+            const std::size_t i = stations_.size();
+            stations_.push_back(station);
             station->OpenPort(kAwareness);
+            // A callback that holds a reference to its own station would keep it for ever.
             station->TraceConnectWithoutContext(
-                "Running", ns3::Callback<void, bool>([this, random, station](bool runs) {
+                "Running", ns3::Callback<void, bool>([this, random, i](bool runs) {
                     if (runs) {
                         ns3::Simulator::Schedule(
                             ns3::Seconds(random->GetValue(0, period_.GetSeconds())),
-                            &Awareness::Send, this, station);
+                            &Awareness::Send, this, i);
                     }
                 }));
         }
@@ -92,13 +95,14 @@ class Awareness {
     Awareness &operator=(const Awareness &) = delete;
 
   private:
-    void Send(ns3::Ptr<geostation::StationApplication> station) {
-        if (station->IsRunning()) {
-            station->SendShb({kAwareness, 0, 2}, {payload_.data(), payload_.size()});
-            ns3::Simulator::Schedule(period_, &Awareness::Send, this, station);
+    void Send(std::size_t i) {
+        if (stations_[i]->IsRunning()) {
+            stations_[i]->SendShb({kAwareness, 0, 2}, {payload_.data(), payload_.size()});
+            ns3::Simulator::Schedule(period_, &Awareness::Send, this, i);
         }
     }
 
+    std::vector<ns3::Ptr<geostation::StationApplication>> stations_;
     ns3::Time period_;
     std::vector<std::uint8_t> payload_;
 };

@@ -44,7 +44,7 @@ class ContentionApplication : public geostation::StationApplication {
             std::sqrt(static_cast<double>(geostation::Plane::SquaredDistance(GetPlace(), place))) /
             100;
         const double share = std::min(1.0, metres / reach_);
-        return max_wait_ + ns3::Seconds(share * (min_wait_ - max_wait_).GetSeconds());
+        return max_wait_ - ns3::Seconds(share * (max_wait_ - min_wait_).GetSeconds());
     }
 
     bool TakesBack(const geostation::Reception &) override { return true; }
