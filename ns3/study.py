@@ -26,7 +26,7 @@ TOOLS = Path(os.environ["SUMO_HOME"]) / "tools"
 BEGIN, AT, UNTIL = 240, 0.5, 0.85
 RANGE, RADIUS, RATE, BYTES = 300, 400, 5, 600
 # Seconds between two vehicles that set out, for each density.
-PERIODS = [2.8, 1.4, 0.7, 0.45]
+PERIODS = [2.8, 1.4, 0.7]
 RULES = ["now", "spread", "contention"]
 # Medium and rule of each kind of run, and its name in the table.
 KINDS = {
@@ -250,7 +250,7 @@ def read_rows(path):
 def main():
     parser = argparse.ArgumentParser(description=__doc__.split("\n")[0])
     parser.add_argument("--out", type=Path, required=True, help="folder of the results")
-    parser.add_argument("--seeds", type=int, default=5, help="seeds of each density [default: 5]")
+    parser.add_argument("--seeds", type=int, default=3, help="seeds of each density [default: 3]")
     parser.add_argument("--jobs", type=int, default=os.cpu_count(), help="runs at once")
     parser.add_argument("--loss", default="log", help="disk, log or nakagami [default: log]")
     parser.add_argument("--periods", type=float, nargs="+", default=PERIODS, help="densities")
