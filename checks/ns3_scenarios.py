@@ -60,7 +60,7 @@ class Scenario:
         self.events.append((at, station, call))
 
     def phases(self):
-        """Two phases of calls. Between them nothing is on the air: stations leave and others come."""
+        """Two phases of calls. Between them no frame is sent: stations leave and others come."""
         first, gap = 100, self.draw.choice([3000, 3000, 21000])
         middle = first + 150 * self.draw.randint(10, 30)
         come = middle + gap
@@ -123,7 +123,8 @@ class Scenario:
         angle = self.draw.randrange(360)
         if shape == "circle":
             b = angle = 0
-        return (call, *self.head(), 26, hops, shape, *self.draw_place(), a, b, angle, self.payload())
+        head, place = self.head(), self.draw_place()
+        return (call, *head, 26, hops, shape, *place, a, b, angle, self.payload())
 
     def draw_tick(self):
         return ("tick", self.draw.choice([0, 0, 10, 750]))
@@ -150,7 +151,8 @@ class Scenario:
         for number, it in enumerate(self.stations):
             # Before its start an application remembers which ports are open.
             lines += [f"at 0 {number} open {port}" for port in it["ports"]]
-        lines += [f"at {at} {station} " + " ".join(map(str, call)) for at, station, call in self.ordered()]
+        for at, station, call in self.ordered():
+            lines.append(f"at {at} {station} " + " ".join(map(str, call)))
         return "\n".join(lines) + "\n"
 
     def toml(self):

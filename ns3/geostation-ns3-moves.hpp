@@ -1,5 +1,5 @@
-// geostation-ns3-moves.hpp: vehicles from the file that `geostation sim --moves` reads. It needs the
-// modules of geostation-ns3.hpp.
+// geostation-ns3-moves.hpp: vehicles from the file that `geostation sim --moves` reads. It needs
+// the modules of geostation-ns3.hpp.
 #ifndef GEOSTATION_NS3_MOVES_HPP
 #define GEOSTATION_NS3_MOVES_HPP
 
@@ -21,9 +21,9 @@
 
 namespace geostation {
 
-/// Reads vehicles from CSV, in the columns `at,id,lat,lon` (ms and 0.1 microdegree) or in those that
-/// SUMO's `xml2csv.py` writes for `--fcd-output.geo`. Fields are not quoted. Between two rows a
-/// vehicle moves on a straight line.
+/// Reads vehicles from CSV, in the columns `at,id,lat,lon` (ms and 0.1 microdegree) or in those
+/// that SUMO's `xml2csv.py` writes for `--fcd-output.geo`. Fields are not quoted. Between two rows
+/// a vehicle moves on a straight line.
 class MovesHelper {
   public:
     /// A vehicle is there from its first row until `gone` after its last row.
@@ -47,8 +47,8 @@ class MovesHelper {
     /// Returns the plane whose origin is the position in the first row.
     Plane GetPlane() const { return plane_; }
 
-    /// Makes a station for each vehicle, which runs while the vehicle is there. The factory sets the
-    /// other attributes.
+    /// Makes a station for each vehicle, which runs while the vehicle is there. The factory sets
+    /// the other attributes.
     ns3::ApplicationContainer Install(ns3::ObjectFactory factory) const {
         factory.Set("OriginLatitude", ns3::IntegerValue(plane_.GetOrigin().latitude));
         factory.Set("OriginLongitude", ns3::IntegerValue(plane_.GetOrigin().longitude));

@@ -36,7 +36,8 @@ inline bool Holds(const geostation_area &area, Place place) {
     if (area.shape == GEOSTATION_CIRCLE) {
         return Wide{north} * north + Wide{east} * east <= a * a;
     }
-    const std::int64_t sine = Plane::Sine(area.angle), cosine = Plane::Sine((area.angle + 90) % 360);
+    const std::int64_t sine = Plane::Sine(area.angle);
+    const std::int64_t cosine = Plane::Sine((area.angle + 90) % 360);
     const Wide along = (Wide{north} * cosine + Wide{east} * sine) / 10000;
     const Wide across = (Wide{east} * cosine - Wide{north} * sine) / 10000;
     if (area.shape == GEOSTATION_RECTANGLE) {
@@ -62,8 +63,8 @@ inline std::string Milliseconds(ns3::Time time) {
 class Results {
   public:
     /// Without a range (0), the columns `lost`, `busy` and `busiest` stay empty. `lost` is for each
-    /// frame the number of stations that were within this range (in m) of its sender when it went to
-    /// the device, and that had not received it one second later, or at the end of the run.
+    /// frame the number of stations that were within this range (in m) of its sender when it went
+    /// to the device, and that had not received it one second later, or at the end of the run.
     explicit Results(double range = 0) : range_(range) {}
     Results(const Results &) = delete;
     Results &operator=(const Results &) = delete;
@@ -103,9 +104,9 @@ class Results {
         }
     }
 
-    /// Measured channel load: called with a station number, it returns the microseconds in which the
-    /// channel was busy at that station in the whole run, and the most in 100 ms. Without it both are
-    /// computed from the air times of frames within the range, as `geostation sim` does.
+    /// Measured channel load: called with a station number, it returns the microseconds in which
+    /// the channel was busy at that station in the whole run, and the most in 100 ms. Without it
+    /// both are computed from the air times of frames within the range, as `geostation sim` does.
     void SetBusy(std::function<std::pair<double, double>(std::size_t)> busy) {
         busy_ = std::move(busy);
     }

@@ -69,9 +69,9 @@ class GridWifiChannel : public ns3::YansWifiChannel {
         return tid;
     }
 
-    /// Returns the distance in m at which a signal of this power is as weak as the sensitivity, both
-    /// in dBm, for a loss model without a random part whose loss grows with the distance. For the
-    /// sensitivity add the gains of sender and receiver to the power.
+    /// Returns the distance in m at which a signal of this power is as weak as the sensitivity,
+    /// both in dBm, for a loss model without a random part whose loss grows with the distance. Add
+    /// the gains of sender and receiver to the power.
     static double FindReach(const ns3::Ptr<ns3::PropagationLossModel> &loss, double power,
                             double sensitivity) {
         const auto here = ns3::CreateObject<ns3::ConstantPositionMobilityModel>();
@@ -296,8 +296,7 @@ class ItsG5Helper {
 };
 
 /// Measures how long the radio of each device sends, receives, or finds the channel busy. Add the
-/// devices in the order of the station numbers. It must outlive the run. It costs about an eighth of
-/// a run's time.
+/// devices in the order of the station numbers. It must outlive the run.
 class ChannelBusy {
   public:
     ChannelBusy() = default;
@@ -337,8 +336,8 @@ class ChannelBusy {
         return sum / static_cast<double>((to - from).GetNanoSeconds());
     }
 
-    /// Returns the microseconds in which the channel was busy at a station, and the most in a window
-    /// of 100 ms. `Results::SetBusy` takes this.
+    /// Returns the microseconds in which the channel was busy at a station, and the most in a
+    /// window of 100 ms. `Results::SetBusy` takes this.
     std::pair<double, double> GetBusy(std::size_t station) const {
         double sum = 0, most = 0;
         for (const double window : busy_[station]) {
@@ -348,8 +347,8 @@ class ChannelBusy {
         return {sum, most};
     }
 
-    /// Writes a row `second,station,busy` for each second until `end` and each station. `busy` is the
-    /// channel busy ratio in percent. The last second counts up to `end`.
+    /// Writes a row `second,station,busy` for each second until `end` and each station. `busy` is
+    /// the channel busy ratio in percent. The last second counts up to `end`.
     void Write(std::ostream &out, ns3::Time end) const {
         out << "second,station,busy\n";
         for (ns3::Time from; from < end; from += ns3::Seconds(1)) {

@@ -136,8 +136,8 @@ inline std::int16_t SpeedOf(const ns3::Vector &velocity) {
 /// The counts of a station. geostation.h has a call of the same name.
 using Counts = struct ::geostation_counts;
 
-/// Identifies a packet for an area (GBC, GAC) in a run: its source and its sequence number. A BEACON
-/// or an SHB has the number 0, so that its key has only its kind and its source.
+/// Identifies a packet for an area (GBC, GAC) in a run: its source and its sequence number. A
+/// BEACON or an SHB has the number 0, so that its key has only its kind and its source.
 struct PacketKey {
     std::uint32_t kind = 0; ///< an enum geostation_kind
     std::uint64_t source = 0;
@@ -486,9 +486,8 @@ class StationApplication : public ns3::Application {
         from.CopyTo(octets + 6);
         octets[12] = kEtherType >> 8;
         octets[13] = kEtherType & 0xff;
-        const Octets frame{octets, kHeader + packet->CopyData(
-                                                 octets + kHeader,
-                                                 static_cast<std::uint32_t>(sizeof octets - kHeader))};
+        constexpr auto kRoom = static_cast<std::uint32_t>(sizeof octets - kHeader);
+        const Octets frame{octets, kHeader + packet->CopyData(octets + kHeader, kRoom)};
         Fix();
         Frame relay;
         const Received result = station_->receive(Now(), frame, relay);

@@ -86,7 +86,8 @@ def make_streets(folder):
     if not net.exists():
         plain = folder / "streets.net.xml"
         run(["netgenerate", "--grid", "--grid.number", 6, "--grid.length", 200, "-o", plain])
-        text = plain.read_text().replace('netOffset="0.00,0.00"', 'netOffset="-691600.00,-5334700.00"')
+        place = 'netOffset="-691600.00,-5334700.00"'
+        text = plain.read_text().replace('netOffset="0.00,0.00"', place)
         text = text.replace('projParameter="!"', 'projParameter="+proj=utm +zone=32 +ellps=WGS84"')
         net.write_text(text)
     return net

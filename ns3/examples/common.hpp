@@ -15,8 +15,8 @@
 
 constexpr std::uint16_t kAwareness = 2001, kWarning = 2002; // ports
 
-/// Makes a channel. `loss` is `disk` (equal power up to `range` m), `log` (5.9 GHz, two slopes; with
-/// 21 dBm it is -85 dBm at 300 m) or `nakagami` (`log` with fading).
+/// Makes a channel. `loss` is `disk` (equal power up to `range` m), `log` (5.9 GHz, two slopes,
+/// with 21 dBm -85 dBm at 300 m) or `nakagami` (`log` with fading).
 inline ns3::Ptr<ns3::YansWifiChannel> MakeChannel(const std::string &loss, double range,
                                                   bool is_grid) {
     using namespace ns3;

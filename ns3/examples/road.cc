@@ -1,5 +1,5 @@
-// A road: vehicles on four lanes send awareness messages over IEEE 802.11p, and the one in the middle
-// warns those around it.
+// A road: vehicles on four lanes send awareness messages over IEEE 802.11p, and the one in the
+// middle warns those around it.
 #include "common.hpp"
 
 #include "ns3/command-line.h"

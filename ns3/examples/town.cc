@@ -85,7 +85,7 @@ int main(int argc, char **argv) {
         }
         Simulator::Schedule(vehicle.to, &WifiPhy::SetOffMode, phy);
     }
-    NS_ABORT_MSG_UNLESS(warner, "there is no vehicle '" << id << "': --id names the one that warns");
+    NS_ABORT_MSG_UNLESS(warner, "there is no vehicle '" << id << "': --id names it");
     Awareness awareness(stations, rate, bytes, 2);
     Simulator::Schedule(Seconds(at), [&] { Warn(warner, radius, hops, traffic_class); });
 
