@@ -15,7 +15,7 @@ use its_reporting::{
     Fault, Io, NamedFile, Opened, Status, WriterFault, create, is_standard, open, refuse_same,
 };
 use its_runs::{ResultFiles, RunFault, RunFiles, RunOptions, RunReader, read_inputs};
-use std::io::{BufReader, Read, Write};
+use std::io::{BufRead, BufReader, Read, Write};
 use std::rt::Files;
 
 /// What is shown, and where it is written.
@@ -119,9 +119,9 @@ where
 
 /// The page, the run and the street net, all open.
 #[derive(Drop)]
-struct Viewed<'a, F: Read + Drop, I: Read + Drop> {
+struct Viewed<'a, F: Read + Drop, L: BufRead + Drop, M: BufRead + Drop> {
     page: Page<F>,
-    shown: Shown<'a, BufReader<Opened<F, I>>, RunReader<F, I>>,
+    shown: Shown<'a, L, M>,
     net: Option<Net<'a, F>>,
 }
 
@@ -131,7 +131,10 @@ fn open_viewed<'a, R: Files + AllocGlobal, I: Read + Drop>(
     way: Way<'a>,
     options: &RunOptions,
     input: I,
-) -> Result<Viewed<'a, R::File, I>, PageFault<'a>>
+) -> Result<
+    Viewed<'a, R::File, BufReader<Opened<R::File, I>>, RunReader<R::File, I>>,
+    PageFault<'a>,
+>
 where
     R::File: Read + Drop,
 {
@@ -166,10 +169,10 @@ where
 
 /// Creates the file, and writes the page to it. If the run or the net is too large for it, the page
 /// is written once more without them.
-fn write_file<'a, R: Files + AllocGlobal, I: Read + Drop, E: Write>(
+fn write_file<'a, R: Files + AllocGlobal, L: BufRead + Drop, M: BufRead + Drop, E: Write>(
     rt: &R,
     way: Way<'a>,
-    viewed: Viewed<'a, R::File, I>,
+    viewed: Viewed<'a, R::File, L, M>,
     options: &RunOptions,
     err: &mut E,
 ) -> Result<Status, WriterFault<'a, PageFault<'a>>>
@@ -197,10 +200,10 @@ where
 }
 
 /// Writes the page with the run and the net in it. `CannotRead` if it has no place for a run.
-fn write_page<'a, R: Files + AllocGlobal, I: Read + Drop, W: Write, E: Write>(
+fn write_page<'a, R: Files + AllocGlobal, L: BufRead + Drop, M: BufRead + Drop, W: Write, E: Write>(
     rt: &R,
     way: Way<'a>,
-    viewed: Viewed<'a, R::File, I>,
+    viewed: Viewed<'a, R::File, L, M>,
     options: &RunOptions,
     out: &mut W,
     err: &mut E,
