@@ -6,6 +6,7 @@ from __future__ import annotations
 import base64
 import hashlib
 import re
+import struct
 import zipfile
 from pathlib import Path
 from typing import Any, Dict, List, Optional, Tuple
@@ -13,6 +14,8 @@ from typing import Any, Dict, List, Optional, Tuple
 HERE = Path(__file__).resolve().parent
 PACKAGE = "geostation"
 SUFFIXES = (".py", ".typed", ".so.3")
+# The processors of the library, by the number in the header of an ELF file.
+MACHINES = {62: "x86_64", 183: "aarch64"}
 
 
 def _project(key: str) -> str:
@@ -32,15 +35,28 @@ def _metadata() -> str:
     )
 
 
+def _platform(files: Dict[str, bytes]) -> str:
+    """Returns the tag of the platform: `any`, or that of the library if the files include one."""
+    for path, octets in files.items():
+        if path.endswith(".so.0"):
+            assert octets[:6] == b"\x7fELF\x02\x01", f"{path} is not a library for 64-bit Linux"
+            (machine,) = struct.unpack_from("<H", octets, 18)
+            return f"linux_{MACHINES[machine]}"
+    return "any"
+
+
 def _write(folder: str, files: Dict[str, bytes]) -> str:
     """Writes a wheel of these files and the metadata, and returns its name."""
     begin = f"{PACKAGE}-{_project('version')}"
-    info, name = f"{begin}.dist-info", f"{begin}-py3-none-any.whl"
+    platform = _platform(files)
+    info, name = f"{begin}.dist-info", f"{begin}-py3-none-{platform}.whl"
+    pure = "true" if platform == "any" else "false"
     files = dict(files)
     files[f"{info}/METADATA"] = _metadata().encode()
     files[f"{info}/WHEEL"] = (
-        b"Wheel-Version: 1.0\nGenerator: backend\nRoot-Is-Purelib: true\nTag: py3-none-any\n"
-    )
+        f"Wheel-Version: 1.0\nGenerator: backend\nRoot-Is-Purelib: {pure}\n"
+        f"Tag: py3-none-{platform}\n"
+    ).encode()
     record = f"{info}/RECORD"
     lines: List[str] = []
     for path, octets in files.items():
@@ -60,7 +76,8 @@ def build_wheel(
 ) -> str:
     """Builds a wheel of the package and its subpackages.
 
-    It includes a libgeostation.so.3 in the folder of the package."""
+    It includes a libgeostation.so.3 in the folder of the package. Then the wheel is for the
+    processor of that library only."""
     paths = sorted((HERE / PACKAGE).rglob("*"))
     files: List[Tuple[str, bytes]] = [
         (path.relative_to(HERE).as_posix(), path.read_bytes())
