@@ -59,12 +59,12 @@ def check_wheel(prefix, room):
     """A wheel with the library in it has the processor in its name. Without it, it has none."""
     copy = room / "python"
     shutil.copytree(TOP / "python", copy)
-    shutil.copy(prefix / "lib/libgeostation.so.0", copy / "geostation")
+    shutil.copy(prefix / "lib/libgeostation.so.3", copy / "geostation")
     backend.HERE = copy
     name = backend.build_wheel(str(room))
     if not name.endswith("-py3-none-linux_aarch64.whl"):
         install.fail(f"the wheel for aarch64 is {name}")
-    (copy / "geostation/libgeostation.so.0").unlink()
+    (copy / "geostation/libgeostation.so.3").unlink()
     name_of_any = backend.build_wheel(str(room))
     if not name_of_any.endswith("-py3-none-any.whl"):
         install.fail(f"the wheel without a library is {name_of_any}")

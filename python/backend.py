@@ -38,7 +38,7 @@ def _metadata() -> str:
 def _platform(files: Dict[str, bytes]) -> str:
     """Returns the tag of the platform: `any`, or that of the library if the files include one."""
     for path, octets in files.items():
-        if path.endswith(".so.0"):
+        if path.endswith(".so.3"):
             assert octets[:6] == b"\x7fELF\x02\x01", f"{path} is not a library for 64-bit Linux"
             (machine,) = struct.unpack_from("<H", octets, 18)
             return f"linux_{MACHINES[machine]}"
