@@ -805,6 +805,7 @@ def summary(world: World) -> Iterator[str]:
             gave, handed = entry.frame is not None, entry.handed is not None
             word = "duplicates" if entry.word == "ignored duplicate" else entry.word.split()[0]
             total.update({"events": 1, "frames": gave, "deliveries": handed, word: 1})
+            total["full"] += entry.word == "refused S4"
             send, hops = None, 0
             if word == "accepted":
                 send, hops = origins[event["frame"]]
@@ -827,6 +828,8 @@ def summary(world: World) -> Iterator[str]:
     if bad is not None:
         raise bad
     names = ["events", "frames", "deliveries", "duplicates", "ignored", "refused"]
+    if world.air is not None and total["full"]:
+        names.append("full")
     counts = " ".join(f"{name} {total[name]}" for name in names)
     yield f"total {counts}"
 

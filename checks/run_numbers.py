@@ -38,7 +38,7 @@ HEADS = {
     "full,hops,first,p50,p95,last",
     "stations": "station,id,address,from,to,away,sent,relayed,octets,heard,delivered,duplicates,"
     "ignored,refused,full,lost,busy,busiest",
-    "load": "second,stations,frames,octets,busy_p50,busy_p95,busy_most",
+    "load": "second,stations,frames,octets,busy_p50,busy_p95,busy_most,peak",
 }
 
 
@@ -343,14 +343,17 @@ class Numbers:
             if one.word == "event" and one.gave is not None:
                 given.setdefault(one.moment // 1000, []).append(one.octets)
         busy: Counter = Counter()
+        dense: dict[int, Counter] = {}
         for station, moment, time in self.busy():
             busy[station, moment // 1000] += time
+            dense.setdefault(moment // 1000, Counter())[station, moment // 100] += time
         spans, rows = self.spans(), []
         for second, octets in sorted(given.items()):
             end = 1000 * (second + 1)
             present = [n for n, span in enumerate(spans) if self.is_counted(span, end)]
             loads = [busy[n, second] // 1000 for n in present]
-            rows.append([second, len(present), len(octets), sum(octets), *self.spread(loads)])
+            peak = max(dense[second].values()) // 1000
+            rows.append([second, len(present), len(octets), sum(octets), *self.spread(loads), peak])
         return rows
 
     def full_tables(self) -> list[int]:
@@ -482,12 +485,14 @@ MISTAKES = Numbers.__subclasses__()
 
 
 def read_rows(folder: Path, name: str) -> list[list[str]] | None:
-    """The rows of a file that the program wrote; None if it isn't there or has another head."""
+    """The rows of a file that the program wrote, without those of warnings that were not sent. None
+    if the file isn't there or has another head."""
     file = folder / name
     if not file.exists():
         return None
     head, *lines = file.read_text().split("\n")
-    return [line.split(",") for line in lines[:-1]] if head == HEADS[name] else None
+    rows = [line.split(",") for line in lines[:-1] if not line.startswith(",")]
+    return rows if head == HEADS[name] else None
 
 
 def read_missed(text: str) -> list[list]:
