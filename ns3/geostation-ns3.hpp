@@ -385,6 +385,10 @@ class StationApplication : public ns3::Application {
         config.remember = remember_;
         config.mobile = mobile_;
         config.number = number_;
+        if (!limits_) {
+            config.forward_rate = config.source_rate = config.own_rate = 0;
+            config.hop_cap = config.deliver_once = 0;
+        }
         Status status;
         station_ = Station::make(config, &status);
         Check(status);
@@ -558,7 +562,7 @@ class StationApplication : public ns3::Application {
     std::uint32_t device_index_ = 0;
     std::uint8_t station_type_ = 5;
     std::uint16_t capacity_ = 256, remember_ = 8, number_ = 0;
-    bool mobile_ = true, beacons_ = true;
+    bool mobile_ = true, beacons_ = true, limits_ = false;
     std::int32_t origin_latitude_ = 0, origin_longitude_ = 0;
     ns3::Time fix_interval_, relay_spread_;
 
@@ -612,6 +616,9 @@ inline ns3::TypeId StationApplication::GetTypeId() {
             .AddAttribute("Number", "Sequence number of the first packet for an area.",
                           UintegerValue(0), MakeUintegerAccessor(&Self::number_),
                           MakeUintegerChecker<std::uint16_t>())
+            .AddAttribute("Limits", "Whether the library's limits on frames and hops apply.",
+                          BooleanValue(false), MakeBooleanAccessor(&Self::limits_),
+                          MakeBooleanChecker())
             .AddAttribute("Beacons", "Whether the station sends beacons.", BooleanValue(true),
                           MakeBooleanAccessor(&Self::beacons_), MakeBooleanChecker())
             .AddAttribute("OriginLatitude",
