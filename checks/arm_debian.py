@@ -82,7 +82,7 @@ def unpack(root):
 
 
 def make():
-    """Makes the Debian if it is not there. Returns why there is none, or None."""
+    """Makes the Debian if it is missing. Returns the reason if that fails, otherwise None."""
     for tool in (QEMU, "unshare", "debootstrap"):
         if not shutil.which(tool):
             return f"{tool} isn't installed"

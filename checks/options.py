@@ -23,17 +23,23 @@ def block(text, title):
     return rest.split("\n\n")[0].splitlines() if found else []
 
 
+def read_lines(help_text, title):
+    """The lines of a help under a title: each name, its text, and the values that it may have."""
+    for line in block(help_text, title):
+        name, _, rest = line.strip().partition("  ")
+        text, _, values = rest.strip().partition("[possible values: ")
+        yield name, text.rstrip(), values.removesuffix("]").split(", ") if values else []
+
+
 def read_block(text):
     """The options, and the choices of their values, and the arguments of a command's help."""
     options, choices = set(), {}
-    for line in block(text, "Options"):
-        told = line.strip().split("  ")[0]
-        value = re.search(r"<([^>]+)>", told)
-        option = spell(re.findall(FORM, told), value[1] if value else "", "[" in told)
+    for name, _, values in read_lines(text, "Options"):
+        value = re.search(r"<([^>]+)>", name)
+        option = spell(re.findall(FORM, name), value[1] if value else "", "[" in name)
         options.add(option)
-        values = re.search(r"\[possible values: ([^\]]+)\]", line)
-        choices[option] = values[1].split(", ") if values else []
-    arguments = [re.search(r"[<[](\w+)", line)[1] for line in block(text, "Arguments")]
+        choices[option] = values
+    arguments = [re.search(r"[<[](\w+)", name)[1] for name, _, _ in read_lines(text, "Arguments")]
     return options, choices, arguments
 
 
@@ -44,14 +50,13 @@ def ask_help(*command):
     return done.stdout
 
 
-def help_of_commands(program):
-    """What --help of a program with commands tells of each of them."""
+def help_of_commands(program, read=read_block):
+    """What is read in the help of a program with commands, of the program itself and of each."""
     whole = ask_help(program, "--help")
-    told = {"-": read_block(whole)}
-    for line in block(whole, "Commands"):
-        name = line.split()[0]
-        told[name] = read_block(ask_help(program, "help", name))
-    return told
+    found = {"-": read(whole)}
+    for name, _, _ in read_lines(whole, "Commands"):
+        found[name] = read(ask_help(program, "help", name))
+    return found
 
 
 def help_of_one(program):
