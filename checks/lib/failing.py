@@ -1,10 +1,6 @@
-"""What checks/failures and checks/streams share: runs of the program beside checks/failing.c.
-
-The program is the one that was built, or the one that GEOSTATION names.
-"""
+"""Runs of the program with failing.c between it and the C library, for checks/failures."""
 
 import os
-import shutil
 import struct
 import subprocess
 import tempfile
@@ -13,7 +9,8 @@ from concurrent.futures import ThreadPoolExecutor
 from dataclasses import dataclass
 from pathlib import Path
 
-from program import PROGRAM, TOP, is_there
+from need import need_compiler, need_program
+from program import PROGRAM, TOP
 
 DATA = TOP / "cases/data"
 # A run that takes longer than this, in seconds, hangs.
@@ -136,24 +133,24 @@ def make(tries):
     return [wrong for wrong in map_all(made, tries) if wrong]
 
 
-def run_check(files, check):
-    """Runs a check, and gives the status of its process. The check is called with a bench that has
-    these files, and gives what is otherwise than it has to be, how much it tried, and what it saw
-    where nothing is."""
-    if not is_there():
-        return 77
-    compiler = shutil.which(os.environ.get("CC") or "gcc") or shutil.which("clang")
-    if compiler is None:
-        print("gcc isn't installed")
-        return 77
+def run_parts(parts):
+    """Runs the parts of a check, and gives the status of its process. A part is the files of its
+    runs, and a function that is called with a bench. It gives what is otherwise than it has to be,
+    how much it tried, and what it saw if nothing is."""
+    need_program()
+    compiler = need_compiler()
+    seen = []
     with tempfile.TemporaryDirectory(prefix="failing.") as room:
         shim = Path(room) / "failing.so"
         flags = ["-O2", "-Wall", "-Wextra", "-Werror", "-shared", "-fPIC"]
-        subprocess.run([compiler, *flags, "-o", shim, TOP / "checks/failing.c"], check=True)
-        faults, tries, saw = check(Bench(Path(room), shim, files))
-    if faults:
-        print("\n".join(faults[:20]))
-        print(f"{len(faults)} of {tries} are otherwise")
-        return 1
-    print(saw)
+        source = Path(__file__).with_suffix(".c")
+        subprocess.run([compiler, *flags, "-o", shim, source], check=True)
+        for files, check in parts:
+            faults, tries, saw = check(Bench(Path(room), shim, files))
+            if faults:
+                print("\n".join(faults[:20]))
+                print(f"{len(faults)} of {tries} are otherwise")
+                return 1
+            seen.append(saw)
+    print("; ".join(seen))
     return 0

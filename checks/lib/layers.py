@@ -1,6 +1,6 @@
 """Captures of frames behind the link layers that the program reads, to be read by Wireshark too.
 
-    geostation show --json FILE | .. | python3 checks/layers.py FOLDER COOKED
+    geostation show --json FILE | .. | python3 checks/lib/layers.py FOLDER COOKED
 
 Takes lines of a moment in milliseconds and the hexadecimal digits of a frame, and writes files to
 the folder, pcap and pcapng in both orders of octets: of Ethernet without a tag, with one and with

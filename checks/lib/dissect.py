@@ -1,6 +1,6 @@
 """What Wireshark reads in GeoNetworking frames, as the lines of `geostation show --json`.
 
-    tshark -r FILE -T json -x | python3 checks/dissect.py
+    tshark -r FILE -T json -x | python3 checks/lib/dissect.py
 
 Each value is the one that Wireshark's dissectors found; only the payload is taken from the octets,
 as Wireshark dissects it further. `checks/tshark` compares these lines with the program's own.

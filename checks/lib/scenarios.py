@@ -1,6 +1,6 @@
 """Writes random scenarios into a folder, for checks/air.
 
-    python3 checks/scenarios.py FOLDER COUNT
+    python3 checks/lib/scenarios.py FOLDER COUNT
 
 Each is drawn from its number alone:
 
@@ -195,7 +195,7 @@ class Maker:
 
 
 class CrowdMaker(Maker):
-    """A scenario whose numbers have something of everything: see checks/run_numbers.py."""
+    """A scenario whose numbers have something of everything: see checks/lib/run_numbers.py."""
 
     def __init__(self, number):
         super().__init__(number)

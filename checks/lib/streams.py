@@ -1,17 +1,11 @@
-#!/usr/bin/env python3
-"""The program where reads fail or come in pieces, where files are full, and in little memory.
+"""Runs of the program where reads fail or come in pieces, where files are full, and in little
+memory, for checks/failures.
 
-    checks/streams
-
-checks/failing.c, which is compiled here, stands between the program and the C library. A command
-ends with status 3 at the read that fails, whichever it is, and printed what the octets before it
-gave. Lines are the same in pieces of any size, also where every second read is interrupted. Where
-a file has room for so many octets, it holds just the first so many of the whole, and the status is
-3. A million damaged records, a hundred thousand lines and lines of a mebibyte take little memory.
-From a pipe, `show`, `check` and `replay` print the line of a record before they get the next one.
-
-The program is the one that was built, or the one that GEOSTATION names. Ends with 77 where there is
-none, or no compiler.
+A command ends with status 3 at the read that fails, whichever it is, and printed what the octets
+before it gave. Lines are the same in pieces of any size, also if every second read is interrupted.
+If a file has room for N octets, it holds the first N of the whole, and the status is 3. A million
+damaged records, a hundred thousand lines and lines of a mebibyte take little memory. From a pipe,
+`show`, `check` and `replay` print the line of a record before they get the next one.
 """
 
 import errno
@@ -19,13 +13,9 @@ import os
 import select
 import struct
 import subprocess
-import sys
 from dataclasses import dataclass
 
-# What is imported leaves no file beside the sources.
-sys.dont_write_bytecode = True
-
-from failing import DATA, NO_MEMORY, Left, Run, make, run_check
+from failing import DATA, NO_MEMORY, Left, Run, make
 from file_rows import (
     HIGH_BLOCKS,
     HIGH_PCAP,
@@ -403,7 +393,3 @@ def check(bench):
     tries.append((try_amid, bench, AMID, 1000))
     saw = f"{len(tries)} runs with reads that fail, files that are full, or little memory"
     return make(tries), len(tries), saw
-
-
-if __name__ == "__main__":
-    sys.exit(run_check(FILES, check))

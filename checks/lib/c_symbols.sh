@@ -1,20 +1,8 @@
-#!/bin/sh
-# The shared library and the archive that c/build makes: what they show, what they need, and that a
-# program finds them by pkg-config's file. GEOSTATION_PREFIX may name where c/build put them.
-top=$(cd "$(dirname "$0")/.." && pwd)
-cc=$(command -v "${CC:-gcc}" || command -v clang) || { echo "gcc isn't installed"; exit 77; }
-for tool in nm readelf pkg-config; do
-    command -v $tool > /dev/null || { echo "$tool isn't installed"; exit 77; }
-done
-work=$(mktemp -d)
-trap 'rm -rf "$work"' EXIT
-fail() { echo "failed: $1"; exit 1; }
+# shellcheck shell=sh disable=SC2154
+# The shared library and the archive that c/build makes: what they export, what they need, and that a
+# program finds them by pkg-config's file. A part of checks/c, which sets $top, $cc, $prefix and
+# $work, and has the function `fail`. Sets `symbols`, the sentence that says what was seen.
 
-prefix=${GEOSTATION_PREFIX:-$work/station}
-if [ -z "$GEOSTATION_PREFIX" ]; then
-    command -v rt > /dev/null || { echo "rt isn't installed"; exit 77; }
-    CC=$cc "$top/c/build" "$prefix" || fail "c/build"
-fi
 # The shared library's name ends in the header's GEOSTATION_ABI.
 abi=$(sed -n 's/^#define GEOSTATION_ABI \([0-9]*\)$/\1/p' "$prefix/include/geostation.h")
 soname="libgeostation.so.$abi"
@@ -98,5 +86,4 @@ grep -q '^port 2002: hi$' "$work/page/printed" || fail "what the program of docs
 version=$(sed -n 's/^#define GEOSTATION_VERSION "\(.*\)"$/\1/p' "$prefix/include/geostation.h")
 told=$(pkg-config --modversion geostation)
 [ "${version:-$told}" = "$told" ] || fail "version $told in geostation.pc, $version in the header"
-
-echo "$count calls and nothing else in both libraries, version $told; two programs, and the lines of the page"
+symbols="$count calls and nothing else in both libraries, version $told"

@@ -1,9 +1,9 @@
 """A second opinion of `geostation sim`, written from the rules and not from the program.
 
-    python3 checks/air.py SCENARIO.toml                 the lines of a run
-    python3 checks/air.py --notes SCENARIO.toml         its notes among them
-    python3 checks/air.py --summary SCENARIO.toml       its summary
-    python3 checks/air.py .. --moves FILE SCENARIO.toml the same of a run with moves
+    python3 checks/lib/air.py SCENARIO.toml                 the lines of a run
+    python3 checks/lib/air.py --notes SCENARIO.toml         its notes among them
+    python3 checks/lib/air.py --summary SCENARIO.toml       its summary
+    python3 checks/lib/air.py .. --moves FILE SCENARIO.toml the same of a run with moves
 
 It prints what `geostation sim` prints of a scenario that isn't refused, with a table `air` or
 without; of a bad line of FILE it tells on standard error, and ends with status 1. Nothing is taken

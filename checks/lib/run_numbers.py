@@ -1,19 +1,19 @@
-"""A second opinion of the numbers of `geostation sim`, from the events of checks/air.py.
+"""A second opinion of the numbers of `geostation sim`, from the events of checks/lib/air.py.
 
-    python3 checks/run_numbers.py FOLDER SCENARIO.toml [MOVES.csv]
+    python3 checks/lib/run_numbers.py FOLDER SCENARIO.toml [MOVES.csv]
 
 FOLDER has what the program wrote of the scenario: `sends`, `stations` and `load` (no such file
 without an air), `missed` and `missed.json` (the summary with `--explain`, as lines and as JSON),
 and `errors` (what it wrote on standard error beside `missed`). This prints each number that differs
 from the one that is computed here, and ends with status 1 if one does.
 
-    python3 checks/run_numbers.py --self-test FOLDER SCENARIO.toml [MOVES.csv]
+    python3 checks/lib/run_numbers.py --self-test FOLDER SCENARIO.toml [MOVES.csv]
 
 Also prints what the scenario has in it, and the names of the mistakes below that these files
 refute, a line each: such a mistake was put into the computation on purpose, and its numbers differ
 from the program's. `checks/air` looks whether over all scenarios each of these lines was printed.
 
-    python3 checks/run_numbers.py --names
+    python3 checks/lib/run_numbers.py --names
 
 Prints all such lines.
 """

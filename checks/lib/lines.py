@@ -1,13 +1,12 @@
 """Compares what the program prints in words with what it prints in JSON, over all samples.
 
 Each object is written again in words, by the rules of docs/formats/json.md, and has to be the line.
-Arguments: the program, and the folder of the samples.
 """
 
 import json
-import pathlib
 import subprocess
-import sys
+
+from program import PROGRAM, TOP
 
 FRAME = "moment from to kind address tst lat lon pai speed heading lt tc mobile hops max_hops"
 TARGET = "number shape alat alon a b angle"
@@ -85,23 +84,23 @@ def event(told, air):
     return words, words, keys
 
 
-def lines(program, *arguments):
+def lines(*arguments):
     """The lines that the program prints, and its status."""
-    done = subprocess.run([program, *arguments], stdout=subprocess.PIPE, text=True)
+    done = subprocess.run([PROGRAM, *arguments], stdout=subprocess.PIPE, text=True)
     return done.stdout.splitlines(), done.returncode
 
 
-def compare(program, command, sample):
+def compare(command, sample):
     """How many lines of a command over a sample say the same in words and in JSON."""
-    words, status = lines(program, command, sample)
-    reasons, _ = lines(program, command, "--explain", sample)
-    objects, same = lines(program, command, "--json", sample)
-    assert lines(program, command, "--json", "--explain", sample) == (objects, status)
+    words, status = lines(command, sample)
+    reasons, _ = lines(command, "--explain", sample)
+    objects, same = lines(command, "--json", sample)
+    assert lines(command, "--json", "--explain", sample) == (objects, status)
     assert same == status, f"{command} {sample}: status {same} in JSON, {status} in words"
     told = [json.loads(line) for line in objects]
     for line, value in zip(objects, told):
         assert line == json.dumps(value, separators=(",", ":")), f"{line}: not compact"
-    air = command == "sim" and "[air]" in pathlib.Path(sample).read_text()
+    air = command == "sim" and "[air]" in sample.read_text()
     if command == "sim":
         assert list(told[0]) == (["stations", "air", "version"] if air else ["stations"]), objects[0]
         told = told[1:]
@@ -114,14 +113,12 @@ def compare(program, command, sample):
     return len(told)
 
 
-def main(program, folder):
-    """Compares all samples."""
-    count, samples = 0, 0
-    for sample in sorted(pathlib.Path(folder).iterdir()):
+def compare_samples():
+    """Compares the lines of all samples. Returns how many lines they have. Raises AssertionError at
+    the first line that says something else."""
+    count = 0
+    for sample in sorted((TOP / "cases/data").iterdir()):
         commands = COMMANDS.get(sample.suffix, ())
-        count += sum(compare(program, command, str(sample)) for command in commands)
-        samples += bool(commands)
-    print(f"{count} lines of {samples} samples say the same in words and in JSON")
-
-
-main(*sys.argv[1:])
+        count += sum(compare(command, sample) for command in commands)
+    assert count > 0, "no sample was compared"
+    return count

@@ -8,7 +8,7 @@ from pathlib import Path
 
 from geostation.study import Study
 
-TOWN = Path(__file__).resolve().parent.parent / "cases/data/town"
+TOWN = Path(__file__).resolve().parents[2] / "cases/data/town"
 LOSS, RANGE, SEEDS = [0, 40, 70, 90], [200, 250], 5
 
 

@@ -1,5 +1,5 @@
 /* Makes allocations, reads and writes of a program fail: loaded before the C library (LD_PRELOAD),
- * beside checks/failures and checks/streams. What fails is said by variables of the environment:
+ * by checks/failures. What fails is said by variables of the environment:
  *
  *   FAILING_ALLOCATION=N  the Nth allocation, counted from 1, and all later ones; 0: none
  *   FAILING_ONLY=1        the Nth alone

@@ -1,6 +1,6 @@
 """The packages for arm64 in a bare Debian, and the name of the wheel for Python:
 
-    python3 checks/arm_packages.py PREFIX
+    python3 checks/lib/arm_packages.py PREFIX
 
 PREFIX is where c/build and c/link/build put the files for aarch64. Prints what was tried, or why
 it was skipped.
@@ -14,9 +14,9 @@ import sys
 import tempfile
 from pathlib import Path
 
-CHECKS = Path(__file__).resolve().parent
-TOP = CHECKS.parent
-sys.path.insert(0, str(CHECKS))
+LIB = Path(__file__).resolve().parent
+TOP = LIB.parents[1]
+sys.path.insert(0, str(LIB))
 sys.path.insert(0, str(TOP / "python"))
 sys.dont_write_bytecode = True
 
@@ -28,7 +28,7 @@ TARGET = "aarch64-linux-gnu"
 
 def load_install():
     """checks/install as a module."""
-    loader = importlib.machinery.SourceFileLoader("install", str(CHECKS / "install"))
+    loader = importlib.machinery.SourceFileLoader("install", str(TOP / "checks/install"))
     spec = importlib.util.spec_from_loader("install", loader)
     module = importlib.util.module_from_spec(spec)
     loader.exec_module(module)
@@ -83,7 +83,7 @@ def main():
         paths = make_packages(prefix, room, notes)
         check_wheel(prefix, room)
         with install.copy_of_debian(arm_debian.DEBIAN, room) as root:
-            inside = (sys.executable, CHECKS / "arm_debian.py", root)
+            inside = (sys.executable, LIB / "arm_debian.py", root)
             install.use_packages(root, paths, inside)
             notes.append(f"{len(paths)} packages installed, used, upgraded and purged")
     print("in a bare Debian for arm64: " + ", ".join(notes))

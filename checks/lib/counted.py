@@ -1,9 +1,9 @@
 """Compares the tables of `geostation stats --json` with those of what Wireshark read.
 
-    python3 checks/counted.py DISSECTED STATS
+    python3 checks/lib/counted.py DISSECTED STATS
 
-DISSECTED has the lines of `checks/dissect.py`, STATS the object of `stats`. All tables are computed
-by checks/capture_counts.py, from Wireshark's fields alone.
+DISSECTED has the lines of `checks/lib/dissect.py`, STATS the object of `stats`. All tables are computed
+by checks/lib/capture_counts.py, from Wireshark's fields alone.
 """
 
 import json

@@ -1,6 +1,6 @@
 """A bare Debian for arm64, and programs that run in it by qemu's user mode.
 
-    python3 checks/arm_debian.py ROOT COMMAND..    runs a command in that Debian
+    python3 checks/lib/arm_debian.py ROOT COMMAND..    runs a command in that Debian
 
 debootstrap makes it once, as root, in ~/.cache/geostation/debian-arm64 or the folder that
 GEOSTATION_DEBIAN_ARM64 names. Its packages are unpacked and not configured. What runs in it is in a user namespace of its own. There binfmt_misc
