@@ -1,22 +1,20 @@
-#!/usr/bin/env python3
 """Follows the links of README, CONTRIBUTING and docs/ to files and headings of this repository.
 
-A link to another place is passed over: nothing is fetched. In docs/proof each name in backquotes
-that has an underscore, which is then one of a function or a definition, has to stand in a source.
+A link to another site is ignored: nothing is fetched. In docs/proof each name in backquotes that has
+an underscore is a function or a definition. It has to occur in a source.
 """
 
 import re
-import sys
-from pathlib import Path
 
-TOP = Path(__file__).resolve().parent.parent
+from program import TOP
+
 LINK = re.compile(r"\]\(([^)\s]+)\)")
 BLOCK = re.compile(r"^```.*?^```", re.MULTILINE | re.DOTALL)
 SOURCES = ("*.rt", "*.antt")
 
 
-def pages():
-    """The pages whose links are followed."""
+def kept_pages():
+    """The pages of the repository."""
     return [TOP / "README.md", TOP / "CONTRIBUTING.md", *sorted((TOP / "docs").rglob("*.md"))]
 
 
@@ -56,17 +54,8 @@ def unknown_names():
     return wrong
 
 
-def main():
-    found = [broken(page) for page in pages()]
-    wrong = [line for lines, _ in found for line in lines] + unknown_names()
-    for line in wrong:
-        print(line)
-    if wrong:
-        print(f"{len(wrong)} links or names lead nowhere")
-        return 1
-    print(f"{sum(count for _, count in found)} links of {len(found)} pages lead to what is there")
-    return 0
-
-
-if __name__ == "__main__":
-    sys.exit(main())
+def follow(pages):
+    """Returns what is wrong with the links of the pages and with the names in docs/proof, and how
+    many links there are."""
+    found = [broken(page) for page in pages]
+    return [line for lines, _ in found for line in lines] + unknown_names(), sum(n for _, n in found)
