@@ -1,7 +1,7 @@
 """Follows the links of README, CONTRIBUTING and docs/ to files and headings of this repository.
 
-A link to another site is ignored: nothing is fetched. In docs/proof each name in backquotes that has
-an underscore is a function or a definition. It has to occur in a source.
+A link to another site is ignored: nothing is fetched. In docs/proof and in docs/ARCHITECTURE.md each
+name in backquotes that has an underscore is a function or a definition. It has to occur in a source.
 """
 
 import re
@@ -39,14 +39,14 @@ def broken(page):
 
 
 def unknown_names():
-    """Names in docs/proof that no source has."""
+    """Names in the pages about the code that no source has."""
     crates, known, wrong = TOP / "crates", set(), []
     for crate in sorted(crates.iterdir()):
         known.add(crate.name)
         for part in ("src", "specs", "proofs"):
             for path in (found for kind in SOURCES for found in (crate / part).rglob(kind)):
                 known.update(re.findall(r"\w+", path.read_text()))
-    for page in sorted((TOP / "docs/proof").glob("*.md")):
+    for page in [TOP / "docs/ARCHITECTURE.md", *sorted((TOP / "docs/proof").glob("*.md"))]:
         for quoted in re.findall(r"`([^`\n]+)`", page.read_text()):
             for name in re.findall(r"\w+", quoted):
                 if "_" in name.strip("_") and name[0] != "_" and name not in known:
@@ -55,7 +55,7 @@ def unknown_names():
 
 
 def follow(pages):
-    """Returns what is wrong with the links of the pages and with the names in docs/proof, and how
-    many links there are."""
+    """Returns what is wrong with the links of the pages and with names in the pages about the code,
+    and how many links there are."""
     found = [broken(page) for page in pages]
     return [line for lines, _ in found for line in lines] + unknown_names(), sum(n for _, n in found)

@@ -11,7 +11,7 @@ import re
 import textwrap
 from typing import NamedTuple
 
-from program import TOP
+from program import TOP, crate_names
 
 HEAD = """# What is proved
 
@@ -163,9 +163,8 @@ class Page:
 
     def __init__(self, folder):
         self.folder, self.wrong, self.functions, self.sections = folder, [], 0, 0
-        crates = [line.split("#")[0].partition(":")[0].split() for line in (TOP / "crates.txt").open()]
         lines = HEAD.format(proof=self.link("docs/proof")).rstrip("\n").split("\n")
-        for crate in (words[0] for words in crates if words):
+        for crate in crate_names():
             lines += self.section(crate)
         self.text = "\n".join(lines) + "\n"
 

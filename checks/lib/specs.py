@@ -8,7 +8,7 @@ definition and the comment above it, or what it is declared as if it has none.
 import os
 import re
 
-from program import TOP
+from program import TOP, crate_names
 
 HEAD = """# Definitions, by crate
 
@@ -20,11 +20,6 @@ and of geometry.
 """
 BY_HAND = ("its_geometry", "its_model")
 KEYWORDS = {"abbrev", "unfoldable", "pub", "record", "data"}
-
-
-def crate_names():
-    lines = (line.split("#")[0].partition(":")[0].split() for line in (TOP / "crates.txt").open())
-    return [words[0] for words in lines if words]
 
 
 def read_comment(lines, at):
