@@ -3,9 +3,9 @@
     python3 checks/lib/arm_debian.py ROOT COMMAND..    runs a command in that Debian
 
 debootstrap makes it once, as root, in ~/.cache/geostation/debian-arm64 or the folder that
-GEOSTATION_DEBIAN_ARM64 names. Its packages are unpacked and not configured. What runs in it is in a user namespace of its own. There binfmt_misc
-starts qemu for each program for aarch64, also for those that dpkg starts. That needs Linux 6.7. The
-machine itself keeps its settings.
+GEOSTATION_DEBIAN_ARM64 names. Its packages are unpacked and not configured. What runs in it is in a
+user namespace of its own. There binfmt_misc starts qemu for each program for aarch64, also for
+those that dpkg starts. That needs Linux 6.7. The machine itself keeps its settings.
 """
 
 import os

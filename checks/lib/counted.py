@@ -2,8 +2,8 @@
 
     python3 checks/lib/counted.py DISSECTED STATS
 
-DISSECTED has the lines of `checks/lib/dissect.py`, STATS the object of `stats`. All tables are computed
-by checks/lib/capture_counts.py, from Wireshark's fields alone.
+DISSECTED has the lines of `checks/lib/dissect.py`, STATS the object of `stats`. All tables are
+computed by checks/lib/capture_counts.py, from Wireshark's fields alone.
 """
 
 import json

@@ -1,8 +1,8 @@
 """Files of records in each format, what `show` prints of them and what `convert` makes of them, for
 checks/packets and checks/failures.
 
-Octets stand as docs/formats/capture.md and the formats themselves say: classic pcap and pcapng in either
-order of octets, whole, cut at each octet and with what is wrong in them.
+Octets stand as docs/formats/capture.md and the formats themselves say: classic pcap and pcapng in
+either order of octets, whole, cut at each octet and with what is wrong in them.
 """
 
 from __future__ import annotations

@@ -4,9 +4,10 @@
 
 Takes lines of a moment in milliseconds and the hexadecimal digits of a frame, and writes files to
 the folder, pcap and pcapng in both orders of octets: of Ethernet without a tag, with one and with
-two, and one of protocol 9100; of IEEE 802.11 with LLC and SNAP, by each pair of the DS bits, with QoS and without; and of
-radiotap, with a check sequence and without, with a time and without, a header that is filled up, and
-a rate, a channel, hopping and a signal or not. Linux cooked captures of both versions go to COOKED.
+two, and one of protocol 9100; of IEEE 802.11 with LLC and SNAP, by each pair of the DS bits, with
+QoS and without; and of radiotap, with a check sequence and without, with a time and without, a
+header that is filled up, and a rate, a channel, hopping and a signal or not. Linux cooked captures
+of both versions go to COOKED.
 """
 
 from __future__ import annotations
@@ -61,8 +62,8 @@ def wlan(frame: bytes, bits: int, qos: bool, padded: bool = False) -> bytes:
 
 
 def radiotap(inner: bytes, flags: int, timed: bool, words: int, number: int) -> bytes:
-    """A record of radiotap with these flags, with so many empty words behind the first. Which further
-    fields it has, and their values, follow from its number."""
+    """A record of radiotap with these flags, with so many empty words behind the first. Which
+    further fields it has, and their values, follow from its number."""
     more = number * 5 // 3 % 16 * RATE
     present = 0x2 | (0x1 if timed else 0) | more
     masks = [present] + [0] * words

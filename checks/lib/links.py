@@ -1,7 +1,8 @@
 """Follows the links of README, CONTRIBUTING and docs/ to files and headings of this repository.
 
-A link to another site is ignored: nothing is fetched. In docs/proof and in docs/ARCHITECTURE.md each
-name in backquotes that has an underscore is a function or a definition. It has to occur in a source.
+A link to another site is ignored: nothing is fetched. In docs/proof and in docs/ARCHITECTURE.md
+each name in backquotes that has an underscore is a function or a definition. It has to occur in a
+source.
 """
 
 import re
@@ -58,4 +59,5 @@ def follow(pages):
     """Returns what is wrong with the links of the pages and with names in the pages about the code,
     and how many links there are."""
     found = [broken(page) for page in pages]
-    return [line for lines, _ in found for line in lines] + unknown_names(), sum(n for _, n in found)
+    wrong = [line for lines, _ in found for line in lines]
+    return wrong + unknown_names(), sum(count for _, count in found)

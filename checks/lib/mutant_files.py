@@ -45,7 +45,8 @@ def file_of(crate):
 
 
 def read_edits(crate):
-    """The mutants of a crate, by their names. Raises ValueError if its file is not in the format."""
+    """The mutants of a crate, by their names. Raises ValueError if its file is not in the
+    format."""
     path, found = file_of(crate), []
     lines = path.read_text(encoding="utf-8").split("\n") if path.exists() else []
     for number, line in enumerate(lines, 1):

@@ -21,10 +21,10 @@ Every function is safe and returns, for any octets and for all values within its
 addition, each public function below has the result that its contract promises. The table names its
 clauses, which the file has at the function: `ensures NAME {{ .. }}`, or one clause without a name.
 *Under* names its conditions (`requires`). [READING.md]({proof}/READING.md) explains how to read a
-clause, and [DEFINITIONS.md]({proof}/DEFINITIONS.md) the words of the model. The sentence is the first
-of the function's `///`. The clauses are proved and may promise less: for a command of the program
-they promise the exit status only. Laws are contracts of functions that do nothing, in the module
-`laws` of their crate.
+clause, and [DEFINITIONS.md]({proof}/DEFINITIONS.md) the words of the model. The sentence is the
+first of the function's `///`. The clauses are proved and may promise less: for a command of the
+program they promise the exit status only. Laws are contracts of functions that do nothing, in the
+module `laws` of their crate.
 
 [proof/]({proof}/README.md) has a page per crate with what a table can't say: what holds by a type,
 what is proved inside, what is only tested, what is true by review, and what is neither proved nor
@@ -202,8 +202,8 @@ class Page:
         return lines
 
     def rows_of(self, path, names, modules):
-        """The rows of a file: functions that a crate shows, and what std's traits promise of it. Also
-        the names of such functions without a contract."""
+        """The rows of a file: functions that a crate shows, and what std's traits promise of it.
+        Also the names of such functions without a contract."""
         link, found, bare = self.link(path), [], []
         for it in shown_functions(path, names, modules):
             if not it.about and not it.trait:

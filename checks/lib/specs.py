@@ -6,7 +6,6 @@ definition and the comment above it, or what it is declared as if it has none.
 """
 
 import os
-import re
 
 from program import TOP, crate_names
 
@@ -15,8 +14,8 @@ HEAD = """# Definitions, by crate
 <!-- Written by checks/docs from the sources. -->
 
 These are the definitions that the clauses of the crates use, in the words of their comments.
-[DEFINITIONS.md]({proof}/DEFINITIONS.md) explains the notation, and has the definitions of the protocol
-and of geometry.
+[DEFINITIONS.md]({proof}/DEFINITIONS.md) explains the notation, and has the definitions of the
+protocol and of geometry.
 """
 BY_HAND = ("its_geometry", "its_model")
 KEYWORDS = {"abbrev", "unfoldable", "pub", "record", "data"}
