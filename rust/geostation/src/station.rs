@@ -343,6 +343,10 @@ impl Station {
     ///
     /// - [`Error::BadArgument`] if a parameter is out of its range.
     /// - [`Error::NoMemory`] if an allocation fails.
+    ///
+    /// # Panics
+    ///
+    /// If the shared library that was loaded has another ABI than this crate.
     pub fn new(config: &Config) -> Result<Station, Error> {
         let limits = config.limits;
         let config = ffi::Config {
