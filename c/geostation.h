@@ -504,7 +504,7 @@ int geostation_restart(geostation_handle *s, uint64_t now, uint16_t number);
  * Writes a beacon frame if one is due.
  *
  * A beacon is due 3000 ms plus `jitter` after the last packet that the station itself sent. The
- * first beacon is due at time `jitter`, the first one after geostation_restart() `jitter` ms later.
+ * first beacon is due at time `jitter`. After geostation_restart(), one is due `jitter` ms later.
  * geostation_beacon_at() returns the time at which to call this function.
  *
  * @param s            the station
@@ -617,12 +617,14 @@ int geostation_send_shb_with_lifetime(geostation_handle *s, uint64_t now,
 /**
  * Processes a received frame.
  *
- * If the packet is to be forwarded, the frame to send is written to `relay`. The limits of the
- * station may hold it back; then `relay_length` is 0, and the payload is delivered all the same. A
- * packet for an area that was delivered before is not delivered again. All stations that
+ * If the packet is to be forwarded, the frame to send is written to `relay`. All stations that
  * received the same broadcast frame would forward it at the same time. So wait for a random time
  * below 2 ms before you send it, unless it goes to one station (the lowest bit of its first byte is
  * 0).
+ *
+ * If a limit of the station holds that frame back, `relay_length` is 0, and the payload is
+ * delivered all the same. With `deliver_once`, a packet for an area that was delivered before is
+ * not delivered again.
  *
  * In frames of up to 60 bytes, zeros after the packet are ignored: Ethernet pads short frames.
  *
@@ -691,7 +693,8 @@ int geostation_read_frame(const uint8_t *frame, size_t length, struct geostation
  *
  * Call it again after you have sent a packet, which postpones the beacon, and after
  * geostation_restart(). Do not call it again after receiving a frame. The result is never earlier
- * than the last call, so on a busy channel a new wait for each frame might never end.
+ * than the time of the last call. So on a busy channel, a wait that begins again with each frame
+ * might never end.
  *
  * @param s       the station
  * @param jitter  0 to #GEOSTATION_JITTER_MAX, in ms
@@ -739,7 +742,7 @@ int geostation_neighbour(const geostation_handle *s, uint64_t now, uint64_t afte
                          struct geostation_vector *out);
 
 /**
- * Finds a live source by address: one of which a new packet was accepted in the last 20 s.
+ * Finds a live source by address. A source is live for 20 s after its last accepted packet.
  *
  * @param s         the station
  * @param now       time, in ms
@@ -798,7 +801,7 @@ void geostation_counts(const geostation_handle *s, struct geostation_counts *out
  * @param now                 time, in ms
  * @param number              line number, for the answer to a malformed line
  * @param line                the line; may be NULL if `line_length` is 0
- * @param line_length         length of `line`; over #GEOSTATION_LINE_MAX it is malformed
+ * @param line_length         length of `line`; above #GEOSTATION_LINE_MAX the line is malformed
  * @param[out] answer         the answer: one JSON object without a line feed
  * @param answer_room         size of `answer`, at least #GEOSTATION_ANSWER_MAX
  * @param[out] answer_length  length of the answer, 0 for a blank line

@@ -332,8 +332,8 @@ class Counts:
     refused: RefusedCounts
     sent: SentCounts
     suppressed: int = 0
-    """Frames that were not forwarded, for a limit or as an echo."""
+    """Frames that were not forwarded because of a limit."""
     repeated: int = 0
-    """Payloads that were not delivered, because they were delivered before."""
+    """Payloads that were not delivered because they were delivered before."""
     over_rate: int = 0
     """Own packets that were refused for their rate."""

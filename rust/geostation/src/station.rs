@@ -11,8 +11,10 @@ use std::iter::FusedIterator;
 const GBC: u32 = 3;
 const GAC: u32 = 4;
 
-/// Limits on what a station sends. A rate is in frames per second, and a burst in frames that may go
-/// out at once, both 0 to 1000000. There is no limit if the rate or the burst is 0.
+/// Limits on what a station sends.
+///
+/// A rate is the number of frames per second, and a burst the number of frames at once. Both are 0
+/// to 1000000. There is no limit if the rate or the burst is 0.
 #[derive(Clone, Copy, Debug, PartialEq, Eq, Hash)]
 pub struct Limits {
     /// All frames that the station forwards, per second.
@@ -48,7 +50,7 @@ impl Limits {
 }
 
 impl Default for Limits {
-    /// The limits that a channel of 6 Mbit/s bears.
+    /// The limits that suit a channel of 6 Mbit/s.
     fn default() -> Limits {
         Limits {
             forward_rate: 100,
@@ -276,11 +278,11 @@ pub struct Counts {
     pub refused: RefusedCounts,
     /// The station's own packets.
     pub sent: SentCounts,
-    /// Frames that were not forwarded, for a limit or as an echo.
+    /// Frames that were not forwarded because of a limit.
     pub suppressed: u64,
-    /// Payloads that were not delivered, because they were delivered before.
+    /// Payloads that were not delivered because they were delivered before.
     pub repeated: u64,
-    /// Own packets that were refused for their rate ([`Error::OverRate`]).
+    /// Calls that failed with [`Error::OverRate`].
     pub over_rate: u64,
 }
 
@@ -647,8 +649,8 @@ impl Station {
     ///
     /// Choose a jitter at random for each beacon, and pass it to each `tick` until one returns the
     /// beacon. Call `beacon_at` again after you have sent a packet and after a restart, but not
-    /// after receiving a frame. The result is never earlier than the last call, so on a busy
-    /// channel a new wait for each frame might never end.
+    /// after receiving a frame. The result is never earlier than the time of the last call. So on
+    /// a busy channel, a wait that begins again with each frame might never end.
     pub fn beacon_at(&self, jitter: u16) -> Option<u64> {
         Some(self.handle.beacon_at(jitter)).filter(|moment| *moment != u64::MAX)
     }
