@@ -249,8 +249,11 @@ class Packet:
 
 @dataclass(frozen=True)
 class Limits:
-    """Limits on what a station sends. A rate is in frames per second, and a burst in frames that may
-    go out at once, both 0 to 1000000. There is no limit if the rate or the burst is 0."""
+    """Limits on what a station sends.
+
+    A rate is the number of frames per second, and a burst the number of frames at once. Both are 0
+    to 1000000. There is no limit if the rate or the burst is 0.
+    """
 
     forward_rate: int = 100
     """All frames that the station forwards."""

@@ -90,8 +90,8 @@ pub struct Config {
 
 impl Config {
     /// Returns the parameters of a mobile station with this address and position. The location
-    /// table has 64 entries, each duplicate packet list has length 8, the first sequence number is 0,
-    /// and the limits are the defaults.
+    /// table has 64 entries, each duplicate packet list has length 8, the first sequence number is
+    /// 0, and the limits are the defaults.
     pub fn new(address: u64, latitude: i32, longitude: i32) -> Config {
         Config {
             address,
