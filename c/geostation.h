@@ -115,27 +115,27 @@ extern "C" {
 enum geostation_status {
     /** The call succeeded. */
     GEOSTATION_OK = 0,
-    /** (S1) `now` is earlier than in an earlier call. */
+    /** (S1) The time `now` is earlier than that of the last call. */
     GEOSTATION_MOMENT_EARLIER = 1,
-    /** (S2) `now` is later than #GEOSTATION_LAST_MOMENT. */
+    /** (S2) The time `now` is over 2^62 ms, #GEOSTATION_LAST_MOMENT. */
     GEOSTATION_MOMENT_TOO_LATE = 2,
-    /** (S3) The bytes are not a valid frame. The `fault` fields say why. */
+    /** (S3) Not a valid frame. The `fault` fields say why. */
     GEOSTATION_BAD_FRAME = 3,
-    /** (S4) The packet's source is new, and the location table is full. */
+    /** (S4) The location table is full, and the packet's source is not in it. */
     GEOSTATION_TABLE_FULL = 4,
-    /** (S5) An allocation failed. */
+    /** (S5) Out of memory. */
     GEOSTATION_NO_MEMORY = 5,
-    /** (S6) The payload is longer than #GEOSTATION_PAYLOAD_MAX. */
+    /** (S6) The payload is over 1394 octets, #GEOSTATION_PAYLOAD_MAX. */
     GEOSTATION_PAYLOAD_TOO_LONG = 6,
     /** (S7) The hop limit is 0. */
     GEOSTATION_HOP_LIMIT_ZERO = 7,
-    /** (S8 B2) The port is already open. */
+    /** (S8 B2) The port is open. */
     GEOSTATION_PORT_ALREADY_OPEN = 8,
-    /** (S9) The jitter is greater than #GEOSTATION_JITTER_MAX. */
+    /** (S9) The jitter is over 750 ms, #GEOSTATION_JITTER_MAX. */
     GEOSTATION_JITTER_RANGE = 9,
-    /** (S8 B3) 64 ports are open; no other can be opened. */
+    /** (S8 B3) 64 other ports are open. */
     GEOSTATION_PORTS_FULL = 10,
-    /** (S8 B4) The port is not open. */
+    /** (S8 B4) The port isn't open. */
     GEOSTATION_PORT_NOT_OPEN = 11,
     /** An argument is out of its range. It has no code. */
     GEOSTATION_BAD_ARGUMENT = 20,
