@@ -233,7 +233,7 @@ struct geostation_config {
     uint32_t forward_burst; /**< frames forwarded at once, 0 to 1000000 (default 50) */
     uint32_t source_rate;   /**< forwarded frames per second of each source (default 20) */
     uint32_t source_burst;  /**< frames of each source forwarded at once (default 20) */
-    uint32_t own_rate;      /**< own packets per second, without beacons (default 50) */
+    uint32_t own_rate;      /**< own packets per second, not beacons (default 50) */
     uint32_t own_burst;     /**< own packets sent at once (default 50) */
     uint32_t hop_cap;       /**< greatest RHL that is forwarded, 0 to 255; 0: any (default 10) */
     uint32_t deliver_once;  /**< 0: a packet for an area may be delivered twice (default 1) */

@@ -25,7 +25,7 @@ static const char usage[] =
     "  --forward-burst N     Forward at most N frames at once [default: 50]\n"
     "  --source-rate N       Forward at most N frames per second of each source [default: 20]\n"
     "  --source-burst N      Forward at most N frames at once of each source [default: 20]\n"
-    "  --own-rate N          Send at most N own packets per second, without beacons\n"
+    "  --own-rate N          Send at most N own packets per second, beacons not counted\n"
     "                        [default: 50]\n"
     "  --own-burst N         Send at most N own packets at once [default: 50]\n"
     "  --hop-cap N           Don't forward packets with more hops left, 0 to 255 [default: 10]\n"

@@ -262,7 +262,7 @@ class Limits:
     """Frames of each source that the station forwards."""
     source_burst: int = 20
     own_rate: int = 50
-    """Own packets, without beacons."""
+    """Own packets. Beacons are not counted."""
     own_burst: int = 50
     hop_cap: int = 10
     """Packets with more hops left are not forwarded, 0 to 255. 0 is no cap."""

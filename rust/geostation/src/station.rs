@@ -25,9 +25,9 @@ pub struct Limits {
     pub source_rate: u32,
     /// Frames of each source that the station may forward at once.
     pub source_burst: u32,
-    /// Own packets without beacons, per second.
+    /// Own packets per second. Beacons are not counted.
     pub own_rate: u32,
-    /// Own packets without beacons that may be sent at once.
+    /// Own packets that may be sent at once. Beacons are not counted.
     pub own_burst: u32,
     /// Packets with more hops left are not forwarded. 0 is no cap.
     pub hop_cap: u8,
