@@ -21,7 +21,8 @@ use Rattle.its_headers.specs.Encoding.{basic_header, common_header, extended_hea
 use Rattle.its_headers.specs.Encoding.{area_packet_octets, common_next, header_type, payload_length}
 use Rattle.its_headers.specs.Encoding.{shape_code}
 use Rattle.its_headers.specs.Format.{Format, after, ends, octets}
-use Rattle.its_headers.specs.Layout.{Common, basic_format, type_format, common_format}
+use Rattle.its_headers.specs.Layout.{Common, basic_format, basic_format_of, type_format}
+use Rattle.its_headers.specs.Layout.{common_format}
 use Rattle.its_headers.specs.Layout.{vector_format, area_format, beacon_format, body_format}
 use Rattle.its_headers.specs.Layout.{packet_format, is_next, is_type, is_subtype, is_length}
 use Rattle.its_headers.specs.Layout.{kind_of, shape_of, next_of, type_of, shb_format}
@@ -45,7 +46,7 @@ pub record IsBasic (x : ℕ × ℕ) (s : List ℕ) : Type 0 where
   pub octets : s ≡ 17 ∷ 0 ∷ x.0 ∷ x.1 ∷ []
 
 pub basic_spelled : (x : ℕ × ℕ) (s : List ℕ) → Spells basic_format x s → IsBasic x s
-unfolding basic_format
+unfolding basic_format_of
 basic_spelled x s (
   v,
   n,
@@ -82,7 +83,7 @@ basic_spelled x s (
 
 pub spells_basic : (x : ℕ × ℕ) → x.0 < 256 → 0 < x.1 → x.1 < 256
     → Spells basic_format x (17 ∷ 0 ∷ x.0 ∷ x.1 ∷ [])
-unfolding basic_format
+unfolding basic_format_of
 spells_basic x fl some fleft = (
   1,
   1,
