@@ -162,7 +162,7 @@ inhabited : IsInhabited packet_format
 inhabited =
     inhabited_after basic_format _ basic_inhabited
     (λ b s h. inhabited_after (common_format b.1) _
-    (common_inhabited b.1 (basic_spelled b s h).left)
+    (common_inhabited b.1 (basic_spelled 1 b s h).left)
     (λ c _ _. inhabited_after (body_format c.kind c.shape c.length) _
     (body_inhabited c.kind c.shape c.length) (λ _ _ _. tt)))
 

@@ -1,6 +1,6 @@
 //! Secured frames read in place (profile).
 
-ghost use Rattle.std.specs.Prelude.{◌≡◌, ◌<◌, ◌≤◌, ◌^◌, length, IfOk, IfErr, IsOkAnd};
+ghost use Rattle.std.specs.Prelude.{◌≡◌, ◌<◌, ◌≤◌, ◌+◌, length, IfOk, IfErr, IsOkAnd};
 ghost use Rattle.its_linkframe.specs.Secured.{Secured, EncodesSecured, IsSecuredFault};
 
 use crate::fields::{ETHER_TYPE, MESSAGE, PACKET, SOURCE, TARGET};

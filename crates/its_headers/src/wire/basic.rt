@@ -1,8 +1,9 @@
 //! The Basic Header (EN 302 636-4-1 clause 9): version, next header, lifetime, hops left.
 
-ghost use Rattle.std.specs.Prelude.{◌≡◌, ◌≤◌, ◌<◌, ◌∷◌, [], length};
+ghost use Rattle.std.specs.Prelude.{◌≡◌, ◌≤◌, ◌<◌, ◌∷◌, ◌++◌, [], ℕ, List, length, drop, Err};
+ghost use Rattle.std.specs.Prelude.{IfOk, IfErr, IsOkAnd};
 ghost use Rattle.its_headers.specs.Format.{Gives, walk};
-ghost use Rattle.its_headers.specs.Inner.{secured_header};
+ghost use Rattle.its_headers.specs.Inner.{Basic, IsBasic, secured_header};
 ghost use Rattle.its_headers.specs.Layout.{basic_format_of, secured_format};
 ghost use Rattle.its_headers.specs.Puts.{Puts};
 
@@ -60,13 +61,16 @@ impl BasicHeader {
 
     /// The Basic Header of the secured packet that the octets are, or their first fault: G1 where
     /// they end before the message's first octet, G2, G3 where the next header isn't 2, G4, G5.
-    #[tactic(auto, using(crate::proofs::Walks::walk_after))]
     pub fn read_secured(octets: &[u8]) -> Result<BasicHeader, Fault>
-        ensures { Gives (λ b. ((b.lifetime, b.left), 5)) result (walk secured_format 0 octets.now) }
+        ensures found { IfOk result (λ b. octets.now ≡ secured_header b ++ drop 4 octets.now) }
+        ensures long { IfOk result (λ _. 5 ≤ length octets.now) }
+
+        // Each is read, whatever the message is.
+        ensures only { (b : Basic) (message : List ℕ) → IsBasic b → 0 < length message →
+            octets.now ≡ secured_header b ++ message → IsOkAnd result (λ r. r ≡ b) }
+        ensures fault { IfErr result (λ f. walk secured_format 0 octets.now ≡ Err f) }
     {
-        let basic = check_basic(&octets, NEXT_SECURED)?;
-        pass_number(&octets, BASIC_END, 1)?;
-        Ok(basic)
+        check_secured(octets)
     }
 
     /// The four octets of this header in front of a message.
@@ -116,6 +120,16 @@ pub(crate) fn check_basic<O: Octets>(octets: &O, next: u8) -> Result<BasicHeader
         return Err(fault(HOPS_LEFT, FaultKind::HopZero));
     }
     Ok(BasicHeader { lifetime, left })
+}
+
+/// Checks the Basic Header of a secured packet, and that a message follows.
+#[tactic(auto, using(crate::proofs::Walks::walk_after))]
+fn check_secured(octets: &[u8]) -> Result<BasicHeader, Fault>
+    ensures { Gives (λ b. ((b.lifetime, b.left), 5)) result (walk secured_format 0 octets.now) }
+{
+    let basic = check_basic(&octets, NEXT_SECURED)?;
+    pass_number(&octets, BASIC_END, 1)?;
+    Ok(basic)
 }
 
 /// Writes the Basic Header, four octets.
