@@ -1,6 +1,6 @@
 -- Reading an inner packet behind its Basic Header.
 use Rattle.std.proofs.Common.{◌≡◌, ℕ, ◌<◌, ◌≤◌, ◌-◌, ◌+◌, List, [], ◌∷◌, ◌++◌, length, take, Result, Ok}
-use Rattle.std.proofs.Common.{Err, refl, sym, ap, ◌∙◌, arith, zero, suc, length-take, drop}
+use Rattle.std.proofs.Common.{Err, refl, sym, ap, subst, ◌∙◌, arith, zero, suc, length-take, drop}
 use Rattle.std.specs.Prelude.{slice_index, IfOk, IfErr, IsOkAnd}
 use Rattle.its_faults.specs.declared.packet.Fault.{Fault}
 use Rattle.its_faults.specs.declared.packet.FaultKind.TheVariants.{Truncated}
@@ -93,6 +93,7 @@ secured_walk b message range some =
 pub secured_read : (w : List ℕ) (x : ℕ × ℕ) (n : ℕ) → IsBytes w
     → walk secured_format 0 w ≡ Ok (x, n)
     → (w ≡ secured_header (record { lifetime = x.0; left = x.1 }) ++ drop 4 w) × (5 ≤ length w)
+    × IsBasic (record { lifetime = x.0; left = x.1 })
 secured_read w x n fits e =
     let i = bind_ok (walk (basic_format_of 2) 0 w) _ (x, n)
     (sym (walk_after (basic_format_of 2) _ 0 w) ∙ e) in
@@ -108,6 +109,8 @@ secured_read w x n fits e =
           ∙ ap (λ (y : ℕ × ℕ). secured_header (record { lifetime = y.0; left = y.1 }) ++ drop 4 w)
           same,
       omega (arith, j.0, end),
+      subst (λ (y : ℕ × ℕ). IsBasic (record { lifetime = y.0; left = y.1 })) same
+          (record { lifetime = b.lifetime; some_left = b.some_left; left = b.left }),
     )
 
 -- ---- what reading it answers, from what the walk gives
@@ -125,6 +128,11 @@ pub secured_long : (r : Result Basic Fault) (w : List ℕ) → IsBytes w
     → Gives header_read r (walk secured_format 0 w) → IfOk r (λ _. 5 ≤ length w)
 secured_long (Ok b) w fits h = (secured_read w (b.lifetime, b.left) 5 fits h).1
 secured_long (Err f) w fits h = tt
+
+pub secured_range : (r : Result Basic Fault) (w : List ℕ) → IsBytes w
+    → Gives header_read r (walk secured_format 0 w) → IfOk r IsBasic
+secured_range (Ok b) w fits h = (secured_read w (b.lifetime, b.left) 5 fits h).2
+secured_range (Err f) w fits h = tt
 
 abbrev no_header : Fault → Result ((ℕ × ℕ) × ℕ) Fault
 no_header e = Err e

@@ -41,6 +41,11 @@ pub record EncodesSecured (s : Secured) (w : List ℕ) : Type 0 where
   pub fields : IsSecured s
   pub octets : w ≡ secured_octets s
 
+-- the octets are a secured frame
+pub record IsSecuredFrame (w : List ℕ) : Type 0 where
+  pub secured : Secured
+  pub encodes : EncodesSecured secured w
+
 -- Checked in this order: under 14 octets; another type; over 2310 octets; no secured packet after
 -- the type, whose first fault is that of its fields in the order of the wire.
 abbrev pub IsSecuredFault : List ℕ → SecuredFault → Type 0

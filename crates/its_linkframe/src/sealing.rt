@@ -7,7 +7,7 @@ ghost use Rattle.its_model.specs.Packet.{Transmission, relay};
 ghost use Rattle.its_headers.specs.Encoding.{Encodes};
 ghost use Rattle.its_headers.specs.Inner.{inner_octets};
 ghost use Rattle.its_linkframe.specs.Frames.{transmission_of};
-ghost use Rattle.its_linkframe.specs.Secured.{EncodesSecured, Secured, sealed, basic_on_air};
+ghost use Rattle.its_linkframe.specs.Secured.{EncodesSecured, IsSecuredFrame, Secured, sealed, basic_on_air};
 
 use crate::building::link_header;
 use crate::fields::{MESSAGE, SOURCE};
@@ -108,7 +108,7 @@ fn fill_secured(frame: &mut Vec<u8>, to: Mac, from: Mac, basic: BasicHeader, mes
 
 /// Gives a secured frame another target, and changes nothing else. The octets have to be one.
 pub fn retarget_secured(frame: &mut [u8], to: Mac)
-    requires { (s : Secured) × EncodesSecured s frame.old }
+    requires { IsSecuredFrame frame.old }
     ensures { (s : Secured) → EncodesSecured s frame.old →
         EncodesSecured (record s { link_target = to }) frame.new }
 {

@@ -64,6 +64,7 @@ impl BasicHeader {
     pub fn read_secured(octets: &[u8]) -> Result<BasicHeader, Fault>
         ensures found { IfOk result (λ b. octets.now ≡ secured_header b ++ drop 4 octets.now) }
         ensures long { IfOk result (λ _. 5 ≤ length octets.now) }
+        ensures range { IfOk result IsBasic }
 
         // Each is read, whatever the message is.
         ensures only { (b : Basic) (message : List ℕ) → IsBasic b → 0 < length message →
