@@ -22,6 +22,7 @@ refusal_of refused.MomentEarlier = Some model.Refusal.MomentEarlier
 refusal_of refused.MomentTooLate = Some model.Refusal.MomentTooLate
 refusal_of refused.JitterRange = Some model.Refusal.JitterRange
 refusal_of (refused.Frame fault) = Some (model.Refusal.BadFrame fault)
+refusal_of (refused.Secured fault) = Some (model.Refusal.BadSecured fault)
 refusal_of (refused.Port fault) = Some (port_refusal fault)
 refusal_of refused.PayloadTooLong = Some model.Refusal.PayloadTooLong
 refusal_of refused.HopLimitZero = Some model.Refusal.HopLimitZero

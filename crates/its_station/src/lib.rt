@@ -72,6 +72,7 @@ mod outcome;
 mod ports;
 mod queries;
 mod receive;
+mod received;
 mod refused;
 mod requests;
 mod restart;
