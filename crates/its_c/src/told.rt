@@ -130,10 +130,11 @@ fn tell_handed(handed: Option<Handed<'_>>, frame: &[u8], reception: &mut Recepti
 fn refused_reception(refused: Refused) -> Reception
     ensures { result ≡ refused_reception refused }
 {
-    let Refused::Frame(fault) = refused else {
-        return Reception::NOTHING;
+    let numbers = match refused {
+        Refused::Frame(fault) => FaultNumbers::of(fault),
+        Refused::Secured(fault) => FaultNumbers::of_secured(fault),
+        _ => return Reception::NOTHING,
     };
-    let numbers = FaultNumbers::of(fault);
     Reception {
         fault: numbers.layer,
         fault_kind: numbers.kind,

@@ -36,7 +36,7 @@ use Rattle.its_station.specs.declared.outcome.Outcome.TheVariants as outcomes
 use Rattle.its_station.specs.declared.outcome.Why.{Why}
 use Rattle.its_station.specs.declared.outcome.Why.TheVariants as why
 use Rattle.its_station.specs.State.{StationState, IsPast, RepresentsStation, SamePorts, model_of}
-use Rattle.its_station.specs.Steps.{IsStepOf}
+use Rattle.its_station.specs.Steps.{IsStepOf, IsRefusedStep}
 use Rattle.its_station.specs.Receiving.{Encoded, IsSentFrame, Tells, TellsBy, IsRelayBy}
 use Rattle.its_station.specs.Receiving.{report_of, copy_of, said_by}
 use Rattle.its_station.specs.Receiving.{why_of, why_found, accept_step, secured_step_by}
@@ -367,39 +367,36 @@ pub heard : (E : Encoded) (r : Result Outcome Refused) (old new : StationState) 
     → (s : StationModel) → RepresentsStation old s → IsStepOf (TellsBy E) r new (receive_step s now t)
 heard E r old new now t f = at_model old (λ s. IsStepOf (TellsBy E) r new (receive_step s now t)) f
 
--- octets that are no secured frame with this plain part
-pub bad_secured : (E : Encoded) (st : StationState) (now : ℕ) (fault : SecuredFault)
+-- octets that are no secured frame with this plain part, at a moment that isn't refused
+pub bad_secured : (st : StationState) (now : ℕ) (fault : SecuredFault)
     → ((ports : List ℕ) (history : List Reception)
     → None ≡ moment_refusal (model_of st ports history) now)
     → (s : StationModel) → RepresentsStation st s
-    → IsStepOf (TellsBy E) (Err (refused.Secured fault)) st
-    (secured_step_by s fault (moment_refusal s now))
-bad_secured E st now fault owed =
+    → IsRefusedStep (refused.Secured fault) st (secured_step_by s fault (moment_refusal s now))
+bad_secured st now fault owed =
     at_model st
-    (λ s. IsStepOf (TellsBy E) (Err (refused.Secured fault)) st
+    (λ s. IsRefusedStep (refused.Secured fault) st
     (secured_step_by s fault (moment_refusal s now)))
     (λ ports history past.
     subst (λ (o : Option Refusal).
-    IsStepOf (TellsBy E) (Err (refused.Secured fault)) st
+    IsRefusedStep (refused.Secured fault) st
     (secured_step_by (model_of st ports history) fault o)) (owed ports history) (
       refl,
       represents st ports history past,
     ))
 
--- a moment that is refused before
-secured_refused : (E : Encoded) (st : StationState) (now : ℕ) (fault : SecuredFault) (e : Refused)
+-- and at one that is
+pub secured_moment : (st : StationState) (now : ℕ) (fault : SecuredFault) (e : Refused)
     → ((ports : List ℕ) (history : List Reception)
     → refusal_of e ≡ moment_refusal (model_of st ports history) now)
     → (s : StationModel) → RepresentsStation st s
-    → IsStepOf (TellsBy E) (Err e) st (secured_step_by s fault (moment_refusal s now))
-secured_refused E st now fault e owed =
+    → IsRefusedStep e st (secured_step_by s fault (moment_refusal s now))
+secured_moment st now fault e owed =
     at_model st
-    (λ s. IsStepOf (TellsBy E) (Err e) st (secured_step_by s fault (moment_refusal s now)))
+    (λ s. IsRefusedStep e st (secured_step_by s fault (moment_refusal s now)))
     (λ ports history past.
     subst (λ (o : Option Refusal).
-    IfSome (refusal_of e) (λ refusal.
-    ((secured_step_by (model_of st ports history) fault o).answer ≡ model.Answer.Refused refusal)
-    × RepresentsStation st (secured_step_by (model_of st ports history) fault o).station))
+    IsRefusedStep e st (secured_step_by (model_of st ports history) fault o))
     (owed ports history)
     (by (refusal_of e) (model_of st ports history) (represents st ports history past)))
   where
@@ -409,13 +406,3 @@ secured_refused E st now fault e owed =
         × RepresentsStation st (secured_step_by m fault o).station)
     by None m rep = tt
     by (Some r) m rep = (refl, rep)
-
-pub secured_moment : (E : Encoded) (st : StationState) (now : ℕ) (fault : SecuredFault) (e : Refused)
-    (r : Result Outcome Refused) → IsErrAnd r (λ x. x ≡ e)
-    → ((ports : List ℕ) (history : List Reception)
-    → refusal_of e ≡ moment_refusal (model_of st ports history) now)
-    → (s : StationModel) → RepresentsStation st s
-    → IsStepOf (TellsBy E) r st (secured_step_by s fault (moment_refusal s now))
-secured_moment E st now fault e (Ok x) is owed = absurd is
-secured_moment E st now fault e (Err y) is owed =
-    secured_refused E st now fault y (λ ports history. ap refusal_of is ∙ owed ports history)

@@ -83,6 +83,7 @@ mod station;
 pub use counts::{Counts, IgnoredCounts, RefusedCounts, SentCounts};
 pub use neighbours::Neighbours;
 pub use outcome::{Handed, Outcome, Why};
+pub use received::ReceivedFrame;
 pub use refused::{Refused, RefusedCode};
 pub use requests::{GbcRequest, OwnedGbcRequest, OwnedShbRequest, ShbRequest};
 pub use run::{Call, Delivery, Ran, Reply};

@@ -1,6 +1,6 @@
 //! What a station does with a frame (EN 302 636-4-1 clause 10, in this profile).
 
-ghost use Rattle.std.specs.Prelude.{◌≡◌, ◌≤◌, ◌^◌, ◌∷◌, ℕ, List, None};
+ghost use Rattle.std.specs.Prelude.{◌≡◌, ◌≢◌, ◌≤◌, ◌^◌, ◌∷◌, ℕ, List, None};
 ghost use Rattle.std.specs.Prelude.{Err, IfOk, IfSome, OnErr, OnOk, IsTrue, IsFalse, length};
 ghost use Rattle.its_gnvalue.specs.Values.{Position};
 ghost use Rattle.std.specs.Option.{option_map};
@@ -11,6 +11,7 @@ ghost use Rattle.its_model.specs.History.{Reception, is_live};
 ghost use Rattle.its_model.specs.Stations.{stations_at, is_full};
 ghost use Rattle.its_model.specs.Station as station;
 ghost use Rattle.its_model.specs.Station.{StationModel, station_step, verdict, receive_step};
+ghost use Rattle.its_model.specs.Station.{moment_refusal};
 ghost use Rattle.its_model.specs.Station.{is_repeated, handing, relayed};
 ghost use Rattle.its_headers.specs.Encoding.{payload_of};
 ghost use Rattle.its_linkframe.specs.Frames.{EncodesFrame, IsFrame, transmission_of};
@@ -18,12 +19,12 @@ ghost use Rattle.its_linkframe.specs.Secured.{Verified, EncodesVerified};
 ghost use Rattle.its_loctable.specs.Content.{Represents};
 ghost use Rattle.its_loctable.specs.Heard.{reception};
 ghost use Rattle.its_station.specs.State.{model_of, IsPast, RepresentsStation, SamePorts};
-ghost use Rattle.its_station.specs.Steps.{IsStepOf};
+ghost use Rattle.its_station.specs.Steps.{IsStepOf, IsRefusedStep};
 ghost use Rattle.its_station.specs.Receiving.{IsFrameCall, Tells, TellsBy, why_found, said_by};
 ghost use Rattle.its_station.specs.Receiving.{IsRelayBy, TakesMemory, copy_of, goes_on, is_inside, report_of};
 ghost use Rattle.its_station.specs.Receiving.{accept_step, DeliversEndOf, HandsOutEndOf};
 ghost use Rattle.its_station.specs.Receiving.{SendsAtMost, VerifiedCall, IsVerifiedCall};
-ghost use Rattle.its_station.specs.Receiving.{EncodesSealed, verified_step, sealed_by};
+ghost use Rattle.its_station.specs.Receiving.{EncodesSealed, verified_step, sealed_by, secured_step_by};
 ghost use Rattle.its_station.specs.Runs.{Fits, HandingFits};
 
 use crate::outcome::{Handed, Outcome, Why};
@@ -35,7 +36,7 @@ use its_forwarding::{Choice, choose};
 use its_geometry::contains;
 use its_gnvalue::{Mac, NoMemory};
 use its_headers::Kind;
-use its_linkframe::{FrameView, VerifiedFrame, read_frame};
+use its_linkframe::{FrameView, SecuredFault, VerifiedFrame, read_frame};
 use its_loctable::{Heard, LocationStore, Verdict};
 
 impl<S: LocationStore> Station<S> {
@@ -122,10 +123,20 @@ impl<S: LocationStore> Station<S> {
     {
         match VerifiedFrame::read(frame, plain) {
             Ok(verified) => self.receive_verified_frame(now, &verified),
-            Err(fault) => {
-                self.check_moment(now)?;
-                Err(Refused::Secured(fault))
-            }
+            Err(fault) => Err(self.refuse_secured(now, fault)),
+        }
+    }
+
+    /// Why octets with this fault are refused that came with a plain part: for the moment (S1, S2),
+    /// else for the fault (S3). Nothing changes.
+    pub fn refuse_secured(&self, now: u64, fault: SecuredFault) -> Refused
+        ensures step { (s : StationModel) → RepresentsStation self.now s →
+            IsRefusedStep result self.now (secured_step_by s fault (moment_refusal s now)) }
+        ensures memory { result ≢ Refused.NoMemory }
+    {
+        match self.check_moment(now) {
+            Ok(()) => Refused::Secured(fault),
+            Err(refused) => refused,
         }
     }
 

@@ -9,7 +9,7 @@ ghost use Rattle.its_headers.specs.Fields.{kind_of_body, area_in, SaysMessage, I
 ghost use Rattle.its_station.specs.Receiving.{IsSentFrame};
 
 use its_geometry::Area;
-use its_gnvalue::{LongPv, Mac, NoMemory};
+use its_gnvalue::{Lifetime, LongPv, Mac, NoMemory};
 use its_headers::Kind;
 use its_linkframe::{
     FrameView, VerifiedFrame, relay_frame, relay_verified, retarget, retarget_secured,
@@ -17,7 +17,7 @@ use its_linkframe::{
 use std::alloc::Global;
 
 /// A frame that was read. What is delivered of it lives as long as its payload.
-pub(crate) trait ReceivedFrame<'a> {
+pub trait ReceivedFrame<'a> {
     /// The packet on the air.
     ghost frame: { Self → Transmission };
 
@@ -42,6 +42,10 @@ pub(crate) trait ReceivedFrame<'a> {
     /// The hops that its packet has left.
     fn hops_left(&self) -> u8
         ensures { result ≡ (frame self.now).hops_left };
+
+    /// How long its packet lives (LT).
+    fn lifetime(&self) -> Lifetime
+        ensures { result ≡ (frame self.now).pdu.lifetime };
 
     /// The position vector of its packet's source.
     fn vector(&self) -> LongPv
@@ -101,6 +105,10 @@ impl<'a> ReceivedFrame<'a> for FrameView<'a> {
         self.packet.hops().left()
     }
 
+    fn lifetime(&self) -> Lifetime {
+        self.packet.lifetime()
+    }
+
     fn vector(&self) -> LongPv {
         self.packet.vector()
     }
@@ -151,6 +159,10 @@ impl<'f, 'a> ReceivedFrame<'a> for VerifiedFrame<'f, 'a> {
 
     fn hops_left(&self) -> u8 {
         self.packet().left()
+    }
+
+    fn lifetime(&self) -> Lifetime {
+        self.secured().lifetime()
     }
 
     fn vector(&self) -> LongPv {

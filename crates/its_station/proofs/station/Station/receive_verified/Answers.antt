@@ -1,11 +1,10 @@
-use Rattle.std.proofs.Common.{◌≡◌, [], subst}
+use Rattle.std.proofs.Common.{◌≡◌, subst}
 use Rattle.its_linkframe.specs.Secured.{Verified}
 use Rattle.its_model.specs.Station as station
 use Rattle.its_model.specs.Station.{verdict}
-use Rattle.its_station.specs.Receiving.{TakesMemory, EncodesSealed}
+use Rattle.its_station.specs.Receiving.{TakesMemory}
 use Rattle.its_station.specs.Receiving.VerifiedCall.{Came, Faulty}
 use Rattle.its_station.proofs.Deliveries.{verified_end}
-use Rattle.its_station.proofs.Hearing.{bad_secured, secured_moment}
 use Rattle.its_station.proofs.station.Station.receive_verified.Goals as goal
 
 pub returns-in-Ok-clause-step : goal.returns-in-Ok-clause-step
@@ -26,21 +25,9 @@ returns-in-Ok-clause-payload g c =
     verified_end c.in-Ok.verified c.args.frame.now c.args.plain.now c.in-Ok.ensures.found
     c.receive_verified_frame.result c.receive_verified_frame.ensures.payload
 
-pub returns-in_err-check_moment-in-Err-clause-step :
-    goal.returns-in_err-check_moment-in-Err-clause-step
-returns-in_err-check_moment-in-Err-clause-step g c = (
+pub returns-in-Err-clause-step : goal.returns-in-Err-clause-step
+returns-in-Err-clause-step g c = (
   Faulty c.in-Err.fault,
   c.in-Err.ensures.fault,
-  secured_moment (EncodesSealed []) c.args.self.now c.args.now c.in-Err.fault _
-      c.from_residual.result c.from_residual.ensures.1
-      c.in_err-check_moment-in-Err.ensures.refusal,
-)
-
-pub returns-in_ok-check_moment-in-Err-clause-step :
-    goal.returns-in_ok-check_moment-in-Err-clause-step
-returns-in_ok-check_moment-in-Err-clause-step g c = (
-  Faulty c.in-Err.fault,
-  c.in-Err.ensures.fault,
-  bad_secured (EncodesSealed []) c.args.self.now c.args.now c.in-Err.fault
-      c.in_ok-check_moment-in-Err.ensures.refusal,
+  c.refuse_secured.ensures.step,
 )
