@@ -115,27 +115,27 @@ extern "C" {
 enum geostation_status {
     /** The call succeeded. */
     GEOSTATION_OK = 0,
-    /** (S1) `now` is earlier than in an earlier call. */
+    /** (S1) The time `now` is earlier than that of the last call. */
     GEOSTATION_MOMENT_EARLIER = 1,
-    /** (S2) `now` is later than #GEOSTATION_LAST_MOMENT. */
+    /** (S2) The time `now` is over 2^62 ms, #GEOSTATION_LAST_MOMENT. */
     GEOSTATION_MOMENT_TOO_LATE = 2,
-    /** (S3) The bytes are not a valid frame. The `fault` fields say why. */
+    /** (S3) Not a valid frame. The `fault` fields say why. */
     GEOSTATION_BAD_FRAME = 3,
-    /** (S4) The packet's source is new, and the location table is full. */
+    /** (S4) The location table is full, and the packet's source is not in it. */
     GEOSTATION_TABLE_FULL = 4,
-    /** (S5) An allocation failed. */
+    /** (S5) Out of memory. */
     GEOSTATION_NO_MEMORY = 5,
-    /** (S6) The payload is longer than #GEOSTATION_PAYLOAD_MAX. */
+    /** (S6) The payload is over 1394 octets, #GEOSTATION_PAYLOAD_MAX. */
     GEOSTATION_PAYLOAD_TOO_LONG = 6,
     /** (S7) The hop limit is 0. */
     GEOSTATION_HOP_LIMIT_ZERO = 7,
-    /** (S8 B2) The port is already open. */
+    /** (S8 B2) The port is open. */
     GEOSTATION_PORT_ALREADY_OPEN = 8,
-    /** (S9) The jitter is greater than #GEOSTATION_JITTER_MAX. */
+    /** (S9) The jitter is over 750 ms, #GEOSTATION_JITTER_MAX. */
     GEOSTATION_JITTER_RANGE = 9,
-    /** (S8 B3) 64 ports are open; no other can be opened. */
+    /** (S8 B3) 64 other ports are open. */
     GEOSTATION_PORTS_FULL = 10,
-    /** (S8 B4) The port is not open. */
+    /** (S8 B4) The port isn't open. */
     GEOSTATION_PORT_NOT_OPEN = 11,
     /** An argument is out of its range. It has no code. */
     GEOSTATION_BAD_ARGUMENT = 20,
@@ -233,7 +233,7 @@ struct geostation_config {
     uint32_t forward_burst; /**< frames forwarded at once, 0 to 1000000 (default 50) */
     uint32_t source_rate;   /**< forwarded frames per second of each source (default 20) */
     uint32_t source_burst;  /**< frames of each source forwarded at once (default 20) */
-    uint32_t own_rate;      /**< own packets per second, without beacons (default 50) */
+    uint32_t own_rate;      /**< own packets per second, not beacons (default 50) */
     uint32_t own_burst;     /**< own packets sent at once (default 50) */
     uint32_t hop_cap;       /**< greatest RHL that is forwarded, 0 to 255; 0: any (default 10) */
     uint32_t deliver_once;  /**< 0: a packet for an area may be delivered twice (default 1) */
@@ -504,7 +504,7 @@ int geostation_restart(geostation_handle *s, uint64_t now, uint16_t number);
  * Writes a beacon frame if one is due.
  *
  * A beacon is due 3000 ms plus `jitter` after the last packet that the station itself sent. The
- * first beacon is due at time `jitter`, the first one after geostation_restart() `jitter` ms later.
+ * first beacon is due at time `jitter`. After geostation_restart(), one is due `jitter` ms later.
  * geostation_beacon_at() returns the time at which to call this function.
  *
  * @param s            the station
@@ -617,12 +617,14 @@ int geostation_send_shb_with_lifetime(geostation_handle *s, uint64_t now,
 /**
  * Processes a received frame.
  *
- * If the packet is to be forwarded, the frame to send is written to `relay`. The limits of the
- * station may hold it back; then `relay_length` is 0, and the payload is delivered all the same. A
- * packet for an area that was delivered before is not delivered again. All stations that
+ * If the packet is to be forwarded, the frame to send is written to `relay`. All stations that
  * received the same broadcast frame would forward it at the same time. So wait for a random time
  * below 2 ms before you send it, unless it goes to one station (the lowest bit of its first byte is
  * 0).
+ *
+ * If a limit of the station holds that frame back, `relay_length` is 0, and the payload is
+ * delivered all the same. With `deliver_once`, a packet for an area that was delivered before is
+ * not delivered again.
  *
  * In frames of up to 60 bytes, zeros after the packet are ignored: Ethernet pads short frames.
  *
@@ -691,7 +693,8 @@ int geostation_read_frame(const uint8_t *frame, size_t length, struct geostation
  *
  * Call it again after you have sent a packet, which postpones the beacon, and after
  * geostation_restart(). Do not call it again after receiving a frame. The result is never earlier
- * than the last call, so on a busy channel a new wait for each frame might never end.
+ * than the time of the last call. So on a busy channel, a wait that begins again with each frame
+ * might never end.
  *
  * @param s       the station
  * @param jitter  0 to #GEOSTATION_JITTER_MAX, in ms
@@ -739,7 +742,7 @@ int geostation_neighbour(const geostation_handle *s, uint64_t now, uint64_t afte
                          struct geostation_vector *out);
 
 /**
- * Finds a live source by address: one of which a new packet was accepted in the last 20 s.
+ * Finds a live source by address. A source is live for 20 s after its last accepted packet.
  *
  * @param s         the station
  * @param now       time, in ms
@@ -798,7 +801,7 @@ void geostation_counts(const geostation_handle *s, struct geostation_counts *out
  * @param now                 time, in ms
  * @param number              line number, for the answer to a malformed line
  * @param line                the line; may be NULL if `line_length` is 0
- * @param line_length         length of `line`; over #GEOSTATION_LINE_MAX it is malformed
+ * @param line_length         length of `line`; above #GEOSTATION_LINE_MAX the line is malformed
  * @param[out] answer         the answer: one JSON object without a line feed
  * @param answer_room         size of `answer`, at least #GEOSTATION_ANSWER_MAX
  * @param[out] answer_length  length of the answer, 0 for a blank line

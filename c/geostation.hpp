@@ -31,17 +31,17 @@ namespace geostation {
 /// The status that a function returns: the values of enum geostation_status.
 enum class Status : int {
     Ok = GEOSTATION_OK,                                  ///< the call succeeded
-    MomentEarlier = GEOSTATION_MOMENT_EARLIER,           ///< (S1) earlier than an earlier call
-    MomentTooLate = GEOSTATION_MOMENT_TOO_LATE,          ///< (S2) later than 2^62 ms
+    MomentEarlier = GEOSTATION_MOMENT_EARLIER,           ///< (S1) earlier than the last call
+    MomentTooLate = GEOSTATION_MOMENT_TOO_LATE,          ///< (S2) the time is over 2^62 ms
     BadFrame = GEOSTATION_BAD_FRAME,                     ///< (S3) not a valid frame
     TableFull = GEOSTATION_TABLE_FULL,                   ///< (S4) the location table is full
-    NoMemory = GEOSTATION_NO_MEMORY,                     ///< (S5) an allocation failed
-    PayloadTooLong = GEOSTATION_PAYLOAD_TOO_LONG,        ///< (S6) over GEOSTATION_PAYLOAD_MAX
+    NoMemory = GEOSTATION_NO_MEMORY,                     ///< (S5) out of memory
+    PayloadTooLong = GEOSTATION_PAYLOAD_TOO_LONG,        ///< (S6) the payload is over 1394 octets
     HopLimitZero = GEOSTATION_HOP_LIMIT_ZERO,            ///< (S7) the hop limit is 0
-    PortAlreadyOpen = GEOSTATION_PORT_ALREADY_OPEN,      ///< (S8 B2) the port is already open
+    PortAlreadyOpen = GEOSTATION_PORT_ALREADY_OPEN,      ///< (S8 B2) the port is open
     JitterRange = GEOSTATION_JITTER_RANGE,               ///< (S9) the jitter is over 750 ms
-    PortsFull = GEOSTATION_PORTS_FULL,                   ///< (S8 B3) 64 ports are open
-    PortNotOpen = GEOSTATION_PORT_NOT_OPEN,              ///< (S8 B4) the port is not open
+    PortsFull = GEOSTATION_PORTS_FULL,                   ///< (S8 B3) 64 other ports are open
+    PortNotOpen = GEOSTATION_PORT_NOT_OPEN,              ///< (S8 B4) the port isn't open
     BadArgument = GEOSTATION_BAD_ARGUMENT,               ///< an argument is out of its range
     NoRoom = GEOSTATION_NO_ROOM,                         ///< a buffer is too small
     OverRate = GEOSTATION_OVER_RATE                      ///< own packets are over their rate

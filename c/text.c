@@ -21,9 +21,9 @@ const char *geostation_status_text(int status) {
     case GEOSTATION_NO_MEMORY: return "out of memory";
     case GEOSTATION_PAYLOAD_TOO_LONG: return "the payload is over 1394 octets";
     case GEOSTATION_HOP_LIMIT_ZERO: return "the hop limit is 0";
-    case GEOSTATION_PORT_ALREADY_OPEN: return "the port is open already";
+    case GEOSTATION_PORT_ALREADY_OPEN: return "the port is open";
     case GEOSTATION_JITTER_RANGE: return "the jitter is over 750 ms";
-    case GEOSTATION_PORTS_FULL: return "64 ports are open";
+    case GEOSTATION_PORTS_FULL: return "64 other ports are open";
     case GEOSTATION_PORT_NOT_OPEN: return "the port isn't open";
     case GEOSTATION_BAD_ARGUMENT: return "an argument is out of its range";
     case GEOSTATION_NO_ROOM: return "a buffer is too small";

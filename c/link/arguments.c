@@ -25,19 +25,19 @@ static const char usage[] =
     "  --forward-burst N     Forward at most N frames at once [default: 50]\n"
     "  --source-rate N       Forward at most N frames per second of each source [default: 20]\n"
     "  --source-burst N      Forward at most N frames at once of each source [default: 20]\n"
-    "  --own-rate N          Send at most N own packets per second, without beacons\n"
+    "  --own-rate N          Send at most N own packets per second, beacons not counted\n"
     "                        [default: 50]\n"
     "  --own-burst N         Send at most N own packets at once [default: 50]\n"
     "  --hop-cap N           Don't forward packets with more hops left, 0 to 255 [default: 10]\n"
-    "  --deliver-once N      Don't deliver or forward again a packet for an area that was\n"
-    "                        delivered within its lifetime, 0 or 1 [default: 1]\n"
+    "  --deliver-once N      Don't deliver or forward a packet for an area again within its\n"
+    "                        lifetime, 0 or 1 [default: 1]\n"
     "\n"
     "The station:\n"
     "  --position LAT,LON    Position in degrees, with up to 7 decimals\n"
     "  --gpsd [HOST:PORT]    Take the position from gpsd [default: 127.0.0.1:2947]\n"
     "  --gps-timeout S       Stop sending if the last fix is older, 1 to 3600 s [default: 60]\n"
     "  --address HEX16       GeoNetworking address; required with --udp\n"
-    "  --station-type N      Make the address of this type, 0 to 31, and the interface's MAC\n"
+    "  --station-type N      Make the address from this type, 0 to 31, and the interface's MAC\n"
     "                        [default: 15]\n"
     "  --stationary          Mark packets as those of a station that does not move\n"
     "  --capacity N          Size of the location table, 1 to 4096 [default: 4096]\n"
@@ -55,9 +55,9 @@ static const char usage[] =
     "  --version             Print the version\n"
     "  --help                Print this help\n"
     "\n"
-    "Applications send and get lines of JSON. Standard input and output are one of them.\n"
+    "Applications send and get lines of JSON. Standard input and output serve as one.\n"
     "SIGHUP reads the file of --config again, for ports and the position. SIGUSR1 prints counts.\n"
-    "Exit status: 0 ended, 2 bad arguments, 3 the system refused something.\n";
+    "Exit status: 0 ended, 2 bad arguments, 3 a system call failed.\n";
 
 static const struct option table[] = {
     { "interface", required_argument, NULL, 'i' },

@@ -85,39 +85,41 @@ static void put_station(struct page *p, const struct geostation_counts *c) {
         { "gbc", c->sent.geobroadcasts },
         { "gac", c->sent.geoanycasts },
     };
-    counter(p, "received_total", "Frames that the station received", c->received);
-    counter(p, "accepted_total", "Frames that it accepted", c->accepted);
-    counter(p, "delivered_total", "Payloads that it delivered", c->delivered);
-    counter(p, "forwarded_total", "Frames that it forwarded", c->relayed);
-    labelled(p, "ignored_total", "why", "Frames that it ignored", ignored, 4);
-    labelled(p, "refused_total", "why", "Frames and calls that it refused", refused, 6);
-    labelled(p, "sent_total", "kind", "Packets of its own", sent, 4);
-    counter(p, "suppressed_total", "Frames that a limit kept from being forwarded", c->suppressed);
-    counter(p, "repeated_total", "Payloads that were not delivered a second time", c->repeated);
+    counter(p, "received_total", "Frames passed to the station", c->received);
+    counter(p, "accepted_total", "Frames whose packet was accepted", c->accepted);
+    counter(p, "delivered_total", "Payloads that were delivered", c->delivered);
+    counter(p, "forwarded_total", "Frames that were forwarded", c->relayed);
+    labelled(p, "ignored_total", "why", "Frames that were ignored", ignored, 4);
+    labelled(p, "refused_total", "why", "Frames and calls that were refused", refused, 6);
+    labelled(p, "sent_total", "kind", "The station's own packets", sent, 4);
+    counter(p, "suppressed_total", "Frames not forwarded because of a limit", c->suppressed);
+    counter(p, "repeated_total", "Payloads not delivered because they were before", c->repeated);
 }
 
 static void put_link(struct page *p, const struct station *s) {
     struct link *l = s->link;
-    counter(p, "link_frames_total", "Frames that the link brought", l->frames);
-    counter(p, "link_tagged_total", "Frames with a VLAN tag, which are skipped", l->tagged);
-    counter(p, "link_kernel_dropped_total", "Frames that found the receive buffer full",
+    counter(p, "link_frames_total", "Frames received from the link", l->frames);
+    counter(p, "link_tagged_total", "Frames with a VLAN tag, which are dropped", l->tagged);
+    counter(p, "link_kernel_dropped_total", "Frames that arrived at a full receive buffer",
             link_kernel_dropped(l));
-    counter(p, "link_dropped_total", "Frames to send that the link did not take", l->dropped);
-    counter(p, "forward_dropped_total", "Frames to forward that found no free place",
+    counter(p, "link_dropped_total", "Frames that the link did not accept", l->dropped);
+    counter(p, "forward_dropped_total", "Frames not forwarded because 256 others waited",
             s->forwards->dropped);
     gauge(p, "link_up", "Whether the link is up", l->up);
 }
 
 static void put_clients(struct page *p, const struct clients *c) {
-    counter(p, "events_lost_total", "Events for which a client had no space", c->events_lost);
+    counter(p, "events_lost_total", "Events that did not fit into a client's queue",
+            c->events_lost);
     counter(p, "clients_closed_total", "Idle clients that were closed", c->closed_idle);
-    counter(p, "clients_turned_away_total", "Clients without memory or descriptor", c->turned_away);
+    counter(p, "clients_turned_away_total", "Clients turned away: no memory or descriptor",
+            c->turned_away);
     gauge(p, "clients", "Clients that are connected", (double)clients_count(c));
 }
 
 /* A fixed position has no age. */
 static void put_position(struct page *p, const struct place *at, uint64_t now) {
-    gauge(p, "position_usable", "Whether the station knows its position", place_is_usable(at));
+    gauge(p, "position_usable", "Whether the position is good enough to send", place_is_usable(at));
     if (!at->fixed && at->known) {
         gauge(p, "fix_age_seconds", "Age of the last fix", (double)(now - at->fix_at) / 1000);
     }

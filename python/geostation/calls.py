@@ -211,6 +211,7 @@ class Calls(ABC):
             traffic_class: Traffic class byte.
 
         Raises:
+            OverRate: Own packets are over their rate.
             Refused: The payload is too long, or memory ran out.
         """
         with self._calling:
@@ -247,6 +248,7 @@ class Calls(ABC):
             max_hops: Hop limit, 1 to 255.
 
         Raises:
+            OverRate: Own packets are over their rate.
             Refused: The payload is too long, `max_hops` is 0, or memory ran out.
         """
         return self._send_to_area(
@@ -305,8 +307,8 @@ class Calls(ABC):
 
         Choose a jitter at random for each beacon, and pass it to each `tick` until one returns the
         beacon. Call this method again after you have sent a packet and after `restart`, but not
-        after receiving a frame. The result is never earlier than the last call, so on a busy
-        channel a new wait for each frame might never end.
+        after receiving a frame. The result is never earlier than the time of the last call. So on
+        a busy channel, a wait that begins again with each frame might never end.
 
         Args:
             jitter: 0 to 750 ms.

@@ -271,6 +271,7 @@ class Station(Calls):
             traffic_class: Traffic class byte.
 
         Raises:
+            OverRate: Own packets are over their rate.
             Refused: The payload is too long, or memory ran out.
         """
         with self._calling:

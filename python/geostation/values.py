@@ -249,8 +249,11 @@ class Packet:
 
 @dataclass(frozen=True)
 class Limits:
-    """Limits on what a station sends. A rate is in frames per second, and a burst in frames that may
-    go out at once, both 0 to 1000000. There is no limit if the rate or the burst is 0."""
+    """Limits on what a station sends.
+
+    A rate is the number of frames per second, and a burst the number of frames at once. Both are 0
+    to 1000000. There is no limit if the rate or the burst is 0.
+    """
 
     forward_rate: int = 100
     """All frames that the station forwards."""
@@ -259,7 +262,7 @@ class Limits:
     """Frames of each source that the station forwards."""
     source_burst: int = 20
     own_rate: int = 50
-    """Own packets, without beacons."""
+    """Own packets. Beacons are not counted."""
     own_burst: int = 50
     hop_cap: int = 10
     """Packets with more hops left are not forwarded, 0 to 255. 0 is no cap."""
@@ -332,8 +335,8 @@ class Counts:
     refused: RefusedCounts
     sent: SentCounts
     suppressed: int = 0
-    """Frames that were not forwarded, for a limit or as an echo."""
+    """Frames that were not forwarded because of a limit."""
     repeated: int = 0
-    """Payloads that were not delivered, because they were delivered before."""
+    """Payloads that were not delivered because they were delivered before."""
     over_rate: int = 0
     """Own packets that were refused for their rate."""

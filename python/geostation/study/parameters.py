@@ -28,7 +28,7 @@ def _check_name(name: str) -> None:
     if name in AIR_KEYS or name == PENETRATION:
         return
     if name == SEED or name == f"air.{SEED}":
-        raise StudyError("the seed is no parameter: use seeds")
+        raise StudyError("the seed is not a parameter: use seeds=")
     table, _, key = name.partition(".")
     if table == "air":
         raise StudyError(f"{name}: write a key of [air] without its table: {key}")

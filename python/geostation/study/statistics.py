@@ -28,7 +28,10 @@ def interval(
     Raises `StudyError` if `level` is not between 0 and 1, or `resamples` below 1.
     """
     if not 0 < level < 1 or resamples < 1:
-        raise StudyError(f"no interval of level {level} by {resamples} resamples")
+        raise StudyError(
+            f"level {level}, resamples {resamples}: the level must be between 0 and 1, and the "
+            "resamples at least 1"
+        )
     if len(values) < 2:
         return None, None
     draws = random.Random(seed)

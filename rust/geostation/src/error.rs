@@ -10,25 +10,25 @@ use std::fmt;
 #[derive(Clone, Copy, Debug, PartialEq, Eq, Hash)]
 #[non_exhaustive]
 pub enum Error {
-    /// S1: the time is earlier than in an earlier call.
+    /// S1: the time is earlier than that of the last call.
     MomentEarlier,
-    /// S2: the time is later than [`LAST_MOMENT`](crate::LAST_MOMENT).
+    /// S2: the time is over 2^62 ms, [`LAST_MOMENT`](crate::LAST_MOMENT).
     MomentTooLate,
-    /// S3: the bytes are not a valid frame.
+    /// S3: not a valid frame.
     BadFrame(Fault),
-    /// S4: the packet's source is new, and the location table is full.
+    /// S4: the location table is full, and the packet's source is not in it.
     TableFull,
-    /// S5: an allocation failed.
+    /// S5: out of memory.
     NoMemory,
-    /// S6: the payload is longer than [`PAYLOAD_MAX`](crate::PAYLOAD_MAX).
+    /// S6: the payload is over 1394 octets, [`PAYLOAD_MAX`](crate::PAYLOAD_MAX).
     PayloadTooLong,
     /// S7: the hop limit is 0.
     HopLimitZero,
-    /// S8 B2: the port is already open.
+    /// S8 B2: the port is open.
     PortAlreadyOpen,
-    /// S8 B3: 64 ports are open; no other can be opened.
+    /// S8 B3: 64 other ports are open.
     PortsFull,
-    /// S8 B4: the port is not open.
+    /// S8 B4: the port isn't open.
     PortNotOpen,
     /// S9: the jitter is over 750 ms.
     JitterRange,
@@ -97,7 +97,7 @@ impl Error {
     /// ```
     /// let error = geostation::Error::PortAlreadyOpen;
     /// assert_eq!("S8 B2", error.code().to_string());
-    /// assert_eq!("the port is open already", error.to_string());
+    /// assert_eq!("the port is open", error.to_string());
     /// ```
     pub fn code(&self) -> Code {
         Code::OfCall(*self)

@@ -7,7 +7,9 @@
 //! - Pointers and lengths are those of slices and references.
 //! - What a call writes to is borrowed mutably, so it overlaps no other argument.
 //! - The library keeps none of these pointers.
+//! - The structs are those of the library: its ABI is compared before one is passed to it.
 
+use crate::abi::ABI;
 use crate::ANSWER_MAX;
 use std::ffi::{c_char, c_int, CStr};
 use std::ptr::{null_mut, NonNull};
@@ -180,6 +182,7 @@ type SendToArea = unsafe extern "C" fn(
 ) -> c_int;
 
 extern "C" {
+    fn geostation_abi() -> u32;
     fn geostation_config_init(config: *mut Config);
     fn geostation_new_from_config(out: *mut *mut Opaque, config: *const Config) -> c_int;
     fn geostation_free(s: *mut Opaque);
@@ -530,8 +533,16 @@ impl Handle {
     }
 }
 
-/// Returns the default parameters of the library.
+/// Panics if the library has another ABI than this crate: it may read and write more than a struct.
+fn check_abi() {
+    // SAFETY: the call has no arguments, and returns a number.
+    let abi = unsafe { geostation_abi() };
+    assert!(abi == ABI, "libgeostation has ABI {abi}, but this crate needs ABI {ABI}");
+}
+
+/// Returns the default parameters of the library. A station is made of them, so they come first.
 pub(crate) fn usual_config() -> Config {
+    check_abi();
     let mut config = Config::default();
     // SAFETY: the call writes the struct, which has the layout of the header.
     unsafe { geostation_config_init(&mut config) }
@@ -546,6 +557,7 @@ pub(crate) fn frame_length(octets: &[u8]) -> usize {
 
 /// Reads all fields of a frame, or its fault.
 pub(crate) fn read_frame(frame: &[u8]) -> (c_int, Packet) {
+    check_abi();
     let mut out = Packet::default();
     // SAFETY: the slice has the given length.
     let status = unsafe { geostation_read_frame(frame.as_ptr(), frame.len(), &mut out) };

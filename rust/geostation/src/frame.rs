@@ -193,6 +193,10 @@ pub fn frame_length(octets: &[u8]) -> usize {
 ///
 /// The first [`Fault`] of bytes that are not a valid frame.
 ///
+/// # Panics
+///
+/// If the shared library that was loaded has another ABI than this crate.
+///
 /// ```
 /// let beacon = [
 ///     0xff, 0xff, 0xff, 0xff, 0xff, 0xff, 2, 0, 0, 0, 0, 1, 0x89, 0x47, // the link layer's

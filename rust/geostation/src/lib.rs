@@ -25,6 +25,7 @@
 //! ```
 #![deny(missing_docs, unsafe_code)]
 
+mod abi;
 mod buffer;
 mod error;
 #[allow(unsafe_code)]

@@ -11,8 +11,10 @@ use std::iter::FusedIterator;
 const GBC: u32 = 3;
 const GAC: u32 = 4;
 
-/// Limits on what a station sends. A rate is in frames per second, and a burst in frames that may go
-/// out at once, both 0 to 1000000. There is no limit if the rate or the burst is 0.
+/// Limits on what a station sends.
+///
+/// A rate is the number of frames per second, and a burst the number of frames at once. Both are 0
+/// to 1000000. There is no limit if the rate or the burst is 0.
 #[derive(Clone, Copy, Debug, PartialEq, Eq, Hash)]
 pub struct Limits {
     /// All frames that the station forwards, per second.
@@ -23,9 +25,9 @@ pub struct Limits {
     pub source_rate: u32,
     /// Frames of each source that the station may forward at once.
     pub source_burst: u32,
-    /// Own packets without beacons, per second.
+    /// Own packets per second. Beacons are not counted.
     pub own_rate: u32,
-    /// Own packets without beacons that may be sent at once.
+    /// Own packets that may be sent at once. Beacons are not counted.
     pub own_burst: u32,
     /// Packets with more hops left are not forwarded. 0 is no cap.
     pub hop_cap: u8,
@@ -48,7 +50,7 @@ impl Limits {
 }
 
 impl Default for Limits {
-    /// The limits that a channel of 6 Mbit/s bears.
+    /// The limits that suit a channel of 6 Mbit/s.
     fn default() -> Limits {
         Limits {
             forward_rate: 100,
@@ -88,8 +90,8 @@ pub struct Config {
 
 impl Config {
     /// Returns the parameters of a mobile station with this address and position. The location
-    /// table has 64 entries, each duplicate packet list has length 8, the first sequence number is 0,
-    /// and the limits are the defaults.
+    /// table has 64 entries, each duplicate packet list has length 8, the first sequence number is
+    /// 0, and the limits are the defaults.
     pub fn new(address: u64, latitude: i32, longitude: i32) -> Config {
         Config {
             address,
@@ -276,11 +278,11 @@ pub struct Counts {
     pub refused: RefusedCounts,
     /// The station's own packets.
     pub sent: SentCounts,
-    /// Frames that were not forwarded, for a limit or as an echo.
+    /// Frames that were not forwarded because of a limit.
     pub suppressed: u64,
-    /// Payloads that were not delivered, because they were delivered before.
+    /// Payloads that were not delivered because they were delivered before.
     pub repeated: u64,
-    /// Own packets that were refused for their rate ([`Error::OverRate`]).
+    /// Calls that failed with [`Error::OverRate`].
     pub over_rate: u64,
 }
 
@@ -343,6 +345,10 @@ impl Station {
     ///
     /// - [`Error::BadArgument`] if a parameter is out of its range.
     /// - [`Error::NoMemory`] if an allocation fails.
+    ///
+    /// # Panics
+    ///
+    /// If the shared library that was loaded has another ABI than this crate.
     pub fn new(config: &Config) -> Result<Station, Error> {
         let limits = config.limits;
         let config = ffi::Config {
@@ -643,8 +649,8 @@ impl Station {
     ///
     /// Choose a jitter at random for each beacon, and pass it to each `tick` until one returns the
     /// beacon. Call `beacon_at` again after you have sent a packet and after a restart, but not
-    /// after receiving a frame. The result is never earlier than the last call, so on a busy
-    /// channel a new wait for each frame might never end.
+    /// after receiving a frame. The result is never earlier than the time of the last call. So on
+    /// a busy channel, a wait that begins again with each frame might never end.
     pub fn beacon_at(&self, jitter: u16) -> Option<u64> {
         Some(self.handle.beacon_at(jitter)).filter(|moment| *moment != u64::MAX)
     }

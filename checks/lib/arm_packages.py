@@ -1,0 +1,93 @@
+"""The packages for arm64 in a bare Debian, and the name of the wheel for Python:
+
+    python3 checks/lib/arm_packages.py PREFIX
+
+PREFIX is where c/build and c/link/build put the files for aarch64. Prints what was tried, or why
+it was skipped.
+"""
+
+import importlib.machinery
+import importlib.util
+import os
+import shutil
+import sys
+import tempfile
+from pathlib import Path
+
+LIB = Path(__file__).resolve().parent
+TOP = LIB.parents[1]
+sys.path.insert(0, str(LIB))
+sys.path.insert(0, str(TOP / "python"))
+sys.dont_write_bytecode = True
+
+import arm_debian  # noqa: E402
+import backend  # noqa: E402
+
+TARGET = "aarch64-linux-gnu"
+
+
+def load_install():
+    """checks/install as a module."""
+    loader = importlib.machinery.SourceFileLoader("install", str(TOP / "checks/install"))
+    spec = importlib.util.spec_from_loader("install", loader)
+    module = importlib.util.module_from_spec(spec)
+    loader.exec_module(module)
+    return module
+
+
+install = load_install()
+
+
+def make_packages(prefix, room, notes):
+    """The paths of the packages, which are the same twice and without an error by lintian."""
+    environment = {**os.environ, "GEOSTATION_PREFIX": str(prefix)}
+    made = []
+    for number in range(2):
+        folder = room / f"deb{number}"
+        printed = install.run(TOP / "install/deb", "--target", TARGET, folder, env=environment)
+        paths = [Path(line) for line in printed.splitlines()]
+        made.append([path.read_bytes() for path in paths])
+    if made[0] != made[1]:
+        install.fail("install/deb makes other bytes the second time")
+    if not all(path.name.endswith("_arm64.deb") for path in paths) or len(paths) < 3:
+        install.fail(f"install/deb makes {paths}")
+    install.check_lint(paths, notes)
+    return paths
+
+
+def check_wheel(prefix, room):
+    """A wheel with the library in it has the processor in its name. Without it, it has none."""
+    copy = room / "python"
+    shutil.copytree(TOP / "python", copy)
+    shutil.copy(prefix / "lib/libgeostation.so.3", copy / "geostation")
+    backend.HERE = copy
+    name = backend.build_wheel(str(room))
+    if not name.endswith("-py3-none-linux_aarch64.whl"):
+        install.fail(f"the wheel for aarch64 is {name}")
+    (copy / "geostation/libgeostation.so.3").unlink()
+    name_of_any = backend.build_wheel(str(room))
+    if not name_of_any.endswith("-py3-none-any.whl"):
+        install.fail(f"the wheel without a library is {name_of_any}")
+
+
+def main():
+    prefix, notes = Path(sys.argv[1]).resolve(), []
+    why = arm_debian.make()
+    for tool in ("dpkg-deb", f"{TARGET}-strip"):
+        why = why or (None if shutil.which(tool) else f"{tool} isn't installed")
+    if why:
+        print(f"no packages for arm64 installed: {why}")
+        return
+    with tempfile.TemporaryDirectory(prefix="arm.") as name:
+        room = Path(name).resolve()
+        paths = make_packages(prefix, room, notes)
+        check_wheel(prefix, room)
+        with install.copy_of_debian(arm_debian.DEBIAN, room) as root:
+            inside = (sys.executable, LIB / "arm_debian.py", root)
+            install.use_packages(root, paths, inside)
+            notes.append(f"{len(paths)} packages installed, used, upgraded and purged")
+    print("in a bare Debian for arm64: " + ", ".join(notes))
+
+
+if __name__ == "__main__":
+    main()
