@@ -15,6 +15,7 @@ use Rattle.its_model.specs.Station.{Step}
 use Rattle.its_headers.specs.Fields.{kind_of_body}
 use Rattle.its_headers.specs.declared.kind.Kind.{Kind}
 use Rattle.its_headers.specs.declared.kind.Kind.TheVariants as kinds_of
+use Rattle.its_station.specs.Receiving.{VerifiedCall}
 use Rattle.its_station.specs.Counting.{counted_done}
 use Rattle.its_station.specs.declared.counts.Counts.{Counts}
 use Rattle.its_station.specs.declared.outcome.Handed.{Handed}
@@ -130,6 +131,11 @@ abbrev pub reception_in : Call → Reception
 reception_in (model.Call.Own call) = nothing_received
 reception_in (model.Call.Receive t) = reception_of t
 reception_in (model.Call.Junk fault) = nothing_received
+
+-- the same of a secured frame that came with its plain part
+abbrev pub verified_reception_in : VerifiedCall → Reception
+verified_reception_in (VerifiedCall.Came v) = reception_of v.frame
+verified_reception_in (VerifiedCall.Faulty fault) = nothing_received
 
 -- the number of a reason
 abbrev pub number_of : Why → ℕ

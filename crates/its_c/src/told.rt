@@ -81,8 +81,7 @@ pub(crate) fn told_outcome(
 ) -> i32
     requires heard { IsHeard heard }
     requires end { IfOk said (DeliversEndOf frame.now) }
-    requires room { 1468 ≤ length relay.old }
-    requires short { IfOk said (SendsAtMost 1468) }
+    requires short { IfOk said (SendsAtMost (length relay.old)) }
     ensures status { result ≡ status_in said.entry }
     ensures shown { ShowsReceived frame.now heard reception.new relay.new said.entry }
     ensures memory { result ≡ pos 5 → said.entry ≡ Err Refused.NoMemory }

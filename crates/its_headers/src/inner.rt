@@ -15,14 +15,15 @@ use crate::wire::area::area_in;
 use crate::wire::basic::BasicHeader;
 use crate::wire::common::{kind_of, shape_of};
 use crate::wire::fields::{
-    AREA_PAYLOAD, AREA_VECTOR, BASIC_END, NUMBER, SHB_PAYLOAD, TYPE, VECTOR, pass_number, u16_in,
+    AREA_PAYLOAD, AREA_VECTOR, BASIC_END, CLASS, NUMBER, SHB_PAYLOAD, TYPE, VECTOR, pass_number,
+    u16_in,
 };
 use crate::wire::octets::Octets;
 use crate::wire::plain_end;
 use crate::wire::position::vector_in;
 use its_faults::Fault;
 use its_geometry::{Area, Shape};
-use its_gnvalue::LongPv;
+use its_gnvalue::{LongPv, TrafficClass};
 use std::marker::Model;
 
 /// The octets of an inner packet, in two pieces.
@@ -100,6 +101,13 @@ impl<'a> InnerPacketView<'a> {
         ensures { result ≡ self.now.left }
     {
         self.octets.basic.left()
+    }
+
+    /// The traffic class (TC).
+    pub fn class(&self) -> TrafficClass
+        ensures { result ≡ self.now.pdu.class }
+    {
+        TrafficClass::from_octet(self.octets.plain[CLASS - BASIC_END])
     }
 
     /// The source's address, place and movement: the long position vector.
