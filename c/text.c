@@ -14,8 +14,8 @@ void geostation_free(struct geostation *s) {
 const char *geostation_status_text(int status) {
     switch (status) {
     case GEOSTATION_OK: return "done";
-    case GEOSTATION_MOMENT_EARLIER: return "the moment is before the last one";
-    case GEOSTATION_MOMENT_TOO_LATE: return "the moment is over 2^62 ms";
+    case GEOSTATION_MOMENT_EARLIER: return "the time is earlier than that of the last call";
+    case GEOSTATION_MOMENT_TOO_LATE: return "the time is over 2^62 ms";
     case GEOSTATION_BAD_FRAME: return "not a valid frame";
     case GEOSTATION_TABLE_FULL: return "the location table is full";
     case GEOSTATION_NO_MEMORY: return "out of memory";

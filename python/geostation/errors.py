@@ -46,8 +46,8 @@ STATUSES = {code: status for status, code in CODES.items()}
 
 # The messages of the library, for a machine without it.
 TEXTS = {
-    Status.MOMENT_EARLIER: "the moment is before the last one",
-    Status.MOMENT_TOO_LATE: "the moment is over 2^62 ms",
+    Status.MOMENT_EARLIER: "the time is earlier than that of the last call",
+    Status.MOMENT_TOO_LATE: "the time is over 2^62 ms",
     Status.BAD_FRAME: "not a valid frame",
     Status.TABLE_FULL: "the location table is full",
     Status.NO_MEMORY: "out of memory",
