@@ -45,14 +45,14 @@ impl Refused {
 impl fmt::Display for Refused {
     fn fmt<W: fmt::Write>(&self, f: &mut fmt::Formatter<W>) -> fmt::Result {
         match self {
-            Refused::MomentEarlier => write!(f, "the moment is before the last one"),
-            Refused::MomentTooLate => write!(f, "the moment is over 2^62 ms"),
+            Refused::MomentEarlier => write!(f, "the time is earlier than that of the last call"),
+            Refused::MomentTooLate => write!(f, "the time is over 2^62 ms"),
             Refused::JitterRange => write!(f, "the jitter is over 750 ms"),
             Refused::Frame(fault) => write!(f, "{fault}"),
             Refused::Secured(fault) => write!(f, "{fault}"),
             Refused::Port(fault) => write!(f, "{fault}"),
             Refused::PayloadTooLong => write!(f, "the payload is over 1394 octets"),
-            Refused::HopLimitZero => write!(f, "a packet of no hop"),
+            Refused::HopLimitZero => write!(f, "the hop limit is 0"),
             Refused::TableFull => write!(f, "the location table is full"),
             Refused::NoMemory => write!(f, "out of memory"),
         }
