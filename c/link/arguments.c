@@ -259,10 +259,10 @@ bool read_arguments(struct options *o, int argc, char **argv, struct fault *f) {
     *o = (struct options){
         .station_type = 15, .capacity = 4096, .remember = 64, .forward_spread = 2000,
         .client_timeout = 60000, .gps_timeout = 60000, .security_timeout = 100,
-        .forward_rate = usual.forward_rate, .forward_burst = usual.forward_burst, .source_rate = usual.source_rate,
-        .source_burst = usual.source_burst, .own_rate = usual.own_rate,
-        .own_burst = usual.own_burst, .hop_cap = (uint16_t)usual.hop_cap,
-        .deliver_once = (uint16_t)usual.deliver_once,
+        .forward_rate = usual.forward_rate, .forward_burst = usual.forward_burst,
+        .source_rate = usual.source_rate, .source_burst = usual.source_burst,
+        .own_rate = usual.own_rate, .own_burst = usual.own_burst,
+        .hop_cap = (uint16_t)usual.hop_cap, .deliver_once = (uint16_t)usual.deliver_once,
     };
     optind = 0; /* this may be called again */
     for (int option; (option = getopt_long(argc, argv, "", table, NULL)) != -1;) {

@@ -1,4 +1,4 @@
-/* Signed packets: what the program asks the security entity, and what becomes of the answers.
+/* Signed packets: what the program asks the security entity, and what it does with the answers.
  * docs/SECURITY-ENTITY.md describes the messages between the two. */
 #ifndef GEOSTATION_LINK_SECURITY_H
 #define GEOSTATION_LINK_SECURITY_H

@@ -134,11 +134,15 @@ class Daemon:
 
     def ask(self, **keys):
         self.put(**keys)
+        return self.answer()
+
+    def answer(self):
+        """The next answer. Events before it are kept."""
         while (line := self.line()) is not None:
             if "event" not in line:
                 return line
             self.events.append(line)
-        raise AssertionError(f"no answer to {keys}: {self.process.poll()}")
+        raise AssertionError(f"no answer: {self.process.poll()}")
 
     def event(self, kind):
         """The next event of a kind; those before it are passed over."""
