@@ -289,7 +289,7 @@ class Key:
             "cracaId": bytes(3),
             "crlSeries": 0,
             "validityPeriod": {"start": 0, "duration": ("years", 1)},
-            "appPermissions": [{"psid": 36, "ssp": ("opaque", b"\1")}, {"psid": 37}],
+            "appPermissions": [{"psid": 36, "ssp": ("opaque", b"\1\xff\xfc")}, {"psid": 37}],
             "verifyKeyIndicator": ("verificationKey", ("ecdsaNistP256", point)),
         }
         return {"version": 3, "type": 0, "issuer": ("self", 0), "toBeSigned": content}
