@@ -94,6 +94,15 @@ class Net(ExitStack):
             self.callback(s.close)
         return sockets
 
+    def join(self):
+        """One wire for three stations, of which the first and the last don't hear each other."""
+        ip("-n", self.air, "link", "add", "br0", "type", "bridge")
+        for k in range(3):
+            ip("-n", self.air, "link", "set", f"a{k}", "master", "br0")
+        for k in (0, 2):
+            ip("-n", self.air, "link", "set", f"a{k}", "type", "bridge_slave", "isolated", "on")
+        ip("-n", self.air, "link", "set", "br0", "up")
+
     def enter(self, k, *command):
         return ["nsenter", f"--net=/run/netns/{self.names[k]}", *map(str, command)]
 
