@@ -29,8 +29,10 @@ size_t datagram_sign(char out[DATAGRAM_MAX], uint64_t id, const uint8_t *frame, 
     if (packet.kind != GEOSTATION_BEACON) {
         n += (size_t)sprintf(out + n, "\"port\":%u,", packet.message.port);
     }
+    size_t start, plain_length;
+    (void)geostation_plain_part(frame, length, &start, &plain_length);
     n += (size_t)sprintf(out + n, "\"plain\":\"");
-    n += hex_write(out + n, frame + BASIC_END, length - BASIC_END);
+    n += hex_write(out + n, frame + start, plain_length);
     return n + (size_t)sprintf(out + n, "\"}");
 }
 

@@ -36,20 +36,27 @@ class Entity:
         self.one.settimeout(PATIENCE)
         return self
 
-    def request(self):
+    def any_request(self):
         """The next request."""
         datagram = self.one.recv(65536)
         assert datagram, "the daemon hung up"
         return json.loads(datagram)
 
+    def request(self):
+        """The next request. Beacons are signed meanwhile."""
+        while (request := self.any_request()).get("kind") == "beacon":
+            self.sign(request)
+        return request
+
     def requests(self, count):
         return [self.request() for _ in range(count)]
 
     def is_quiet(self, length=0.3):
-        """Whether no request comes for so many seconds."""
+        """Whether no request comes for so many seconds, but for beacons."""
         self.one.settimeout(length)
         try:
-            return not self.one.recv(65536)
+            self.request()
+            return False
         except TimeoutError:
             return True
         finally:

@@ -75,8 +75,8 @@ def mutated_answer(request):
     octets = request.get("plain") or request["message"][2:]
     answer = {"id": request["id"], key: ("00" if key == "message" else "") + octets}
     if draws.random() < 0.2:
-        answer[draws.choice(["id", "plain", "message", "error", "psid", "generated"])] = draws.choice(
-            [1, 2**64, -1, 0.5, "00", "0", "ab" * 2400, None, [], {}])
+        other = draws.choice(["id", "plain", "message", "error", "psid", "generated"])
+        answer[other] = draws.choice([1, 2**64, -1, 0.5, "00", "0", "ab" * 2400, None, [], {}])
     text = bytearray(json.dumps(answer).encode())
     if draws.random() < 0.3:
         for _ in range(draws.randrange(4)):

@@ -192,8 +192,8 @@ def flood_once(trio, program, seconds, changes, junk):
     middle, before = trio.stations[MIDDLE], trio.counts(MIDDLE)["link"]
     middle.seen()
     sends, sent = Sends(middle), {}
-    flood = subprocess.Popen(trio.net.enter(EAST, program, "v", 20000, seconds, changes, junk.hex()),
-                             stdout=subprocess.PIPE) if changes else None
+    command = trio.net.enter(EAST, program, "v", 20000, seconds, changes, junk.hex())
+    flood = subprocess.Popen(command, stdout=subprocess.PIPE) if changes else None
     for k in range(seconds):
         started, sent[f"{k:04x}"] = time.monotonic(), now_ms()
         trio.stations[WEST].ask(**GBC, payload=f"{k:04x}")

@@ -10,6 +10,7 @@ import sys
 import tempfile
 import time
 from contextlib import ExitStack
+from pathlib import Path
 
 import frames
 from common import OTHER, PROGRAM, connect, gbc, has, notes, now_ms, run, udp_command, until
@@ -22,6 +23,11 @@ SHB = {"do": "shb", "port": 2002, "info": 0, "tc": 0}
 COUNTS = ("verified", "rejected", "unanswered", "overrun", "dropped_early", "unsecured", "signed",
           "unsigned", "strays")
 LONG = ("--security-timeout", "10000")
+
+
+def is_beacon(frame):
+    """Whether a secured frame has a beacon, in a message of entity.py."""
+    return len(frame) > PLAIN_AT + 2 and frame[PLAIN_AT] == 0 and frame[PLAIN_AT + 2] >> 4 == 1
 
 
 class Bench(ExitStack):
@@ -48,12 +54,15 @@ class Bench(ExitStack):
         self.link.sendto(frame, ("127.0.0.1", OWN_PORT))
 
     def received(self):
-        return self.link.recv(4096)
+        """The next frame that the station sent, but for beacons."""
+        while is_beacon(frame := self.link.recv(4096)):
+            pass
+        return frame
 
     def is_quiet(self, length=0.3):
         self.link.settimeout(length)
         try:
-            self.link.recv(4096)
+            self.received()
             return False
         except TimeoutError:
             return True
@@ -61,15 +70,19 @@ class Bench(ExitStack):
             self.link.settimeout(PATIENCE)
 
     def counts(self, **wanted):
-        """Waits for these counts of signed packets; all others have to be 0."""
-        full = {**dict.fromkeys(COUNTS, 0), **wanted}
-        return self.daemon.until(lambda n: {k: n["link"][k] for k in COUNTS} == full)
+        """Waits for these counts of signed packets; all others have to be 0. Beacons are signed, or
+        not, besides."""
+        def is_there(n):
+            more = {"signed": n["sent"]["beacons"], "unsigned": n["sent"]["beacons"]}
+            return all(wanted.get(k, 0) <= n["link"][k] <= wanted.get(k, 0) + more.get(k, 0)
+                       for k in COUNTS)
+
+        return self.daemon.until(is_there)
 
     def next_of(self, kind):
-        """The next request of a kind; beacons are signed meanwhile."""
-        while (request := self.entity.request())["do"] != kind or request.get("kind") == "beacon":
-            assert request.get("kind") == "beacon", request
-            self.entity.sign(request)
+        """The next request, which has to be of this kind."""
+        request = self.entity.request()
+        assert request["do"] == kind, request
         return request
 
 
@@ -91,10 +104,13 @@ def test_signed_packets():
             assert frames.kind_of(sent[:14] + b"\x11" + sent[15:18] + plain) == kind
             assert list(answer) == ["id", "at", "result", "frame"], answer
             has({"id": "x", "result": "sent", "frame": sent.hex()}, answer)
-        b.daemon.put(do="tick", jitter=0)
-        while not (asked := b.entity.request())["kind"] == "beacon":
-            pass
-        assert list(asked) == ["id", "do", "kind", "plain"], asked
+        b.daemon.put(do="tick", jitter=0)  # early: nothing is due
+        has({"result": "quiet"}, b.daemon.answer())
+        asked = b.entity.any_request()
+        assert list(asked) == ["id", "do", "kind", "plain"] and asked["kind"] == "beacon", asked
+        b.entity.sign(asked)
+        sent = b.link.recv(4096)
+        assert is_beacon(sent) and sent[PLAIN_AT + 1 :] == bytes.fromhex(asked["plain"]), sent.hex()
 
 
 def test_verified_frames():
@@ -210,10 +226,10 @@ def test_no_beacon_without_entity():
         assert b.is_quiet(4.5), "a beacon without a signature"
         assert b.daemon.counts()["sent"]["beacons"] == 0
         b.entity = Entity(b.path).accept()
-        asked = b.entity.request()
+        asked = b.entity.any_request()
         has({"do": "sign", "kind": "beacon"}, asked)
         b.entity.sign(asked)
-        assert b.received()[PLAIN_AT:] == message_of(bytes.fromhex(asked["plain"]))
+        assert b.link.recv(4096)[PLAIN_AT:] == message_of(bytes.fromhex(asked["plain"]))
 
 
 def test_receive_lines():
@@ -293,8 +309,37 @@ def test_wrong_verdicts():
         assert b.is_quiet()
 
 
+def test_which_messages_are_read():
+    """A plain part that isn't the one in the message is an error if and only if the message can be
+    read: the samples of signed frames, each with a wrong answer."""
+    sys.path.append(str(Path(__file__).resolve().parent.parent.parent.parent / "checks"))
+    try:
+        from signed_rows import SAMPLES
+    except ImportError:
+        notes.append("python3-cryptography isn't installed: no samples of signed frames")
+        return
+    kinds = {"rejected": 0, "verified": 0, "dropped_early": 0, "unsecured": 0}
+    with Bench(*LONG) as b:
+        for sample in SAMPLES:
+            code = (sample.refused or "").partition(" at ")[0]
+            readable = code in ("", "L4") or code.startswith("L6")
+            kind = "rejected" if readable else "dropped_early"
+            kind = "verified" if code in ("E1", "E2") else kind
+            kind = "unsecured" if "plain" in sample.values else kind
+            if sample.name == "the warning, forwarded":
+                continue  # a copy of the message before it
+            kinds[kind] += 1
+            b.send(sample.frame)
+            if kind in ("verified", "rejected"):
+                request = b.next_of("verify")
+                assert request["message"] == sample.frame[PLAIN_AT:].hex(), sample.name
+                b.entity.say(id=request["id"], plain="00")
+            b.counts(**kinds)
+    assert min(kinds.values()) > 0, kinds
+
+
 def test_strays():
-    """Answers to no open request are skipped: no JSON, no id, an id that was never used or is done."""
+    """Answers to no open request are skipped: no JSON, no id, an id not used yet, or one done."""
     with Bench("--security-timeout", "500") as b:
         good = {"plain": gbc(1)[PLAIN_AT:].hex()}
         datagrams = [b"", b"{", b"5", b"[]", b"\xff\0", b'{"id":}', json.dumps(good).encode(),
@@ -330,7 +375,8 @@ def test_strays():
 def copies_of(frame, count):
     """The frame as other stations forward it: from other link addresses, with fewer hops."""
     for k in range(count):
-        yield frame[:6] + bytes([2, 0, 0, 0, 0, 16 + k]) + frame[12:17] + bytes([9 - k]) + frame[18:]
+        source = bytes([2, 0, 0, 0, 0, 16 + k])
+        yield frame[:6] + source + frame[12:17] + bytes([9 - k]) + frame[18:]
 
 
 def test_copies():
