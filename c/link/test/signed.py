@@ -140,7 +140,7 @@ def test_row():
         frame = warn(trio, b"ice")
         trio.hear()
         forwarded = [f for f in trio.frames if message_of(f) == message_of(frame) and f != frame]
-        assert forwarded and all(f[17] == frame[17] - 1 for f in forwarded), trio.frames
+        assert [f[17] for f in forwarded] in ([9], [9, 8]) and frame[17] == 10, trio.frames
         time.sleep(1.2)  # so the answer to its message is no longer kept
         count = refuse_all(trio, frame)
         trio.entities[EAST].terminate()

@@ -372,6 +372,11 @@ def test_strays():
         notes.append(f"{len(datagrams) + 2} answers to no open request were skipped")
 
 
+def fixed(k):
+    """A frame whose octets are always the same."""
+    return secured(frames.gbc(OTHER, 5, k, b"x"))
+
+
 def copies_of(frame, count):
     """The frame as other stations forward it: from other link addresses, with fewer hops."""
     for k in range(count):
@@ -425,18 +430,13 @@ def test_copy_after_a_timeout():
 def test_answers_are_kept_for_256():
     with Bench() as b:
         for k in range(257):
-            b.send(secured(gbc(k)))
+            b.send(fixed(k))
             b.entity.verify(b.next_of("verify"))
             b.daemon.event("delivered")
-        b.send(secured(gbc(1)))
+        b.send(fixed(1))
         b.counts(verified=258)
-        b.send(secured(gbc(0)))
-        assert bytes.fromhex(b.next_of("verify")["message"]) == secured(gbc(0))[PLAIN_AT:]
-
-
-def fixed(k):
-    """A frame whose octets are always the same."""
-    return secured(frames.gbc(OTHER, 5, k, b"x"))
+        b.send(fixed(0))
+        assert bytes.fromhex(b.next_of("verify")["message"]) == fixed(0)[PLAIN_AT:]
 
 
 def test_places():
@@ -461,20 +461,17 @@ def test_places():
         assert all(r["do"] == "sign" for r in signs), signs
         assert b.entity.is_quiet(0.1)
         b.counts(overrun=24, unsigned=1)
-        b.entity.verify(asked[0])
-        assert b.next_of("sign")["plain"].endswith("0004")
+        b.entity.verify(asked[0])  # its place goes to an own packet
+        more = [b.next_of("sign")]
         for request in signs:
             b.entity.sign(request)
-        more = [b.next_of("sign") for _ in range(4)]
-        b.entity.verify(asked[1])
-        more.append(b.next_of("sign"))
-        assert [r["plain"][-4:] for r in more] == ["0005", "0006", "0100", "0101", "0102"], more
+            more.append(b.next_of("sign"))
+        assert [r["plain"][-4:] for r in more] == ["0004", "0005", "0006", "0100", "0101"], more
+        for request in more:
+            b.entity.sign(request)
         while (request := b.entity.request())["do"] == "sign":
             b.entity.sign(request)
         assert request["message"] == fixed(36)[PLAIN_AT:].hex(), request
-        # The last request of the third client had no place.
-        for request in more:
-            b.entity.sign(request)
 
 
 def test_pipelined_clients():
