@@ -21,9 +21,19 @@ static size_t free_place(const struct held_pool *p) {
     return k;
 }
 
-/* May another request of the client be executed? */
+static size_t count_free(const struct held_pool *p) {
+    size_t count = 0;
+    for (size_t k = 0; k < p->count; k++) {
+        count += !p->all[k].used;
+    }
+    return count;
+}
+
+/* May another request of the client be executed? Clients whose answers wait leave places to the
+ * others. */
 bool held_has_place(const struct held_pool *p, const struct client *c) {
-    return c->held_count < HELD_EACH && free_place(p) < p->count;
+    size_t free = count_free(p);
+    return c->held_count == 0 ? free != 0 : c->held_count < HELD_EACH && free > HELD_RESERVE;
 }
 
 /* Takes a place, of which there has to be one, behind the client's other answers. */

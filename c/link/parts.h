@@ -22,8 +22,11 @@ enum {
     CONFIG_ROOM = 8192,       /* longest configuration file, in bytes */
     FORWARDS = 256,           /* forwarded frames that may wait at a time */
     OPEN_FILES = 64,          /* descriptors that the program needs */
-    HELD = 64,                /* answers that may wait for a signature, of all clients */
-    HELD_EACH = 16,           /* of one client */
+    HELD_EACH = 16,           /* answers of one client that may wait for a signature */
+    /* One for each client, and one for each packet of a client that is gone: others can't take
+     * these. */
+    HELD_RESERVE = CLIENTS + SIGNS + ASKED,
+    HELD = HELD_RESERVE + 48, /* answers of all clients that may wait */
 };
 
 /* fail.c: messages on standard error. */

@@ -192,7 +192,6 @@ def test_without_entity():
         has({"result": "opened"}, d.ask(do="open", port=9))
         b.send(secured(gbc(1)))
         b.counts(unanswered=1)
-        d.process.send_signal(signal.SIGUSR1)
         b.entity = Entity(b.path).accept()
         assert d.event("security")["up"] is True
         d.put(**GBC, payload="01")
@@ -201,8 +200,9 @@ def test_without_entity():
         assert b.received()[-1] == 1
         d.answer()
         d.put(**GBC, payload="02")
+        left = [b.next_of("sign")]
         b.send(secured(gbc(2)))
-        left = [b.next_of("sign"), b.next_of("verify")]
+        left.append(b.next_of("verify"))
         b.entity.end()
         has({"code": "not signed"}, d.answer())
         assert d.event("security")["up"] is False
@@ -489,6 +489,23 @@ def test_pipelined_clients():
         found = [json.loads(line) for line in lines]
         assert [a["id"] for a in found] == list(range(41)), found
         assert found[0]["result"] == "sent"
+
+
+def test_waiting_clients_leave_places():
+    """Sixteen clients with as many requests as they can have: another one is answered at once."""
+    with Bench(*LONG) as b:
+        clients = [connect(b.listen) for _ in range(16)]
+        for s, lines in clients:
+            lines.readline()
+            s.sendall(json.dumps({**GBC, "payload": "00"}).encode() + b"\n"
+                      + b'{"do":"counts"}\n' * 20)
+        asked = b.entity.requests(16)
+        has({"result": "counts"}, b.daemon.ask(do="counts"))
+        for request in asked:
+            b.entity.sign(request)
+        for _, lines in clients:
+            found = [json.loads(lines.readline())["result"] for _ in range(21)]
+            assert found == ["sent"] + ["counts"] * 20, found
 
 
 def test_client_that_is_gone():
