@@ -421,7 +421,9 @@ def main():
     for module in (sys.modules[__name__], test_fixes, test_faults, test_limits,
                    test_security, test_service):
         named = ((k, v) for k, v in vars(module).items() if k.startswith("test_"))
-        tests.update((k, v) for k, v in named if callable(v))
+        found = {k: v for k, v in named if callable(v)}
+        assert not tests.keys() & found.keys(), tests.keys() & found.keys()
+        tests.update(found)
     failed = []
     for name in sys.argv[2:] or tests:
         started = time.monotonic()

@@ -627,7 +627,7 @@ def test_options():
         assert p.returncode == 2 and "geostation-link: " in p.stderr, (more, p)
 
 
-def test_metrics():
+def test_metrics_of_signed_packets():
     """The counts for Prometheus, with the same numbers."""
     with Bench("--metrics", "/run/geostation-metrics") as b:
         b.send(gbc(1))
