@@ -6,6 +6,7 @@ Its messages are opaque to the daemon: an octet 00, and the plain part.
 import json
 import os
 import socket
+import time
 
 from net import PATIENCE
 
@@ -44,7 +45,9 @@ class Entity:
 
     def request(self):
         """The next request. Beacons are signed meanwhile."""
+        limit = time.monotonic() + PATIENCE
         while (request := self.any_request()).get("kind") == "beacon":
+            assert time.monotonic() < limit, "no request but for beacons"
             self.sign(request)
         return request
 

@@ -55,8 +55,9 @@ class Bench(ExitStack):
 
     def received(self):
         """The next frame that the station sent, but for beacons."""
+        limit = time.monotonic() + PATIENCE
         while is_beacon(frame := self.link.recv(4096)):
-            pass
+            assert time.monotonic() < limit, "no frame but for beacons"
         return frame
 
     def is_quiet(self, length=0.3):
@@ -472,6 +473,31 @@ def test_places():
         while (request := b.entity.request())["do"] == "sign":
             b.entity.sign(request)
         assert request["message"] == fixed(36)[PLAIN_AT:].hex(), request
+
+
+def test_entity_dies_while_all_wait():
+    """Each request has its outcome at once, and each place is free again for the next entity."""
+    with Bench(*LONG) as b:
+        for turn in range(1, 4):
+            for k in range(100):
+                b.send(fixed(100 * turn + k))
+            b.counts(overrun=24 * turn, unanswered=76 * (turn - 1), unsigned=20 * (turn - 1))
+            clients = [connect(b.listen) for _ in range(4)]
+            for s, lines in clients:
+                lines.readline()
+                s.sendall((json.dumps({**SHB, "payload": ""}).encode() + b"\n") * 5)
+            until(lambda: b.daemon.counts()["sent"]["single_hop"] == 20 * turn, "no sends")
+            b.entity.end()
+            for s, lines in clients:
+                found = [json.loads(lines.readline()) for _ in range(6)]
+                answers = [a for a in found if "event" not in a]
+                assert [a["code"] for a in answers] == ["not signed"] * 5, found
+                lines.close()
+                s.close()
+            b.counts(overrun=24 * turn, unanswered=76 * turn, unsigned=20 * turn)
+            b.entity = Entity(b.path).accept()
+            assert b.daemon.event("security")["up"] is False
+            assert b.daemon.event("security")["up"] is True
 
 
 def test_pipelined_clients():
