@@ -1,4 +1,4 @@
-"""Compares cases/data/signed.pcap, as it was made (checks/signed_rows.py), with what Wireshark reads.
+"""Compares cases/data/signed.pcap, as checks/signed_rows.py made it, with what Wireshark reads.
 
     python3 checks/dissect_signed.py
 
@@ -91,8 +91,8 @@ def compare_read(place: int, sample: Sample, layers: dict, inner: dict) -> None:
 
 
 def compare_refused(sample: Sample, layers: dict) -> None:
-    """A message that can't be read: Wireshark has a fault too, or finds no PSID. Only a payload that
-    has data and a hash is read by Wireshark."""
+    """A message that can't be read: Wireshark has a fault too, or finds no PSID. It reads only the
+    payload that has data and a hash."""
     if sample.refused.startswith("E"):
         unread = has_fault(layers) or find(layers, "ieee1609dot2.psid") is None
         assert unread != (sample.name == "data and a hash"), sample.name
@@ -109,7 +109,7 @@ def main() -> None:
     refused = [(sample, layers) for _, sample, layers in rows if sample.refused]
     for sample, layers in refused:
         compare_refused(sample, layers)
-    print(f"{len(read)} secured frames read by Wireshark as they were made, {len(refused)} not read")
+    print(f"{len(read)} secured frames read by Wireshark as they were made, {len(refused)} refused")
 
 
 main()

@@ -96,8 +96,7 @@ class SequenceOf:
 
 
 class Choice:
-    """CHOICE: a value is the name of an alternative and its value. Those behind the extension marker
-    have a length."""
+    """CHOICE: a value is the name of an alternative and its value. Extensions have a length."""
 
     def __init__(self, alternatives: dict, extensions: dict | None = None):
         self.alternatives, self.extensions = alternatives, extensions or {}
@@ -111,8 +110,8 @@ class Choice:
 
 
 class Sequence:
-    """SEQUENCE: a value is a dictionary. `optional` names the fields that may be absent; `extensions`
-    is None for a type without an extension marker."""
+    """SEQUENCE: a value is a dictionary. `optional` names the fields that may be absent. A type
+    without an extension marker has None as its `extensions`."""
 
     def __init__(self, fields: dict, optional: tuple = (), extensions: dict | None = None):
         self.fields, self.optional, self.extensions = fields, optional, extensions
@@ -129,7 +128,8 @@ class Sequence:
                 octets += form.encode(value[name])
         if any(there):
             octets += counted(bytes([-len(there) % 8]) + bits(there))
-            octets += b"".join(counted(more[name].encode(value[name])) for name in more if name in value)
+            added = (form.encode(value[name]) for name, form in more.items() if name in value)
+            octets += b"".join(map(counted, added))
         return octets
 
 
@@ -169,7 +169,9 @@ DURATION = Choice(
 PSID_SSP = Sequence({"psid": Whole(), "ssp": Choice({"opaque": Octets()})}, optional=("ssp",))
 CERTIFICATE_CONTENT = Sequence(
     {
-        "id": Choice({"linkageData": Null(), "name": Octets(), "binaryId": Octets(), "none": Null()}),
+        "id": Choice(
+            {"linkageData": Null(), "name": Octets(), "binaryId": Octets(), "none": Null()}
+        ),
         "cracaId": Octets(3),
         "crlSeries": Unsigned(2),
         "validityPeriod": Sequence({"start": Unsigned(4), "duration": DURATION}),

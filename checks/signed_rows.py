@@ -49,8 +49,8 @@ KEYS = (
 
 @dataclass(frozen=True)
 class Sample:
-    """A record: its frame, and the values that are shown of it, or why it is refused. `message`: the
-    frame ends in a signature of it."""
+    """A record: its frame, and the values that are shown of it, or why it is refused. With a
+    `message`, the frame ends in a signature of that."""
 
     name: str
     frame: bytes
@@ -253,7 +253,8 @@ def show_line(place: int, sample: Sample) -> str:
     line = (
         f"{v['moment']} {v['from']} {v['to']} {v['kind']} {v['address']} tst {v['tst']}"
         f" lat {v['lat']} lon {v['lon']} pai {v['pai']:d} speed {v['speed']} heading {v['heading']}"
-        f" lt {v['lt']:02x} tc {v['tc']:02x} mobile {v['mobile']:d} hops {v['hops']}/{v['max_hops']}"
+        f" lt {v['lt']:02x} tc {v['tc']:02x} mobile {v['mobile']:d}"
+        f" hops {v['hops']}/{v['max_hops']}"
     )
     if "number" in v:
         line += f" number {v['number']} {v['shape']} {v['alat']} {v['alon']} {v['a']} {v['b']}"

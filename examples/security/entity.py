@@ -36,7 +36,8 @@ def make_key(path: Path) -> None:
 
 def read_keys(key: Path, trusted: list[Path]) -> Entity:
     private = serialization.load_pem_private_key(key.read_bytes(), None)
-    return Entity(private, [serialization.load_pem_public_key(path.read_bytes()) for path in trusted])
+    public = [serialization.load_pem_public_key(path.read_bytes()) for path in trusted]
+    return Entity(private, public)
 
 
 def listen_at(path: str) -> socket.socket:

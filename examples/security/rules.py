@@ -135,7 +135,8 @@ class Entity:
 
     def execute(self, request: dict) -> dict:
         if request["do"] == "sign":
-            return {"message": self.sign(bytes.fromhex(request["plain"]), request.get("port")).hex()}
+            made = self.sign(bytes.fromhex(request["plain"]), request.get("port"))
+            return {"message": made.hex()}
         if request["do"] == "verify":
             found = self.verify(bytes.fromhex(request["message"]))
             return {"plain": found.plain.hex(), "psid": found.psid, "generated": found.generated}

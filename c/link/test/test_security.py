@@ -3,6 +3,7 @@
 import json
 import os
 import pwd
+import select
 import signal
 import socket
 import subprocess
@@ -631,6 +632,7 @@ def test_other_user():
                         *more])
             if more:
                 d.put(**GBC, payload="00")
+                assert select.select([other.stdout], [], [], PATIENCE)[0], "it is not asked"
                 assert other.stdout.readline() == b"asked\n"
             else:
                 assert d.event("security")["up"] is False
