@@ -223,7 +223,14 @@ def wrong_packets() -> list[Sample]:
     ]
 
 
-SAMPLES = read() + other_forms() + wrong_messages() + wrong_packets()
+def longer_lengths() -> list[Sample]:
+    """Lengths behind 83 and 84, with as many octets as a shorter form has."""
+    rest = PLAIN + TIMED + b"\x01\x25" + TIME + TAIL
+    heads = (b"\x83" + LENGTH, b"\x83\0" + LENGTH, b"\x84" + LENGTH, b"\x83\0\0" + LENGTH)
+    return [faulty(f"length {head.hex()}", "E1 at 10", FRONT + head + rest) for head in heads]
+
+
+SAMPLES = read() + other_forms() + wrong_messages() + wrong_packets() + longer_lengths()
 
 
 def moment_of(place: int) -> int:

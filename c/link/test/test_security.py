@@ -148,13 +148,16 @@ def test_order_of_signatures():
         for k in range(4):
             b.daemon.put(id=k, **GBC, payload=f"0{k}")
         b.daemon.put(id=4, do="counts")
-        asked = [b.next_of("sign") for _ in range(4)]
+        asked, sent = [b.next_of("sign") for _ in range(4)], {}
         for k in (3, 1, 0, 2):
             b.entity.sign(asked[k])
-            assert b.received()[-1] == k
+            sent[k] = b.received()
+            assert sent[k][-1] == k
+            if 0 not in sent:
+                assert b.daemon.line(0.05) is None, "an answer before its turn"
         answers = [b.daemon.answer() for _ in range(5)]
         assert [a["id"] for a in answers] == [0, 1, 2, 3, 4], answers
-        assert [bytes.fromhex(a["frame"])[-1] for a in answers[:4]] == [0, 1, 2, 3], answers
+        assert [a.get("frame") for a in answers[:4]] == [sent[k].hex() for k in range(4)], answers
         assert answers[4]["result"] == "counts"
 
 
@@ -538,7 +541,7 @@ def test_waiting_clients_leave_places():
 def test_client_that_is_gone():
     """A client that sends one request and closes at once: its packet is sent."""
     with Bench(*LONG) as b:
-        for k in range(70):
+        for k in range(120):  # more than there are places for answers
             s, lines = connect(b.listen)
             lines.readline()
             s.sendall(json.dumps({**GBC, "payload": f"{k:02x}"}).encode() + b"\n")
