@@ -223,14 +223,19 @@ def wrong_packets() -> list[Sample]:
     ]
 
 
-def longer_lengths() -> list[Sample]:
-    """Lengths behind 83 and 84, with as many octets as a shorter form has."""
-    rest = PLAIN + TIMED + b"\x01\x25" + TIME + TAIL
+def lengths() -> list[Sample]:
+    """Lengths in longer forms, of the plain part and of the PSID; and nothing behind a PSID."""
+    front, psid = FRONT + LENGTH + PLAIN, b"\x01\x25"
     heads = (b"\x83" + LENGTH, b"\x83\0" + LENGTH, b"\x84" + LENGTH, b"\x83\0\0" + LENGTH)
-    return [faulty(f"length {head.hex()}", "E1 at 10", FRONT + head + rest) for head in heads]
+    rest = PLAIN + TIMED + psid + TIME + TAIL
+    samples = [faulty(f"length {head.hex()}", "E1 at 10", FRONT + head + rest) for head in heads]
+    long_psid = front + TIMED + b"\x05\0\0\0\0\x25" + TIME + TAIL
+    samples.append(faulty("a PSID of 5 octets", "E1 at 70", long_psid))
+    return samples + [of_message("nothing behind the PSID", LINK + GBC, {**OF_GBC, "psid": 37},
+                                 front + b"\0" + psid)]
 
 
-SAMPLES = read() + other_forms() + wrong_messages() + wrong_packets() + longer_lengths()
+SAMPLES = read() + other_forms() + wrong_messages() + wrong_packets() + lengths()
 
 
 def moment_of(place: int) -> int:
