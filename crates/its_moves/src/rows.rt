@@ -117,6 +117,18 @@ impl<R: BufRead + Drop> Rows<R> {
         self.number
     }
 
+    /// The field of the line that was read last that a word refuses, without its quotation marks.
+    /// `None` for a word that refuses no field.
+    pub fn refused(&self, word: Word) -> Option<&[u8]> {
+        let place = self.columns.place_of(word)?;
+        let octets = if self.line.contains(&b'"') {
+            &self.text
+        } else {
+            &self.line
+        };
+        Some(field(octets, &self.bounds, place))
+    }
+
     /// Reads lines to the next that gives a row.
     fn read_row(&mut self) -> Result<Option<Row>, MovesFault>
         ensures begin { self.new.begin ≡ self.old.begin }

@@ -116,7 +116,7 @@ pub(crate) fn run_into<'a, M: BufRead + Drop, F: Write + Drop, W: Write, E: Writ
     };
     let ran = run(alloc, course, finding, io.format, &mut io.out);
     progress.end(&mut io.err);
-    let ended = findings.end(ran, course.name(), io);
+    let ended = findings.end(ran, course.moves.as_ref(), io);
     match frames {
         Some(file) => file.end(ended),
         None => ended,
