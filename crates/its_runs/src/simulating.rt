@@ -1,8 +1,8 @@
 //! The command `sim`.
 
-ghost use Rattle.std.specs.Prelude.{◌≡◌, ◌≤◌, IfOk, None, is_some, true, vec_len};
+ghost use Rattle.std.specs.Prelude.{◌≡◌, ◌≤◌, IfOk, None, Ok, false, is_some, true, vec_len};
 ghost use Rattle.its_reporting.specs.Statuses.{IsCommandStatus};
-ghost use Rattle.its_runs.specs.Runs.{EndsRun, IsMovedStatus, IsRunStatus};
+ghost use Rattle.its_runs.specs.Runs.{EndsRun, IsDoneRun, IsMovedStatus, IsRunStatus};
 
 use crate::both::Both;
 use crate::course::Course;
@@ -17,7 +17,7 @@ use crate::watched::Watched;
 use its_air::{AirFault, run_moves, run_scenario};
 use its_frame_text::Explanation;
 use its_moves::Rows;
-use its_reporting::{Fault, Io, OutputFormat, Status};
+use its_reporting::{Fault, FrameFile, Io, OutputFormat, Status};
 use its_scenario::{Reading, Scenario};
 use its_settings::Air;
 use its_simulation::{EventSink, JsonLines, SimulationFault, TextLines};
@@ -76,6 +76,8 @@ pub fn simulate_scenario<'f, W: Write, E: Write>(
 ) -> Result<Status, Fault<'f>>
     requires { vec_len scenario.now.stations ≤ 65535 }
     ensures status { IfOk result IsCommandStatus }
+    ensures done { result ≡ Ok Status.Done →
+        IsDoneRun options.now.strict scenario.now false }
 {
     let outputs: Outputs<'_, Vec<u8>> = Outputs::none();
     let options = *options;
@@ -97,6 +99,8 @@ pub(crate) fn run_into<'a, M: BufRead + Drop, F: Write + Drop, W: Write, E: Writ
 ) -> Result<Status, Fault<'a>>
     requires { vec_len course.old.scenario.now.stations ≤ 65535 }
     ensures status { IfOk result IsCommandStatus }
+    ensures done { result ≡ Ok Status.Done → IsDoneRun course.old.options.now.strict
+        course.old.scenario.now (is_some course.old.moves) }
 {
     let Outputs {
         mut frames,
@@ -116,7 +120,19 @@ pub(crate) fn run_into<'a, M: BufRead + Drop, F: Write + Drop, W: Write, E: Writ
     };
     let ran = run(alloc, course, finding, io.format, &mut io.out);
     progress.end(&mut io.err);
-    let ended = findings.end(ran, course.name(), io);
+    let ended = findings.end(ran, course.moves.as_ref(), io);
+    end_frames(frames, ended)
+}
+
+/// Ends the file of frames of a run that ended so, if there is one: how the run ends then.
+fn end_frames<'a, F: Write + Drop>(
+    frames: Option<FrameFile<'a, F>>,
+    ended: Result<Status, Fault<'a>>,
+) -> Result<Status, Fault<'a>>
+    requires { IfOk ended IsCommandStatus }
+    ensures status { IfOk result IsCommandStatus }
+    ensures done { result ≡ Ok Status.Done → ended.entry ≡ Ok Status.Done }
+{
     match frames {
         Some(file) => file.end(ended),
         None => ended,
