@@ -91,6 +91,11 @@ extern "C" {
 
 /** The longest frame, in bytes. A buffer to which a frame is written needs this size. */
 #define GEOSTATION_FRAME_MAX 1468
+/**
+ * The longest secured frame, in bytes. The buffers to which geostation_receive_verified() and
+ * geostation_seal() write need this size.
+ */
+#define GEOSTATION_SECURED_FRAME_MAX 2310
 /** The longest line that geostation_handle_json() reads, in bytes. A longer one is malformed. */
 #define GEOSTATION_LINE_MAX 65536
 /** The longest answer of geostation_handle_json(), in bytes. A buffer for it needs this size. */
@@ -664,6 +669,102 @@ size_t geostation_frame_length(const uint8_t *octets, size_t length);
  * @return #GEOSTATION_OK or #GEOSTATION_BAD_FRAME
  */
 int geostation_read_frame(const uint8_t *frame, size_t length, struct geostation_packet *out);
+
+/** @} */
+
+/**
+ * @defgroup security Signed packets
+ *
+ * A secured frame has a message in place of the packet's plain part: its Common Header, extended
+ * header and payload. A security entity of yours signs a plain part into a message, and verifies a
+ * message into a plain part. The library has no cryptography and does not read messages.
+ *
+ * To send: pass the frame that a function wrote to geostation_plain_part(), let the entity sign
+ * that part, and pass the message to geostation_seal(). To receive: pass the frame to
+ * geostation_message(), let the entity verify the message, and pass its plain part to
+ * geostation_receive_verified().
+ *
+ * The lifetime, the remaining hop limit and the link addresses are not signed: they can be forged.
+ * The library does not compare `plain` with the message, and does not judge when it was signed.
+ * @{
+ */
+
+/**
+ * Processes a secured frame whose message was verified.
+ *
+ * It does what geostation_receive() does with the same packet in an unsecured frame, with the same
+ * limits. If the packet is to be forwarded, the secured frame to send is written to `relay`: the
+ * received one with new link addresses and one hop less. `out->fault` is 6 if the Basic Header and
+ * `plain` are not a valid packet together.
+ *
+ * @param s             the station
+ * @param now           time, in ms
+ * @param frame         the received frame; may be NULL if `length` is 0
+ * @param length        length of `frame`
+ * @param plain         the plain part that the entity returned for the frame's message; may be NULL
+ *                      if `plain_length` is 0, and may lie inside `frame`
+ * @param plain_length  length of `plain`
+ * @param[out] out      the result; `out->payload_start` is an offset in `plain`
+ * @param[out] relay    the frame to forward, of `out->relay_length` bytes; must not overlap `frame`
+ *                      or `plain`
+ * @param room          size of `relay`, at least #GEOSTATION_SECURED_FRAME_MAX
+ * @return #GEOSTATION_OK, #GEOSTATION_MOMENT_EARLIER, #GEOSTATION_MOMENT_TOO_LATE,
+ *         #GEOSTATION_BAD_FRAME, #GEOSTATION_TABLE_FULL, #GEOSTATION_NO_MEMORY or
+ *         #GEOSTATION_NO_ROOM
+ */
+int geostation_receive_verified(geostation_handle *s, uint64_t now,
+                                const uint8_t *frame, size_t length,
+                                const uint8_t *plain, size_t plain_length,
+                                struct geostation_reception *out, uint8_t *relay, size_t room);
+
+#if defined(__cplusplus) && defined(__GNUC__)
+#pragma GCC diagnostic push
+#pragma GCC diagnostic ignored "-Wshadow" /* the struct and the function have one name */
+#endif
+/**
+ * Finds the message of a secured frame, for the security entity to verify.
+ *
+ * @param frame                the frame; may be NULL if `length` is 0
+ * @param length               length of `frame`
+ * @param[out] start           offset of the message in the frame, or 0
+ * @param[out] message_length  length of the message, or 0
+ * @return #GEOSTATION_OK, or #GEOSTATION_BAD_FRAME if it is not a secured frame
+ */
+int geostation_message(const uint8_t *frame, size_t length, size_t *start, size_t *message_length);
+#if defined(__cplusplus) && defined(__GNUC__)
+#pragma GCC diagnostic pop
+#endif
+
+/**
+ * Finds the plain part of an unsecured frame, for the security entity to sign.
+ *
+ * @param frame              the frame; may be NULL if `length` is 0
+ * @param length             length of `frame`
+ * @param[out] start         offset of the plain part in the frame, or 0
+ * @param[out] plain_length  length of the plain part, or 0
+ * @return #GEOSTATION_OK, or #GEOSTATION_BAD_FRAME if it is not a valid unsecured frame
+ */
+int geostation_plain_part(const uint8_t *frame, size_t length, size_t *start, size_t *plain_length);
+
+/**
+ * Writes the secured frame of an unsecured one: the same link addresses, lifetime and remaining hop
+ * limit, and the message in place of the plain part.
+ *
+ * @param frame            the unsecured frame; may be NULL if `length` is 0
+ * @param length           length of `frame`
+ * @param message          what the security entity signed the plain part into
+ * @param message_length   from 1; the secured frame must not be longer than
+ *                         #GEOSTATION_SECURED_FRAME_MAX
+ * @param[out] out         the secured frame
+ * @param room             size of `out`, at least #GEOSTATION_SECURED_FRAME_MAX
+ * @param[out] out_length  length of the secured frame, or 0
+ * @return #GEOSTATION_OK, #GEOSTATION_BAD_FRAME if `frame` is not a valid unsecured frame,
+ *         #GEOSTATION_BAD_ARGUMENT if the message is empty or too long, #GEOSTATION_NO_MEMORY or
+ *         #GEOSTATION_NO_ROOM
+ */
+int geostation_seal(const uint8_t *frame, size_t length,
+                    const uint8_t *message, size_t message_length,
+                    uint8_t *out, size_t room, size_t *out_length);
 
 /** @} */
 

@@ -14,8 +14,8 @@ void geostation_free(struct geostation *s) {
 const char *geostation_status_text(int status) {
     switch (status) {
     case GEOSTATION_OK: return "done";
-    case GEOSTATION_MOMENT_EARLIER: return "the moment is before the last one";
-    case GEOSTATION_MOMENT_TOO_LATE: return "the moment is over 2^62 ms";
+    case GEOSTATION_MOMENT_EARLIER: return "the time is earlier than that of the last call";
+    case GEOSTATION_MOMENT_TOO_LATE: return "the time is over 2^62 ms";
     case GEOSTATION_BAD_FRAME: return "not a valid frame";
     case GEOSTATION_TABLE_FULL: return "the location table is full";
     case GEOSTATION_NO_MEMORY: return "out of memory";
@@ -34,17 +34,17 @@ const char *geostation_status_text(int status) {
 
 static const char *kind_text(uint32_t kind) {
     static const char *const texts[] = {
-        "the octets end in a field or before it",
+        "a truncated packet",
         "a version other than 1",
         "no Common Header after the Basic Header",
         "a reserved bit that is set",
         "no hop left",
-        "neither nothing nor BTP-B after the headers",
-        "a header type that is not read",
+        "a next header other than none and BTP-B",
+        "an unsupported header type",
         "a sub-type that the header type does not have",
         "more hops left than the maximum",
         "a payload length out of range",
-        "a group address or a place out of range",
+        "a group address, or a position out of range",
         "an area out of range",
     };
     return kind >= 1 && kind <= 12 ? texts[kind - 1] : "no packet in the frame";

@@ -43,19 +43,58 @@ static size_t serve(geostation_handle *h, struct station *s, uint64_t now, uint6
     return length;
 }
 
-/* Asks the probe about a line while the station may not send. Returns the length of a refusal if
- * the line would send or receive; otherwise 0, and the station may be asked. */
-static size_t refuse_unplaced(struct station *s, uint64_t now, uint64_t number,
-                              const uint8_t *line, size_t n, uint8_t *answer) {
+/* What the probe answers to a line. The probe is as new. */
+static size_t ask_probe(struct station *s, uint64_t now, uint64_t number, const uint8_t *line,
+                        size_t n, uint8_t *answer) {
     size_t frame_length = 0;
     (void)geostation_restart(s->probe, now, 0);
-    size_t length = serve(s->probe, s, now, number, line, n, answer, &frame_length);
-    if (!has_result(answer, length, "sent") && !has_result(answer, length, "quiet")
-        && !has_result(answer, length, "accepted") && !has_result(answer, length, "ignored")) {
+    return serve(s->probe, s, now, number, line, n, answer, &frame_length);
+}
+
+static bool would_send(const uint8_t *answer, size_t n) {
+    return has_result(answer, n, "sent") || has_result(answer, n, "quiet");
+}
+
+/* A received frame is accepted, ignored, or refused by S3 or S4. No other call has these codes. */
+static bool would_receive(const uint8_t *answer, size_t n) {
+    static const char bad_frame[] = "\"code\":\"S3", table_full[] = "\"code\":\"S4";
+    return has_result(answer, n, "accepted") || has_result(answer, n, "ignored")
+        || memmem(answer, n, bad_frame, sizeof bad_frame - 1) != NULL
+        || memmem(answer, n, table_full, sizeof table_full - 1) != NULL;
+}
+
+/* Without a position, a line that would send or receive is refused. Returns the length of the
+ * refusal; 0: the station may be asked. `answer` has the probe's answer. */
+static size_t refuse_unplaced(const struct station *s, uint8_t *answer, size_t n) {
+    bool refused = would_send(answer, n) || has_result(answer, n, "accepted")
+        || has_result(answer, n, "ignored");
+    return !refused ? 0 : refuse(answer, n, "no place", s->place->known
+                                 ? "the last fix is too old" : "the station has no position yet");
+}
+
+/* With security, no application passes a frame to the station, and nothing is sent without the
+ * entity. Returns as `refuse_unplaced`. */
+static size_t refuse_insecure(const struct station *s, uint8_t *answer, size_t n) {
+    if (would_receive(answer, n)) {
+        return refuse(answer, n, "not verified",
+                      "frames reach the station only by the link and the security entity");
+    }
+    if (would_send(answer, n) && !security_is_up(s->security)) {
+        return refuse(answer, n, "no security", "there is no security entity");
+    }
+    return 0;
+}
+
+/* Returns the length of a refusal of a line that the station may not be asked about, or 0. */
+static size_t refuse_early(struct station *s, uint64_t now, uint64_t number, const uint8_t *line,
+                           size_t n, uint8_t *answer) {
+    bool placed = place_is_usable(s->place);
+    if (placed && s->security == NULL) {
         return 0;
     }
-    return refuse(answer, length, "no place",
-                  s->place->known ? "the last fix is too old" : "the station has no position yet");
+    size_t length = ask_probe(s, now, number, line, n, answer);
+    size_t refused = s->security != NULL ? refuse_insecure(s, answer, length) : 0;
+    return refused == 0 && !placed ? refuse_unplaced(s, answer, length) : refused;
 }
 
 /* A line moved the station. The probe gets the same line; a packet of it has the new position. */
@@ -81,13 +120,9 @@ static bool has_rate(struct station *s, uint64_t now) {
         != GEOSTATION_OVER_RATE;
 }
 
-/* Sends the station's own frame. An answer says `sent` only if the link took it. */
-static size_t send_own(struct station *s, uint64_t now, size_t frame_length, uint8_t *answer,
-                       size_t n) {
-    if (!has_rate(s, now)) {
-        return refuse(answer, n, "over rate", "own packets are over their rate");
-    }
-    switch (link_send(s->link, s->frame, frame_length)) {
+/* An answer says `sent` only if the link took the frame. */
+static size_t judge_sending(enum sending result, uint8_t *answer, size_t n) {
+    switch (result) {
     case LINK_DOWN: return refuse(answer, n, "link down", "the link is down: nothing was sent");
     case QUEUE_FULL: return refuse(answer, n, "queue full", "the link takes no more frames now");
     case FRAME_TOO_LONG: return refuse(answer, n, "too long", "the frame is over the link's MTU");
@@ -95,9 +130,51 @@ static size_t send_own(struct station *s, uint64_t now, size_t frame_length, uin
     }
 }
 
+/* Sends the station's own frame, or has it signed: then the answer waits. */
+static void send_own(struct station *s, uint64_t now, size_t frame_length, struct held *h) {
+    if (!has_rate(s, now)) {
+        h->length = refuse(h->answer, h->length, "over rate", "own packets are over their rate");
+    } else if (s->security == NULL) {
+        h->length = judge_sending(link_send(s->link, s->frame, frame_length), h->answer, h->length);
+    } else {
+        h->waits = security_sign(s->security, s->frame, frame_length, h);
+        h->length = h->waits ? h->length : refuse(h->answer, h->length, "not signed",
+                                                  "too many packets wait for a signature");
+    }
+}
+
+/* Puts the frame that was sent into an answer, in place of the unsecured one, its last key. */
+static size_t put_frame(uint8_t *answer, size_t n, const uint8_t *frame, size_t length) {
+    static const char key[] = "sent\",\"frame\":\"";
+    size_t end = (size_t)(result_in(answer, n) - answer);
+    memcpy(answer + end, key, sizeof key - 1);
+    end += sizeof key - 1;
+    end += hex_write((char *)answer + end, frame, length);
+    memcpy(answer + end, "\"}", 2);
+    return end + 2;
+}
+
+/* Sends the station's own frame once it is signed, and completes the answer to its request.
+ * `length`: 0 if it was not signed; `h`: NULL for a beacon. */
+void station_send_signed(struct station *s, const uint8_t *frame, size_t length, struct held *h) {
+    enum sending result = length != 0 ? link_send(s->link, frame, length) : SENT;
+    if (h == NULL) {
+        return;
+    }
+    if (length == 0) {
+        h->length = refuse(h->answer, h->length, "not signed",
+                           "the security entity did not sign the packet");
+    } else {
+        h->length = put_frame(h->answer, h->length, frame, length);
+        h->length = judge_sending(result, h->answer, h->length);
+    }
+    h->waits = false;
+    h->used = h->client != NULL;
+}
+
 /* Adds the link's counts to the station's. */
 static size_t add_link(const struct station *s, uint8_t *answer, size_t n) {
-    char text[512];
+    char text[1024];
     size_t length = counts_print_link(s, text, sizeof text);
     if (n == 0 || n - 1 + length > GEOSTATION_ANSWER_MAX) {
         return n;
@@ -106,39 +183,33 @@ static size_t add_link(const struct station *s, uint8_t *answer, size_t n) {
     return n - 1 + length;
 }
 
-static size_t do_line(struct station *s, uint64_t now, uint64_t number, const uint8_t *line,
-                      size_t n, uint8_t *answer) {
+static void do_line(struct station *s, uint64_t now, uint64_t number, const uint8_t *line, size_t n,
+                    struct held *h) {
     size_t frame_length = 0;
-    size_t length = serve(s->handle, s, now, number, line, n, answer, &frame_length);
-    bool sent = has_result(answer, length, "sent");
-    if (sent || has_result(answer, length, "restarted")) {
+    h->length = serve(s->handle, s, now, number, line, n, h->answer, &frame_length);
+    bool sent = has_result(h->answer, h->length, "sent");
+    if (sent || has_result(h->answer, h->length, "restarted")) {
         station_plan_beacon(s);
     }
     if (frame_length != 0 && sent) {
-        return send_own(s, now, frame_length, answer, length);
-    }
-    if (frame_length != 0) {
+        send_own(s, now, frame_length, h);
+    } else if (frame_length != 0 && s->security == NULL) {
         forwards_put(s->forwards, s->frame, frame_length);
-    } else if (has_result(answer, length, "moved")) {
+    } else if (has_result(h->answer, h->length, "moved")) {
         follow_move(s, now, line, n);
-    } else if (has_result(answer, length, "counts")) {
-        return add_link(s, answer, length);
+    } else if (has_result(h->answer, h->length, "counts")) {
+        h->length = add_link(s, h->answer, h->length);
     }
-    return length;
 }
 
-size_t station_answer(struct station *s, uint64_t now, uint64_t number, const uint8_t *line,
-                      size_t n, uint8_t answer[GEOSTATION_ANSWER_MAX]) {
-    size_t length = 0;
-    if (!place_is_usable(s->place)) {
-        length = refuse_unplaced(s, now, number, line, n, answer);
+void station_answer(struct station *s, uint64_t now, uint64_t number, const uint8_t *line, size_t n,
+                    struct held *h) {
+    h->length = refuse_early(s, now, number, line, n, h->answer);
+    if (h->length == 0) {
+        s->last = now;
+        place_refresh(s->place, s->handle, now);
+        do_line(s, now, number, line, n, h);
     }
-    if (length != 0) {
-        return length;
-    }
-    s->last = now;
-    place_refresh(s->place, s->handle, now);
-    return do_line(s, now, number, line, n, answer);
 }
 
 void station_print_counts(struct station *s, uint64_t now) {

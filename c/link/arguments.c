@@ -44,6 +44,12 @@ static const char usage[] =
     "  --remember N          Length of the duplicate packet lists, 1 to 64 [default: 64]\n"
     "  --port N              Open a port (BTP-B) at the start; may be repeated, up to 64 times\n"
     "\n"
+    "Signed packets:\n"
+    "  --security PATH       Sign and verify packets by the security entity at this UNIX socket\n"
+    "  --security-user NAME  The user that may run the entity, besides root and the user of this\n"
+    "                        program\n"
+    "  --security-timeout MS Wait for each answer of the entity, 1 to 10000 ms [default: 100]\n"
+    "\n"
     "Applications and operators:\n"
     "  --listen PATH         Serve applications at a UNIX socket too, up to 16 at a time\n"
     "  --client-timeout S    Close a client that is idle for S seconds if others wait;\n"
@@ -82,6 +88,9 @@ static const struct option table[] = {
     { "capacity", required_argument, NULL, 'c' },
     { "remember", required_argument, NULL, 'r' },
     { "port", required_argument, NULL, 'o' },
+    { "security", required_argument, NULL, 'e' },
+    { "security-user", required_argument, NULL, 'U' },
+    { "security-timeout", required_argument, NULL, 'M' },
     { "listen", required_argument, NULL, 'l' },
     { "client-timeout", required_argument, NULL, 'T' },
     { "metrics", required_argument, NULL, 'm' },
@@ -191,6 +200,10 @@ bool take_setting(struct options *o, int option, const struct setting *s, struct
     case 'c': return take_small(s, 4096, &o->capacity, f);
     case 'r': return take_small(s, 64, &o->remember, f);
     case 'o': return take_port(o, s, f);
+    case 'e': o->security = s->value; return true;
+    case 'U': o->security_user = s->value; return true;
+    case 'M': o->timed_security = true;
+              return take_time(s, 1, 10000, 1, &o->security_timeout, f);
     case 'l': o->listen = s->value; return true;
     case 'T': return take_time(s, 0, 86400, 1000, &o->client_timeout, f);
     case 'm': o->metrics = s->value; return true;
@@ -225,6 +238,10 @@ static bool judge(const struct options *o, struct fault *f) {
     if (o->udp != NULL && !o->addressed) {
         return set_fault(f, BAD_ARGUMENTS, "--udp needs --address HEX16, as UDP has no MAC");
     }
+    if (o->security == NULL && (o->security_user != NULL || o->timed_security)) {
+        return set_fault(f, BAD_ARGUMENTS, "--security-user and --security-timeout need "
+                         "--security");
+    }
     return true;
 }
 
@@ -241,11 +258,11 @@ bool read_arguments(struct options *o, int argc, char **argv, struct fault *f) {
     geostation_config_init(&usual);
     *o = (struct options){
         .station_type = 15, .capacity = 4096, .remember = 64, .forward_spread = 2000,
-        .client_timeout = 60000, .gps_timeout = 60000, .forward_rate = usual.forward_rate,
-        .forward_burst = usual.forward_burst, .source_rate = usual.source_rate,
-        .source_burst = usual.source_burst, .own_rate = usual.own_rate,
-        .own_burst = usual.own_burst, .hop_cap = (uint16_t)usual.hop_cap,
-        .deliver_once = (uint16_t)usual.deliver_once,
+        .client_timeout = 60000, .gps_timeout = 60000, .security_timeout = 100,
+        .forward_rate = usual.forward_rate, .forward_burst = usual.forward_burst,
+        .source_rate = usual.source_rate, .source_burst = usual.source_burst,
+        .own_rate = usual.own_rate, .own_burst = usual.own_burst,
+        .hop_cap = (uint16_t)usual.hop_cap, .deliver_once = (uint16_t)usual.deliver_once,
     };
     optind = 0; /* this may be called again */
     for (int option; (option = getopt_long(argc, argv, "", table, NULL)) != -1;) {

@@ -18,7 +18,7 @@ struct client *client_new(int in, int out, uint64_t now) {
         c->deaf = false;
         c->active_at = now;
         c->lines = c->lost = 0;
-        c->line_length = c->next = c->got = c->begin = c->end = 0;
+        c->line_length = c->next = c->got = c->begin = c->end = c->held_count = 0;
     }
     return c;
 }
@@ -66,24 +66,33 @@ static bool is_blank(const struct client *c) {
     return k == c->line_length;
 }
 
+void client_put_answer(struct client *c, const uint8_t *answer, size_t n) {
+    if (!c->deaf) {
+        (void)enqueue(c, answer, n, sizeof c->queue);
+    }
+}
+
 /* Of a line that is too long, one octet too many is kept: the library then rejects the line. */
 static void end_line(struct clients *all, struct client *c) {
-    static uint8_t answer[GEOSTATION_ANSWER_MAX + 1];
     c->lines++;
     if (!is_blank(c)) {
-        size_t n = station_answer(all->station, clock_now(), c->lines, c->line, c->line_length,
-                                  answer);
-        answer[n] = '\n';
-        if (!c->deaf) {
-            (void)enqueue(c, answer, n + 1, sizeof c->queue);
-        }
+        struct held *h = held_take(&all->held, c);
+        station_answer(all->station, clock_now(), c->lines, c->line, c->line_length, h);
+        held_flush(c);
     }
     c->line_length = 0;
 }
 
+/* Is there space for the answer to the line that ends at the next octet, if one does? */
+static bool has_space(const struct clients *all, const struct client *c) {
+    return client_waiting(c) <= EVENTS_ROOM
+        && (c->chunk[c->next] != '\n' || held_has_place(&all->held, c));
+}
+
 /* Handles the input line by line, as long as there is space for an answer. */
 void client_take_lines(struct clients *all, struct client *c) {
-    while (c->next < c->got && client_waiting(c) <= EVENTS_ROOM) {
+    held_flush(c);
+    while (c->next < c->got && has_space(all, c)) {
         uint8_t octet = c->chunk[c->next++];
         if (octet == '\n') {
             end_line(all, c);
@@ -102,16 +111,14 @@ void client_read(struct clients *all, struct client *c) {
     if (n < 0 && (errno == EAGAIN || errno == EINTR)) {
         return;
     }
-    if (n <= 0) {
-        if (c->line_length != 0) {
-            end_line(all, c); /* the last line needs no line feed */
-        }
-        c->in = -1;
-        return;
-    }
-    c->active_at = clock_now();
     c->next = 0;
-    c->got = (size_t)n;
+    c->got = n > 0 ? (size_t)n : 1;
+    if (n > 0) {
+        c->active_at = clock_now();
+    } else {
+        c->in = -1;
+        c->chunk[0] = '\n'; /* the last line needs no line feed */
+    }
     client_take_lines(all, c);
 }
 
@@ -144,5 +151,5 @@ int client_write(struct client *c) {
 }
 
 bool client_is_done(const struct client *c) {
-    return c->in < 0 && c->next == c->got && (c->deaf || c->begin == c->end);
+    return c->in < 0 && c->next == c->got && c->held_count == 0 && (c->deaf || c->begin == c->end);
 }

@@ -15,7 +15,8 @@ void clients_tell(struct clients *c, const struct text *t, uint64_t now) {
     }
 }
 
-/* The first line has the station's address. A second one follows if the link is down. */
+/* The first line has the station's address. Others follow if the link or the security entity is not
+ * there. */
 static bool add(struct clients *c, size_t k, int in, int out) {
     struct text t;
     uint64_t now = clock_now();
@@ -30,6 +31,10 @@ static bool add(struct clients *c, size_t k, int in, int out) {
         event_link(&t, now, false);
         client_tell(c, new, &t, now);
     }
+    if (c->station->security != NULL && !security_is_up(c->station->security)) {
+        event_security(&t, now, false);
+        client_tell(c, new, &t, now);
+    }
     return true;
 }
 
@@ -38,6 +43,7 @@ static int open_spare(void) { return open("/dev/null", O_RDONLY | O_CLOEXEC); }
 void clients_start(struct clients *c, const struct options *o) {
     c->path = o->listen;
     c->timeout = o->client_timeout;
+    held_start(&c->held, o->security != NULL);
     c->listening = c->path != NULL ? listen_at("listen", c->path, CLIENTS) : -1;
     c->spare = open_spare();
     if (!add(c, 0, STDIN_FILENO, STDOUT_FILENO)) {
@@ -49,6 +55,7 @@ static void drop(struct clients *c, size_t k) {
     if (k != 0) {
         close(c->all[k]->out);
     }
+    held_forget(c->all[k]);
     free(c->all[k]);
     c->all[k] = NULL;
 }
@@ -194,9 +201,10 @@ void clients_turn(struct clients *c, const struct pollfd *on) {
     }
 }
 
-static bool any_writes(const struct clients *c) {
+static bool any_waits(const struct clients *c) {
     for (size_t k = 0; k < CLIENTS; k++) {
-        if (c->all[k] != NULL && client_is_writing(c->all[k])) {
+        const struct client *one = c->all[k];
+        if (one != NULL && (client_is_writing(one) || one->held_count != 0)) {
             return true;
         }
     }
@@ -205,13 +213,19 @@ static bool any_writes(const struct clients *c) {
 
 /* Handles requests that came before the end and writes their answers, for half a second at most. */
 void clients_drain(struct clients *c) {
-    struct pollfd on[1 + 2 * CLIENTS];
+    struct pollfd on[2 + 2 * CLIENTS];
+    struct pollfd *entity = &on[1 + 2 * CLIENTS];
+    struct security *security = c->station->security;
     uint64_t start = clock_now();
     for (uint64_t now = start; now < start + DRAIN; now = clock_now()) {
         clients_poll(c, on, now);
-        int ready = poll(on, 1 + 2 * CLIENTS, 10);
-        if (ready <= 0 && !any_writes(c)) {
+        *entity = (struct pollfd){ security_fd(security), POLLIN, 0 };
+        int ready = poll(on, 2 + 2 * CLIENTS, 10);
+        if (ready <= 0 && !any_waits(c)) {
             return;
+        }
+        if (security != NULL) {
+            security_turn(security, entity->revents != 0);
         }
         clients_turn(c, on);
     }
@@ -221,6 +235,7 @@ void clients_end(struct clients *c) {
     for (size_t k = 0; k < CLIENTS; k++) {
         free(c->all[k]);
     }
+    free(c->held.all);
     if (c->path != NULL) {
         unlink(c->path);
     }

@@ -4,6 +4,18 @@
 #include <stdarg.h>
 #include <stdio.h>
 
+/* The counts of signed packets, each after a comma. */
+static size_t print_security(const struct security_counts *c, char *out, size_t room) {
+    int n = snprintf(out, room,
+                     ",\"verified\":%" PRIu64 ",\"rejected\":%" PRIu64 ",\"unanswered\":%" PRIu64
+                     ",\"overrun\":%" PRIu64 ",\"dropped_early\":%" PRIu64
+                     ",\"unsecured\":%" PRIu64 ",\"signed\":%" PRIu64 ",\"unsigned\":%" PRIu64
+                     ",\"strays\":%" PRIu64,
+                     c->verified, c->rejected, c->unanswered, c->overrun, c->dropped_early,
+                     c->unsecured, c->signed_packets, c->unsigned_packets, c->strays);
+    return n > 0 && (size_t)n < room ? (size_t)n : 0;
+}
+
 /* What follows the last key of an answer: a comma, the key `link`, and the end of the answer. */
 size_t counts_print_link(const struct station *s, char *out, size_t room) {
     struct link *l = s->link;
@@ -15,11 +27,17 @@ size_t counts_print_link(const struct station *s, char *out, size_t room) {
                      ",\"dropped\":%" PRIu64 ",\"kernel_dropped\":%" PRIu64
                      ",\"forward_dropped\":%" PRIu64 ",\"suppressed\":%" PRIu64
                      ",\"repeated\":%" PRIu64 ",\"over_rate\":%" PRIu64
-                     ",\"events_lost\":%" PRIu64 "}}",
+                     ",\"events_lost\":%" PRIu64,
                      l->frames, l->padded, l->tagged, l->dropped, link_kernel_dropped(l),
                      s->forwards->dropped, station.suppressed, station.repeated, own.over_rate,
                      s->clients->events_lost);
-    return n > 0 && (size_t)n < room ? (size_t)n : 0;
+    size_t length = n > 0 && (size_t)n < room - 3 ? (size_t)n : 0;
+    if (s->security != NULL) {
+        length += print_security(&s->security->counts, out + length, room - 3 - length);
+    }
+    out[length++] = '}';
+    out[length++] = '}';
+    return length;
 }
 
 struct page {
@@ -108,6 +126,24 @@ static void put_link(struct page *p, const struct station *s) {
     gauge(p, "link_up", "Whether the link is up", l->up);
 }
 
+static void put_security(struct page *p, const struct security *x) {
+    const struct security_counts *c = &x->counts;
+    const struct labelled frames[] = {
+        { "verified", c->verified },           { "rejected", c->rejected },
+        { "unanswered", c->unanswered },       { "overrun", c->overrun },
+        { "dropped_early", c->dropped_early }, { "unsecured", c->unsecured },
+    };
+    const struct labelled packets[] = {
+        { "signed", c->signed_packets },
+        { "unsigned", c->unsigned_packets },
+    };
+    labelled(p, "security_frames_total", "outcome", "Frames before they reached the station",
+             frames, 6);
+    labelled(p, "security_packets_total", "outcome", "Packets of its own", packets, 2);
+    counter(p, "security_strays_total", "Answers of the entity to no open request", c->strays);
+    gauge(p, "security_up", "Whether there is a security entity", security_is_up(x));
+}
+
 static void put_clients(struct page *p, const struct clients *c) {
     counter(p, "events_lost_total", "Events that did not fit into a client's queue",
             c->events_lost);
@@ -133,6 +169,9 @@ size_t counts_print_metrics(const struct station *s, uint64_t now, char *out, si
     geostation_counts(s->own, &counts);
     counter(&p, "over_rate_total", "Own packets that were over their rate", counts.over_rate);
     put_link(&p, s);
+    if (s->security != NULL) {
+        put_security(&p, s->security);
+    }
     put_clients(&p, s->clients);
     put_position(&p, s->place, now);
     return p.length;

@@ -52,15 +52,30 @@ void event_closed(struct text *t, uint64_t now) {
     put(t, "\"reason\":\"idle while others wait\"}\n");
 }
 
+void event_security(struct text *t, uint64_t now, bool up) {
+    begin(t, now, "security");
+    put(t, "\"up\":%s}\n", up ? "true" : "false");
+}
+
+/* What the security entity says about a message. */
+static void put_verified(struct text *t, const struct answer *a) {
+    if (a->has_psid) {
+        put(t, ",\"psid\":%" PRIu64, a->psid);
+    }
+    if (a->has_generated) {
+        put(t, ",\"generated\":%" PRIu64, a->generated);
+    }
+}
+
 void event_delivered(struct text *t, uint64_t at, const struct geostation_reception *r,
-                     const uint8_t *payload) {
-    static const char digits[] = "0123456789abcdef";
+                     const uint8_t *payload, const struct answer *verified) {
     begin(t, at, "delivered");
     put(t, "\"source\":\"%016" PRIx64 "\",\"port\":%u,\"info\":%u,\"tc\":%u,\"payload\":\"",
         r->source, r->port, r->info, r->traffic_class);
-    for (size_t k = 0; k < r->payload_length; k++) {
-        t->octets[t->length++] = digits[payload[k] >> 4];
-        t->octets[t->length++] = digits[payload[k] & 15];
+    t->length += hex_write(t->octets + t->length, payload, r->payload_length);
+    put(t, "\"");
+    if (verified != NULL) {
+        put_verified(t, verified);
     }
-    put(t, "\"}\n");
+    put(t, "}\n");
 }

@@ -6,7 +6,8 @@
 enum { DEEPEST = 16 };
 
 static void skip_blanks(struct json *j) {
-    while (j->at < j->end && (*j->at == ' ' || *j->at == '\t' || *j->at == '\r')) {
+    while (j->at < j->end
+           && (*j->at == ' ' || *j->at == '\t' || *j->at == '\r' || *j->at == '\n')) {
         j->at++;
     }
 }

@@ -8,7 +8,10 @@
 #include <time.h>
 #include <unistd.h>
 
-enum { SIGNALS, LINK, WATCH, GPS, METRICS, FIRST_CLIENT, ALL = FIRST_CLIENT + 1 + 2 * CLIENTS };
+enum {
+    SIGNALS, LINK, WATCH, GPS, ENTITY, METRICS, FIRST_CLIENT,
+    ALL = FIRST_CLIENT + 1 + 2 * CLIENTS
+};
 /* A turn handles the frames of whole batches (link.c). */
 enum { FRAMES_A_TURN = 64, LONGEST_WAIT = 60000 /* ms */ };
 
@@ -106,9 +109,10 @@ static uint64_t least(uint64_t a, uint64_t b) { return a < b ? a : b; }
 
 /* The time of the next thing to do, in ms. */
 static uint64_t due_of(const struct program *p, uint64_t now) {
-    uint64_t due = place_is_usable(&p->place) ? p->station.beacon_at : UINT64_MAX;
+    uint64_t due = station_may_send(&p->station) ? p->station.beacon_at : UINT64_MAX;
     due = least(due, p->gpsd.fd < 0 ? p->gpsd.try_at : UINT64_MAX);
     due = least(due, place_ages_at(&p->place));
+    due = least(due, p->station.security != NULL ? security_due(&p->security) : UINT64_MAX);
     due = least(due, clients_due(&p->clients, now));
     due = least(due, p->metrics.write_at);
     return least(due, notify_due());
@@ -133,6 +137,7 @@ static void wait_for(struct program *p, int signals, struct pollfd *on) {
     on[LINK] = (struct pollfd){ p->link.fd, POLLIN, 0 };
     on[WATCH] = (struct pollfd){ p->link.watch, POLLIN, 0 };
     on[GPS] = (struct pollfd){ p->gpsd.fd, p->gpsd.connecting ? POLLOUT : POLLIN, 0 };
+    on[ENTITY] = (struct pollfd){ security_fd(p->station.security), POLLIN, 0 };
     on[METRICS] = (struct pollfd){ p->metrics.listening, POLLIN, 0 };
     clients_poll(&p->clients, on + FIRST_CLIENT, clock_now());
     if (ppoll(on, ALL, &wait, NULL) < 0) {
@@ -154,6 +159,9 @@ static void turn(struct program *p, const struct pollfd *on) {
         read_frames(&p->station);
     }
     follow_gpsd(p, on[GPS].revents != 0);
+    if (p->station.security != NULL) {
+        security_turn(&p->security, on[ENTITY].revents != 0);
+    }
     station_beacon(&p->station, clock_now());
     clients_turn(&p->clients, on + FIRST_CLIENT);
     forwards_send(&p->forwards, clock_micros());

@@ -53,6 +53,10 @@ static void start(struct program *p) {
     p->station.place = &p->place;
     p->station.clients = &p->clients;
     station_open(&p->station, &p->options, clock_now());
+    if (p->options.security != NULL) {
+        p->station.security = &p->security;
+        security_start(&p->security, &p->station, &p->options);
+    }
     gpsd_start(&p->gpsd, &p->options);
     p->clients.station = &p->station;
     clients_start(&p->clients, &p->options);
@@ -80,6 +84,7 @@ int main(int argc, char **argv) {
     station_print_counts(&p->station, clock_now());
     clients_end(&p->clients);
     metrics_end(&p->metrics);
+    security_end(&p->security);
     station_close(&p->station);
     if (p->clients.output_fault != 0 && p->clients.listening < 0) {
         fail(FAILED, "standard output: %s", strerror(p->clients.output_fault));

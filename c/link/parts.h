@@ -3,6 +3,7 @@
 #define GEOSTATION_LINK_PARTS_H
 
 #include "geostation.h"
+#include "security.h"
 #include <netinet/in.h>
 #include <poll.h>
 #include <stdbool.h>
@@ -16,11 +17,16 @@ enum {
     PEERS = 16,
     PORTS = 64,
     CLIENTS = 17,             /* the first one is standard input and output */
-    FRAME_ROOM = 2048,        /* longer than any frame, so a frame that was cut is not valid */
+    FRAME_ROOM = 2560,        /* longer than any frame, so a frame that was cut is not valid */
     EVENTS_ROOM = 128 * 1024, /* no event is queued after more bytes, and no request is read */
     CONFIG_ROOM = 8192,       /* longest configuration file, in bytes */
     FORWARDS = 256,           /* forwarded frames that may wait at a time */
     OPEN_FILES = 64,          /* descriptors that the program needs */
+    HELD_EACH = 16,           /* answers of one client that may wait for a signature */
+    /* One for each client, and one for each packet of a client that is gone: others can't take
+     * these. */
+    HELD_RESERVE = CLIENTS + SIGNS + ASKED,
+    HELD = HELD_RESERVE + 48, /* answers of all clients that may wait */
 };
 
 /* fail.c: messages on standard error. */
@@ -43,8 +49,8 @@ struct address {
     socklen_t length;
 };
 struct options {
-    const char *interface, *listen, *metrics, *udp, *gpsd, *to[PEERS];
-    bool placed, addressed, typed, stationary, wait_interface, check;
+    const char *interface, *listen, *metrics, *udp, *gpsd, *to[PEERS], *security, *security_user;
+    bool placed, addressed, typed, stationary, wait_interface, check, timed_security;
     struct address local, peers[PEERS], gpsd_at; /* filled by resolve_addresses */
     size_t peer_count, port_count;
     uint64_t address, station_type;
@@ -54,7 +60,7 @@ struct options {
     uint32_t forward_rate, forward_burst; /* limits: frames per second, frames at once; 0: none */
     uint32_t source_rate, source_burst, own_rate, own_burst;
     uint16_t hop_cap, deliver_once;       /* 0: none */
-    uint32_t client_timeout, gps_timeout; /* milliseconds */
+    uint32_t client_timeout, gps_timeout, security_timeout; /* milliseconds */
     char config[CONFIG_ROOM];             /* the text of the file, to which the pointers lead */
 };
 struct setting { /* an option, and where it is written */
@@ -131,7 +137,7 @@ struct forwards {
     uint64_t dropped; /* frames for which there was no free place */
     uint16_t order[FORWARDS], lengths[FORWARDS]; /* the first `count` places of order are used */
     uint64_t due[FORWARDS];
-    uint8_t frames[FORWARDS][GEOSTATION_FRAME_MAX];
+    uint8_t frames[FORWARDS][GEOSTATION_SECURED_FRAME_MAX];
 };
 void forwards_start(struct forwards *w, struct link *l, uint32_t spread);
 void forwards_put(struct forwards *w, const uint8_t *frame, size_t length);
@@ -174,6 +180,10 @@ bool json_open(struct json *j, const char *text, size_t length);
 enum json_step json_next(struct json *j, struct json_member *m);
 bool json_is_key(const struct json_member *m, const char *name);
 
+/* hex.c: octets as hexadecimal digits. */
+size_t hex_write(char *out, const uint8_t *octets, size_t n); /* returns the number of digits */
+bool hex_read(const char *text, size_t length, uint8_t *out, size_t room, size_t *n);
+
 /* fix.c: a report of gpsd. A number that it lacks is NAN. */
 struct fix {
     double mode, latitude, longitude, speed, track, eph, epx, epy;
@@ -207,8 +217,9 @@ void event_mac(struct text *t, uint64_t now, const uint8_t mac[6]);
 void event_fix(struct text *t, uint64_t now, enum fix_state state);
 void event_lost(struct text *t, uint64_t now, uint64_t count);
 void event_closed(struct text *t, uint64_t now);
+void event_security(struct text *t, uint64_t now, bool up);
 void event_delivered(struct text *t, uint64_t at, const struct geostation_reception *r,
-                     const uint8_t *payload);
+                     const uint8_t *payload, const struct answer *verified); /* NULL: unsecured */
 
 /* station.c: the proved station. */
 struct clients;
@@ -224,19 +235,41 @@ struct station {
     struct forwards *forwards;
     struct place *place;
     struct clients *clients;
-    uint8_t frame[GEOSTATION_FRAME_MAX]; /* what a call writes */
+    struct security *security; /* NULL: packets are unsecured */
+    uint8_t frame[GEOSTATION_SECURED_FRAME_MAX]; /* what a call writes */
 };
 void station_open(struct station *s, const struct options *o, uint64_t now);
+bool station_may_send(const struct station *s);
 void station_hear(struct station *s, const struct received *r);
+void station_take_verified(struct station *s, const uint8_t *frame, size_t length,
+                           const struct answer *a);
 void station_beacon(struct station *s, uint64_t now);
 void station_plan_beacon(struct station *s);
 void station_change_ports(struct station *s, const struct options *old, const struct options *new);
 void station_close(struct station *s);
 
 /* answers.c: requests of applications. */
-size_t station_answer(struct station *s, uint64_t now, uint64_t number, const uint8_t *line,
-                      size_t n, uint8_t answer[GEOSTATION_ANSWER_MAX]);
+void station_answer(struct station *s, uint64_t now, uint64_t number, const uint8_t *line, size_t n,
+                    struct held *h);
+void station_send_signed(struct station *s, const uint8_t *frame, size_t length, struct held *h);
 void station_print_counts(struct station *s, uint64_t now);
+
+/* held.c: answers to applications. One that waits for a signature holds back those after it. */
+struct held {
+    struct client *client; /* NULL: it is gone */
+    bool used, waits;
+    size_t length;
+    uint8_t answer[GEOSTATION_ANSWER_MAX + 1]; /* and a line feed */
+};
+struct held_pool {
+    size_t count;
+    struct held *all;
+};
+void held_start(struct held_pool *p, bool waits); /* waits: an answer may wait for a signature */
+bool held_has_place(const struct held_pool *p, const struct client *c);
+struct held *held_take(struct held_pool *p, struct client *c);
+void held_flush(struct client *c);
+void held_forget(struct client *c);
 
 /* client.c: one application. */
 struct client {
@@ -246,11 +279,14 @@ struct client {
     uint64_t active_at;            /* when it last sent or read something */
     size_t line_length, next, got; /* of `line`; begin and end of the unread part of `chunk` */
     size_t begin, end;             /* of the unsent part of `queue` */
+    size_t held_count;
+    struct held *held[HELD_EACH];  /* answers that aren't in the queue yet, in order */
     uint8_t chunk[4096];
     uint8_t line[GEOSTATION_LINE_MAX + 1];
     uint8_t queue[EVENTS_ROOM + GEOSTATION_ANSWER_MAX + 1];
 };
 size_t client_waiting(const struct client *c);
+void client_put_answer(struct client *c, const uint8_t *answer, size_t n);
 struct client *client_new(int in, int out, uint64_t now); /* NULL: out of memory */
 void client_tell(struct clients *all, struct client *c, const struct text *t, uint64_t now);
 bool client_is_done(const struct client *c); /* its input ended, and all answers are written */
@@ -270,6 +306,7 @@ struct clients {
     uint64_t events_lost, closed_idle, turned_away;
     int output_fault; /* the errno of standard output, or 0 */
     struct station *station;
+    struct held_pool held;
 };
 void clients_start(struct clients *c, const struct options *o);
 void clients_tell(struct clients *c, const struct text *t, uint64_t now);
@@ -317,6 +354,7 @@ struct program {
     struct gpsd gpsd;
     struct clients clients;
     struct station station;
+    struct security security;
     struct metrics metrics;
 };
 void loop(struct program *p);

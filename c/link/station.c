@@ -101,40 +101,80 @@ static void count_padded(struct station *s, const struct received *r) {
     }
 }
 
-/* The station's times never go back. So a frame that waited is processed at the time of the last
- * call, but its event has the time at which the kernel received it. While the position is lost, the
- * station receives but forwards nothing. */
-void station_hear(struct station *s, const struct received *r) {
-    struct geostation_reception got;
-    if (!s->place->known) {
-        return;
+/* While the position is lost, the station receives but forwards nothing. */
+static void forward(struct station *s, size_t length) {
+    if (length != 0 && place_is_usable(s->place)) {
+        forwards_put(s->forwards, s->frame, length);
+    } else {
+        s->link->dropped += length != 0;
     }
+}
+
+/* The station's times never go back. So a frame that waited is processed at the time of the last
+ * call, but its event has the time at which the kernel received it. */
+static void take_unsecured(struct station *s, const struct received *r) {
+    struct geostation_reception got;
     s->last = r->at > s->last ? r->at : s->last;
     (void)geostation_receive(s->handle, s->last, r->octets, r->length, &got, s->frame,
                              sizeof s->frame);
-    if (got.relay_length != 0 && place_is_usable(s->place)) {
-        forwards_put(s->forwards, s->frame, got.relay_length);
-    } else {
-        s->link->dropped += got.relay_length != 0;
-    }
+    forward(s, got.relay_length);
     count_padded(s, r);
     if (got.delivered) {
         struct text t;
-        event_delivered(&t, r->at, &got, r->octets + got.payload_start);
+        event_delivered(&t, r->at, &got, r->octets + got.payload_start, NULL);
         clients_tell(s->clients, &t, s->last);
+    }
+}
+
+/* A frame whose message was verified. Its time is now. */
+void station_take_verified(struct station *s, const uint8_t *frame, size_t length,
+                           const struct answer *a) {
+    struct geostation_reception got;
+    s->last = clock_now();
+    (void)geostation_receive_verified(s->handle, s->last, frame, length, a->octets, a->length, &got,
+                                      s->frame, sizeof s->frame);
+    forward(s, got.relay_length);
+    if (got.delivered) {
+        struct text t;
+        event_delivered(&t, s->last, &got, a->octets + got.payload_start, a);
+        clients_tell(s->clients, &t, s->last);
+    }
+}
+
+void station_hear(struct station *s, const struct received *r) {
+    if (!s->place->known) {
+        return;
+    }
+    if (s->security != NULL) {
+        security_hear(s->security, r);
+    } else {
+        take_unsecured(s, r);
+    }
+}
+
+/* With security, nothing is sent without the entity. */
+bool station_may_send(const struct station *s) {
+    return place_is_usable(s->place) && (s->security == NULL || security_is_up(s->security));
+}
+
+static void send_beacon(struct station *s, size_t n) {
+    if (s->security != NULL) {
+        (void)security_sign(s->security, s->frame, n, NULL);
+    } else {
+        (void)link_send(s->link, s->frame, n);
     }
 }
 
 void station_beacon(struct station *s, uint64_t now) {
     size_t n = 0;
-    if (!place_is_usable(s->place) || now < s->beacon_at) {
+    if (!station_may_send(s) || now < s->beacon_at) {
         return;
     }
     s->last = now;
     place_refresh(s->place, s->handle, now);
     (void)geostation_tick(s->handle, now, s->jitter, s->frame, sizeof s->frame, &n);
     if (n != 0) {
-        (void)link_send(s->link, s->frame, n);
+        send_beacon(s, n);
         s->jitter = draw_jitter();
     }
     station_plan_beacon(s);

@@ -15,8 +15,8 @@ from decimal import Decimal
 BEACON, SHB = 0x10, 0x50
 KINDS = {0x3: "gac", 0x4: "gbc"}
 SHAPES = ["circle", "rectangle", "ellipse"]
-BASIC_AND_COMMON, BTP_HEADER = 12, 4
-EXTENDED = {"geonw.beacon": 24, "geonw.tsb": 28, "geonw.gac": 44, "geonw.gbc": 44}
+BTP_HEADER = 4
+EXTENDED = ["geonw.beacon", "geonw.tsb", "geonw.gac", "geonw.gbc"]
 
 
 def octets(text: str) -> str:
@@ -68,9 +68,8 @@ def values_of(layers: dict) -> dict:
             "angle": int(extended["geonw.gxc.angle"]),
         }
     if header_type != BEACON:
-        packet = layers["gnw_raw"][1]
-        start = packet + BASIC_AND_COMMON + EXTENDED[name] + BTP_HEADER
-        end = start - BTP_HEADER + int(common["geonw.ch.plength"])
+        header = layers["btpb_raw"][1]
+        start, end = header + BTP_HEADER, header + int(common["geonw.ch.plength"])
         values |= {
             "port": int(layers["btpb"]["btpb.dstport"]),
             "info": int(layers["btpb"]["btpb.dstportinf"], 16),
@@ -79,5 +78,6 @@ def values_of(layers: dict) -> dict:
     return values
 
 
-for packet in json.load(sys.stdin):
-    print(json.dumps(values_of(packet["_source"]["layers"]), separators=(",", ":")))
+if __name__ == "__main__":
+    for packet in json.load(sys.stdin):
+        print(json.dumps(values_of(packet["_source"]["layers"]), separators=(",", ":")))

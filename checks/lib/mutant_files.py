@@ -7,8 +7,8 @@
     + new text
 
 A mutant is a name, the file that it changes, the function whose contract has to refuse it, and one
-pair of texts or more, one line each. It changes the body of that function only. The old text occurs
-once in the file, or is the whole of one line.
+pair of texts or more, one line each. The old text occurs once in the body of that function, or is
+the whole of one line of it.
 """
 
 import re
@@ -77,22 +77,21 @@ def place(crate, edit):
     if not source.exists():
         raise ValueError(f"there is no {edit.path}")
     lines = source.read_text(encoding="utf-8").split("\n")
-    bodies, changed, inside = list(functions(edit.path, lines)), {}, set()
+    whole = "::".join((*module_of(edit.path), edit.function))
+    bodies, changed = list(functions(edit.path, lines)), {}
     for old, new in edit.pairs:
-        found = [at for at, line in enumerate(lines) if old in line]
-        found = [at for at in found if lines[at] == old] if len(found) > 1 else found
-        if len(found) != 1 or lines[found[0]].count(old) != 1 or old == new or found[0] in changed:
-            raise ValueError(f"its text is in {edit.path} {len(found)} times: {old}")
-        at = found[0]
-        changed[at] = lines[at].replace(old, new)
         # (a text may be put behind the brace that opens the body)
         opens = old.endswith("{") and new.startswith(old)
-        # (of functions in one another the inner one comes last)
-        around = [it for it, begin, end in bodies if begin + (not opens) <= at < end]
-        inside.add(around[-1] if around else "")
-    whole = "::".join((*module_of(edit.path), edit.function))
-    if inside != {whole}:
-        raise ValueError(f"it isn't in the body of {edit.function}")
+        found = []
+        for at, line in enumerate(lines):
+            # (of functions in one another the inner one comes last)
+            around = [it for it, begin, end in bodies if begin + (not opens) <= at < end]
+            if old in line and around and around[-1] == whole:
+                found.append(at)
+        found = [at for at in found if lines[at] == old] if len(found) > 1 else found
+        if len(found) != 1 or lines[found[0]].count(old) != 1 or old == new or found[0] in changed:
+            raise ValueError(f"its text is in {edit.function} {len(found)} times: {old}")
+        changed[found[0]] = lines[found[0]].replace(old, new)
     return Mutant(edit.name, edit.path, changed, whole)
 
 

@@ -46,8 +46,8 @@ STATUSES = {code: status for status, code in CODES.items()}
 
 # The messages of the library, for a machine without it.
 TEXTS = {
-    Status.MOMENT_EARLIER: "the moment is before the last one",
-    Status.MOMENT_TOO_LATE: "the moment is over 2^62 ms",
+    Status.MOMENT_EARLIER: "the time is earlier than that of the last call",
+    Status.MOMENT_TOO_LATE: "the time is over 2^62 ms",
     Status.BAD_FRAME: "not a valid frame",
     Status.TABLE_FULL: "the location table is full",
     Status.NO_MEMORY: "out of memory",
@@ -68,17 +68,17 @@ FAULT_TEXTS = {
     4: "octets after the packet",
 }
 PACKET_TEXTS = {
-    1: "the octets end in a field or before it",
+    1: "a truncated packet",
     2: "a version other than 1",
     3: "no Common Header after the Basic Header",
     4: "a reserved bit that is set",
     5: "no hop left",
-    6: "neither nothing nor BTP-B after the headers",
-    7: "a header type that is not read",
+    6: "a next header other than none and BTP-B",
+    7: "an unsupported header type",
     8: "a sub-type that the header type does not have",
     9: "more hops left than the maximum",
     10: "a payload length out of range",
-    11: "a group address or a place out of range",
+    11: "a group address, or a position out of range",
     12: "an area out of range",
 }
 

@@ -5,6 +5,7 @@ import copy
 import ctypes
 import ctypes.util
 import dataclasses
+import json
 import os
 import pickle
 import shutil
@@ -18,6 +19,7 @@ import unittest
 from pathlib import Path
 
 from geostation import (
+    LAST_MOMENT,
     NO_LIMITS,
     Area,
     BadArgument,
@@ -355,6 +357,53 @@ class TestLimits(unittest.TestCase):
         counts = b.counts()
         self.assertEqual((3, 1, 0), (counts.suppressed, counts.repeated, counts.over_rate))
         self.assertEqual((4, 2), (counts.delivered, counts.relayed))
+
+
+class Messages(unittest.TestCase):
+    """A call that fails has the message that the answer to the same request has as its reason."""
+
+    def setUp(self):
+        self.a = Station(A, latitude=0, longitude=0, capacity=1)
+        self.addCleanup(self.a.free)
+
+    def check(self, status, now, request, call):
+        """Compares the reason in the answer to a request with the exception of the same call."""
+        answer, _ = self.a.handle_json(now, json.dumps(request).encode())
+        with self.assertRaises(Refused) as failed:
+            call()
+        self.assertEqual(status, failed.exception.status)
+        self.assertEqual(json.loads(answer)["reason"], str(failed.exception))
+
+    def test_times_and_ports(self):
+        a, late = self.a, LAST_MOMENT + 1
+        for port in range(64):
+            a.open_port(5, port)
+        known, new = {"do": "close", "port": 1}, {"do": "open", "port": 99}
+        closed = {"do": "close", "port": 99}
+        self.check(Status.MOMENT_EARLIER, 4, known, lambda: a.close_port(4, 1))
+        self.check(Status.MOMENT_TOO_LATE, late, known, lambda: a.close_port(late, 1))
+        self.check(Status.PORT_ALREADY_OPEN, 5, {**known, "do": "open"}, lambda: a.open_port(5, 1))
+        self.check(Status.PORTS_FULL, 5, new, lambda: a.open_port(5, 99))
+        self.check(Status.PORT_NOT_OPEN, 5, closed, lambda: a.close_port(5, 99))
+
+    def test_packets(self):
+        a = self.a
+        one, other = (
+            Station(B + k, latitude=0, longitude=0).send_shb(0, port=1, payload=b"") for k in (0, 1)
+        )
+        a.receive(5, one)
+        shb = {"do": "shb", "port": 1, "info": 0, "tc": 0, "payload": "00" * 1395}
+        area = {"shape": "circle", "alat": 449, "alon": 0, "a": 200, "b": 0, "angle": 0}
+        gbc = {**shb, **area, "do": "gbc", "lt": 26, "hops": 0, "payload": ""}
+        far = {"port": 1, "area": CIRCLE, "max_hops": 0, "payload": b""}
+        full = {"do": "receive", "frame": other.hex()}
+        jitter = {"do": "tick", "jitter": 751}
+        self.check(Status.TABLE_FULL, 5, full, lambda: a.receive(5, other))
+        self.check(
+            Status.PAYLOAD_TOO_LONG, 5, shb, lambda: a.send_shb(5, port=1, payload=bytes(1395))
+        )
+        self.check(Status.HOP_LIMIT_ZERO, 5, gbc, lambda: a.send_gbc(5, **far))
+        self.check(Status.JITTER_RANGE, 5, jitter, lambda: a.tick(5, jitter=751))
 
 
 class Library(unittest.TestCase):

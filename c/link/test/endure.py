@@ -18,7 +18,7 @@ from pathlib import Path
 
 import frames
 from frames import GBC
-from net import GEONETWORKING, Net, inside, ip
+from net import GEONETWORKING, Net, inside
 
 PROGRAM, FLOOD, MINUTES = sys.argv[1], sys.argv[2], float(sys.argv[3])
 SOURCE = 0x1400020000000900
@@ -61,16 +61,6 @@ def floods(a_address):
     yield "LLC, another EtherType", HIGH, "-", [llc, other]
     yield "A's address, forged", HIGH, "-", [forged]
     yield "all mixed", RADIO, "f", [beacon, shb, gbc, far, long, forged, tagged(beacon, 5)]
-
-
-def join(net):
-    """One wire for all: A and the attacker are isolated from each other."""
-    ip("-n", net.air, "link", "add", "br0", "type", "bridge")
-    for k in range(3):
-        ip("-n", net.air, "link", "set", f"a{k}", "master", "br0")
-    for k in (0, 2):
-        ip("-n", net.air, "link", "set", f"a{k}", "type", "bridge_slave", "isolated", "on")
-    ip("-n", net.air, "link", "set", "br0", "up")
 
 
 def open_beacons(namespace):
@@ -190,7 +180,7 @@ def run_flood(net, watch, flood, seconds):
 
 def main():
     with Net(PROGRAM, 3) as net:
-        join(net)
+        net.join()  # A and the attacker don't hear each other
         beacons = open_beacons(net.names[2])
         a, b = net.station(0), net.station(1, "--port", 2002)
         kinds = list(floods(int(a.ready["address"], 16)))

@@ -9,6 +9,8 @@
  *     f  one to three octets are random
  *     c  the frame is cut short
  *     r  all after the EtherType is random, and the length is 14 to 1500
+ *     m  all after the Basic Header is random: another message, of a secured frame
+ *     g  the last 32 octets are random: another signature
  *     -  none
  * RATE is in frames per second; 0: as fast as it goes. Prints how many were sent. */
 #define _GNU_SOURCE
@@ -23,7 +25,7 @@
 #include <time.h>
 
 enum { ROOM = 10000, FRAMES = 16, HEADER = 14, MAC = 6, SHORT_SOURCE = 26, LONG_SOURCE = 30,
-       NUMBER = 26 };
+       NUMBER = 26, BASIC_END = 18, SIGNATURE = 32 };
 
 struct frame {
     uint8_t octets[ROOM];
@@ -88,6 +90,11 @@ static void change(struct frame *f, char how, uint32_t count) {
         }
     } else if (how == 'c') {
         f->length = HEADER + draw() % (f->length - HEADER);
+    } else if (how == 'm' || how == 'g') {
+        size_t from = how == 'm' ? BASIC_END : f->length - SIGNATURE;
+        for (size_t k = from; k < f->length; k++) {
+            f->octets[k] = (uint8_t)draw();
+        }
     } else if (how == 'r') {
         f->length = HEADER + draw() % (1500 - HEADER);
         for (size_t k = HEADER; k < f->length; k++) {

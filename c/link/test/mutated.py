@@ -1,4 +1,5 @@
-"""Lines and frames that no one should send: mutated.py PROGRAM, built with the sanitizers.
+"""Lines, frames and answers of a security entity that no one should send: mutated.py PROGRAM, built
+with the sanitizers.
 
 Each line that isn't blank has one answer, and the program ends with status 0.
 """
@@ -8,8 +9,12 @@ import random
 import socket
 import subprocess
 import sys
+import tempfile
+import threading
+import time
 
 import frames
+from entity import Entity, secured
 
 draws = random.Random(5)
 RULES = [
@@ -43,15 +48,19 @@ def mutated_frame():
     return bytes(frame[:draws.randrange(len(frame) + 1)]) if draws.random() < 0.2 else bytes(frame)
 
 
-def run(place):
+def run(place, change=bytes):
+    """Runs it with these options; `change` is made to frames of which enough is there."""
     command = [sys.argv[1], "--udp", "127.0.0.1:47701", "--to", "127.0.0.1:47702", "--address",
                "3c00020000000001", "--port", "2002", *place]
     pipe = subprocess.PIPE
     p = subprocess.Popen(command, stdin=pipe, stdout=pipe, stderr=pipe)
     p.stdout.readline()
     link = socket.socket(socket.AF_INET, socket.SOCK_DGRAM)
-    for _ in range(5000):
-        link.sendto(mutated_frame(), ("127.0.0.1", 47701))
+    for k in range(5000):
+        frame = mutated_frame()
+        if change is secured and k % 8 == 0:
+            time.sleep(0.002)  # so the entity is asked about most of them
+        link.sendto(change(frame) if len(frame) > 18 else frame, ("127.0.0.1", 47701))
     link.sendto(bytes(2048), ("127.0.0.1", 47701))
     lines = SPECIAL + [mutated_line() for _ in range(5000)]
     out, err = p.communicate(b"\n".join(lines), timeout=600)
@@ -63,6 +72,52 @@ def run(place):
     return wanted, frames_read
 
 
+def mutated_answer(request):
+    """A good answer, or one with other octets, other keys, another id, or another length."""
+    key = "message" if request["do"] == "sign" else "plain"
+    octets = request.get("plain") or request["message"][2:]
+    answer = {"id": request["id"], key: ("00" if key == "message" else "") + octets}
+    if draws.random() < 0.2:
+        other = draws.choice(["id", "plain", "message", "error", "psid", "generated"])
+        answer[other] = draws.choice([1, 2**64, -1, 0.5, "00", "0", "ab" * 2400, None, [], {}])
+    text = bytearray(json.dumps(answer).encode())
+    if draws.random() < 0.3:
+        for _ in range(draws.randrange(4)):
+            text[draws.randrange(len(text))] = draws.choice(b'{}[]":,019-a\\ \xff')
+        text = text[:draws.randrange(len(text) + 1)]
+    return bytes(text)
+
+
+def answer_all(entity, count):
+    """The entity: it hangs up now and then, and lets some requests wait for ever."""
+    try:
+        while True:
+            entity.accept()
+            for _ in range(draws.randrange(500, 4000)):
+                datagram = entity.one.recv(65536)
+                if not datagram:
+                    break
+                count[0] += 1
+                for _ in range(draws.choice([0, 1, 1, 1, 1, 1, 1, 2])):
+                    entity.send(mutated_answer(json.loads(datagram)))
+            entity.one.close()
+    except OSError:
+        pass
+
+
+def run_signed():
+    """Secured frames and requests, with an entity that answers anything."""
+    with tempfile.TemporaryDirectory() as room:
+        entity, count = Entity(f"{room}/security"), [0]
+        threading.Thread(target=answer_all, args=(entity, count), daemon=True).start()
+        found = run(("--position", "51.47765,-0.001", "--security", entity.path,
+                     "--security-timeout", "20"), secured)
+        entity.end()
+        return (*found, count[0])
+
+
 total = [run(("--position", "51.47765,-0.001")), run(("--gpsd", "127.0.0.1:1"))]
-lines, read = (sum(column) for column in zip(*total))
-print(f"{lines} lines and {read} frames under the sanitizers")
+*signed, asked = run_signed()
+lines, read = (sum(column) for column in zip(*total, signed))
+assert asked > 200, asked
+print(f"{lines} lines, {read} frames and {asked} questions to an entity under the sanitizers")

@@ -94,6 +94,15 @@ class Net(ExitStack):
             self.callback(s.close)
         return sockets
 
+    def join(self):
+        """One wire for three stations, of which the first and the last don't hear each other."""
+        ip("-n", self.air, "link", "add", "br0", "type", "bridge")
+        for k in range(3):
+            ip("-n", self.air, "link", "set", f"a{k}", "master", "br0")
+        for k in (0, 2):
+            ip("-n", self.air, "link", "set", f"a{k}", "type", "bridge_slave", "isolated", "on")
+        ip("-n", self.air, "link", "set", "br0", "up")
+
     def enter(self, k, *command):
         return ["nsenter", f"--net=/run/netns/{self.names[k]}", *map(str, command)]
 
@@ -134,11 +143,15 @@ class Daemon:
 
     def ask(self, **keys):
         self.put(**keys)
+        return self.answer()
+
+    def answer(self):
+        """The next answer. Events before it are kept."""
         while (line := self.line()) is not None:
             if "event" not in line:
                 return line
             self.events.append(line)
-        raise AssertionError(f"no answer to {keys}: {self.process.poll()}")
+        raise AssertionError(f"no answer: {self.process.poll()}")
 
     def event(self, kind):
         """The next event of a kind; those before it are passed over."""

@@ -18,6 +18,7 @@ import frames
 import test_faults
 import test_fixes
 import test_limits
+import test_security
 import test_service
 from air import Air
 from common import (OTHER, PROGRAM, connect, connect_once_it_listens, has, notes, stamp,
@@ -417,9 +418,12 @@ def test_arguments():
 
 def main():
     tests = {}
-    for module in (sys.modules[__name__], test_fixes, test_faults, test_limits, test_service):
+    for module in (sys.modules[__name__], test_fixes, test_faults, test_limits,
+                   test_security, test_service):
         named = ((k, v) for k, v in vars(module).items() if k.startswith("test_"))
-        tests.update((k, v) for k, v in named if callable(v))
+        found = {k: v for k, v in named if callable(v)}
+        assert not tests.keys() & found.keys(), tests.keys() & found.keys()
+        tests.update(found)
     failed = []
     for name in sys.argv[2:] or tests:
         started = time.monotonic()

@@ -1,7 +1,7 @@
 //! Arguments that are refused once they are read.
 
 use its_frame_text::Explanation;
-use its_keys::{Key, SettingFault, SettingReason, WrongOf};
+use its_keys::{Key, Quoted, SettingFault, SettingReason, WrongValue};
 use its_reporting::{CommandFault, Fault, OutputFormat, Status};
 use std::io::Write;
 use thiserror::Error;
@@ -14,10 +14,10 @@ pub(crate) enum ArgumentFault<'a> {
     NotUtf8,
     /// The one of a station under this key is missing, or has a value that is not taken.
     #[error("error: {0}: {1}")]
-    Key(Key, WrongOf),
+    Key(Key, WrongValue<Quoted<'a>>),
     /// A value of the air is not taken; and why, where codes are explained.
     #[error("geostation: {0}")]
-    Setting(SettingFault<'a>, Option<SettingReason>),
+    Setting(SettingFault<'a>, Option<SettingReason<'a>>),
     /// What ends any command.
     #[error("{0}")]
     Stopped(Fault<'a>),

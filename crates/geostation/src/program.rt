@@ -11,7 +11,7 @@ use crate::subcommand::{Convert, Import, Replay, Show, Subcommand};
 use its_arguments::StationArguments;
 use its_commands::{check_file, convert_file, import_file, show_file};
 use its_events::read_station;
-use its_keys::{KeyFault, SettingFault, WrongOf};
+use its_keys::{Fields, KeyFault, Quoted, SettingFault, WrongOf, WrongValue};
 use its_mesh::mesh_file;
 use its_page::{Viewing, view_file};
 use its_pipe::{Ended, run_station};
@@ -286,7 +286,10 @@ fn serve<I: Read + Drop, W: Write, E: Write>(
 }
 
 /// The station that these arguments describe, with these ports open from its start.
-fn unit_of<'f>(station: &StationArguments<'_>, ports: PortList) -> Result<Unit, ArgumentFault<'f>>
+fn unit_of<'f>(
+    station: &'f StationArguments<'_>,
+    ports: PortList,
+) -> Result<Unit, ArgumentFault<'f>>
     ensures { IfOk result IsUnit }
 {
     let config = config_of(station)?;
@@ -300,12 +303,16 @@ fn unit_of<'f>(station: &StationArguments<'_>, ports: PortList) -> Result<Unit, 
 }
 
 /// The station that these arguments describe. The fault is the first key that describes none.
-fn config_of<'f>(station: &StationArguments<'_>) -> Result<Config, ArgumentFault<'f>>
+fn config_of<'f>(station: &'f StationArguments<'_>) -> Result<Config, ArgumentFault<'f>>
     ensures { IfOk result IsConfig }
 {
     match read_station(station) {
         Ok(config) => Ok(config),
-        Err(KeyFault::Refused(key, wrong)) => { Err(ArgumentFault::Key(key, WrongOf(key, wrong))) }
+        Err(KeyFault::Refused(key, wrong)) => {
+            let wrong = WrongOf(key, wrong);
+            let value = station.text(key.word()).map(Quoted);
+            Err(ArgumentFault::Key(key, WrongValue { wrong, value }))
+        }
         Err(KeyFault::OutOfMemory) => Err(ArgumentFault::Stopped(Fault::OutOfMemory(AllocError))),
     }
 }

@@ -1,6 +1,6 @@
 //! Why a station refuses, as a sentence.
 
-use its_frame_text::FrameReason;
+use its_frame_text::{FrameReason, SecuredReason};
 use its_station::Refused;
 use std::fmt;
 
@@ -12,6 +12,7 @@ impl fmt::Display for RefusedReason {
     fn fmt<W: fmt::Write>(&self, f: &mut fmt::Formatter<W>) -> fmt::Result {
         match self.0 {
             Refused::Frame(fault) => write!(f, "{}", FrameReason(fault)),
+            Refused::Secured(fault) => write!(f, "{}", SecuredReason(fault)),
             refused => write!(f, "{refused}"),
         }
     }

@@ -137,11 +137,12 @@ impl FromStr for MomentText {
 }
 
 /// What an option has to be.
-const MOMENT: &str = "a whole number of milliseconds, or a time of UTC as 2023-11-14T22:13:20.123Z";
+const MOMENT: &str =
+    "a whole number of milliseconds, or a UTC time such as 2023-11-14T22:13:20.123Z";
 
-const COUNT: &str = "a whole number from 1 on";
+const COUNT: &str = "a whole number of at least 1";
 
-const MAC: &str = "12 hexadecimal digits, with a colon or a hyphen between each two or without";
+const MAC: &str = "12 hexadecimal digits, with colons, hyphens or nothing between the pairs";
 
 const PORT: &str = "a whole number in 0..=65535";
 
@@ -222,7 +223,7 @@ fn ports_in<'a>(words: &[&'a str]) -> Result<PortList, BadArgument<'a>>
             return Err(BadArgument::Value("port", word, PORT));
         };
         if ports.add(port).is_err() {
-            let wanted = "one of at most 64 ports, each given once";
+            let wanted = "one of at most 64 different ports";
             return Err(BadArgument::Value("port", word, wanted));
         }
     }
@@ -314,7 +315,7 @@ pub fn fields_of<'a>(matches: &ArgMatches<'a>) -> Result<Option<&'a str>, BadArg
         return Ok(None);
     };
     if names.split(',').any(|name| Field::named(name).is_none()) {
-        let wanted = "a list of keys, which show --help names";
+        let wanted = "a list of the keys that show --help lists";
         return Err(BadArgument::Value("fields", names, wanted));
     }
     Ok(Some(names))

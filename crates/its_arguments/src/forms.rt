@@ -349,8 +349,8 @@ Example:
         ],
         choosing: &[],
         example: "\
-Example, a line with a frame of one byte at 5 ms:
-  echo '5 00' | geostation import - short.cap",
+Example, for a file of lines such as '1000 ffffffffffff0200..':
+  geostation import frames.txt frames.cap",
     },
 ];
 

@@ -72,6 +72,7 @@ never : (e : Refused) → status_of e ≡ pos 0 → ⊥
 never refused.MomentEarlier is = omega (arith, ap (λ (z : ℤ). nat_abs z) is)
 never refused.MomentTooLate is = omega (arith, ap (λ (z : ℤ). nat_abs z) is)
 never (refused.Frame fault) is = omega (arith, ap (λ (z : ℤ). nat_abs z) is)
+never (refused.Secured fault) is = omega (arith, ap (λ (z : ℤ). nat_abs z) is)
 never refused.TableFull is = omega (arith, ap (λ (z : ℤ). nat_abs z) is)
 never refused.NoMemory is = omega (arith, ap (λ (z : ℤ). nat_abs z) is)
 never refused.PayloadTooLong is = omega (arith, ap (λ (z : ℤ). nat_abs z) is)

@@ -17,6 +17,7 @@ station_after Tells (Err refused.MomentEarlier) new step some is = is.1
 station_after Tells (Err refused.MomentTooLate) new step some is = is.1
 station_after Tells (Err refused.JitterRange) new step some is = is.1
 station_after Tells (Err (refused.Frame fault)) new step some is = is.1
+station_after Tells (Err (refused.Secured fault)) new step some is = is.1
 station_after Tells (Err (refused.Port fault)) new step some is = is.1
 station_after Tells (Err refused.PayloadTooLong) new step some is = is.1
 station_after Tells (Err refused.HopLimitZero) new step some is = is.1

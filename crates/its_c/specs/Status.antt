@@ -9,6 +9,7 @@ abbrev pub status_of : Refused → ℤ
 status_of refused.MomentEarlier = pos 1
 status_of refused.MomentTooLate = pos 2
 status_of (refused.Frame fault) = pos 3
+status_of (refused.Secured fault) = pos 3
 status_of refused.TableFull = pos 4
 status_of refused.NoMemory = pos 5
 status_of refused.PayloadTooLong = pos 6

@@ -4,6 +4,8 @@ use Rattle.std.specs.Prelude.{Result, Ok, Err}
 use Rattle.std.specs.declared.alloc.Global.{Global}
 use Rattle.its_faults.specs.declared.frame.FrameFault.{FrameFault}
 use Rattle.its_faults.specs.declared.frame.FrameFault.TheVariants as faults
+use Rattle.its_faults.specs.declared.secured.SecuredFault.{SecuredFault}
+use Rattle.its_faults.specs.declared.secured.SecuredFault.TheVariants as secured
 use Rattle.its_faults.specs.declared.packet.FaultKind.{FaultKind}
 use Rattle.its_faults.specs.declared.packet.FaultKind.TheVariants as kinds
 use Rattle.its_model.specs.Packet.{Transmission, number_in}
@@ -13,6 +15,7 @@ use Rattle.its_model.specs.Station.{Step}
 use Rattle.its_headers.specs.Fields.{kind_of_body}
 use Rattle.its_headers.specs.declared.kind.Kind.{Kind}
 use Rattle.its_headers.specs.declared.kind.Kind.TheVariants as kinds_of
+use Rattle.its_station.specs.Receiving.{VerifiedCall}
 use Rattle.its_station.specs.Counting.{counted_done}
 use Rattle.its_station.specs.declared.counts.Counts.{Counts}
 use Rattle.its_station.specs.declared.outcome.Handed.{Handed}
@@ -129,6 +132,11 @@ reception_in (model.Call.Own call) = nothing_received
 reception_in (model.Call.Receive t) = reception_of t
 reception_in (model.Call.Junk fault) = nothing_received
 
+-- the same of a secured frame that came with its plain part
+abbrev pub verified_reception_in : VerifiedCall → Reception
+verified_reception_in (VerifiedCall.Came v) = reception_of v.frame
+verified_reception_in (VerifiedCall.Faulty fault) = nothing_received
+
 -- the number of a reason
 abbrev pub number_of : Why → ℕ
 number_of why.NotForMe = 1
@@ -183,12 +191,45 @@ faulty fault = record nothing_received {
   fault_at = place_in fault;
 }
 
+-- the same of a secured frame's fault
+abbrev pub secured_layer : SecuredFault → ℕ
+secured_layer secured.Short = 1
+secured_layer secured.EtherType = 2
+secured_layer secured.TooLong = 3
+secured_layer secured.Trailing = 4
+secured_layer (secured.Packet f) = 5
+secured_layer (secured.Inner f) = 6
+
+abbrev pub secured_kind : SecuredFault → ℕ
+secured_kind secured.Short = 0
+secured_kind secured.EtherType = 0
+secured_kind secured.TooLong = 0
+secured_kind secured.Trailing = 0
+secured_kind (secured.Packet f) = number_of_kind f.kind
+secured_kind (secured.Inner f) = number_of_kind f.kind
+
+abbrev pub secured_place : SecuredFault → ℕ
+secured_place secured.Short = 0
+secured_place secured.EtherType = 0
+secured_place secured.TooLong = 0
+secured_place secured.Trailing = 0
+secured_place (secured.Packet f) = f.at
+secured_place (secured.Inner f) = f.at
+
+abbrev pub faulty_secured : SecuredFault → Reception
+faulty_secured fault = record nothing_received {
+  fault = secured_layer fault;
+  fault_kind = secured_kind fault;
+  fault_at = secured_place fault;
+}
+
 -- the reception of a frame that is refused
 abbrev pub refused_reception : Refused → Reception
 refused_reception refused.MomentEarlier = nothing_received
 refused_reception refused.MomentTooLate = nothing_received
 refused_reception refused.JitterRange = nothing_received
 refused_reception (refused.Frame fault) = faulty fault
+refused_reception (refused.Secured fault) = faulty_secured fault
 refused_reception (refused.Port fault) = nothing_received
 refused_reception refused.PayloadTooLong = nothing_received
 refused_reception refused.HopLimitZero = nothing_received

@@ -23,6 +23,7 @@ mod queries;
 mod raw_box;
 mod reading;
 mod receiving;
+mod sealing;
 mod sending;
 mod serving;
 mod station_ptr;

@@ -4,6 +4,7 @@ ghost use Rattle.std.specs.Prelude.{◌≡◌, ◌≢◌, ◌≤◌, ◌<◌, �
 ghost use Rattle.std.specs.Prelude.{OnOk, Some, false};
 ghost use Rattle.its_governor.specs.declared.governor.Governor.{Governor as Limited};
 ghost use Rattle.its_governor.specs.Governing.{governed_step, after_call, frame_in};
+ghost use Rattle.its_governor.specs.Governing.{governed_verified_step, verified_frame};
 ghost use Rattle.its_c.specs.Governed.{HasNoLimits};
 ghost use Rattle.its_linkframe.specs.Frames.{EncodesFrame, transmission_of};
 ghost use Rattle.its_linkframe.specs.Padding.{IsFrameEnd, IsUnpadded};
@@ -13,12 +14,14 @@ ghost use Rattle.its_model.specs.Station as stations;
 ghost use Rattle.its_model.specs.Station.{StationModel, station_step, verdict};
 ghost use Rattle.its_station.specs.Counting.{counted};
 ghost use Rattle.its_station.specs.Receiving.{IsFrameCall, TakesMemory, Tells, DeliversEndOf};
-ghost use Rattle.its_station.specs.Receiving.{SendsAtMost};
+ghost use Rattle.its_station.specs.Receiving.{SendsAtMost, TellsBy, VerifiedCall, IsVerifiedCall};
+ghost use Rattle.its_station.specs.Receiving.{verified_step, sealed_by};
 ghost use Rattle.its_station.specs.State.{RepresentsStation};
 ghost use Rattle.its_station.specs.Steps.{IsStepOf};
 ghost use Rattle.its_c.specs.Open.{HoldsModel};
 ghost use Rattle.its_c.specs.Told.{IsTold, IsHeard, ShowsReceived, nothing_received, reception_in};
-ghost use Rattle.its_c.specs.Told.{reception_of};
+ghost use Rattle.its_c.specs.Told.{reception_of, verified_reception_in};
+ghost use Rattle.its_linkframe.specs.Secured.{Verified, EncodesVerified, seen_on_air};
 
 use crate::counting::count_received;
 use crate::handle::Geostation;
@@ -27,7 +30,11 @@ use crate::reading::kind_number;
 use crate::status::NO_ROOM;
 use crate::told::told_outcome;
 use its_governor::Governor;
-use its_linkframe::{FrameView, LONGEST_FRAME, frame_length, read_frame, without_padding};
+use its_headers::InnerPacketView;
+use its_linkframe::{
+    FrameView, LONGEST_FRAME, LONGEST_SECURED_FRAME, VerifiedFrame, frame_length, read_frame,
+    without_padding,
+};
 use its_loctable::SortedTable;
 use its_station::{Outcome, Refused, Station};
 use std::alloc::Global;
@@ -93,6 +100,105 @@ pub extern "C" fn geostation_receive(
     count_received(&mut s.counts, &said);
     let heard = *reception;
     told_outcome(said, heard, frame, reception, relay)
+}
+
+/// Takes a secured frame that came, and the plain part that a security entity verified of its
+/// message, and writes what became of them, as `geostation_receive` does of the packet that they
+/// are; a payload lies in the plain part. The secured frame in which the packet goes on is written
+/// into `relay`, if the limits let it pass. Refused by `NO_ROOM` for a buffer under 2310 octets, for
+/// its moment (S1, S2), for octets that are no secured frame or with the plain part no packet (S3),
+/// whose fault the reception has, for a table that is full (S4), and for memory (S5).
+#[unsafe(no_mangle)]
+pub extern "C" fn geostation_receive_verified(
+    alloc: Global,
+    s: &mut Geostation,
+    now: u64,
+    frame: &[u8],
+    plain: &[u8],
+    reception: &mut Reception,
+    relay: &mut [u8],
+) -> i32
+    ensures room { length relay.old < 2310 → (result ≡ pos 21) × (s.new ≡ s.old) }
+    ensures step { 2310 ≤ length relay.old → (call : VerifiedCall)
+        × IsVerifiedCall frame.now plain.now call
+        × ((m : StationModel) (g : Limited) → HoldsModel s.old.held.station m →
+        s.old.governor.value ≡ Some g →
+        IsTold (TellsBy (sealed_by call))
+        (ShowsReceived plain.now (verified_reception_in call) reception.new relay.new) counted
+        result s.old s.new (governed_verified_step g now call (verified_step m now call))
+        × (result ≡ pos 0 → s.new.governor.value
+        ≡ Some (after_call g now false (verified_frame call) (verified_step m now call).answer))) }
+    ensures unchanged { result ≢ pos 0 → s.new.held.station ≡ s.old.held.station }
+    ensures governor { result ≢ pos 0 → s.new.governor.value ≡ s.old.governor.value }
+    ensures nothing { result ≢ pos 0 → result ≢ pos 3 → reception.new ≡ nothing_received }
+    ensures memory { result ≡ pos 5 → (v : Verified) × EncodesVerified v frame.now plain.now
+        × ((m : StationModel) → HoldsModel s.old.held.station m →
+        (verdict m now v.frame ≡ stations.Verdict.Accept) × TakesMemory m now v.frame) }
+{
+    *reception = Reception::NOTHING;
+    if relay.len() < LONGEST_SECURED_FRAME {
+        return NO_ROOM;
+    }
+    let mut station = s.held.take(alloc);
+    let mut governor = s.governor.take(alloc);
+    let said = hear_verified(&mut station, &mut governor, now, frame, plain, reception);
+    s.governor.put(governor);
+    s.held.put(station);
+    count_received(&mut s.counts, &said);
+    let heard = *reception;
+    told_outcome(said, heard, plain, reception, relay)
+}
+
+/// Passes the station a secured frame with its plain part, by its governor, and writes what is told
+/// of each packet.
+fn hear_verified<'a>(
+    station: &mut Station<SortedTable>,
+    governor: &mut Governor,
+    now: u64,
+    frame: &[u8],
+    plain: &'a [u8],
+    heard: &mut Reception,
+) -> Result<Outcome<'a>, Refused>
+    requires { heard.old ≡ nothing_received }
+    ensures heard { IsHeard heard.new }
+    ensures step { (call : VerifiedCall) × IsVerifiedCall frame.now plain.now call
+        × (heard.new ≡ verified_reception_in call)
+        × ((m : StationModel) → RepresentsStation station.old m →
+        IsStepOf (TellsBy (sealed_by call)) result station.new
+        (governed_verified_step governor.old now call (verified_step m now call))
+        × OnOk result (governor.new
+        ≡ after_call governor.old now false (verified_frame call)
+        (verified_step m now call).answer)) }
+    ensures memory { result ≡ Err Refused.NoMemory → (v : Verified)
+        × EncodesVerified v frame.now plain.now
+        × ((m : StationModel) → RepresentsStation station.old m →
+        (verdict m now v.frame ≡ stations.Verdict.Accept) × TakesMemory m now v.frame) }
+    ensures unchanged { OnErr result ((governor.new ≡ governor.old)
+        × (station.new ≡ station.old)) }
+    ensures payload { IfOk result (DeliversEndOf plain.now) }
+    ensures short_frame { IfOk result (SendsAtMost 2310) }
+{
+    match VerifiedFrame::read(frame, plain) {
+        Ok(verified) => {
+            *heard = reception_of_packet(verified.packet());
+            governor.receive_verified_frame(station, now, &verified)
+        }
+        Err(fault) => Err(station.refuse_secured(now, fault)),
+    }
+}
+
+/// What is told of each verified packet that isn't refused.
+fn reception_of_packet(packet: &InnerPacketView<'_>) -> Reception
+    ensures { (t : Transmission) → packet.now ≡ seen_on_air t → result ≡ reception_of t }
+{
+    Reception {
+        source: packet.vector().address().as_u64(),
+        kind: kind_number(packet.kind()),
+        number: packet.number().unwrap_or(0),
+        traffic_class: packet.class().octet(),
+        hops_left: packet.left(),
+        ..Reception::NOTHING
+    }
 }
 
 /// Passes the station octets that came, by its governor, and writes what is told of each frame.

@@ -34,7 +34,7 @@ pub(crate) fn status_of(refused: Refused) -> i32
     match refused {
         Refused::MomentEarlier => 1,
         Refused::MomentTooLate => 2,
-        Refused::Frame(_) => 3,
+        Refused::Frame(_) | Refused::Secured(_) => 3,
         Refused::TableFull => 4,
         Refused::NoMemory => 5,
         Refused::PayloadTooLong => 6,

@@ -81,8 +81,7 @@ pub(crate) fn told_outcome(
 ) -> i32
     requires heard { IsHeard heard }
     requires end { IfOk said (DeliversEndOf frame.now) }
-    requires room { 1468 ≤ length relay.old }
-    requires short { IfOk said (SendsAtMost 1468) }
+    requires short { IfOk said (SendsAtMost (length relay.old)) }
     ensures status { result ≡ status_in said.entry }
     ensures shown { ShowsReceived frame.now heard reception.new relay.new said.entry }
     ensures memory { result ≡ pos 5 → said.entry ≡ Err Refused.NoMemory }
@@ -130,10 +129,11 @@ fn tell_handed(handed: Option<Handed<'_>>, frame: &[u8], reception: &mut Recepti
 fn refused_reception(refused: Refused) -> Reception
     ensures { result ≡ refused_reception refused }
 {
-    let Refused::Frame(fault) = refused else {
-        return Reception::NOTHING;
+    let numbers = match refused {
+        Refused::Frame(fault) => FaultNumbers::of(fault),
+        Refused::Secured(fault) => FaultNumbers::of_secured(fault),
+        _ => return Reception::NOTHING,
     };
-    let numbers = FaultNumbers::of(fault);
     Reception {
         fault: numbers.layer,
         fault_kind: numbers.kind,

@@ -40,10 +40,10 @@ impl LineFault {
     pub(crate) fn sentence(self) -> &'static str {
         match self {
             LineFault::Moment => {
-                "no moment of 1 to 20 decimal digits below 2^64 with a space after it"
+                "the line does not begin with a time in ms, below 2^64, and a space"
             }
-            LineFault::Hex => "the frame is no even number of hexadecimal digits",
-            LineFault::Length => "the frame is of no octet or of more than 1468",
+            LineFault::Hex => "the frame does not have an even number of hexadecimal digits",
+            LineFault::Length => "the frame has 0 octets, or more than 1468",
         }
     }
 }

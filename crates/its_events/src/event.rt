@@ -170,7 +170,7 @@ pub fn read_addressed<F: Fields>(
     let (id, station) = read_addressee(alloc, fields, stations)?;
     let moment = read_moment(fields)?;
     if matches!(verb_under(fields), Some(Verb::Deliver)) {
-        return Err(KeyFault::Refused(Key::Do, Wrong::Value));
+        return Err(KeyFault::Refused(Key::Do, Wrong::Unlisted(Verbs::WithMoves)));
     }
     let read = read_filed(alloc, fields, station, moment, Verbs::WithMoves)?;
     Ok(AddressedEvent {
@@ -234,7 +234,8 @@ fn read_own_station<F: Fields>(fields: &F, stations: usize) -> Result<usize, Key
     if station < stations {
         Ok(station)
     } else {
-        Err(KeyFault::Refused(Key::Station, Wrong::NoStation))
+        let missing = Wrong::NoStation(station as u16);
+        Err(KeyFault::Refused(Key::Station, missing))
     }
 }
 

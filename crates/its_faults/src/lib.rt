@@ -7,6 +7,8 @@
 
 mod frame;
 mod packet;
+mod secured;
 
 pub use frame::{FrameCode, FrameFault};
 pub use packet::{Fault, FaultCode, FaultKind};
+pub use secured::{SecuredCode, SecuredFault};

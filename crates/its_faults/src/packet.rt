@@ -60,17 +60,17 @@ impl FaultKind {
 impl fmt::Display for FaultKind {
     fn fmt<W: fmt::Write>(&self, f: &mut fmt::Formatter<W>) -> fmt::Result {
         let sentence = match self {
-            FaultKind::Truncated => "the octets end in a field or before it",
+            FaultKind::Truncated => "a truncated packet",
             FaultKind::Version => "a version other than 1",
             FaultKind::BasicNext => "no Common Header after the Basic Header",
             FaultKind::Reserved => "a reserved bit that is set",
             FaultKind::HopZero => "no hop left",
-            FaultKind::CommonNext => "neither nothing nor BTP-B after the headers",
-            FaultKind::HeaderType => "a header type that is not read",
+            FaultKind::CommonNext => "a next header other than none and BTP-B",
+            FaultKind::HeaderType => "an unsupported header type",
             FaultKind::SubType => "a sub-type that the header type does not have",
             FaultKind::HopAboveMax => "more hops left than the maximum",
             FaultKind::PayloadLength => "a payload length out of range",
-            FaultKind::Position => "a group address or a place out of range",
+            FaultKind::Position => "a group address, or a position out of range",
             FaultKind::Area => "an area out of range",
         };
         write!(f, "{sentence}")

@@ -1,6 +1,6 @@
 //! Sentences for a person, of what lines tell by a code.
 
-use its_faults::FrameFault;
+use its_faults::{FrameFault, SecuredFault};
 use std::fmt;
 
 /// A space and a sentence in parentheses, after what a line tells by a code; or nothing.
@@ -25,6 +25,20 @@ impl fmt::Display for FrameReason {
     fn fmt<W: fmt::Write>(&self, f: &mut fmt::Formatter<W>) -> fmt::Result {
         match self.0 {
             FrameFault::Packet(fault) => write!(f, "{fault}"),
+            fault => write!(f, "{fault}"),
+        }
+    }
+}
+
+/// Why octets are no secured frame, or with their plain part no packet, as a sentence. Of a fault of
+/// a packet it is that fault.
+#[derive(Clone, Copy, Debug, PartialEq, Eq)]
+pub struct SecuredReason(pub SecuredFault);
+
+impl fmt::Display for SecuredReason {
+    fn fmt<W: fmt::Write>(&self, f: &mut fmt::Formatter<W>) -> fmt::Result {
+        match self.0 {
+            SecuredFault::Packet(fault) | SecuredFault::Inner(fault) => write!(f, "{fault}"),
             fault => write!(f, "{fault}"),
         }
     }

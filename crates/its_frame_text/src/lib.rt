@@ -6,6 +6,6 @@ mod explanation;
 mod frame_keys;
 mod hexadecimal;
 
-pub use explanation::{Explanation, FrameReason};
+pub use explanation::{Explanation, FrameReason, SecuredReason};
 pub use frame_keys::{FrameKeys, MessageKeys, TargetKeys};
 pub use hexadecimal::Hex;

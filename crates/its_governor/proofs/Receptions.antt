@@ -11,11 +11,12 @@ use Rattle.its_linkframe.specs.Frames.{EncodesFrame, transmission_of}
 use Rattle.its_linkframe.specs.declared.frame.FrameView.{FrameView}
 use Rattle.its_linkframe.specs.FrameFaults.{IsFrameFault}
 use Rattle.its_station.specs.State.{StationState, RepresentsStation}
-use Rattle.its_station.specs.Steps.{refusal_of}
-use Rattle.its_station.specs.Receiving.{IsFrameCall}
+use Rattle.its_station.specs.Steps.{refusal_of, IsRefusedStep}
+use Rattle.its_station.specs.Receiving.{IsFrameCall, VerifiedCall}
 use Rattle.its_station.specs.declared.refused.Refused.{Refused}
 use Rattle.its_governor.specs.declared.governor.Governor.{Governor}
 use Rattle.its_governor.specs.Governing.{frame_in, governed, governed_step}
+use Rattle.its_governor.specs.Governing.{verified_frame, governed_verified_step}
 
 -- a refused step stays one
 pub refused_step : (g : Governor) (now : ℕ) (call : Call) (e : Refused) (new : StationState)
@@ -36,6 +37,22 @@ refused_step g now call e new step = by (refusal_of e)
     by None told = tt
     by (Some refusal) told =
         (ap (λ (a : Answer Transmission). governed g now (frame_in call) a) told.0, told.1)
+
+-- the same of a secured frame that came with its plain part
+pub refused_verified : (g : Governor) (now : ℕ) (call : VerifiedCall) (e : Refused)
+    (new : StationState) (step : Step) → IsRefusedStep e new step
+    → IsRefusedStep e new (governed_verified_step g now call step)
+refused_verified g now call e new step = by (refusal_of e)
+  where
+    by : (o : Option Refusal)
+        → IfSome o (λ refusal. (step.answer ≡ model.Answer.Refused refusal)
+        × RepresentsStation new step.station)
+        → IfSome o
+        (λ refusal. ((governed_verified_step g now call step).answer ≡ model.Answer.Refused refusal)
+        × RepresentsStation new step.station)
+    by None told = tt
+    by (Some refusal) told =
+        (ap (λ (a : Answer Transmission). governed g now (verified_frame call) a) told.0, told.1)
 
 -- octets that are a frame come as it
 pub frame_call : (octets : List ℕ) (v : Transmission)

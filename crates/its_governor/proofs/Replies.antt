@@ -14,7 +14,7 @@ use Rattle.its_station.specs.declared.run.Call.{Call}
 use Rattle.its_station.specs.declared.run.Call.TheVariants as calls
 use Rattle.its_station.specs.declared.run.Reply.{Reply}
 use Rattle.its_station.specs.declared.run.Reply.TheVariants as replies
-use Rattle.its_station.specs.Receiving.{TellsAccepted, IsRelay}
+use Rattle.its_station.specs.Receiving.{Encoded, TellsAcceptedBy, IsRelayBy}
 use Rattle.its_station.specs.Runs.{IsCall, TellsReply}
 use Rattle.its_governor.specs.declared.governor.Governor.{Governor}
 use Rattle.its_governor.specs.declared.governor.Passed.{Passed}
@@ -59,49 +59,49 @@ is_some_map : {A B : Type 0} (f : A → B) (o : Option A)
 is_some_map f None = refl
 is_some_map f (Some x) = refl
 
-same_relay : (sent : Option (Vec ℕ Global)) (relayed : Option Transmission)
-    → IsRelay sent relayed → is_some sent ≡ is_some relayed
-same_relay None None is = refl
-same_relay None (Some t) is = absurd is
-same_relay (Some w) None is = absurd is
-same_relay (Some w) (Some t) is = refl
+same_relay : (E : Encoded) (sent : Option (Vec ℕ Global)) (relayed : Option Transmission)
+    → IsRelayBy E sent relayed → is_some sent ≡ is_some relayed
+same_relay E None None is = refl
+same_relay E None (Some t) is = absurd is
+same_relay E (Some w) None is = absurd is
+same_relay E (Some w) (Some t) is = refl
 
-kept_relay : (b : Bool) (sent : Option (Vec ℕ Global)) (relayed : Option Transmission)
-    → IsRelay sent relayed → IsRelay (kept b sent) (kept b relayed)
-kept_relay true sent relayed is = is
-kept_relay false sent relayed is = tt
+kept_relay : (E : Encoded) (b : Bool) (sent : Option (Vec ℕ Global)) (relayed : Option Transmission)
+    → IsRelayBy E sent relayed → IsRelayBy E (kept b sent) (kept b relayed)
+kept_relay E true sent relayed is = is
+kept_relay E false sent relayed is = tt
 
-pub told_accepted : (g : Governor) (now : ℕ) (f : Option Transmission) (handed : Option Message)
+pub told_accepted : (E : Encoded) (g : Governor) (now : ℕ) (f : Option Transmission) (handed : Option Message)
     (sent : Option (Vec ℕ Global)) (p : Passed) (answer : Answer Transmission)
     → p ≡ passed_in g now f (is_some handed) (is_some sent)
-    → TellsAccepted handed sent answer
-    → TellsAccepted (kept p.delivers handed) (kept p.forwards sent) (governed g now f answer)
-told_accepted g now f handed sent p answer passed told =
+    → TellsAcceptedBy E handed sent answer
+    → TellsAcceptedBy E (kept p.delivers handed) (kept p.forwards sent) (governed g now f answer)
+told_accepted E g now f handed sent p answer passed told =
     let same : p ≡ passed_in g now f (is_some handed) (is_some told.relayed) =
     passed ∙ ap (λ b. passed_in g now f (is_some handed) b)
-    (same_relay sent told.relayed told.frame) in
+    (same_relay E sent told.relayed told.frame) in
     record {
       relayed = kept p.forwards told.relayed;
       is = ap (λ (a : Answer Transmission). governed g now f a) told.is
           ∙ ap (λ (q : Passed). accepted_by handed told.relayed q) (sym same);
-      frame = kept_relay p.forwards sent told.relayed told.frame;
+      frame = kept_relay E p.forwards sent told.relayed told.frame;
     }
 
 -- the same of the message that a reply's delivery is
-pub told_reply : {A : Type 0} (g : Governor) (now : ℕ) (f : Option Transmission)
+pub told_reply : {A : Type 0} (E : Encoded) (g : Governor) (now : ℕ) (f : Option Transmission)
     (message : A → Message) (handed handed' : Option A)
     (sent sent' : Option (Vec ℕ Global)) (p : Passed) (answer : Answer Transmission)
     → p ≡ passed_in g now f (is_some handed) (is_some sent)
     → handed' ≡ kept p.delivers handed → sent' ≡ kept p.forwards sent
-    → TellsAccepted (option_map message handed) sent answer
-    → TellsAccepted (option_map message handed') sent' (governed g now f answer)
-told_reply g now f message handed handed' sent sent' p answer passed is is' told =
+    → TellsAcceptedBy E (option_map message handed) sent answer
+    → TellsAcceptedBy E (option_map message handed') sent' (governed g now f answer)
+told_reply E g now f message handed handed' sent sent' p answer passed is is' told =
     let a = governed g now f answer in
-    subst (λ (h : Option Message). TellsAccepted h sent' a)
+    subst (λ (h : Option Message). TellsAcceptedBy E h sent' a)
     (sym (ap (option_map message) is ∙ kept_map message p.delivers handed))
     (subst (λ (w : Option (Vec ℕ Global)).
-    TellsAccepted (kept p.delivers (option_map message handed)) w a) (sym is')
-    (told_accepted g now f (option_map message handed) sent p answer
+    TellsAcceptedBy E (kept p.delivers (option_map message handed)) w a) (sym is')
+    (told_accepted E g now f (option_map message handed) sent p answer
     (passed ∙ ap (λ b. passed_in g now f b (is_some sent)) (is_some_map message handed)) told))
 
 -- ---- an own packet that is sent

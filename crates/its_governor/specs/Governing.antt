@@ -1,4 +1,5 @@
 -- What passes a governor, and the governor after it.
+use Rattle.its_station.specs.Receiving.{VerifiedCall}
 use Rattle.std.specs.Prelude.{◌≡◌, ℕ, ◌^◌, Bool, true, false, not, ◌&&◌, nat_le, if◌then◌else◌, []}
 use Rattle.std.specs.Prelude.{Option, Some, None, is_some, IsTrue}
 use Rattle.std.specs.Option.{option_map}
@@ -149,6 +150,16 @@ governed g now frame answer = answer
 abbrev pub governed_step : Governor → ℕ → Call → Step → Step
 governed_step g now call step =
     record { answer = governed g now (frame_in call) step.answer; station = step.station }
+
+-- the packet that came as a secured frame, if it is one
+abbrev pub verified_frame : VerifiedCall → Option Transmission
+verified_frame (VerifiedCall.Came v) = Some v.frame
+verified_frame (VerifiedCall.Faulty fault) = None
+
+-- the same of the step of a secured frame that came with its plain part
+abbrev pub governed_verified_step : Governor → ℕ → VerifiedCall → Step → Step
+governed_verified_step g now call step =
+    record { answer = governed g now (verified_frame call) step.answer; station = step.station }
 
 -- the governor after an accepted packet
 abbrev pub after_accepted : Governor → ℕ → Option Transmission → Bool → Bool → Governor

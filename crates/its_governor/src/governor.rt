@@ -2,7 +2,6 @@
 
 ghost use Rattle.std.specs.Prelude.{◌≡◌, Bool, true, false, IfOk, IsTrue, IsFalse, Option, None};
 ghost use Rattle.its_headers.specs.Seen.{Seen};
-ghost use Rattle.its_linkframe.specs.Frames.{transmission_of};
 ghost use Rattle.its_governor.specs.Governing.{IsNewGovernor, room_in, draw_from, source_room};
 ghost use Rattle.its_governor.specs.Governing.{source_drawn, is_echo, may_forward, passed_of};
 ghost use Rattle.its_governor.specs.Governing.{after_forwarding, after_delivery, after_judging};
@@ -13,7 +12,7 @@ use crate::memory::DeliveryMemory;
 use crate::rate::Limits;
 use crate::sources::SourceBuckets;
 use its_gnvalue::{GnAddress, NoMemory};
-use its_linkframe::FrameView;
+use its_station::ReceivedFrame;
 use std::alloc::Global;
 
 /// How often something was withheld. A count stays at 2^64 - 1 once it is there.
@@ -93,39 +92,39 @@ impl Governor {
 
     /// What passes of a packet that a station accepted: whether it is delivered, and whether it is
     /// forwarded. A packet that is remembered as delivered passes neither way.
-    pub fn judge(&mut self, now: u64, frame: &FrameView<'_>, accepted: Accepted) -> Passed
-        ensures passed { result ≡ passed_of self.old now (transmission_of frame.now)
+    pub fn judge<'a, F: ReceivedFrame<'a>>(
+        &mut self,
+        now: u64,
+        frame: &F,
+        accepted: Accepted,
+    ) -> Passed
+        ensures passed { result ≡ passed_of self.old now (F.frame frame.now)
             accepted.handed accepted.sent }
-        ensures state { self.new ≡ after_judging self.old now (transmission_of frame.now)
+        ensures state { self.new ≡ after_judging self.old now (F.frame frame.now)
             accepted.handed accepted.sent }
-        ensures once { IsTrue (is_echo self.old.delivered now (transmission_of frame.now)) →
+        ensures once { IsTrue (is_echo self.old.delivered now (F.frame frame.now)) →
             IsFalse result.delivers }
-        ensures open { IsTrue (may_forward self.old now (transmission_of frame.now)) →
+        ensures open { IsTrue (may_forward self.old now (F.frame frame.now)) →
             result ≡ record { delivers = accepted.handed; forwards = accepted.sent } }
         ensures deliveries { self.old.delivered ≡ None → result.delivers ≡ accepted.handed }
         ensures room { IsDraw self.old.forward result.forwards now self.new.forward }
-        ensures source { IsDrawOf self.old.sources (transmission_of frame.now).pdu.vector.address
+        ensures source { IsDrawOf self.old.sources (F.frame frame.now).pdu.vector.address
             result.forwards now self.new.sources }
     {
         let forwards = accepted.sent && self.may_forward(now, frame);
         let delivers = accepted.handed && !self.is_echo(now, frame);
-        self.note_forwarding(
-            now,
-            frame.packet.vector().address(),
-            accepted.sent,
-            forwards,
-        );
+        self.note_forwarding(now, frame.vector().address(), accepted.sent, forwards);
         self.note_delivery(now, frame, accepted.handed, delivers);
         Passed { delivers, forwards }
     }
 
     /// Whether a packet may be forwarded.
-    fn may_forward(&self, now: u64, frame: &FrameView<'_>) -> bool
-        ensures { result ≡ may_forward self.now now (transmission_of frame.now) }
+    fn may_forward<'a, F: ReceivedFrame<'a>>(&self, now: u64, frame: &F) -> bool
+        ensures { result ≡ may_forward self.now now (F.frame frame.now) }
     {
-        frame.packet.hops().left() <= self.hop_cap
+        frame.hops_left() <= self.hop_cap
             && has_room(&self.forward, now)
-            && self.source_has_room(now, frame.packet.vector().address())
+            && self.source_has_room(now, frame.vector().address())
             && !self.is_echo(now, frame)
     }
 
@@ -140,12 +139,12 @@ impl Governor {
     }
 
     /// Whether a packet was delivered before, and is remembered.
-    fn is_echo(&self, now: u64, frame: &FrameView<'_>) -> bool
-        ensures { result ≡ is_echo self.now.delivered now (transmission_of frame.now) }
+    fn is_echo<'a, F: ReceivedFrame<'a>>(&self, now: u64, frame: &F) -> bool
+        ensures { result ≡ is_echo self.now.delivered now (F.frame frame.now) }
     {
-        match (&self.delivered, frame.packet.number()) {
+        match (&self.delivered, frame.number()) {
             (Some(delivered), Some(number)) => {
-                delivered.holds(frame.packet.vector().address(), number, now)
+                delivered.holds(frame.vector().address(), number, now)
             }
             _ => false,
         }
@@ -166,9 +165,15 @@ impl Governor {
     }
 
     /// Remembers a packet that is delivered, and counts one that was before.
-    fn note_delivery(&mut self, now: u64, frame: &FrameView<'_>, handed: bool, delivers: bool)
+    fn note_delivery<'a, F: ReceivedFrame<'a>>(
+        &mut self,
+        now: u64,
+        frame: &F,
+        handed: bool,
+        delivers: bool,
+    )
         ensures { self.new
-            ≡ after_delivery self.old now (transmission_of frame.now) handed delivers }
+            ≡ after_delivery self.old now (F.frame frame.now) handed delivers }
     {
         if delivers {
             self.remember(now, frame);
@@ -178,12 +183,12 @@ impl Governor {
     }
 
     /// Remembers a packet that is delivered, if it has a number and the governor a memory.
-    fn remember(&mut self, now: u64, frame: &FrameView<'_>)
-        ensures { self.new ≡ after_delivery self.old now (transmission_of frame.now) true true }
+    fn remember<'a, F: ReceivedFrame<'a>>(&mut self, now: u64, frame: &F)
+        ensures { self.new ≡ after_delivery self.old now (F.frame frame.now) true true }
     {
-        if let (Some(delivered), Some(number)) = (&mut self.delivered, frame.packet.number()) {
-            let until = now.saturating_add(frame.packet.lifetime().millis());
-            delivered.note(frame.packet.vector().address(), number, until);
+        if let (Some(delivered), Some(number)) = (&mut self.delivered, frame.number()) {
+            let until = now.saturating_add(frame.lifetime().millis());
+            delivered.note(frame.vector().address(), number, until);
         }
     }
 

@@ -9,18 +9,20 @@ ghost use Rattle.its_model.specs.Station as stations;
 ghost use Rattle.its_model.specs.Station.{StationModel, station_step, verdict};
 ghost use Rattle.its_headers.specs.Encoding.{payload_of};
 ghost use Rattle.its_linkframe.specs.Frames.{EncodesFrame, IsFrame, transmission_of};
+ghost use Rattle.its_linkframe.specs.Secured.{Verified, EncodesVerified};
 ghost use Rattle.its_station.specs.State.{RepresentsStation};
 ghost use Rattle.its_station.specs.Steps.{IsStepOf};
 ghost use Rattle.its_station.specs.Receiving.{IsFrameCall, TakesMemory, Tells, DeliversEndOf};
-ghost use Rattle.its_station.specs.Receiving.{SendsAtMost};
+ghost use Rattle.its_station.specs.Receiving.{SendsAtMost, TellsBy, EncodesSealed, VerifiedCall};
+ghost use Rattle.its_station.specs.Receiving.{IsVerifiedCall, verified_step, sealed_by};
 ghost use Rattle.its_governor.specs.Governing.{frame_in, governed, governed_step, after_call};
-ghost use Rattle.its_governor.specs.Governing.{IsDraw};
+ghost use Rattle.its_governor.specs.Governing.{IsDraw, governed_verified_step, verified_frame};
 ghost use Rattle.its_governor.specs.Runs.{outcome_forwards};
 
 use crate::governor::{Accepted, Governor};
-use its_linkframe::{FrameView, read_frame};
+use its_linkframe::{FrameView, VerifiedFrame, read_frame};
 use its_loctable::LocationStore;
-use its_station::{Outcome, Refused, Station};
+use its_station::{Outcome, ReceivedFrame, Refused, Station};
 
 impl Governor {
     /// Receives the octets that came, as `Station::receive` does, and keeps what passes of its
@@ -89,13 +91,82 @@ impl Governor {
         }
     }
 
+    /// Receives a secured frame that came, and the plain part that a security entity verified of its
+    /// message, as `Station::receive_verified` does, and keeps what passes of its outcome.
+    pub fn receive_verified<'a, S: LocationStore>(
+        &mut self,
+        station: &mut Station<S>,
+        now: u64,
+        frame: &[u8],
+        plain: &'a [u8],
+    ) -> Result<Outcome<'a>, Refused>
+        ensures step { (call : VerifiedCall) × IsVerifiedCall frame.now plain.now call
+            × ((s : StationModel) → RepresentsStation station.old s →
+            IsStepOf (TellsBy (sealed_by call)) result station.new
+            (governed_verified_step self.old now call (verified_step s now call))
+            × OnOk result (self.new
+            ≡ after_call self.old now false (verified_frame call)
+            (verified_step s now call).answer)) }
+        ensures memory { (s : StationModel) (v : Verified) → RepresentsStation station.old s →
+            EncodesVerified v frame.now plain.now → result ≡ Err Refused.NoMemory →
+            (verdict s now v.frame ≡ stations.Verdict.Accept) × TakesMemory s now v.frame }
+        ensures unchanged { OnErr result ((self.new ≡ self.old) × (station.new ≡ station.old)) }
+        ensures forward { IfOk result (λ outcome.
+            IsDraw self.old.forward (outcome_forwards outcome) now self.new.forward) }
+        ensures own { self.new.own ≡ self.old.own }
+        ensures payload { IfOk result (DeliversEndOf plain.now) }
+        ensures short_frame { IfOk result (SendsAtMost 2310) }
+    {
+        match VerifiedFrame::read(frame, plain) {
+            Ok(verified) => self.receive_verified_frame(station, now, &verified),
+            Err(fault) => Err(station.refuse_secured(now, fault)),
+        }
+    }
+
+    /// Receives a secured frame that was read with its plain part, as `receive_verified` does with
+    /// its octets.
+    pub fn receive_verified_frame<'a, S: LocationStore>(
+        &mut self,
+        station: &mut Station<S>,
+        now: u64,
+        frame: &VerifiedFrame<'_, 'a>,
+    ) -> Result<Outcome<'a>, Refused>
+        ensures step { (s : StationModel) → RepresentsStation station.old s →
+            IsStepOf (TellsBy (EncodesSealed frame.now.message)) result station.new
+            (governed_step self.old now (Receive frame.now.frame)
+            (station_step s now (Receive frame.now.frame)))
+            × OnOk result (self.new
+            ≡ after_call self.old now false (Some frame.now.frame)
+            (station_step s now (Receive frame.now.frame)).answer) }
+        ensures memory { (s : StationModel) → RepresentsStation station.old s →
+            result ≡ Err Refused.NoMemory →
+            (verdict s now frame.now.frame ≡ stations.Verdict.Accept)
+            × TakesMemory s now frame.now.frame }
+        ensures unchanged { OnErr result ((self.new ≡ self.old) × (station.new ≡ station.old)) }
+        ensures forward { IfOk result (λ outcome.
+            IsDraw self.old.forward (outcome_forwards outcome) now self.new.forward) }
+        ensures own { self.new.own ≡ self.old.own }
+        ensures payload { IfOk result (DeliversEndOf (payload_of frame.now.frame.pdu.body)) }
+        ensures short_frame { IfOk result (SendsAtMost 2310) }
+    {
+        match station.receive_verified_frame(now, frame) {
+            Ok(outcome) => Ok(self.govern(now, frame, outcome)),
+            Err(refused) => Err(refused),
+        }
+    }
+
     /// Keeps what passes of the outcome of a frame.
-    fn govern<'a>(&mut self, now: u64, frame: &FrameView<'_>, outcome: Outcome<'a>) -> Outcome<'a>
-        ensures told { (answer : Answer Transmission) → Tells outcome.entry answer →
-            Tells result (governed self.old now (Some (transmission_of frame.now)) answer) }
-        ensures state { (answer : Answer Transmission) → Tells outcome.entry answer →
+    fn govern<'a, F: ReceivedFrame<'a>>(
+        &mut self,
+        now: u64,
+        frame: &F,
+        outcome: Outcome<'a>,
+    ) -> Outcome<'a>
+        ensures told { (answer : Answer Transmission) → TellsBy (F.Encodes frame.now) outcome.entry answer →
+            TellsBy (F.Encodes frame.now) result (governed self.old now (Some (F.frame frame.now)) answer) }
+        ensures state { (answer : Answer Transmission) → TellsBy (F.Encodes frame.now) outcome.entry answer →
             self.new
-            ≡ after_call self.old now false (Some (transmission_of frame.now)) answer }
+            ≡ after_call self.old now false (Some (F.frame frame.now)) answer }
         ensures forward { IsDraw self.old.forward (outcome_forwards result) now self.new.forward }
         ensures own { self.new.own ≡ self.old.own }
         ensures payload { (w : List ℕ) → DeliversEndOf w outcome.entry → DeliversEndOf w result }

@@ -13,7 +13,8 @@ use Rattle.its_headers.specs.declared.kind.Kind.TheVariants.{Beacon, Shb, Gbc, G
 use Rattle.its_model.specs.Packet.{Pdu, Body, AreaKind, geobroadcast, geoanycast}
 use Rattle.its_headers.specs.Encoding.{IsBytes, Encodes}
 use Rattle.its_headers.specs.Format.{Format, ends, number, halves, octets, after, walk}
-use Rattle.its_headers.specs.Layout.{basic_format, type_format, common_format, vector_format}
+use Rattle.its_headers.specs.Layout.{basic_format, basic_format_of, type_format, common_format}
+use Rattle.its_headers.specs.Layout.{vector_format}
 use Rattle.its_headers.specs.Layout.{area_format, area_packet_format, body_format, packet_format}
 use Rattle.its_headers.specs.Layout.{is_type, is_subtype, is_length, is_next, is_second, is_angle}
 use Rattle.its_headers.specs.FirstFault.{Row, common_rows, vector_rows, shb_rows, area_packet_rows}
@@ -50,7 +51,7 @@ inhabited_after (octets n next) g h k =
     (λ x s p. k x (bytes ++ s) (bytes, s, len, fits, refl, p))
 
 basic_inhabited : IsInhabited basic_format
-unfolding basic_format
+unfolding basic_format_of
 basic_inhabited = (
   (1, omega arith, refl),
   λ _ _ _. (
@@ -161,7 +162,7 @@ inhabited : IsInhabited packet_format
 inhabited =
     inhabited_after basic_format _ basic_inhabited
     (λ b s h. inhabited_after (common_format b.1) _
-    (common_inhabited b.1 (basic_spelled b s h).left)
+    (common_inhabited b.1 (basic_spelled 1 b s h).left)
     (λ c _ _. inhabited_after (body_format c.kind c.shape c.length) _
     (body_inhabited c.kind c.shape c.length) (λ _ _ _. tt)))
 
@@ -178,7 +179,7 @@ rows_of_kind false false true shape n g w = refl
 rows_of_kind false false false shape n g w = refl
 
 rows_are : (w : List ℕ) → rows_in packet_format 0 w ≡ rows_of w
-unfolding basic_format type_format common_format
+unfolding basic_format_of type_format common_format
 rows_are w =
     ap (λ (t : List Row). common_rows ++ t)
     (rows_of_kind (eqb (big_number 1 (drop 5 w) / 16) 1) (eqb (big_number 1 (drop 5 w) / 16) 5)

@@ -21,7 +21,8 @@ use Rattle.its_headers.specs.Encoding.{basic_header, common_header, extended_hea
 use Rattle.its_headers.specs.Encoding.{area_packet_octets, common_next, header_type, payload_length}
 use Rattle.its_headers.specs.Encoding.{shape_code}
 use Rattle.its_headers.specs.Format.{Format, after, ends, octets}
-use Rattle.its_headers.specs.Layout.{Common, basic_format, type_format, common_format}
+use Rattle.its_headers.specs.Layout.{Common, basic_format, basic_format_of, type_format}
+use Rattle.its_headers.specs.Layout.{common_format}
 use Rattle.its_headers.specs.Layout.{vector_format, area_format, beacon_format, body_format}
 use Rattle.its_headers.specs.Layout.{packet_format, is_next, is_type, is_subtype, is_length}
 use Rattle.its_headers.specs.Layout.{kind_of, shape_of, next_of, type_of, shb_format}
@@ -38,15 +39,16 @@ byte_is v h = omega arith
 
 -- ---- the basic header
 
-pub record IsBasic (x : ℕ × ℕ) (s : List ℕ) : Type 0 where
+pub record IsBasic (next : ℕ) (x : ℕ × ℕ) (s : List ℕ) : Type 0 where
   pub lifetime : x.0 < 256
   pub some_left : 0 < x.1
   pub left : x.1 < 256
-  pub octets : s ≡ 17 ∷ 0 ∷ x.0 ∷ x.1 ∷ []
+  pub octets : s ≡ (16 + next) ∷ 0 ∷ x.0 ∷ x.1 ∷ []
 
-pub basic_spelled : (x : ℕ × ℕ) (s : List ℕ) → Spells basic_format x s → IsBasic x s
-unfolding basic_format
-basic_spelled x s (
+pub basic_spelled : (next : ℕ) (x : ℕ × ℕ) (s : List ℕ) → Spells (basic_format_of next) x s
+    → IsBasic next x s
+unfolding basic_format_of
+basic_spelled next x s (
   v,
   n,
   t0,
@@ -58,9 +60,9 @@ basic_spelled x s (
   (z, t1, fz, rz, e1, (lifetime, t2, fl, rl, e2, (left, t3, fleft, rleft, e3, (is, nil)))),
 ) =
     let one : v ≡ 1 = eqb-true _ _ rv in
-    let next : n ≡ 1 = eqb-true _ _ rn in
+    let named : n ≡ next = eqb-true _ _ rn in
     let none : z ≡ 0 = eqb-true _ _ rz in
-    let text : s ≡ 17 ∷ 0 ∷ lifetime ∷ left ∷ [] =
+    let text : s ≡ (16 + next) ∷ 0 ∷ lifetime ∷ left ∷ [] =
     rw (
       e0,
       e1,
@@ -68,29 +70,29 @@ basic_spelled x s (
       e3,
       nil,
       one,
-      next,
+      named,
       none,
       byte_is lifetime (omega arith),
       byte_is left (omega arith),
     ) refl in
-    subst (λ x. IsBasic x s) is (record {
+    subst (λ x. IsBasic next x s) is (record {
       lifetime = omega arith;
       some_left = ltb-true _ _ rleft;
       left = omega arith;
       octets = text;
     })
 
-pub spells_basic : (x : ℕ × ℕ) → x.0 < 256 → 0 < x.1 → x.1 < 256
-    → Spells basic_format x (17 ∷ 0 ∷ x.0 ∷ x.1 ∷ [])
-unfolding basic_format
-spells_basic x fl some fleft = (
+pub spells_basic : (next : ℕ) (x : ℕ × ℕ) → next < 16 → eqb next next ≡ true → x.0 < 256 → 0 < x.1
+    → x.1 < 256 → Spells (basic_format_of next) x ((16 + next) ∷ 0 ∷ x.0 ∷ x.1 ∷ [])
+unfolding basic_format_of
+spells_basic next x small same fl some fleft = (
   1,
-  1,
+  next,
   0 ∷ x.0 ∷ x.1 ∷ [],
   omega arith,
   omega arith,
   refl,
-  refl,
+  same,
   refl,
   (
     0,
@@ -750,7 +752,7 @@ packet_text s a b c d e f x y z e0 e1 e2 e3 e4 e5 e6 = rw (e0, e1, e2, e3, e4, e
 pub packet_spelled : (x : Pdu × ℕ) (s : List ℕ) → Spells packet_format x s → Encodes x.0 x.1 s
 packet_spelled x s h =
     let i = Spells-after basic_format _ x s h in
-    let b = basic_spelled i.0 i.1 i.3 in
+    let b = basic_spelled 1 i.0 i.1 i.3 in
     let j = Spells-after (common_format i.0.1) _ x i.2 i.4 in
     let c = common_spelled i.0.1 j.0 j.1 j.3 in
     let k = Spells-after (body_format j.0.kind j.0.shape j.0.length) _ x j.2 j.4 in
@@ -868,10 +870,10 @@ spells_packet p left fits =
       p,
       left,
     ) (basic_header p left) (common_octets common ++ (extended_header p.vector p.body ++ []))
-    (spells_basic (
+    (spells_basic 1 (
       p.lifetime,
       left,
-    ) fits.lifetime fits.some_left (omega (arith, fits.left_below, fits.max_hops))) two in
+    ) (omega arith) refl fits.lifetime fits.some_left (omega (arith, fits.left_below, fits.max_hops))) two in
     let text : basic_header p left
     ++ (common_octets common ++ (extended_header p.vector p.body ++ [])) ≡ encoding p left =
     ap (λ (t : List ℕ). basic_header p left ++ (common_octets common ++ t))

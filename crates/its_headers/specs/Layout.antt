@@ -29,14 +29,25 @@ any _ = true
 abbrev pub is_zero : ℕ → Bool
 is_zero n = n == 0
 
--- the Basic Header says lifetime and hops left
-unfoldable pub basic_format : Format (ℕ × ℕ)
-basic_format =
-    halves Version (λ v. v == 1) BasicNext (λ _ n. n == 1) λ _ _.
+-- the Basic Header in front of what this next header names says lifetime and hops left
+unfoldable pub basic_format_of : ℕ → Format (ℕ × ℕ)
+basic_format_of next =
+    halves Version (λ v. v == 1) BasicNext (λ _ n. n == next) λ _ _.
     number 1 Reserved is_zero λ _.
     number 1 Truncated any λ lifetime.
     number 1 HopZero (λ left. nat_lt 0 left) λ left.
     ends (lifetime, left)
+
+-- the Basic Header in front of a Common Header
+abbrev pub basic_format : Format (ℕ × ℕ)
+basic_format = basic_format_of 1
+
+-- a secured packet: a Basic Header, and behind it at least one octet of a message
+abbrev pub secured_format : Format (ℕ × ℕ)
+secured_format =
+    after (basic_format_of 2) λ basic.
+    number 1 Truncated any λ _.
+    ends basic
 
 -- what stands in the common header
 pub record Common : Type 0 where
@@ -246,10 +257,9 @@ body_format Shb shape length = shb_format length
 body_format Gbc shape length = area_packet_format geobroadcast shape length
 body_format Gac shape length = area_packet_format geoanycast shape length
 
--- a packet, and how many hops it has left
-abbrev pub packet_format : Format (Pdu × ℕ)
-packet_format =
-    after basic_format λ basic.
+-- what follows a Basic Header that says lifetime and hops left: the rest of the packet
+abbrev pub plain_format : ℕ × ℕ → Format (Pdu × ℕ)
+plain_format basic =
     after (common_format basic.1) λ common.
     after (body_format common.kind common.shape common.length) λ x.
     ends (
@@ -263,3 +273,7 @@ packet_format =
       },
       basic.1,
     )
+
+-- a packet, and how many hops it has left
+abbrev pub packet_format : Format (Pdu × ℕ)
+packet_format = after basic_format plain_format

@@ -3,6 +3,7 @@ pub mod Format
 pub mod Layout
 pub mod FirstFault
 pub mod Fields
+pub mod Inner
 pub mod Seen
 pub mod Puts
 pub mod Packets

@@ -4,12 +4,17 @@ use Rattle.its_faults.specs.declared.packet.Fault.{Fault}
 use Rattle.its_model.specs.Packet.{Pdu, beacon}
 use Rattle.its_headers.specs.Encoding.{Encodes}
 use Rattle.its_headers.specs.Format.{walk}
+use Rattle.its_headers.specs.Inner.{Basic}
 use Rattle.its_headers.specs.Layout.{packet_format}
 
 -- a packet, and how many hops it has left
 pub record Seen : Type 0 where
   pub pdu : Pdu
   pub left : ℕ
+
+-- what the Basic Header of a packet says that has so many hops left
+abbrev pub basic_of : Seen → Basic
+basic_of s = record { lifetime = s.pdu.lifetime; left = s.left }
 
 -- a filler: octets of which this would be said are no view's
 abbrev nothing : Pdu

@@ -9,15 +9,18 @@ ghost use Rattle.its_headers.specs.Fields.{media_in, area_in, SaysMessage, IsFor
 ghost use Rattle.its_headers.specs.Packets.{pdu_of_packet, hops_left, IsHeaderOf, IsAreaPacketOf};
 ghost use Rattle.its_headers.specs.Decoding.{HasPayload};
 ghost use Rattle.its_headers.specs.FirstFault.{FirstFault};
+ghost use Rattle.its_headers.specs.Inner.{inner_octets};
+ghost use Rattle.its_headers.specs.Seen.{basic_of};
 
 use crate::kind::Kind;
 use crate::packet::{AreaPacket, Header, Packet, SingleHopBroadcast};
 use crate::payload::Payload;
 use crate::wire::area::area_in;
+use crate::wire::basic::BasicHeader;
 use crate::wire::common::{is_mobile, kind_of, shape_of};
 use crate::wire::fields::{
-    AREA_PAYLOAD, AREA_VECTOR, CLASS, FLAGS, HOPS_LEFT, LIFETIME, MAX_HOPS, NUMBER, SHB_PAYLOAD,
-    TYPE, VECTOR,
+    AREA_PAYLOAD, AREA_VECTOR, BASIC_END, CLASS, FLAGS, HOPS_LEFT, LIFETIME, MAX_HOPS, NUMBER,
+    SHB_PAYLOAD, TYPE, VECTOR,
 };
 use crate::wire::media::media_in;
 use crate::wire::packet_end;
@@ -75,6 +78,20 @@ impl<'a> PacketView<'a> {
         &self.octets[..]
     }
 
+    /// What its Basic Header says.
+    pub fn basic(&self) -> BasicHeader
+        ensures { result ≡ basic_of self.now }
+    {
+        BasicHeader::within(self.lifetime(), self.octets[HOPS_LEFT])
+    }
+
+    /// The plain part of the packet: what follows its Basic Header, for a security entity to sign.
+    pub fn plain(&self) -> &'a [u8]
+        ensures { Encodes self.now.pdu self.now.left (inner_octets (basic_of self.now) result.now) }
+    {
+        &self.octets[BASIC_END..]
+    }
+
     /// The kind of the packet.
     pub fn kind(&self) -> Kind
         ensures { result ≡ kind_of_body self.now.pdu.body }
@@ -114,12 +131,13 @@ impl<'a> PacketView<'a> {
     pub fn vector(&self) -> LongPv
         ensures { result ≡ self.now.pdu.vector }
     {
-        vector_in(self.octets, self.vector_at())
+        vector_in(&self.octets, self.vector_at())
     }
 
     // Where the vector begins.
     fn vector_at(&self) -> usize
-        ensures { result ≡ vector_place self.now.pdu.body }
+        ensures value { result ≡ vector_place self.now.pdu.body }
+        ensures range { (4 ≤ result) × (result ≤ 16) }
     {
         match self.kind() {
             Kind::Beacon | Kind::Shb => VECTOR,
@@ -152,7 +170,7 @@ impl<'a> PacketView<'a> {
         ensures { result ≡ area_in self.now.pdu.body }
     {
         match self.kind() {
-            Kind::Gbc | Kind::Gac => Some(area_in(self.octets, self.shape())),
+            Kind::Gbc | Kind::Gac => Some(area_in(&self.octets, self.shape())),
             Kind::Beacon | Kind::Shb => None,
         }
     }

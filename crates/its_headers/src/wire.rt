@@ -2,23 +2,24 @@
 //! and written; `fields` is the table of their fields. What checks is always inlined, so that no
 //! answer goes through memory from one check to the next.
 
-ghost use Rattle.std.specs.Prelude.{◌≡◌, ◌≤◌};
+ghost use Rattle.std.specs.Prelude.{◌≡◌, ◌≤◌, ℕ};
 ghost use Rattle.its_model.specs.Packet.{geobroadcast, geoanycast};
 ghost use Rattle.its_headers.specs.Format.{walk, end_of};
 ghost use Rattle.its_headers.specs.Layout.{beacon_format, shb_format, area_packet_format};
-ghost use Rattle.its_headers.specs.Layout.{packet_format};
+ghost use Rattle.its_headers.specs.Layout.{packet_format, plain_format};
 
 pub(crate) mod area;
 pub(crate) mod basic;
 pub(crate) mod common;
 pub(crate) mod fields;
 pub(crate) mod media;
+pub(crate) mod octets;
 pub(crate) mod payload;
 pub(crate) mod position;
 
 use crate::kind::Kind;
 use area::check_area;
-use basic::check_basic;
+use basic::{NEXT_COMMON, check_basic};
 use common::check_common;
 use fields::{
     AREA_PAYLOAD, AREA_RESERVED, AREA_VECTOR, BEACON_END, MEDIA, NUMBER, NUMBER_RESERVED,
@@ -26,6 +27,7 @@ use fields::{
 };
 use its_faults::{Fault, FaultKind};
 use its_geometry::Shape;
+use octets::Octets;
 use payload::check_payload;
 use position::check_vector;
 
@@ -36,7 +38,19 @@ use position::check_vector;
 pub(crate) fn packet_end(octets: &[u8]) -> Result<usize, Fault>
     ensures { result ≡ end_of (walk packet_format 0 octets.now) }
 {
-    let left = check_basic(octets)?;
+    let basic = check_basic(&octets, NEXT_COMMON)?;
+    plain_end(&octets, basic.left())
+}
+
+/// Where the packet ends whose Basic Header was checked, which says so many hops, or the first
+/// fault behind it.
+#[tactic(auto, using(crate::proofs::Walks::walk_after))]
+#[inline(always)]
+pub(crate) fn plain_end<O: Octets>(octets: &O, left: u8) -> Result<usize, Fault>
+    requires { O.start octets.now ≤ 4 }
+    ensures { (lifetime : ℕ) → result
+        ≡ end_of (walk (plain_format (lifetime, left)) 4 (O.octets octets.now)) }
+{
     let common = check_common(octets, left)?;
     match common.kind {
         Kind::Beacon => beacon_end(octets),
@@ -48,8 +62,9 @@ pub(crate) fn packet_end(octets: &[u8]) -> Result<usize, Fault>
 /// Where the beacon ends whose headers were checked.
 #[tactic(auto, using(crate::proofs::Walks::walk_after))]
 #[inline(always)]
-fn beacon_end(octets: &[u8]) -> Result<usize, Fault>
-    ensures { result ≡ end_of (walk beacon_format 12 octets.now) }
+fn beacon_end<O: Octets>(octets: &O) -> Result<usize, Fault>
+    requires { O.start octets.now ≤ 4 }
+    ensures { result ≡ end_of (walk beacon_format 12 (O.octets octets.now)) }
 {
     check_vector(octets, VECTOR)?;
     Ok(BEACON_END)
@@ -58,8 +73,9 @@ fn beacon_end(octets: &[u8]) -> Result<usize, Fault>
 /// Where the single-hop broadcast with a payload of this length ends.
 #[tactic(auto, using(crate::proofs::Walks::walk_after))]
 #[inline(always)]
-fn shb_end(octets: &[u8], size: u16) -> Result<usize, Fault>
-    ensures { result ≡ end_of (walk (shb_format size) 12 octets.now) }
+fn shb_end<O: Octets>(octets: &O, size: u16) -> Result<usize, Fault>
+    requires { O.start octets.now ≤ 4 }
+    ensures { result ≡ end_of (walk (shb_format size) 12 (O.octets octets.now)) }
 {
     check_vector(octets, VECTOR)?;
     check_octets(octets, MEDIA, 4)?;
@@ -70,10 +86,11 @@ fn shb_end(octets: &[u8], size: u16) -> Result<usize, Fault>
 /// Where the packet for an area of this shape, with a payload of this length, ends.
 #[tactic(auto, using(crate::proofs::Walks::walk_after))]
 #[inline(always)]
-fn area_packet_end(octets: &[u8], shape: Shape, size: u16) -> Result<usize, Fault>
+fn area_packet_end<O: Octets>(octets: &O, shape: Shape, size: u16) -> Result<usize, Fault>
+    requires { O.start octets.now ≤ 4 }
     ensures gbc { result
-        ≡ end_of (walk (area_packet_format geobroadcast shape size) 12 octets.now) }
-    ensures gac { result ≡ end_of (walk (area_packet_format geoanycast shape size) 12 octets.now) }
+        ≡ end_of (walk (area_packet_format geobroadcast shape size) 12 (O.octets octets.now)) }
+    ensures gac { result ≡ end_of (walk (area_packet_format geoanycast shape size) 12 (O.octets octets.now)) }
 {
     pass_number(octets, NUMBER, 2)?;
     if u16_at(octets, NUMBER_RESERVED)? != 0 {

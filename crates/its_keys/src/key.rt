@@ -241,7 +241,7 @@ impl Key {
     pub(crate) fn form(self) -> Option<&'static str> {
         match self {
             Key::Address => {
-                Some("16 hexadecimal digits without colons, and not the address of a group")
+                Some("the address of one station: 16 hexadecimal digits without colons")
             }
             Key::Do => Some("a word for what a station does"),
             Key::Payload => Some("an even number of hexadecimal digits: 6869 is 'hi'"),

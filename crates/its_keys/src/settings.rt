@@ -9,8 +9,9 @@ use crate::fault::KeyFault;
 use crate::fields::Fields;
 use crate::key::{AIR_KEYS, Key};
 use crate::meant::nearest;
+use crate::shown::Quoted;
 use crate::values::{truth, whole};
-use crate::wrong::WrongOf;
+use crate::wrong::WrongValue;
 use std::alloc::{AllocError, Global};
 use std::fmt;
 use thiserror::Error;
@@ -36,19 +37,19 @@ pub struct SettingFault<'a> {
     /// The key, as it was given.
     pub word: &'a str,
     /// What is wrong with its value, where it is one of the air's.
-    pub wrong: Option<WrongOf>,
+    pub wrong: Option<WrongValue<Quoted<'a>>>,
 }
 
 /// What is wrong with a setting, as words.
 #[derive(Clone, Copy, Debug, PartialEq, Eq)]
-pub enum SettingReason {
+pub enum SettingReason<'a> {
     /// Its key is none of the air's; this one may be meant.
     Meant(Key),
     /// Its value isn't taken.
-    Value(WrongOf),
+    Value(WrongValue<Quoted<'a>>),
 }
 
-impl fmt::Display for SettingReason {
+impl fmt::Display for SettingReason<'_> {
     fn fmt<W: fmt::Write>(&self, f: &mut fmt::Formatter<W>) -> fmt::Result {
         match self {
             SettingReason::Meant(key) => write!(f, "did you mean '{key}'?"),
@@ -57,11 +58,11 @@ impl fmt::Display for SettingReason {
     }
 }
 
-impl SettingFault<'_> {
+impl<'a> SettingFault<'a> {
     /// What is wrong with it: of its value or, where its key is none of the air's, the key of the
     /// air that may be meant, the first of those that are the fewest changes of a letter away.
     /// `None` where each is more than two away.
-    pub fn reason(&self, alloc: Global) -> Result<Option<SettingReason>, AllocError>
+    pub fn reason(&self, alloc: Global) -> Result<Option<SettingReason<'a>>, AllocError>
         ensures value { IfSome self.now.wrong (λ wrong. IfOk result (λ reason.
             reason ≡ Some (SettingReason.Value wrong))) }
         ensures key { self.now.wrong ≡ None → IfOk result (λ reason.
@@ -98,7 +99,7 @@ impl AirSettings {
         };
         set.map_err(|fault| SettingFault {
             word,
-            wrong: fault.wrong(),
+            wrong: setting.wrong(fault),
         })
     }
 
@@ -168,6 +169,12 @@ impl<'a> Setting<'a> {
             number: value.and_then(number_in),
             truth: value.and_then(truth_in),
         }
+    }
+
+    /// What is wrong with its value, by the fault of its key. `None` where an allocation failed.
+    fn wrong(&self, fault: KeyFault) -> Option<WrongValue<Quoted<'a>>> {
+        let value = self.value.map(Quoted);
+        fault.wrong().map(|wrong| WrongValue { wrong, value })
     }
 }
 

@@ -1,6 +1,7 @@
 //! What is wrong with the value of a key.
 
 use crate::key::Key;
+use crate::shown::NotOneOf;
 use crate::verb::{Verb, Verbs};
 use std::fmt;
 
@@ -21,8 +22,8 @@ pub enum Wrong {
     Near(Verb),
     /// It is a word that the key doesn't take: it takes these.
     Unlisted(Verbs),
-    /// It is the number of no station of the scenario's own.
-    NoStation,
+    /// It is this number, which none of the scenario's own stations has.
+    NoStation(u16),
 }
 
 /// What is wrong with the value of a key, as words: `missing`, `65536 is not in 0..=65535`.
@@ -35,28 +36,39 @@ impl fmt::Display for WrongOf {
     }
 }
 
+/// What is wrong with the value of a key, and that value, as words: `"wide" is not a whole number of
+/// metres`.
+#[derive(Clone, Copy, Debug, PartialEq, Eq)]
+pub struct WrongValue<T> {
+    /// The key and what is wrong.
+    pub wrong: WrongOf,
+    /// The value, as a message shows it, if it does.
+    pub value: Option<T>,
+}
+
+impl<T: fmt::Display> fmt::Display for WrongValue<T> {
+    fn fmt<W: fmt::Write>(&self, f: &mut fmt::Formatter<W>) -> fmt::Result {
+        let wrong = self.wrong;
+        match (&self.value, wrong.1) {
+            (None, _) | (_, Wrong::Missing | Wrong::Range(_) | Wrong::NoStation(_)) => wrong.fmt(f),
+            (Some(value), Wrong::Near(_)) => write!(f, "{value}: {wrong}"),
+            (Some(value), _) => write!(f, "{value} is {wrong}"),
+        }
+    }
+}
+
 fn explain<W: fmt::Write>(f: &mut fmt::Formatter<W>, key: Key, wrong: Wrong) -> fmt::Result {
     match wrong {
         Wrong::Missing => f.write_str("missing"),
         Wrong::Kind => write!(f, "not {}", key.kind()),
         Wrong::OfCircle => f.write_str("not 0, as it is of a circle"),
         Wrong::Near(verb) => write!(f, "did you mean '{verb}'?"),
-        Wrong::Unlisted(verbs) => list_verbs(f, verbs.all()),
-        Wrong::NoStation => f.write_str("the scenario has no such station"),
+        Wrong::Unlisted(verbs) => write!(f, "{}", NotOneOf(verbs.all())),
+        Wrong::NoStation(number) => write!(f, "the scenario has no station {number}"),
         Wrong::Range(number) => { write!(f, "{number} is not in {}..={}", key.least(), key.most()) }
         Wrong::Value => match key.form() {
             Some(form) => write!(f, "not {form}"),
             None => write!(f, "not in {}..={}", key.least(), key.most()),
         },
     }
-}
-
-/// Writes the words that a key takes.
-fn list_verbs<W: fmt::Write>(f: &mut fmt::Formatter<W>, verbs: &[Verb]) -> fmt::Result {
-    f.write_str("not one of")?;
-    for (place, verb) in verbs.iter().enumerate() {
-        let before = if place == 0 { "" } else { "," };
-        write!(f, "{before} {verb}")?;
-    }
-    Ok(())
 }

@@ -31,17 +31,17 @@ pub take-next_six : (w : List ℕ) → 14 ≤ length w → take 6 (drop 6 w) ≡
 take-next_six (a ∷ b ∷ c ∷ d ∷ e ∷ f ∷ g ∷ h ∷ i ∷ j ∷ k ∷ l ∷ w) le = refl
 take-next_six _ le = absurd (omega arith)
 
-in_parts : (w : List ℕ) → 14 ≤ length w
+pub in_parts : (w : List ℕ) → 14 ≤ length w
     → w ≡ first_six w ++ next_six w ++ get_or w 12 0 ∷ get_or w 13 0 ∷ drop 14 w
 in_parts (a ∷ b ∷ c ∷ d ∷ e ∷ f ∷ g ∷ h ∷ i ∷ j ∷ k ∷ l ∷ m ∷ n ∷ w) le = refl
 in_parts _ le = absurd (omega arith)
 
 -- six octets are a number of 48 bits
-IsMac-first_six : (w : List ℕ) → 14 ≤ length w → IsBytes w → big_number 6 (first_six w) < 2 ^ 48
+pub IsMac-first_six : (w : List ℕ) → 14 ≤ length w → IsBytes w → big_number 6 (first_six w) < 2 ^ 48
 IsMac-first_six w le fits =
     big_from-lt 0 6 (first_six w) (subst IsBytes (take-first_six w le) (IsBytes-take 6 w fits))
 
-IsMac-next_six : (w : List ℕ) → 14 ≤ length w → IsBytes w → big_number 6 (next_six w) < 2 ^ 48
+pub IsMac-next_six : (w : List ℕ) → 14 ≤ length w → IsBytes w → big_number 6 (next_six w) < 2 ^ 48
 IsMac-next_six w le fits =
     big_from-lt 0 6 (next_six w)
     (subst IsBytes (take-next_six w le) (IsBytes-take 6 (drop 6 w) (IsBytes-drop 6 w fits)))

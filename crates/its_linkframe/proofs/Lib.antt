@@ -6,4 +6,5 @@ pub mod Heads
 pub mod Makings
 pub mod Paddings
 pub mod Pieces
+pub mod SecuredFrames
 pub mod Stages

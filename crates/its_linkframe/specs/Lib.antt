@@ -5,6 +5,7 @@ pub mod FrameFaults
 pub mod Frames
 pub mod Padding
 pub mod Reading
+pub mod Secured
 pub mod Writing
 pub use Rattle.its_headers.specs.Encoding
 pub use Rattle.its_headers.specs.FirstFault

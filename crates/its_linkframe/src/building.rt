@@ -85,7 +85,7 @@ fn write_parts(frame: &mut [u8], to: Mac, from: Mac, packet: &Packet)
 }
 
 /// Addresses and type, which stand in front of a packet.
-fn link_header(to: Mac, from: Mac) -> [u8; PACKET]
+pub(crate) fn link_header(to: Mac, from: Mac) -> [u8; PACKET]
     ensures octets { result ≡ link_header to from }
     ensures fits { (to < 2 ^ 48) × (from < 2 ^ 48) }
 {

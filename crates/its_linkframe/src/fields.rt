@@ -18,6 +18,9 @@ pub(crate) const PACKET: usize = 14;
 /// The hops that its packet has left.
 pub(crate) const HOPS_LEFT: usize = PACKET + its_headers::HOPS_LEFT;
 
+/// The message of a secured frame.
+pub(crate) const MESSAGE: usize = 18;
+
 // A record of a capture.
 
 /// The length of the frame, two octets; the moment in front of it has eight.

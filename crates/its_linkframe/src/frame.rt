@@ -60,7 +60,7 @@ pub fn read_frame(octets: &[u8]) -> Result<FrameView<'_>, FrameFault>
 }
 
 /// The link address that begins at this octet.
-fn mac_at(octets: &[u8], at: usize) -> Mac
+pub(crate) fn mac_at(octets: &[u8], at: usize) -> Mac
     requires { at + 6 ≤ length octets.now }
     ensures number { result ≡ big_number 6 (take 6 (drop at octets.now)) }
     ensures octets { big_bytes 6 result ≡ take 6 (drop at octets.now) }

@@ -97,8 +97,8 @@ impl LinkFault {
 impl fmt::Display for LinkFault {
     fn fmt<W: fmt::Write>(&self, f: &mut fmt::Formatter<W>) -> fmt::Result {
         let sentence = match self {
-            LinkFault::Short => "the record ends in its link layer's header",
-            LinkFault::Kind => "no plain data of its link layer",
+            LinkFault::Short => "the record ends in the header of its link layer",
+            LinkFault::Kind => "not an unencrypted, unfragmented data frame of its link layer",
         };
         write!(f, "{sentence}")
     }

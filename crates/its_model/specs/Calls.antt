@@ -6,6 +6,7 @@ use Rattle.its_geometry.specs.Area.{GeoArea}
 use Rattle.its_model.specs.Packet.{Message, Transmission, AreaKind}
 use Rattle.its_model.specs.Packet.AreaKind.{geobroadcast, geoanycast}
 use Rattle.its_faults.specs.declared.frame.FrameFault.{FrameFault}
+use Rattle.its_faults.specs.declared.secured.SecuredFault.{SecuredFault}
 
 -- to be sent to all stations in reach
 pub record ShbRequest : Type 0 where
@@ -55,6 +56,7 @@ pub data Refusal : Type 0 where
   MomentTooLate : Refusal  -- S2
   JitterRange : Refusal  -- S9
   BadFrame : (fault : FrameFault) → Refusal  -- S3
+  BadSecured : (fault : SecuredFault) → Refusal  -- S3, of a frame that came with its plain part
   AlreadyOpen : Refusal  -- S8 B2
   PortsFull : Refusal  -- S8 B3
   NotOpen : Refusal  -- S8 B4

@@ -6,6 +6,8 @@ ghost use Rattle.its_moves.specs.Columns.{HasNone, HasOnce, MayStand, HasNoName,
 ghost use Rattle.its_moves.specs.Columns.{IsHeaderIn, texts};
 ghost use Rattle.its_moves.specs.declared.columns.Columns.{Columns};
 
+use crate::fault::Word;
+
 /// A column that has a meaning; others are passed over.
 #[derive(Clone, Copy, Debug, PartialEq, Eq)]
 pub enum Column {
@@ -111,6 +113,21 @@ impl Column {
             Column::Lon => 1_800_000_000,
             Column::Speed => 16383,
             Column::Heading => 3600,
+        }
+    }
+}
+
+impl Columns {
+    /// Where the column stands that a word refuses. `None` for a word that refuses no column.
+    pub(crate) fn place_of(&self, word: Word) -> Option<usize> {
+        match word {
+            Word::At => Some(self.at),
+            Word::Id => Some(self.id),
+            Word::Lat => Some(self.lat),
+            Word::Lon => Some(self.lon),
+            Word::Speed => self.speed,
+            Word::Heading => self.heading,
+            Word::Length | Word::Header(_) | Word::Fields | Word::TooManyStations => None,
         }
     }
 }

@@ -1,6 +1,7 @@
 //! Why moves can't be read on.
 
 use crate::columns::{Column, Notation};
+use its_lines::GzipFile;
 use std::alloc::{AllocError, AllocFailed};
 use std::error::Error;
 use std::{fmt, io};
@@ -23,9 +24,7 @@ pub enum HeaderFault {
 impl fmt::Display for HeaderFault {
     fn fmt<W: fmt::Write>(&self, f: &mut fmt::Formatter<W>) -> fmt::Result {
         match self {
-            HeaderFault::Gzip => f.write_str(
-                "a gzip file: use zcat FILE | geostation sim --moves -",
-            ),
+            HeaderFault::Gzip => GzipFile("sim --moves -").fmt(f),
             HeaderFault::NoColumn => f.write_str(
                 "it names no columns, which are at, id, lat and lon, \
                 or SUMO's timestep_time, vehicle_id, vehicle_y and vehicle_x",

@@ -9,15 +9,13 @@ use crate::columns::{Column, Columns, Found, Notation, columns_of, find, names_n
 use crate::fault::{HeaderFault, LineFault, MovesFault, ReadFault, Word};
 use crate::fields::{Bound, find_bounds, join, split};
 use crate::row::{Row, field, numbers_of};
+use its_lines::GZIP;
 use std::alloc::Global;
 use std::io::{BufRead, Take};
 use std::{io, str};
 
 /// The most octets of a line before its line feed.
 pub const LONGEST_LINE: usize = 4096;
-
-/// The octets with which each gzip file begins.
-const GZIP: &[u8] = b"\x1f\x8b";
 
 /// The byte order mark in UTF-8.
 const BYTE_ORDER_MARK: &[u8] = b"\xef\xbb\xbf";
@@ -117,6 +115,18 @@ impl<R: BufRead + Drop> Rows<R> {
         ensures { result ≡ self.now.number }
     {
         self.number
+    }
+
+    /// The field of the line that was read last that a word refuses, without its quotation marks.
+    /// `None` for a word that refuses no field.
+    pub fn refused(&self, word: Word) -> Option<&[u8]> {
+        let place = self.columns.place_of(word)?;
+        let octets = if self.line.contains(&b'"') {
+            &self.text
+        } else {
+            &self.line
+        };
+        Some(field(octets, &self.bounds, place))
     }
 
     /// Reads lines to the next that gives a row.
@@ -290,7 +300,7 @@ fn header_of(alloc: Global, line: &[u8]) -> Result<(u8, Columns), LineFault> {
 
 /// What is wrong with a first line, which has these fields and names the columns of no notation.
 fn header_fault(octets: &[u8], names: &[Vec<u8>]) -> HeaderFault {
-    if octets.starts_with(GZIP) {
+    if octets.starts_with(&GZIP) {
         return HeaderFault::Gzip;
     }
     match (

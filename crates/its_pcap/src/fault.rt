@@ -52,7 +52,7 @@ impl fmt::Display for SourceFault {
             SourceFault::LinkType => {
                 write!(
                     f,
-                    "a link layer other than Ethernet, IEEE 802.11 and radiotap"
+                    "a link layer other than Ethernet, IEEE 802.11, radiotap and Linux cooked"
                 )
             }
             SourceFault::Capture(fault) => write!(f, "{fault}"),

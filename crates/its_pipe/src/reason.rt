@@ -54,7 +54,7 @@ fn explain_query<W: fmt::Write>(
         (QueryKey::Frame, Wrong::Kind) => f.write_str("not a text"),
         (QueryKey::Frame, _) => f.write_str("not an even number of hexadecimal digits"),
         (QueryKey::After | QueryKey::Address, _) => {
-            f.write_str("not 16 hexadecimal digits of an address that is no group's")
+            f.write_str("not a GN address: 16 hexadecimal digits, not a group address")
         }
     }
 }

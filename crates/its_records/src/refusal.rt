@@ -8,6 +8,7 @@ ghost use Rattle.its_records.specs.declared.refusal.RecordFault.TheVariants as f
 
 use its_faults::FaultKind;
 use its_frame_text::FrameReason;
+use its_lines::{GZIP, GzipFile};
 use its_linkframe::{CaptureFault, FrameFault};
 use its_pcap::{Format, LinkFault, SourceFault};
 use its_reporting::Fault;
@@ -118,9 +119,6 @@ pub struct FileFault {
     is_gzip: bool,
 }
 
-/// The first two octets of gzip's files.
-const GZIP: u64 = 0x1f8b;
-
 impl FileFault {
     /// The fault of the file of this name after so many records, where its octets are at fault: a
     /// failed read and want of memory end the command instead. The format is the one that the file
@@ -153,7 +151,7 @@ impl FileFault {
     pub(crate) fn begun(self, format: Format, first: Option<u64>) -> FileFault
         ensures { result.fault ≡ self.fault }
     {
-        let begins = first.is_some_and(|moment| moment / 2u64.pow(48) == GZIP);
+        let begins = first.is_some_and(|moment| moment.to_be_bytes().starts_with(&GZIP));
         FileFault {
             is_gzip: begins && format == Format::Capture,
             ..self
@@ -171,7 +169,7 @@ impl FileFault {
 impl fmt::Display for FileFault {
     fn fmt<W: fmt::Write>(&self, f: &mut fmt::Formatter<W>) -> fmt::Result {
         if self.is_gzip {
-            f.write_str("a gzip file: use zcat FILE | geostation show -")
+            GzipFile("show -").fmt(f)
         } else if self.begins_as_none {
             f.write_str("not a capture, pcap or pcapng file")
         } else {

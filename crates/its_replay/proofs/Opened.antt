@@ -21,6 +21,7 @@ stands_after (Err refused.MomentEarlier) new step is not = is.1
 stands_after (Err refused.MomentTooLate) new step is not = is.1
 stands_after (Err refused.JitterRange) new step is not = is.1
 stands_after (Err (refused.Frame fault)) new step is not = is.1
+stands_after (Err (refused.Secured fault)) new step is not = is.1
 stands_after (Err (refused.Port fault)) new step is not = is.1
 stands_after (Err refused.PayloadTooLong) new step is not = is.1
 stands_after (Err refused.HopLimitZero) new step is not = is.1

@@ -1,6 +1,6 @@
 //! A file of frames, written as they are given.
 
-ghost use Rattle.std.specs.Prelude.{◌≡◌, ◌^◌, ◌<◌, IfOk, is_ok};
+ghost use Rattle.std.specs.Prelude.{◌≡◌, ◌^◌, ◌<◌, IfOk, Ok, is_ok};
 ghost use Rattle.its_reporting.specs.Statuses.{IsCommandStatus};
 ghost use Rattle.its_reporting.specs.FrameFiles.{HasNewInterface, IsBegun, IsNoted, IsEnded};
 
@@ -139,6 +139,7 @@ impl<'a, W: Write + Drop> FrameFile<'a, W> {
         requires { IfOk ran IsCommandStatus }
         ensures status { IfOk result IsCommandStatus }
         ensures ended { IfOk result (IsEnded self.entry ran.entry) }
+        ensures done { result ≡ Ok Status.Done → ran.entry ≡ Ok Status.Done }
     {
         let FrameFile {
             sink,

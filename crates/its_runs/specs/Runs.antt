@@ -1,6 +1,6 @@
 -- How a command ends that ran a scenario.
 use Rattle.std.specs.Prelude.{◌≡◌, ◌&&◌, List, [], map, Bool, true, false, not, if◌then◌else◌}
-use Rattle.std.specs.Prelude.{IfOk, IfSome, Result}
+use Rattle.std.specs.Prelude.{IfOk, IfSome, Ok, Result}
 use Rattle.std.specs.List.{list_all}
 use Rattle.its_world.specs.declared.entry.Entry.{Entry}
 use Rattle.its_world.specs.Entries.{was_done}
@@ -46,6 +46,11 @@ EndsRun strict scenario has_moves ended =
     × (has_moves ≡ false → IfOk ended (IsRunStatus strict scenario))
     × (has_moves ≡ true →
     IfSome scenario.air (λ air. IfOk ended (IsMovedStatus strict scenario air)))
+
+-- The scenario was run, with the rows of a file where it has moves, and its run is done: of one that
+-- is strict no entry is a refusal.
+abbrev pub IsDoneRun : Bool → Scenario → Bool → Type 0
+IsDoneRun strict scenario has_moves = EndsRun strict scenario has_moves (Ok Done)
 
 -- the status of what kept a scenario from being run: a bad scenario is refused, and a bad line of
 -- moves, all else failed

@@ -2,8 +2,10 @@
 
 use crate::in_file::InFile;
 use its_frame_text::Explanation;
+use its_keys::Quoted;
 use its_moves::{Word, WordReason};
 use its_reporting::{CommandFault, OutputFormat, Status};
+use std::fmt;
 use std::io::Write;
 use thiserror::Error;
 
@@ -17,6 +19,21 @@ pub struct BadRow<'a> {
     pub line: u64,
     /// What is wrong with it.
     pub word: Word,
+    /// The field that is wrong, if one is and it is UTF-8.
+    pub value: Option<&'a str>,
+}
+
+/// What is wrong with a line, as a sentence. It prints as `"48.1" is not a latitude: ..`.
+#[derive(Clone, Copy)]
+struct RowReason<'a>(Word, Option<&'a str>);
+
+impl fmt::Display for RowReason<'_> {
+    fn fmt<W: fmt::Write>(&self, f: &mut fmt::Formatter<W>) -> fmt::Result {
+        if let Some(value) = self.1 {
+            write!(f, "{} is ", Quoted(value))?;
+        }
+        WordReason(self.0).fmt(f)
+    }
 }
 
 impl CommandFault for BadRow<'_> {
@@ -32,7 +49,7 @@ impl CommandFault for BadRow<'_> {
     fn report<E: Write>(&self, format: OutputFormat, err: &mut E) {
         let reason = format
             .explain
-            .then_some(InFile(self.file, WordReason(self.word)));
+            .then_some(InFile(self.file, RowReason(self.word, self.value)));
         let _ = writeln!(err, "{self}{}", Explanation(reason));
     }
 }

@@ -3,11 +3,12 @@
 use crate::fault::{RunFault, fault_of_moves};
 use crate::options::RunOptions;
 use its_events::end_of;
-use its_moves::Rows;
+use its_moves::{Rows, Word};
 use its_scenario::Scenario;
 use its_world::Event;
 use std::alloc::Global;
 use std::io::BufRead;
+use std::str;
 
 /// A file of moves whose first line was read.
 #[derive(Drop)]
@@ -30,6 +31,11 @@ impl<'a, M: BufRead + Drop> MovesFile<'a, M> {
             Err(fault) => Err(fault_of_moves(fault, name)),
         }
     }
+
+    /// The field of the line that was read last that a word refuses, if it does and it is UTF-8.
+    pub(crate) fn refused(&self, word: Word) -> Option<&str> {
+        str::from_utf8(self.rows.refused(word)?).ok()
+    }
 }
 
 /// What is run and how.
@@ -43,14 +49,6 @@ pub(crate) struct Course<'s, 'a, M: BufRead + Drop> {
 }
 
 impl<'s, 'a, M: BufRead + Drop> Course<'s, 'a, M> {
-    /// The name of the file of moves, where there are any.
-    pub(crate) fn name(&self) -> Option<&'a str> {
-        match &self.moves {
-            Some(moves) => Some(moves.name),
-            None => None,
-        }
-    }
-
     /// Whether there are moves.
     pub(crate) fn has_moves(&self) -> bool {
         self.moves.is_some()

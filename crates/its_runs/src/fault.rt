@@ -76,7 +76,12 @@ impl<'a> From<RunFault<'a>> for WriterFault<'a, RunFault<'a>> {
 /// What ends the command where the rows of the file of this name can't be read on.
 pub(crate) fn fault_of_moves<'a>(fault: MovesFault, file: &'a str) -> RunFault<'a> {
     match fault {
-        MovesFault::Line(line, word) => RunFault::Row(BadRow { file, line, word }),
+        MovesFault::Line(line, word) => RunFault::Row(BadRow {
+            file,
+            line,
+            word,
+            value: None,
+        }),
         MovesFault::Read(fault) => RunFault::Stopped(Fault::of_read(&fault.error(), file)),
         MovesFault::NoMemory => RunFault::Stopped(Fault::OutOfMemory(AllocError)),
     }

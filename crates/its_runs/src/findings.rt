@@ -4,7 +4,8 @@ ghost use Rattle.std.specs.Prelude.{◌≡◌, ◌≢◌, IfOk, Ok};
 ghost use Rattle.its_reporting.specs.Statuses.{IsCommandStatus};
 
 use crate::asked::Asked;
-use crate::course::Course;
+use crate::bad_row::BadRow;
+use crate::course::{Course, MovesFile};
 use crate::fault::{RunFault, fault_of_air, is_cut_short};
 use its_air::AirFault;
 use its_frame_text::Explanation;
@@ -86,13 +87,13 @@ impl<'s, 'a, W: Write + Drop> Findings<'s, 'a, W> {
     }
 
     /// Ends the files of a run that ended so, and reports on standard error what was found out about
-    /// it. `moves` is the name of its file of moves, if there is one. `CannotWrite` if a file
-    /// failed. `Refused` if a line of moves ended the run, and of a run that is done if something
+    /// it. `moves` is its file of moves, if there is one. `CannotWrite` if a file failed.
+    /// `Refused` if a line of moves ended the run, and of a run that is done if something
     /// that is expected isn't met or, with `strict`, if an event wasn't run.
-    pub(crate) fn end<P, E: Write>(
+    pub(crate) fn end<P, E: Write, M: BufRead + Drop>(
         mut self,
         ran: Result<Status, AirFault>,
-        moves: Option<&'a str>,
+        moves: Option<&MovesFile<'a, M>>,
         io: &mut Io<P, E>,
     ) -> Result<Status, Fault<'a>>
         requires { IfOk ran IsCommandStatus }
@@ -134,10 +135,10 @@ impl<'s, 'a, W: Write + Drop> Findings<'s, 'a, W> {
     /// Reports on standard error what was found out about a run that this fault ended: if its file
     /// of moves did, full location tables, events that weren't run, and which line is bad. This
     /// comes before the files are ended, which may fail as well.
-    fn tell_fault<P, E: Write>(
+    fn tell_fault<P, E: Write, M: BufRead + Drop>(
         &self,
         fault: AirFault,
-        moves: Option<&'a str>,
+        moves: Option<&MovesFile<'a, M>>,
         io: &mut Io<P, E>,
     ) -> Result<Status, Fault<'a>>
         ensures status { IfOk result IsCommandStatus }
@@ -147,8 +148,13 @@ impl<'s, 'a, W: Write + Drop> Findings<'s, 'a, W> {
             self.report_full(&mut io.err);
             self.failed.report(io.format.explain, &mut io.err);
         }
-        match fault_of_air(fault, moves) {
+        match fault_of_air(fault, moves.map(|moves| moves.name)) {
             RunFault::Stopped(fault) => Err(fault),
+            RunFault::Row(row) => {
+                let value = moves.and_then(|moves| moves.refused(row.word));
+                let row = BadRow { value, ..row };
+                Ok(io.status_of(Err(RunFault::Row(row))))
+            }
             fault => Ok(io.status_of(Err(fault))),
         }
     }

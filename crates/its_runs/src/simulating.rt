@@ -1,8 +1,8 @@
 //! The command `sim`.
 
-ghost use Rattle.std.specs.Prelude.{◌≡◌, ◌≤◌, IfOk, None, is_some, true, vec_len};
+ghost use Rattle.std.specs.Prelude.{◌≡◌, ◌≤◌, IfOk, None, Ok, false, is_some, true, vec_len};
 ghost use Rattle.its_reporting.specs.Statuses.{IsCommandStatus};
-ghost use Rattle.its_runs.specs.Runs.{EndsRun, IsMovedStatus, IsRunStatus};
+ghost use Rattle.its_runs.specs.Runs.{EndsRun, IsDoneRun, IsMovedStatus, IsRunStatus};
 
 use crate::both::Both;
 use crate::course::Course;
@@ -17,7 +17,7 @@ use crate::watched::Watched;
 use its_air::{AirFault, run_moves, run_scenario};
 use its_frame_text::Explanation;
 use its_moves::Rows;
-use its_reporting::{Fault, Io, OutputFormat, Status};
+use its_reporting::{Fault, FrameFile, Io, OutputFormat, Status};
 use its_scenario::{Reading, Scenario};
 use its_settings::Air;
 use its_simulation::{EventSink, JsonLines, SimulationFault, TextLines};
@@ -29,12 +29,12 @@ use std::io::{BufRead, BufReader, Read, Write};
 /// The most stations of a scenario.
 pub(crate) const MOST_STATIONS: usize = 65535;
 
-/// Runs the scenario that the reader gives and prints a line for each event: its place, its moment,
-/// its station and what is told of it. In JSON the stations have a line before. `file` is its name.
-/// An event that is refused has its line, and is no refusal of the scenario.
+/// Runs the scenario in the text of a reader and prints a line for each event: its number, its
+/// time, its station and its result. In JSON the stations have a line before. `file` is the name of
+/// the scenario. An event that is refused has a line too, and the run goes on.
 ///
-/// `Refused` for a text that is no scenario, before any line, and with `strict` where an event was
-/// refused; `Failed` where a read or a write failed or memory ran out.
+/// Returns `Refused` if the text is not a scenario, before any line. With `strict`, also if an
+/// event was refused. Returns `Failed` if a read or a write failed, or memory ran out.
 pub fn simulate<R: Read + Drop, W: Write, E: Write>(
     alloc: Global,
     file: &str,
@@ -48,7 +48,7 @@ pub fn simulate<R: Read + Drop, W: Write, E: Write>(
     io.status_of(ended)
 }
 
-/// The same, with the fault that ends it.
+/// Runs the scenario in a text as `simulate` does. Returns the fault that ends it.
 fn simulate_text<'a, R: Read + Drop, W: Write, E: Write>(
     alloc: Global,
     file: &'a str,
@@ -64,8 +64,8 @@ fn simulate_text<'a, R: Read + Drop, W: Write, E: Write>(
 }
 
 /// Runs a scenario that was read, of at most 65535 stations, and prints its lines as `simulate`
-/// does. How it ends: `Refused` where something isn't met that it expects, and with `strict` where
-/// an event was refused.
+/// does. Returns `Refused` if something that it expects isn't met. With `strict`, also if an event
+/// was refused.
 ///
 /// `NoOutput` where a write failed, `OutOfMemory` where an allocation did.
 pub fn simulate_scenario<'f, W: Write, E: Write>(
@@ -76,6 +76,8 @@ pub fn simulate_scenario<'f, W: Write, E: Write>(
 ) -> Result<Status, Fault<'f>>
     requires { vec_len scenario.now.stations ≤ 65535 }
     ensures status { IfOk result IsCommandStatus }
+    ensures done { result ≡ Ok Status.Done →
+        IsDoneRun options.now.strict scenario.now false }
 {
     let outputs: Outputs<'_, Vec<u8>> = Outputs::none();
     let options = *options;
@@ -87,8 +89,8 @@ pub fn simulate_scenario<'f, W: Write, E: Write>(
     run_into(alloc, &mut course, outputs, io)
 }
 
-/// Runs a scenario, and writes these files. How it ends: `Refused` where a frame was left out of
-/// its file and, with `strict`, where an event was refused.
+/// Runs a scenario, and writes these files. Returns `Refused` if a frame was left out of its file.
+/// With `strict`, also if an event was refused.
 pub(crate) fn run_into<'a, M: BufRead + Drop, F: Write + Drop, W: Write, E: Write>(
     alloc: Global,
     course: &mut Course<'_, 'a, M>,
@@ -97,6 +99,8 @@ pub(crate) fn run_into<'a, M: BufRead + Drop, F: Write + Drop, W: Write, E: Writ
 ) -> Result<Status, Fault<'a>>
     requires { vec_len course.old.scenario.now.stations ≤ 65535 }
     ensures status { IfOk result IsCommandStatus }
+    ensures done { result ≡ Ok Status.Done → IsDoneRun course.old.options.now.strict
+        course.old.scenario.now (is_some course.old.moves) }
 {
     let Outputs {
         mut frames,
@@ -116,15 +120,27 @@ pub(crate) fn run_into<'a, M: BufRead + Drop, F: Write + Drop, W: Write, E: Writ
     };
     let ran = run(alloc, course, finding, io.format, &mut io.out);
     progress.end(&mut io.err);
-    let ended = findings.end(ran, course.name(), io);
+    let ended = findings.end(ran, course.moves.as_ref(), io);
+    end_frames(frames, ended)
+}
+
+/// Ends the file of frames of a run that ended so, if there is one: how the run ends then.
+fn end_frames<'a, F: Write + Drop>(
+    frames: Option<FrameFile<'a, F>>,
+    ended: Result<Status, Fault<'a>>,
+) -> Result<Status, Fault<'a>>
+    requires { IfOk ended IsCommandStatus }
+    ensures status { IfOk result IsCommandStatus }
+    ensures done { result ≡ Ok Status.Done → ended.entry ≡ Ok Status.Done }
+{
     match frames {
         Some(file) => file.end(ended),
         None => ended,
     }
 }
 
-/// Runs a scenario and prints its lines, or what came of it; each event goes to the other sink too.
-/// How `sim` ends then, but for what was found out.
+/// Runs a scenario and prints its lines, or its summary. Each event goes to the other sink too.
+/// Returns the status of `sim` before its findings are reported.
 fn run<M: BufRead + Drop, F: EventSink + SummaryDetails + Drop, W: Write>(
     alloc: Global,
     course: &mut Course<'_, '_, M>,
@@ -209,8 +225,8 @@ fn print_beginning<M: BufRead + Drop, W: Write>(
     }
 }
 
-/// Runs a scenario and prints what came of it: how `sim` ends then. Of a run that its file of moves
-/// cut short it is what came of it till then, without the counts.
+/// Runs a scenario and prints its summary. Returns the status of `sim`. If the file of moves cut
+/// the run short, the summary is that of the part before, without the totals.
 fn run_summed_up<M: BufRead + Drop, F: EventSink + SummaryDetails + Drop, W: Write>(
     alloc: Global,
     course: &mut Course<'_, '_, M>,
@@ -259,7 +275,7 @@ fn run_watched<M: BufRead + Drop, S: EventSink>(
     }
 }
 
-/// The same of a scenario alone.
+/// Runs a scenario without a file of moves, and returns the status of `sim`.
 fn run_alone<S: EventSink>(
     alloc: Global,
     scenario: &Scenario,
@@ -275,7 +291,7 @@ fn run_alone<S: EventSink>(
     Ok(watched.status(strict))
 }
 
-/// The same of a scenario with the rows of a file of moves.
+/// Runs a scenario with the rows of a file of moves, and returns the status of `sim`.
 fn run_moved<M: BufRead + Drop, S: EventSink>(
     alloc: Global,
     scenario: &Scenario,
@@ -293,8 +309,8 @@ fn run_moved<M: BufRead + Drop, S: EventSink>(
     Ok(watched.status(strict))
 }
 
-/// Reports on standard error each key of a scenario's document that is none of its words: a table
-/// of that name is ignored. A write that fails is ignored.
+/// Reports on standard error each unknown key of a scenario's document: a table of that name is
+/// ignored. A write that fails is ignored.
 pub fn report_unknown<E: Write>(scenario: &Scenario, err: &mut E) {
     for key in &scenario.unknown {
         let tip = Explanation(key.tip());
@@ -321,8 +337,8 @@ pub fn read_scenario<'a, R: Read + Drop>(
     )
 }
 
-/// The same, but that whatever stands under `air` and `expect` is passed over. With `strict` a key
-/// that is unknown is refused.
+/// Reads a scenario as `read_scenario` does, but ignores `air` and `expect`, whatever they are.
+/// With `strict` an unknown key is refused.
 pub fn read_scenario_without_air<'a, R: Read + Drop>(
     alloc: Global,
     file: &'a str,

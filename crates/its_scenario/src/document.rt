@@ -90,7 +90,7 @@ impl Scenario {
         ensures none { IfOk result (λ scenario. scenario.air ≡ None) }
     {
         let document = document_of(alloc, text)?;
-        let tables = Tables::without_air(&document)?;
+        let tables = Tables::without_air(alloc, &document)?;
         let scenario = tables.read(alloc, most_stations)?;
         tables.refuse_unknown(alloc, &document, strict)?;
         Ok(scenario)

@@ -13,6 +13,7 @@ use crate::centre::centre_areas;
 use crate::fault::ScenarioFault;
 use crate::part::Part;
 use its_events::{AddressedEvent, FileEvent, Filed, read_addressed, read_event, read_file_event};
+use its_keys::Key;
 use its_world::{Config, Event};
 use std::alloc::Global;
 use toml::{Table, Value};
@@ -29,7 +30,7 @@ pub(crate) fn read_events(alloc: Global, items: &[Value]) -> Result<Vec<Event>, 
     for (number, item) in items.iter().enumerate() {
         // `array_of_tables` has seen that each item is one.
         let Some(table) = item.as_table() else {
-            return Err(ScenarioFault::Events);
+            return Err(ScenarioFault::Kind(Key::Event, None));
         };
         events.push(read_numbered_event(alloc, table, number)?)?;
     }
@@ -84,7 +85,7 @@ fn read_lines(alloc: Global, items: &[Value]) -> Result<(Vec<FileEvent>, Vec<boo
     for (number, item) in items.iter().enumerate() {
         // `array_of_tables` has seen that each item is one.
         let Some(table) = item.as_table() else {
-            return Err(ScenarioFault::Events);
+            return Err(ScenarioFault::Kind(Key::Event, None));
         };
         let event = read_filed(alloc, table, number)?;
         round_station.push(event.round_station)?;
@@ -121,7 +122,7 @@ pub(crate) fn read_all_addressed(
     for (number, item) in items.iter().enumerate() {
         // `array_of_tables` has seen that each item is one.
         let Some(table) = item.as_table() else {
-            return Err(ScenarioFault::Events);
+            return Err(ScenarioFault::Kind(Key::Event, None));
         };
         addressed.push(read_numbered_addressed(alloc, table, number, stations)?)?;
     }

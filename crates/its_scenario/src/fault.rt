@@ -5,6 +5,7 @@ ghost use Rattle.its_scenario.specs.Documents.{IsPastToml};
 ghost use Rattle.its_scenario.specs.Faults.{fault_of};
 ghost use Rattle.its_scenario.specs.declared.fault.ScenarioFault.TheVariants.{OutOfMemory};
 
+use crate::found::Found;
 use crate::part::Part;
 use crate::position::TomlFault;
 use crate::reason::Reason;
@@ -22,30 +23,19 @@ pub enum ScenarioFault {
     /// The text is no TOML document.
     #[error("scenario: not TOML")]
     NotToml(TomlFault),
-    /// `station` is there and no array of tables.
-    #[error("scenario: station")]
-    Stations,
-    /// `event` is there and no array of tables.
-    #[error("scenario: event")]
-    Events,
-    /// `air` is no table, or missing where the command needs it.
+    /// `station`, `event`, `every` or `expect` is no array of tables, or `air` or `moves` no table.
+    /// With what stands there instead.
+    #[error("scenario: {0}")]
+    Kind(Key, Option<Found>),
+    /// `air` is missing, which the command needs.
     #[error("scenario: air")]
-    Air(Wrong),
-    /// `every` is there and no array of tables.
-    #[error("scenario: every")]
-    Every,
-    /// `moves` is there and no table.
-    #[error("scenario: moves")]
-    Moves,
-    /// `expect` is there and no array of tables.
-    #[error("scenario: expect")]
-    Expectations,
+    NoAir,
     /// There are more stations than are taken.
     #[error("scenario: too many stations")]
     TooManyStations,
-    /// A key of a table is missing, of another kind or out of range.
+    /// A key of a table is missing, of another kind or out of range. With its value.
     #[error("scenario: {0}: {1}")]
-    Key(Part, Key, Wrong),
+    Key(Part, Key, Wrong, Option<Found>),
     /// A key is missing, and one that is none of the words of its table may mean it.
     #[error("scenario: {0}")]
     Misspelled(Misspelled),
@@ -75,8 +65,26 @@ impl ScenarioFault {
             KeyFault::Refused(key, Wrong::Missing) => {
                 ScenarioFault::of_missing(alloc, key, Some(part), table)
             }
-            KeyFault::Refused(key, wrong) => ScenarioFault::Key(part, key, wrong),
+            KeyFault::Refused(key, wrong) => match found_under(alloc, key, wrong, table) {
+                Ok(found) => ScenarioFault::Key(part, key, wrong, found),
+                Err(_) => ScenarioFault::OutOfMemory,
+            },
             KeyFault::OutOfMemory => ScenarioFault::OutOfMemory,
+        }
+    }
+
+    /// Returns the fault of the value under this key of a document, which isn't of the kind that it
+    /// takes.
+    pub(crate) fn of_kind(alloc: Global, key: Key, document: &Table) -> ScenarioFault
+        ensures { IsPastToml result }
+    {
+        let found = match key {
+            Key::Air | Key::Moves => Found::under(alloc, key, document),
+            _ => Found::under_no_array(alloc, key, document),
+        };
+        match found {
+            Ok(found) => ScenarioFault::Kind(key, found),
+            Err(_) => ScenarioFault::OutOfMemory,
         }
     }
 
@@ -91,10 +99,23 @@ impl ScenarioFault {
     {
         match (Misspelled::find(alloc, table, key, part), part) {
             (Ok(Some(misspelled)), _) => ScenarioFault::Misspelled(misspelled),
-            (Ok(None), Some(part)) => ScenarioFault::Key(part, key, Wrong::Missing),
-            (Ok(None), None) => ScenarioFault::Air(Wrong::Missing),
+            (Ok(None), Some(part)) => ScenarioFault::Key(part, key, Wrong::Missing, None),
+            (Ok(None), None) => ScenarioFault::NoAir,
             (Err(_), _) => ScenarioFault::OutOfMemory,
         }
+    }
+}
+
+/// What a fault of a key shows of its value: nothing of ports, if one of them is wrong.
+fn found_under(
+    alloc: Global,
+    key: Key,
+    wrong: Wrong,
+    table: &Table,
+) -> Result<Option<Found>, AllocError> {
+    match (key, wrong) {
+        (Key::Ports, Wrong::Value) => Ok(None),
+        _ => Found::under(alloc, key, table),
     }
 }
 

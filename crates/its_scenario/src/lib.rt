@@ -6,6 +6,7 @@ mod centre;
 mod document;
 mod events;
 mod fault;
+mod found;
 mod part;
 mod position;
 mod reason;
@@ -17,6 +18,7 @@ mod tables;
 mod unknown;
 
 pub use fault::ScenarioFault;
+pub use found::Found;
 pub use part::Part;
 pub use position::TomlFault;
 pub use reason::Reason;

@@ -1,5 +1,6 @@
 //! Where a text stops being TOML, and why.
 
+use its_lines::{GZIP, GzipFile};
 use std::fmt;
 use toml::de::Error;
 
@@ -15,9 +16,6 @@ pub struct TomlFault {
     error: Error,
 }
 
-/// The octets with which each gzip file begins.
-const GZIP: &[u8] = b"\x1f\x8b";
-
 impl TomlFault {
     /// The fault of a text that was refused so.
     pub(crate) fn new(text: &[u8], error: Error) -> TomlFault {
@@ -31,7 +29,7 @@ impl TomlFault {
         TomlFault {
             line: breaks.saturating_add(1),
             column: characters.saturating_add(1),
-            is_gzip: text.starts_with(GZIP),
+            is_gzip: text.starts_with(&GZIP),
             error,
         }
     }
@@ -40,7 +38,7 @@ impl TomlFault {
 impl fmt::Display for TomlFault {
     fn fmt<W: fmt::Write>(&self, f: &mut fmt::Formatter<W>) -> fmt::Result {
         if self.is_gzip {
-            return f.write_str("a gzip file: unpack it first, as in zcat FILE | geostation sim -");
+            return GzipFile("sim -").fmt(f);
         }
         let (line, column) = (self.line, self.column);
         write!(

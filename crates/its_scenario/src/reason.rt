@@ -1,7 +1,8 @@
 //! What was wrong with a scenario, as a sentence.
 
 use crate::fault::ScenarioFault;
-use its_keys::{Key, Wrong, WrongOf};
+use crate::found::Found;
+use its_keys::{Key, NotOneOf, WrongOf, WrongValue};
 use std::fmt;
 
 /// The sentence of a scenario's fault, for a person: what was wrong and, in a text that is no TOML,
@@ -13,18 +14,16 @@ impl fmt::Display for Reason<'_> {
     fn fmt<W: fmt::Write>(&self, f: &mut fmt::Formatter<W>) -> fmt::Result {
         match self.0 {
             ScenarioFault::NotToml(fault) => write!(f, "{fault}"),
-            ScenarioFault::Stations
-            | ScenarioFault::Events
-            | ScenarioFault::Every
-            | ScenarioFault::Expectations => { f.write_str("not an array of tables") }
-            ScenarioFault::Air(wrong) => WrongOf(Key::Air, *wrong).fmt(f),
-            ScenarioFault::Moves => WrongOf(Key::Moves, Wrong::Kind).fmt(f),
+            ScenarioFault::Kind(key, found) => write_kind(f, *key, found.as_ref()),
+            ScenarioFault::NoAir => f.write_str("missing"),
             ScenarioFault::TooManyStations => f.write_str("more than the command takes"),
-            ScenarioFault::Key(_, key, wrong) => WrongOf(*key, *wrong).fmt(f),
+            ScenarioFault::Key(_, key, wrong, found) => {
+                write_wrong(f, WrongOf(*key, *wrong), found)
+            }
             ScenarioFault::Misspelled(misspelled) => misspelled.write_reason(f),
             ScenarioFault::Unknown(key) => match key.tip() {
                 Some(tip) => write!(f, "{tip}"),
-                None => list_keys(f, key.known()),
+                None => NotOneOf(key.known()).fmt(f),
             },
             ScenarioFault::SharedMid(..) => {
                 f.write_str("the last 48 bits of their addresses are the same")
@@ -34,12 +33,27 @@ impl fmt::Display for Reason<'_> {
     }
 }
 
-/// Writes the words of a table.
-fn list_keys<W: fmt::Write>(f: &mut fmt::Formatter<W>, known: &[Key]) -> fmt::Result {
-    f.write_str("not one of")?;
-    for (place, key) in known.iter().enumerate() {
-        let before = if place == 0 { "" } else { "," };
-        write!(f, "{before} {key}")?;
+/// Writes what is wrong with the value of a key.
+fn write_wrong<W: fmt::Write>(
+    f: &mut fmt::Formatter<W>,
+    wrong: WrongOf,
+    found: &Option<Found>,
+) -> fmt::Result {
+    let value = found.as_ref();
+    write!(f, "{}", WrongValue { wrong, value })
+}
+
+/// Writes that a value is not of the kind that a key of the document takes.
+fn write_kind<W: fmt::Write>(
+    f: &mut fmt::Formatter<W>,
+    key: Key,
+    found: Option<&Found>,
+) -> fmt::Result {
+    if let Some(found) = found {
+        write!(f, "{found} is ")?;
     }
-    Ok(())
+    f.write_str(match key {
+        Key::Air | Key::Moves => "not a table",
+        _ => "not an array of tables",
+    })
 }

@@ -20,23 +20,23 @@ pub struct Scenario {
     pub present: Vec<bool>,
     /// The events of a scenario without an air, each with a station of 0 to 65535, a moment of 0 to
     /// 2^63 - 1, a speed in its range and a frame of 0 to 4294967295. There may be no such station
-    /// or frame. With an air there is none here.
+    /// or frame. Empty with an air.
     pub events: Vec<Event>,
-    /// The events and leaves of a scenario with an air, with numbers in the same ranges. Without an
-    /// air there is none here, nor where it is run with the moves of a file.
+    /// The events and leaves of a scenario with an air, with numbers in the same ranges. Empty
+    /// without an air, and if the scenario is run with the moves of a file.
     pub file: Vec<FileEvent>,
-    /// Those of a scenario that is run with the moves of a file, with numbers in the same ranges,
-    /// each of a station of the scenario's own or of an id. Else there is none here.
+    /// The events and leaves of a scenario that is run with the moves of a file, with numbers in
+    /// the same ranges. Each is for a station of the scenario, or for an id. Empty in other runs.
     pub addressed: Vec<AddressedEvent>,
-    /// How frames go from station to station by themselves. Without it they go by events alone.
+    /// How frames go from station to station by themselves. Without it only events deliver them.
     pub air: Option<Air>,
-    /// What each station of the air sends by itself. Without an air there is none.
+    /// What each station of the air sends by itself. Empty without an air.
     pub every: Vec<Traffic>,
-    /// How the moves of a file are read, beside an air.
+    /// How the moves of a file are read, with an air.
     pub moves: Moves,
     /// What is expected of the run.
     pub expectations: Vec<Expectation>,
-    /// The keys of the document itself that are none of its words, in order. They are ignored.
+    /// The unknown keys of the document itself, in order. They are ignored.
     pub unknown: Vec<UnknownKey>,
     ghost configs: { All IsConfig stations.items },
     ghost apart: { AreApart stations.items },
@@ -49,14 +49,14 @@ pub struct Scenario {
 /// How a document is read as a scenario. `default` is how `from_toml` reads it.
 #[derive(Clone, Copy, Debug, Default, PartialEq, Eq)]
 pub struct Reading {
-    /// Whether a key that is unknown is refused, wherever it stands.
+    /// Whether an unknown key is refused, in any table.
     pub strict: bool,
     /// Whether a document without the table `air` is refused.
     pub needs_air: bool,
-    /// Whether it is run with the moves of a file, in its air: an event may have `id` in place of
-    /// `station`, which is then passed over; else `station` is one of the scenario's own; and
-    /// `deliver` is none of the words for what a station does.
+    /// Whether it is run with the moves of a file, in its air. An event may then have `id`, and its
+    /// `station` is ignored. Without `id`, `station` is one of the scenario's own. `deliver` is not
+    /// allowed.
     pub moves: bool,
-    /// Values that stand in place of those of the air.
+    /// Values that replace those of the air.
     pub settings: AirSettings,
 }

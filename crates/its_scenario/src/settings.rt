@@ -13,7 +13,7 @@ ghost use Rattle.toml.specs.View.{items_view, table_view};
 use crate::fault::ScenarioFault;
 use crate::part::Part;
 use crate::unknown::refuse_unknown;
-use its_keys::SetAir;
+use its_keys::{Key, SetAir};
 use its_settings::{
     Air, Expectation, Moves, Traffic, read_air, read_expectation, read_moves, read_traffic,
 };
@@ -44,7 +44,7 @@ pub(crate) fn read_every(alloc: Global, items: &[Value]) -> Result<Vec<Traffic>,
     for (number, item) in items.iter().enumerate() {
         // Each item was seen to be a table.
         let Some(table) = item.as_table() else {
-            return Err(ScenarioFault::Every);
+            return Err(ScenarioFault::Kind(Key::Every, None));
         };
         every.push(read_known_traffic(alloc, table, number)?)?;
     }
@@ -90,7 +90,7 @@ pub(crate) fn read_expectations(
     for (number, item) in items.iter().enumerate() {
         // Each item was seen to be a table.
         let Some(table) = item.as_table() else {
-            return Err(ScenarioFault::Expectations);
+            return Err(ScenarioFault::Kind(Key::Expect, None));
         };
         expectations.push(read_known_expectation(alloc, table, number)?)?;
     }

@@ -12,6 +12,7 @@ ghost use Rattle.toml.specs.View.{items_view, table_view};
 use crate::fault::ScenarioFault;
 use crate::part::Part;
 use its_events::{read_present, read_station};
+use its_keys::Key;
 use its_world::Config;
 use std::alloc::Global;
 use toml::{Table, Value};
@@ -37,7 +38,7 @@ pub(crate) fn read_stations(
     for (number, item) in items.iter().enumerate() {
         // `array_of_tables` has seen that each item is one.
         let Some(table) = item.as_table() else {
-            return Err(ScenarioFault::Stations);
+            return Err(ScenarioFault::Kind(Key::Station, None));
         };
         stations.push(read_numbered_station(alloc, table, number)?)?;
         present.push(read_presence(alloc, table, number, has_air)?)?;

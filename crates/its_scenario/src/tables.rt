@@ -1,6 +1,7 @@
 //! The tables of a document, and the scenario of them.
 
-ghost use Rattle.std.specs.Prelude.{◌≡◌, ◌≤◌, IfOk, IfErr, IfSome, vec_len};
+ghost use Rattle.std.specs.Prelude.{◌≡◌, ◌≤◌, IfOk, IfErr, vec_len};
+ghost use Rattle.its_keys.specs.Keys.{word_of};
 ghost use Rattle.its_keys.specs.Tables.{items_of_found};
 ghost use Rattle.its_keys.specs.declared.key.Key.TheVariants as keys;
 ghost use Rattle.its_scenario.specs.Documents.{IsPastToml};
@@ -18,7 +19,7 @@ use crate::scenario::{Reading, Scenario};
 use crate::settings::{read_every, read_expectations, read_known_air, read_known_moves};
 use crate::stations::read_stations;
 use crate::unknown::{refuse_all_unknown, unknown_keys};
-use its_keys::{Key, SetAir, Wrong, items_of, value_of};
+use its_keys::{Key, SetAir, items_of, value_of};
 use its_settings::{Air, Moves};
 use its_world::refuse_shared;
 use std::alloc::Global;
@@ -40,7 +41,10 @@ pub(crate) struct Tables<'a> {
 
 impl<'a> Tables<'a> {
     /// Those of a document, without an air and what is expected.
-    pub(crate) fn without_air(document: &'a Table) -> Result<Tables<'a>, ScenarioFault>
+    pub(crate) fn without_air(
+        alloc: Global,
+        document: &'a Table,
+    ) -> Result<Tables<'a>, ScenarioFault>
         ensures refused { IfErr result IsPastToml }
         ensures none { IfOk result (λ tables. tables.air ≡ None) }
         ensures parts { IfOk result (λ tables.
@@ -48,8 +52,8 @@ impl<'a> Tables<'a> {
     {
         Ok(Tables {
             document,
-            stations: array_of_tables(document, "station").ok_or(ScenarioFault::Stations)?,
-            events: array_of_tables(document, "event").ok_or(ScenarioFault::Events)?,
+            stations: array_of_tables(alloc, document, Key::Station)?,
+            events: array_of_tables(alloc, document, Key::Event)?,
             has_moves: false,
             air: None,
             every: &[],
@@ -68,11 +72,11 @@ impl<'a> Tables<'a> {
         ensures parts { IfOk result (λ tables.
             ArePartsOf reading.now (table_view document.now) (parts_in tables)) }
     {
-        let first = Tables::without_air(document)?;
+        let first = Tables::without_air(alloc, document)?;
         let air = air_of(alloc, document, reading)?;
-        let every = every_of(document, air.is_some())?;
-        let moves = moves_of(document, air.is_some())?;
-        let expectations = array_of_tables(document, "expect").ok_or(ScenarioFault::Expectations)?;
+        let every = every_of(alloc, document, air.is_some())?;
+        let moves = moves_of(alloc, document, air.is_some())?;
+        let expectations = array_of_tables(alloc, document, Key::Expect)?;
         Ok(Tables {
             has_moves: reading.moves,
             air,
@@ -215,13 +219,13 @@ fn air_of<'a>(
         None => Ok(None),
         Some(value) => match value.as_table() {
             Some(table) => Ok(Some(SetAir { table, settings })),
-            None => Err(ScenarioFault::Air(Wrong::Kind)),
+            None => Err(ScenarioFault::of_kind(alloc, Key::Air, document)),
         },
     }
 }
 
 /// The tables of the traffic of an air. Where there is no air, the key is passed over.
-fn every_of(document: &Table, has_air: bool) -> Result<&[Value], ScenarioFault>
+fn every_of(alloc: Global, document: &Table, has_air: bool) -> Result<&[Value], ScenarioFault>
     ensures refused { IfErr result IsPastToml }
     ensures says { IfOk result (λ items.
         items_if has_air keys.Every (table_view document.now) ≡ Some (items_view items.now)) }
@@ -229,12 +233,12 @@ fn every_of(document: &Table, has_air: bool) -> Result<&[Value], ScenarioFault>
     if !has_air {
         return Ok(&[]);
     }
-    array_of_tables(document, "every").ok_or(ScenarioFault::Every)
+    array_of_tables(alloc, document, Key::Every)
 }
 
 /// The table of how moves are read, where there is one. Where there is no air, the key is passed
 /// over.
-fn moves_of(document: &Table, has_air: bool) -> Result<Option<&Table>, ScenarioFault>
+fn moves_of(alloc: Global, document: &Table, has_air: bool) -> Result<Option<&Table>, ScenarioFault>
     ensures refused { IfErr result IsPastToml }
     ensures says { IfOk result (λ table.
         members_if has_air keys.Moves (table_view document.now) ≡ Some (members_in table)) }
@@ -246,22 +250,30 @@ fn moves_of(document: &Table, has_air: bool) -> Result<Option<&Table>, ScenarioF
         None => Ok(None),
         Some(value) => match value.as_table() {
             Some(table) => Ok(Some(table)),
-            None => Err(ScenarioFault::Moves),
+            None => Err(ScenarioFault::of_kind(alloc, Key::Moves, document)),
         },
     }
 }
 
-/// The tables of the array under a key: none where the key is missing, `None` where its value is no
+/// The tables of the array under a key: none where the key is missing. `Kind` where its value is no
 /// array of tables.
-fn array_of_tables<'a>(document: &'a Table, key: &str) -> Option<&'a [Value]>
-    ensures { IfSome result (λ items.
-        items_of_found (get_member key.now (table_view document.now))
+fn array_of_tables<'a>(
+    alloc: Global,
+    document: &'a Table,
+    key: Key,
+) -> Result<&'a [Value], ScenarioFault>
+    ensures refused { IfErr result IsPastToml }
+    ensures says { IfOk result (λ items.
+        items_of_found (get_member (word_of key) (table_view document.now))
         ≡ Some (items_view items.now)) }
 {
-    let items = items_of(document, key)?;
-    if items.iter().all(|item| matches!(item, Value::Table(_))) {
-        Some(items)
-    } else {
-        None
+    match items_of(document, key.word()) {
+        Some(items) if are_tables(items) => Ok(items),
+        _ => Err(ScenarioFault::of_kind(alloc, key, document)),
     }
+}
+
+/// Whether each of these values is a table.
+fn are_tables(items: &[Value]) -> bool {
+    items.iter().all(|item| matches!(item, Value::Table(_)))
 }

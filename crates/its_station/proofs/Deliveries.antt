@@ -1,5 +1,5 @@
 -- What is delivered of a frame is its end.
-use Rattle.std.proofs.Common.{◌≡◌, ℕ, List, ◌++◌, Some, None, Option, refl, sym, ap, ◌∙◌}
+use Rattle.std.proofs.Common.{◌≡◌, ℕ, List, ◌++◌, drop, Some, None, Option, refl, sym, ap, ◌∙◌}
 use Rattle.std.proofs.lemmas.List.{append_assoc, append-nil}
 use Rattle.std.specs.Int.{bytes_high_first}
 use Rattle.std.specs.Prelude.{Result, Ok, Err, IfOk}
@@ -9,6 +9,7 @@ use Rattle.its_model.specs.Packet.{Body, beacon, shb, gbc, gac, Transmission}
 use Rattle.its_headers.specs.Encoding.{basic_header, common_header, extended_header}
 use Rattle.its_headers.specs.Encoding.{vector_octets, area_octets, message_octets, payload_of}
 use Rattle.its_linkframe.specs.Frames.{EncodesFrame, link_header}
+use Rattle.its_linkframe.specs.Secured.{Verified, EncodesVerified}
 use Rattle.its_station.specs.declared.outcome.Handed.{Handed}
 use Rattle.its_station.specs.declared.outcome.Outcome.{Outcome}
 use Rattle.its_station.specs.declared.outcome.Outcome.TheVariants as outcomes
@@ -62,6 +63,31 @@ handing_end t w enc (Some h) ends =
     let frame = frame_end t w enc in
     let both = behind frame.0 (payload_of t.pdu.body) h.payload.now ends in
     (both.0, frame.1 ∙ both.1)
+
+-- the plain part of a packet ends with its payload
+plain_end : (v : Verified) (w plain : List ℕ) → EncodesVerified v w plain
+    → EndsWith plain (payload_of v.frame.pdu.body)
+plain_end v w plain enc =
+    let p = v.frame.pdu in
+    let ends = behind (common_header p) (extended_header p.vector p.body) (payload_of p.body)
+    (payload_last p.vector p.body) in
+    (ends.0, ap (drop 4) enc.packet.octets ∙ ends.1)
+
+verified_handing : (v : Verified) (w plain : List ℕ) → EncodesVerified v w plain
+    → (h : Option Handed) → HandsOutEndOf (payload_of v.frame.pdu.body) h → HandsOutEndOf plain h
+verified_handing v w plain enc None ends = ends
+verified_handing v w plain enc (Some h) ends =
+    let packet = plain_end v w plain enc in
+    let both = behind packet.0 (payload_of v.frame.pdu.body) h.payload.now ends in
+    (both.0, packet.1 ∙ both.1)
+
+pub verified_end : (v : Verified) (w plain : List ℕ) → EncodesVerified v w plain
+    → (answer : Result Outcome Refused)
+    → IfOk answer (DeliversEndOf (payload_of v.frame.pdu.body)) → IfOk answer (DeliversEndOf plain)
+verified_end v w plain enc (Ok (outcomes.Ignored why)) ends = ends
+verified_end v w plain enc (Ok (outcomes.Accepted handed sent)) ends =
+    verified_handing v w plain enc handed ends
+verified_end v w plain enc (Err refused) ends = ends
 
 pub delivered_end :
     (t : Transmission) (w : List ℕ) → EncodesFrame t w → (answer : Result Outcome Refused)

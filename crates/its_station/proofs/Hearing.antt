@@ -21,7 +21,6 @@ use Rattle.its_model.specs.Station.{is_repeated, or_else, handing, relayed, sent
 use Rattle.its_model.specs.Station.{after_hearing, first, own_refusal, own_step, station_step}
 use Rattle.its_model.specs.Station.{junk_step_by}
 use Rattle.its_headers.specs.Fields.{area_in}
-use Rattle.its_linkframe.specs.Frames.{EncodesFrame, IsFrame}
 use Rattle.its_loctable.specs.Content.{Represents}
 use Rattle.its_loctable.specs.Heard as table
 use Rattle.its_loctable.specs.Heard.{verdict_at}
@@ -37,11 +36,13 @@ use Rattle.its_station.specs.declared.outcome.Outcome.TheVariants as outcomes
 use Rattle.its_station.specs.declared.outcome.Why.{Why}
 use Rattle.its_station.specs.declared.outcome.Why.TheVariants as why
 use Rattle.its_station.specs.State.{StationState, IsPast, RepresentsStation, SamePorts, model_of}
-use Rattle.its_station.specs.Steps.{IsStepOf}
-use Rattle.its_station.specs.Receiving.{Tells, IsRelay, report_of, copy_of, said_by}
-use Rattle.its_station.specs.Receiving.{why_of, why_found, accept_step}
+use Rattle.its_station.specs.Steps.{IsStepOf, IsRefusedStep}
+use Rattle.its_station.specs.Receiving.{Encoded, IsSentFrame, Tells, TellsBy, IsRelayBy}
+use Rattle.its_station.specs.Receiving.{report_of, copy_of, said_by}
+use Rattle.its_station.specs.Receiving.{why_of, why_found, accept_step, secured_step_by}
 use Rattle.its_station.specs.declared.refused.Refused.TheVariants as refused
 use Rattle.its_faults.specs.declared.frame.FrameFault.{FrameFault}
+use Rattle.its_faults.specs.declared.secured.SecuredFault.{SecuredFault}
 use Rattle.its_station.specs.Steps.{refusal_of}
 use Rattle.its_station.proofs.Stations.{represents, Represents-later, own_refused, at_model}
 
@@ -66,70 +67,70 @@ memory_only (Err refusals.Full) P owed memory ne = absurd (ne (owed (λ e. cc)))
 
 -- ---- the frame that goes on
 
-pub frame_of_relay : (w : Vec ℕ Global) (o : Option Transmission) → IsRelay (Some w) o
-    → IsFrame w.items
-frame_of_relay w None h = absurd h
-frame_of_relay w (Some t) h = record { transmission = t; encodes = h }
+pub frame_of_relay : (E : Encoded) (w : Vec ℕ Global) (o : Option Transmission)
+    → IsRelayBy E (Some w) o → IsSentFrame E w.items
+frame_of_relay E w None h = absurd h
+frame_of_relay E w (Some t) h = record { transmission = t; encodes = h }
 
 -- a frame that goes on to all goes on to whom the decision says
-redirected : (s : StationModel) (now : ℕ) (t : Transmission) (area own : GeoArea) (mac : ℕ)
+redirected : (E : Encoded) (s : StationModel) (now : ℕ) (t : Transmission) (area own : GeoArea) (mac : ℕ)
     (copy new : Vec ℕ Global)
     → area ≡ own → To mac ≡ decided s now area (Some t.link_source)
-    → ((u : Transmission) → EncodesFrame u copy.items
-    → EncodesFrame (record u { link_target = mac }) new.items)
-    → (b : Bool) → IsRelay (Some copy) (cond b (Some (relay t (mid_of s.address) broadcast)) None)
-    → IsRelay (Some new) (cond b (sent_on s t (decided s now own (Some t.link_source))) None)
-redirected s now t area own mac copy new same d keep true enc =
-    subst (λ (x : Decision). IsRelay (Some new) (sent_on s t x)) (d
+    → ((u : Transmission) → E u copy.items
+    → E (record u { link_target = mac }) new.items)
+    → (b : Bool) → IsRelayBy E (Some copy) (cond b (Some (relay t (mid_of s.address) broadcast)) None)
+    → IsRelayBy E (Some new) (cond b (sent_on s t (decided s now own (Some t.link_source))) None)
+redirected E s now t area own mac copy new same d keep true enc =
+    subst (λ (x : Decision). IsRelayBy E (Some new) (sent_on s t x)) (d
     ∙ ap (λ a. decided s now a (Some t.link_source)) same)
     (keep (relay t (mid_of s.address) broadcast) enc)
-redirected s now t area own mac copy new same d keep false enc = absurd enc
+redirected E s now t area own mac copy new same d keep false enc = absurd enc
 
-pub directed_to : (s : StationModel) (now : ℕ) (t : Transmission) (body : Body) (area : GeoArea)
+pub directed_to : (E : Encoded) (s : StationModel) (now : ℕ) (t : Transmission) (body : Body) (area : GeoArea)
     (mac : ℕ) (copy new : Vec ℕ Global)
     → mid_of s.vector.address ≡ mid_of s.address
     → Some area ≡ area_in body → To mac ≡ decided s now area (Some t.link_source)
-    → ((u : Transmission) → EncodesFrame u copy.items
-    → EncodesFrame (record u { link_target = mac }) new.items)
-    → IsRelay (Some copy) (copy_of s.vector t body) → IsRelay (Some new) (relayed s now t body)
-directed_to s now t beacon area mac copy new own e d keep enc = absurd enc
-directed_to s now t (shb media message) area mac copy new own e d keep enc = absurd enc
-directed_to s now t (gbc number its message) area mac copy new own e d keep enc =
-    redirected s now t area its mac copy new (ap (λ o. unwrap_or o area) e) d keep
+    → ((u : Transmission) → E u copy.items
+    → E (record u { link_target = mac }) new.items)
+    → IsRelayBy E (Some copy) (copy_of s.vector t body) → IsRelayBy E (Some new) (relayed s now t body)
+directed_to E s now t beacon area mac copy new own e d keep enc = absurd enc
+directed_to E s now t (shb media message) area mac copy new own e d keep enc = absurd enc
+directed_to E s now t (gbc number its message) area mac copy new own e d keep enc =
+    redirected E s now t area its mac copy new (ap (λ o. unwrap_or o area) e) d keep
     (leb 2 t.hops_left)
     (subst (λ (m : ℕ).
-    IsRelay (Some copy) (cond (leb 2 t.hops_left) (Some (relay t m broadcast)) None)) own enc)
-directed_to s now t (gac number its message) area mac copy new own e d keep enc =
+    IsRelayBy E (Some copy) (cond (leb 2 t.hops_left) (Some (relay t m broadcast)) None)) own enc)
+directed_to E s now t (gac number its message) area mac copy new own e d keep enc =
     by (area_holds its s.vector.place)
     (subst (λ (m : ℕ).
-    IsRelay (Some copy)
+    IsRelayBy E (Some copy)
     (cond (not (area_holds its s.vector.place) && leb 2 t.hops_left)
     (Some (relay t m broadcast)) None)) own enc)
   where
     by : (h : Bool)
-        → IsRelay (Some copy)
+        → IsRelayBy E (Some copy)
         (cond (not h && leb 2 t.hops_left) (Some (relay t (mid_of s.address) broadcast)) None)
-        → IsRelay (Some new)
+        → IsRelayBy E (Some new)
         (cond h None
         (cond (leb 2 t.hops_left) (sent_on s t (decided s now its (Some t.link_source))) None))
     by true enc = absurd enc
     by false enc =
-        redirected s now t area its mac copy new (ap (λ o. unwrap_or o area) e) d keep
+        redirected E s now t area its mac copy new (ap (λ o. unwrap_or o area) e) d keep
         (leb 2 t.hops_left) enc
 
 -- ---- a packet that is accepted
 
-pub accepted : (old new : StationState) (now : ℕ) (t : Transmission) (ports : List ℕ)
+pub accepted : (E : Encoded) (old new : StationState) (now : ℕ) (t : Transmission) (ports : List ℕ)
     (history : List Reception) (h : SourceReport) (handed : Option Handed)
     (sent : Option (Vec ℕ Global))
     → h ≡ report_of t.pdu → new ≡ record old { clock = now; content = new.content }
     → IsPast old ports history
     → Represents new.remember new.content (table.reception now h ∷ history) now
     → option_map said_by handed ≡ handing (model_of old ports history) t.pdu.body
-    → IsRelay sent (relayed (model_of new ports (table.reception now h ∷ history)) now t t.pdu.body)
-    → IsStepOf Tells (Ok (outcomes.Accepted handed sent)) new
+    → IsRelayBy E sent (relayed (model_of new ports (table.reception now h ∷ history)) now t t.pdu.body)
+    → IsStepOf (TellsBy E) (Ok (outcomes.Accepted handed sent)) new
     (accept_step (model_of old ports history) now t)
-accepted old new now t ports history h handed sent heard fields past now_table handing_is relay_is =
+accepted E old new now t ports history h handed sent heard fields past now_table handing_is relay_is =
     let r : table.reception now h ≡ station.reception now t = ap (table.reception now) heard in
     let s : model_of new ports (table.reception now h ∷ history)
     ≡ after_hearing (model_of old ports history) now t =
@@ -146,7 +147,7 @@ accepted old new now t ports history h handed sent heard fields past now_table h
             model.Answer.Accepted m
             (relayed (after_hearing (model_of old ports history) now t) now t t.pdu.body))
             (sym handing_is);
-        frame = subst (λ (m : StationModel). IsRelay sent (relayed m now t t.pdu.body)) s relay_is;
+        frame = subst (λ (m : StationModel). IsRelayBy E sent (relayed m now t t.pdu.body)) s relay_is;
       },
       subst (RepresentsStation new) s
           (represents new ports (table.reception now h ∷ history) after),
@@ -227,13 +228,13 @@ not_repeated s now t e =
 
 -- ---- the step of a frame
 
-pub ignored : (old new : StationState) (now : ℕ) (t : Transmission) (ports : List ℕ)
+pub ignored : (E : Encoded) (old new : StationState) (now : ℕ) (t : Transmission) (ports : List ℕ)
     (history : List Reception) (reason : Why)
     → new ≡ record old { clock = now } → old.clock ≤ now → now ≤ 2 ^ 62 → IsPast old ports history
     → Some reason ≡ why_found (model_of old ports history) now t
-    → IsStepOf Tells (Ok (outcomes.Ignored reason)) new
+    → IsStepOf (TellsBy E) (Ok (outcomes.Ignored reason)) new
     (receive_step (model_of old ports history) now t)
-ignored old new now t ports history reason fields from to past e =
+ignored E old new now t ports history reason fields from to past e =
     let m = model_of old ports history in
     let step : receive_step m now t
     ≡ receive_step_by m now t (station.Verdict.Ignore (why_of reason)) =
@@ -252,13 +253,13 @@ ignored old new now t ports history reason fields from to past e =
           (represents (record old { clock = now }) ports history after)),
     )
 
-pub is_full_step : (old : StationState) (now : ℕ) (t : Transmission) (ports : List ℕ)
+pub is_full_step : (E : Encoded) (old : StationState) (now : ℕ) (t : Transmission) (ports : List ℕ)
     (history : List Reception)
     → old.clock ≤ now → now ≤ 2 ^ 62 → IsPast old ports history
     → None ≡ why_found (model_of old ports history) now t
     → true ≡ is_full old.capacity t.pdu.vector.address (stations_at old.remember now history)
-    → IsStepOf Tells (Err refused.TableFull) old (receive_step (model_of old ports history) now t)
-is_full_step old now t ports history from to past e full =
+    → IsStepOf (TellsBy E) (Err refused.TableFull) old (receive_step (model_of old ports history) now t)
+is_full_step E old now t ports history from to past e full =
     let m = model_of old ports history in
     let step : receive_step m now t
     ≡ receive_step_by m now t (station.Verdict.Refuse model.Refusal.TableFull) =
@@ -268,14 +269,14 @@ is_full_step old now t ports history from to past e full =
           (represents old ports history past),
     )
 
-pub accept_is : (r : Result Outcome Refused) (old new : StationState) (now : ℕ) (t : Transmission)
+pub accept_is : (E : Encoded) (r : Result Outcome Refused) (old new : StationState) (now : ℕ) (t : Transmission)
     (ports : List ℕ) (history : List Reception)
     → old.clock ≤ now → now ≤ 2 ^ 62 → None ≡ why_found (model_of old ports history) now t
     → false ≡ is_full old.capacity t.pdu.vector.address (stations_at old.remember now history)
-    → IsStepOf Tells r new (accept_step (model_of old ports history) now t)
-    → IsStepOf Tells r new (receive_step (model_of old ports history) now t)
-accept_is r old new now t ports history from to e room step =
-    subst (λ (x : Step). IsStepOf Tells r new x)
+    → IsStepOf (TellsBy E) r new (accept_step (model_of old ports history) now t)
+    → IsStepOf (TellsBy E) r new (receive_step (model_of old ports history) now t)
+accept_is E r old new now t ports history from to e room step =
+    subst (λ (x : Step). IsStepOf (TellsBy E) r new x)
     (sym (step_is (model_of old ports history) now t from to None false (sym e)
     (sym room))) step
 
@@ -360,8 +361,48 @@ junk st now fault owed =
     ))
 
 -- a frame, from what holds of it for each past
-pub heard : (r : Result Outcome Refused) (old new : StationState) (now : ℕ) (t : Transmission)
+pub heard : (E : Encoded) (r : Result Outcome Refused) (old new : StationState) (now : ℕ) (t : Transmission)
     → ((ports : List ℕ) (history : List Reception) → IsPast old ports history
-    → IsStepOf Tells r new (receive_step (model_of old ports history) now t))
-    → (s : StationModel) → RepresentsStation old s → IsStepOf Tells r new (receive_step s now t)
-heard r old new now t f = at_model old (λ s. IsStepOf Tells r new (receive_step s now t)) f
+    → IsStepOf (TellsBy E) r new (receive_step (model_of old ports history) now t))
+    → (s : StationModel) → RepresentsStation old s → IsStepOf (TellsBy E) r new (receive_step s now t)
+heard E r old new now t f = at_model old (λ s. IsStepOf (TellsBy E) r new (receive_step s now t)) f
+
+-- octets that are no secured frame with this plain part, at a moment that isn't refused
+pub bad_secured : (st : StationState) (now : ℕ) (fault : SecuredFault)
+    → ((ports : List ℕ) (history : List Reception)
+    → None ≡ moment_refusal (model_of st ports history) now)
+    → (s : StationModel) → RepresentsStation st s
+    → IsRefusedStep (refused.Secured fault) st (secured_step_by s fault (moment_refusal s now))
+bad_secured st now fault owed =
+    at_model st
+    (λ s. IsRefusedStep (refused.Secured fault) st
+    (secured_step_by s fault (moment_refusal s now)))
+    (λ ports history past.
+    subst (λ (o : Option Refusal).
+    IsRefusedStep (refused.Secured fault) st
+    (secured_step_by (model_of st ports history) fault o)) (owed ports history) (
+      refl,
+      represents st ports history past,
+    ))
+
+-- and at one that is
+pub secured_moment : (st : StationState) (now : ℕ) (fault : SecuredFault) (e : Refused)
+    → ((ports : List ℕ) (history : List Reception)
+    → refusal_of e ≡ moment_refusal (model_of st ports history) now)
+    → (s : StationModel) → RepresentsStation st s
+    → IsRefusedStep e st (secured_step_by s fault (moment_refusal s now))
+secured_moment st now fault e owed =
+    at_model st
+    (λ s. IsRefusedStep e st (secured_step_by s fault (moment_refusal s now)))
+    (λ ports history past.
+    subst (λ (o : Option Refusal).
+    IsRefusedStep e st (secured_step_by (model_of st ports history) fault o))
+    (owed ports history)
+    (by (refusal_of e) (model_of st ports history) (represents st ports history past)))
+  where
+    by : (o : Option Refusal) (m : StationModel) → RepresentsStation st m
+        → IfSome o (λ refusal.
+        ((secured_step_by m fault o).answer ≡ model.Answer.Refused refusal)
+        × RepresentsStation st (secured_step_by m fault o).station)
+    by None m rep = tt
+    by (Some r) m rep = (refl, rep)

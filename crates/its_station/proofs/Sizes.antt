@@ -5,8 +5,9 @@ use Rattle.std.specs.declared.alloc.Global.{Global}
 use Rattle.its_model.specs.Packet.{Transmission}
 use Rattle.its_gnvalue.specs.declared.fault.NoMemory.{NoMemory}
 use Rattle.its_linkframe.specs.Frames.{EncodesFrame}
+use Rattle.its_linkframe.specs.Secured.{Secured, EncodesSecured}
 use Rattle.its_linkframe.proofs.Fronts.{frame_bounds}
-use Rattle.its_station.specs.Receiving.{IsRelay}
+use Rattle.its_linkframe.proofs.SecuredFrames.{secured_bounds}
 
 -- a frame that is written has at most 1468 octets
 pub short_frame : (t : Transmission) (r : Result (Vec ℕ Global) NoMemory)
@@ -14,8 +15,8 @@ pub short_frame : (t : Transmission) (r : Result (Vec ℕ Global) NoMemory)
 short_frame t (Ok w) is = (frame_bounds t w.items is).1
 short_frame t (Err e) is = is
 
--- and so has one in which a packet goes on
-pub short_relay : (w : Vec ℕ Global) (o : Option Transmission) → IsRelay (Some w) o
-    → length w.items ≤ 1468
-short_relay w None h = absurd h
-short_relay w (Some t) h = (frame_bounds t w.items h).1
+-- and a secured one at most 2310
+pub short_secured : (t : Secured) (r : Result (Vec ℕ Global) NoMemory)
+    → IfOk r (λ w. EncodesSecured t w.items) → IfOk r (λ w. length w.items ≤ 2310)
+short_secured t (Ok w) is = (secured_bounds t w.items is).1
+short_secured t (Err e) is = is

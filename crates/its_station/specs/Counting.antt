@@ -56,6 +56,7 @@ abbrev pub counted_refused : Refused → RefusedCounts → RefusedCounts
 counted_refused refused.MomentEarlier c = record c { moment_earlier = one_more c.moment_earlier }
 counted_refused refused.MomentTooLate c = record c { moment_too_late = one_more c.moment_too_late }
 counted_refused (refused.Frame fault) c = record c { frame = one_more c.frame }
+counted_refused (refused.Secured fault) c = record c { frame = one_more c.frame }
 counted_refused refused.TableFull c = record c { table_full = one_more c.table_full }
 counted_refused refused.NoMemory c = record c { no_memory = one_more c.no_memory }
 counted_refused refused.JitterRange c = record c { other = one_more c.other }

@@ -1,6 +1,6 @@
 -- What a station answers to a frame.
 use Rattle.std.specs.Prelude.{◌≡◌, ℕ, ◌++◌, not, ◌==◌, ◌&&◌, nat_le, if◌then◌else◌, Bool, true}
-use Rattle.std.specs.Prelude.{false, List, length, ◌≤◌, Vec, Option, Some, None, IfSome}
+use Rattle.std.specs.Prelude.{false, [], List, length, ◌≤◌, Vec, Option, Some, None, IfSome}
 use Rattle.std.specs.Option.{option_map}
 use Rattle.std.specs.declared.alloc.Global.{Global}
 use Rattle.its_gnvalue.specs.Values.{Position, PositionVector, broadcast, mid_of}
@@ -10,12 +10,15 @@ use Rattle.its_model.specs.Packet.{number_in, relay}
 use Rattle.std.specs.Prelude.{◌⊎◌, IsTrue, IsFalse}
 use Rattle.its_model.specs.History.{is_live}
 use Rattle.its_model.specs.Calls as model
-use Rattle.its_model.specs.Calls.{Call, Answer, Why as ModelWhy}
+use Rattle.its_model.specs.Calls.{Call, Answer, Refusal, Why as ModelWhy}
 use Rattle.its_model.specs.Station.{StationModel, Step, is_for, is_sender_wrong, is_repeated}
-use Rattle.its_model.specs.Station.{receive_step_by}
+use Rattle.its_model.specs.Station.{receive_step_by, station_step, moment_refusal}
 use Rattle.its_model.specs.Station as station
 use Rattle.its_linkframe.specs.Frames.{EncodesFrame}
 use Rattle.its_linkframe.specs.FrameFaults.{IsFrameFault}
+use Rattle.its_linkframe.specs.Secured.{EncodesSecured, Verified, EncodesVerified, sealed}
+use Rattle.its_linkframe.specs.Secured.{IsVerifiedFault}
+use Rattle.its_faults.specs.declared.secured.SecuredFault.{SecuredFault}
 use Rattle.its_loctable.specs.SourceReport.{SourceReport}
 use Rattle.its_station.specs.declared.outcome.Handed.{Handed}
 use Rattle.its_station.specs.declared.outcome.Outcome.{Outcome}
@@ -30,6 +33,41 @@ IsFrameCall w (model.Call.Own call) = ⊥
 IsFrameCall w (model.Call.Receive t) = EncodesFrame t w
 IsFrameCall w (model.Call.Junk fault) = IsFrameFault w fault
 
+-- how octets say a packet on the air: as its frame, or as its secured frame with a message
+abbrev pub Encoded : Type 1
+Encoded = Transmission → List ℕ → Type 0
+
+-- the octets are the packet's secured frame with this message
+abbrev pub EncodesSealed : List ℕ → Encoded
+EncodesSealed message t w = EncodesSecured (sealed t message) w
+
+-- octets that came with a plain part: a secured frame with it, or their first fault
+pub data VerifiedCall : Type 0 where
+  Came : (frame : Verified) → VerifiedCall
+  Faulty : (fault : SecuredFault) → VerifiedCall
+
+abbrev pub IsVerifiedCall : List ℕ → List ℕ → VerifiedCall → Type 0
+IsVerifiedCall w plain (VerifiedCall.Came v) = EncodesVerified v w plain
+IsVerifiedCall w plain (VerifiedCall.Faulty fault) = IsVerifiedFault w plain fault
+
+-- they are refused for their first fault, unless the moment is refused before
+abbrev pub secured_step_by : StationModel → SecuredFault → Option Refusal → Step
+secured_step_by s fault (Some refusal) =
+    record { answer = model.Answer.Refused refusal; station = s }
+secured_step_by s fault None =
+    record { answer = model.Answer.Refused (model.Refusal.BadSecured fault); station = s }
+
+-- The step of the packet that they are is that of the same packet unsecured.
+abbrev pub verified_step : StationModel → ℕ → VerifiedCall → Step
+verified_step s moment (VerifiedCall.Came v) = station_step s moment (model.Call.Receive v.frame)
+verified_step s moment (VerifiedCall.Faulty fault) =
+    secured_step_by s fault (moment_refusal s moment)
+
+-- what goes on has the message that came
+abbrev pub sealed_by : VerifiedCall → Encoded
+sealed_by (VerifiedCall.Came v) = EncodesSealed v.message
+sealed_by (VerifiedCall.Faulty fault) = EncodesSealed []
+
 -- a reason, in the model
 abbrev pub why_of : Why → ModelWhy
 why_of why.NotForMe = model.Why.NotForMe
@@ -41,24 +79,40 @@ why_of why.Duplicate = model.Why.Duplicate
 abbrev pub said_by : Handed → Message
 said_by h = record { port = h.port; info = h.info; payload = h.payload.now }
 
--- the octets are the frame that is sent on, and there are none where none is
-abbrev pub IsRelay : Option (Vec ℕ Global) → Option Transmission → Type 0
-IsRelay None None = Unit {0}
-IsRelay (Some w) (Some t) = EncodesFrame t w.items
-IsRelay None (Some t) = ⊥
-IsRelay (Some w) None = ⊥
+-- the octets are a frame, encoded so
+pub record IsSentFrame (Encodes : Encoded) (w : List ℕ) : Type 0 where
+  pub transmission : Transmission
+  pub encodes : Encodes transmission w
+
+-- the octets are the frame that is sent on, encoded so, and there are none where none is
+abbrev pub IsRelayBy : Encoded → Option (Vec ℕ Global) → Option Transmission → Type 0
+IsRelayBy Encodes None None = Unit {0}
+IsRelayBy Encodes (Some w) (Some t) = Encodes t w.items
+IsRelayBy Encodes None (Some t) = ⊥
+IsRelayBy Encodes (Some w) None = ⊥
 
 -- an accepted frame's answer: the message that is delivered, and the frame that is sent on
-pub record TellsAccepted (handed : Option Message) (sent : Option (Vec ℕ Global))
-    (answer : Answer Transmission) : Type 0 where
+pub record TellsAcceptedBy (Encodes : Encoded) (handed : Option Message)
+    (sent : Option (Vec ℕ Global)) (answer : Answer Transmission) : Type 0 where
   pub relayed : Option Transmission
   pub is : answer ≡ model.Answer.Accepted handed relayed
-  pub frame : IsRelay sent relayed
+  pub frame : IsRelayBy Encodes sent relayed
 
 -- the outcome is this answer of the model
+abbrev pub TellsBy : Encoded → Outcome → Answer Transmission → Type 0
+TellsBy Encodes (outcomes.Ignored why) answer = answer ≡ model.Answer.Ignored (why_of why)
+TellsBy Encodes (outcomes.Accepted handed sent) answer =
+    TellsAcceptedBy Encodes (option_map said_by handed) sent answer
+
+-- the same of frames that aren't secured
+abbrev pub IsRelay : Option (Vec ℕ Global) → Option Transmission → Type 0
+IsRelay sent relayed = IsRelayBy EncodesFrame sent relayed
+
+abbrev pub TellsAccepted : Option Message → Option (Vec ℕ Global) → Answer Transmission → Type 0
+TellsAccepted handed sent answer = TellsAcceptedBy EncodesFrame handed sent answer
+
 abbrev pub Tells : Outcome → Answer Transmission → Type 0
-Tells (outcomes.Ignored why) answer = answer ≡ model.Answer.Ignored (why_of why)
-Tells (outcomes.Accepted handed sent) answer = TellsAccepted (option_map said_by handed) sent answer
+Tells outcome answer = TellsBy EncodesFrame outcome answer
 
 -- what is delivered, if anything is, is the end of these octets
 abbrev pub HandsOutEndOf : List ℕ → Option Handed → Type 0

@@ -256,7 +256,7 @@ impl RefusedCounts {
         match refused {
             Refused::MomentEarlier => self.moment_earlier = self.moment_earlier.saturating_add(1),
             Refused::MomentTooLate => self.moment_too_late = self.moment_too_late.saturating_add(1),
-            Refused::Frame(_) => self.frame = self.frame.saturating_add(1),
+            Refused::Frame(_) | Refused::Secured(_) => self.frame = self.frame.saturating_add(1),
             Refused::TableFull => self.table_full = self.table_full.saturating_add(1),
             Refused::NoMemory => self.no_memory = self.no_memory.saturating_add(1),
             Refused::JitterRange

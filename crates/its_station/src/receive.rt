@@ -1,6 +1,6 @@
 //! What a station does with a frame (EN 302 636-4-1 clause 10, in this profile).
 
-ghost use Rattle.std.specs.Prelude.{◌≡◌, ◌≤◌, ◌^◌, ◌∷◌, ℕ, List, None};
+ghost use Rattle.std.specs.Prelude.{◌≡◌, ◌≢◌, ◌≤◌, ◌^◌, ◌∷◌, ℕ, List, None};
 ghost use Rattle.std.specs.Prelude.{Err, IfOk, IfSome, OnErr, OnOk, IsTrue, IsFalse, length};
 ghost use Rattle.its_gnvalue.specs.Values.{Position};
 ghost use Rattle.std.specs.Option.{option_map};
@@ -11,28 +11,32 @@ ghost use Rattle.its_model.specs.History.{Reception, is_live};
 ghost use Rattle.its_model.specs.Stations.{stations_at, is_full};
 ghost use Rattle.its_model.specs.Station as station;
 ghost use Rattle.its_model.specs.Station.{StationModel, station_step, verdict, receive_step};
+ghost use Rattle.its_model.specs.Station.{moment_refusal};
 ghost use Rattle.its_model.specs.Station.{is_repeated, handing, relayed};
 ghost use Rattle.its_headers.specs.Encoding.{payload_of};
 ghost use Rattle.its_linkframe.specs.Frames.{EncodesFrame, IsFrame, transmission_of};
+ghost use Rattle.its_linkframe.specs.Secured.{Verified, EncodesVerified};
 ghost use Rattle.its_loctable.specs.Content.{Represents};
 ghost use Rattle.its_loctable.specs.Heard.{reception};
 ghost use Rattle.its_station.specs.State.{model_of, IsPast, RepresentsStation, SamePorts};
-ghost use Rattle.its_station.specs.Steps.{IsStepOf};
-ghost use Rattle.its_station.specs.Receiving.{IsFrameCall, Tells, why_found, said_by, IsRelay};
-ghost use Rattle.its_station.specs.Receiving.{TakesMemory, copy_of, goes_on, is_inside, report_of};
+ghost use Rattle.its_station.specs.Steps.{IsStepOf, IsRefusedStep};
+ghost use Rattle.its_station.specs.Receiving.{IsFrameCall, Tells, TellsBy, why_found, said_by};
+ghost use Rattle.its_station.specs.Receiving.{IsRelayBy, TakesMemory, copy_of, goes_on, is_inside, report_of};
 ghost use Rattle.its_station.specs.Receiving.{accept_step, DeliversEndOf, HandsOutEndOf};
-ghost use Rattle.its_station.specs.Receiving.{SendsAtMost};
+ghost use Rattle.its_station.specs.Receiving.{SendsAtMost, VerifiedCall, IsVerifiedCall};
+ghost use Rattle.its_station.specs.Receiving.{EncodesSealed, verified_step, sealed_by, secured_step_by};
 ghost use Rattle.its_station.specs.Runs.{Fits, HandingFits};
 
 use crate::outcome::{Handed, Outcome, Why};
+use crate::received::ReceivedFrame;
 use crate::refused::Refused;
 use crate::station::Station;
 use its_btp::split;
 use its_forwarding::{Choice, choose};
 use its_geometry::contains;
 use its_gnvalue::{Mac, NoMemory};
-use its_headers::{Kind, PacketView};
-use its_linkframe::{FrameView, read_frame, relay_frame, retarget};
+use its_headers::Kind;
+use its_linkframe::{FrameView, SecuredFault, VerifiedFrame, read_frame};
 use its_loctable::{Heard, LocationStore, Verdict};
 
 impl<S: LocationStore> Station<S> {
@@ -91,22 +95,94 @@ impl<S: LocationStore> Station<S> {
         self.hear(now, frame)
     }
 
+    /// Takes a secured frame that came, and the plain part that a security entity verified of its
+    /// message: as `receive` takes the packet that its Basic Header and the plain part make, sent
+    /// between the frame's link addresses. It is refused for its moment (S1, S2), by `Secured` (S3)
+    /// where the octets are no secured frame or with the plain part no packet, and then as there.
+    /// What goes on is the secured frame that came, with other link addresses and one hop fewer
+    /// left. What is delivered is the end of the plain part.
+    ///
+    /// Nothing here ties the plain part to the message: who calls this with another plain part sends
+    /// on a message that wasn't verified. Link addresses, lifetime and hops are not signed.
+    pub fn receive_verified<'a>(
+        &mut self,
+        now: u64,
+        frame: &[u8],
+        plain: &'a [u8],
+    ) -> Result<Outcome<'a>, Refused>
+        ensures step { (call : VerifiedCall) × IsVerifiedCall frame.now plain.now call
+            × ((s : StationModel) → RepresentsStation self.old s →
+            IsStepOf (TellsBy (sealed_by call)) result self.new (verified_step s now call)) }
+        ensures memory { (s : StationModel) (v : Verified) → RepresentsStation self.old s →
+            EncodesVerified v frame.now plain.now → result ≡ Err Refused.NoMemory →
+            (verdict s now v.frame ≡ station.Verdict.Accept) × TakesMemory s now v.frame }
+        ensures unchanged { OnErr result (self.new ≡ self.old) }
+        ensures payload { IfOk result (DeliversEndOf plain.now) }
+        ensures short { IfOk result (Fits 1394) }
+        ensures short_frame { IfOk result (SendsAtMost 2310) }
+    {
+        match VerifiedFrame::read(frame, plain) {
+            Ok(verified) => self.receive_verified_frame(now, &verified),
+            Err(fault) => Err(self.refuse_secured(now, fault)),
+        }
+    }
+
+    /// Why octets with this fault are refused that came with a plain part: for the moment (S1, S2),
+    /// else for the fault (S3). Nothing changes.
+    pub fn refuse_secured(&self, now: u64, fault: SecuredFault) -> Refused
+        ensures step { (s : StationModel) → RepresentsStation self.now s →
+            IsRefusedStep result self.now (secured_step_by s fault (moment_refusal s now)) }
+        ensures memory { result ≢ Refused.NoMemory }
+    {
+        match self.check_moment(now) {
+            Ok(()) => Refused::Secured(fault),
+            Err(refused) => refused,
+        }
+    }
+
+    /// Takes a secured frame that was read with its plain part, as `receive_verified` takes its
+    /// octets. Refused as there, but for `Secured` (S3).
+    pub fn receive_verified_frame<'a>(
+        &mut self,
+        now: u64,
+        frame: &VerifiedFrame<'_, 'a>,
+    ) -> Result<Outcome<'a>, Refused>
+        ensures step { (s : StationModel) → RepresentsStation self.old s →
+            IsStepOf (TellsBy (EncodesSealed frame.now.message)) result self.new
+            (station_step s now (Receive frame.now.frame)) }
+        ensures memory { (s : StationModel) → RepresentsStation self.old s →
+            result ≡ Err Refused.NoMemory →
+            (verdict s now frame.now.frame ≡ station.Verdict.Accept)
+            × TakesMemory s now frame.now.frame }
+        ensures unchanged { OnErr result (self.new ≡ self.old) }
+        ensures payload { IfOk result (DeliversEndOf (payload_of frame.now.frame.pdu.body)) }
+        ensures short { IfOk result (Fits 1394) }
+        ensures short_frame { IfOk result (SendsAtMost 2310) }
+    {
+        self.check_moment(now)?;
+        self.hear(now, frame)
+    }
+
     /// Takes a frame at a moment that isn't refused.
-    fn hear<'a>(&mut self, now: u64, frame: &FrameView<'a>) -> Result<Outcome<'a>, Refused>
+    fn hear<'a, F: ReceivedFrame<'a>>(
+        &mut self,
+        now: u64,
+        frame: &F,
+    ) -> Result<Outcome<'a>, Refused>
         requires from { self.old.clock ≤ now }
         requires to { now ≤ 2 ^ 62 }
         ensures step { (ports : List ℕ) (history : List Reception) → IsPast self.old ports history →
-            IsStepOf Tells result self.new
-            (receive_step (model_of self.old ports history) now (transmission_of frame.now)) }
+            IsStepOf (TellsBy (F.Encodes frame.now)) result self.new
+            (receive_step (model_of self.old ports history) now (F.frame frame.now)) }
         ensures memory { (ports : List ℕ) (history : List Reception) →
             IsPast self.old ports history → result ≡ Err Refused.NoMemory →
-            (verdict (model_of self.old ports history) now (transmission_of frame.now)
+            (verdict (model_of self.old ports history) now (F.frame frame.now)
             ≡ station.Verdict.Accept)
-            × TakesMemory (model_of self.old ports history) now (transmission_of frame.now) }
+            × TakesMemory (model_of self.old ports history) now (F.frame frame.now) }
         ensures unchanged { OnErr result (self.new ≡ self.old) }
-        ensures payload { IfOk result (DeliversEndOf (payload_of frame.now.packet.pdu.body)) }
+        ensures payload { IfOk result (DeliversEndOf (payload_of (F.frame frame.now).pdu.body)) }
         ensures short { IfOk result (Fits 1394) }
-        ensures short_frame { IfOk result (SendsAtMost 1468) }
+        ensures short_frame { IfOk result (SendsAtMost (F.most frame.now)) }
     {
         if let Some(why) = self.reason_to_ignore(now, frame) {
             self.clock = now;
@@ -119,34 +195,34 @@ impl<S: LocationStore> Station<S> {
     }
 
     /// Whether there is no room for a packet's source.
-    fn lacks_room(&self, now: u64, frame: &FrameView<'_>) -> bool
+    fn lacks_room<'a, F: ReceivedFrame<'a>>(&self, now: u64, frame: &F) -> bool
         requires { now ≤ 2 ^ 62 }
         ensures { (history : List Reception) →
             Represents self.now.remember self.now.content history now →
-            result ≡ is_full self.now.capacity frame.now.packet.pdu.vector.address
+            result ≡ is_full self.now.capacity (F.frame frame.now).pdu.vector.address
             (stations_at self.now.remember now history) }
     {
-        !self.store.has_room(now, frame.packet.vector().address())
+        !self.store.has_room(now, frame.vector().address())
     }
 
     /// Why a frame is ignored, if it is.
-    fn reason_to_ignore(&self, now: u64, frame: &FrameView<'_>) -> Option<Why>
+    fn reason_to_ignore<'a, F: ReceivedFrame<'a>>(&self, now: u64, frame: &F) -> Option<Why>
         requires { now ≤ 2 ^ 62 }
         ensures { (ports : List ℕ) (history : List Reception) →
             Represents self.now.remember self.now.content history now →
-            result ≡ why_found (model_of self.now ports history) now (transmission_of frame.now) }
+            result ≡ why_found (model_of self.now ports history) now (F.frame frame.now) }
     {
-        let vector = frame.packet.vector();
-        if frame.to != self.mac() && frame.to != Mac::BROADCAST {
+        let vector = frame.vector();
+        if frame.target() != self.mac() && frame.target() != Mac::BROADCAST {
             return Some(Why::NotForMe);
         }
         if vector.address() == self.vector.address() {
             return Some(Why::OwnSource);
         }
-        if frame.packet.number().is_none() && vector.address().mid() != frame.from {
+        if frame.number().is_none() && vector.address().mid() != frame.sender() {
             return Some(Why::SenderMismatch);
         }
-        match frame.packet.number() {
+        match frame.number() {
             Some(number) if self.store.remembers(now, vector.address(), number) => {
                 Some(Why::Duplicate)
             }
@@ -155,33 +231,37 @@ impl<S: LocationStore> Station<S> {
     }
 
     /// Takes in a packet that is no duplicate and for whose source there is room.
-    fn accept<'a>(&mut self, now: u64, frame: &FrameView<'a>) -> Result<Outcome<'a>, Refused>
+    fn accept<'a, F: ReceivedFrame<'a>>(
+        &mut self,
+        now: u64,
+        frame: &F,
+    ) -> Result<Outcome<'a>, Refused>
         requires from { self.old.clock ≤ now }
         requires to { now ≤ 2 ^ 62 }
         requires new { (history : List Reception) →
             Represents self.old.remember self.old.content history now →
-            IsFalse (is_repeated self.old.remember (number_in frame.now.packet.pdu.body)
-            frame.now.packet.pdu.vector.address now history) }
+            IsFalse (is_repeated self.old.remember (number_in (F.frame frame.now).pdu.body)
+            (F.frame frame.now).pdu.vector.address now history) }
         requires room { (history : List Reception) →
             Represents self.old.remember self.old.content history now →
-            IsFalse (is_full self.old.capacity frame.now.packet.pdu.vector.address
+            IsFalse (is_full self.old.capacity (F.frame frame.now).pdu.vector.address
             (stations_at self.old.remember now history)) }
         ensures step { (ports : List ℕ) (history : List Reception) → IsPast self.old ports history →
-            IsStepOf Tells result self.new
-            (accept_step (model_of self.old ports history) now (transmission_of frame.now)) }
+            IsStepOf (TellsBy (F.Encodes frame.now)) result self.new
+            (accept_step (model_of self.old ports history) now (F.frame frame.now)) }
         ensures memory { (ports : List ℕ) (history : List Reception) →
             Represents self.old.remember self.old.content history now →
             result ≡ Err Refused.NoMemory →
-            TakesMemory (model_of self.old ports history) now (transmission_of frame.now) }
+            TakesMemory (model_of self.old ports history) now (F.frame frame.now) }
         ensures unchanged { OnErr result (self.new ≡ self.old) }
-        ensures payload { IfOk result (DeliversEndOf (payload_of frame.now.packet.pdu.body)) }
+        ensures payload { IfOk result (DeliversEndOf (payload_of (F.frame frame.now).pdu.body)) }
         ensures short { IfOk result (Fits 1394) }
-        ensures short_frame { IfOk result (SendsAtMost 1468) }
+        ensures short_frame { IfOk result (SendsAtMost (F.most frame.now)) }
     {
-        let inside = self.is_inside(&frame.packet);
+        let inside = self.is_inside(frame);
         let copy = self.copy_for_relay(frame, inside)?;
-        let handed = self.handing(&frame.packet, inside);
-        let heard = heard_of(&frame.packet);
+        let handed = self.handing(frame, inside);
+        let heard = heard_of(frame);
         self.take_in(now, &heard)?;
         let sent = self.direct(now, frame, copy);
         Ok(Outcome::Accepted { handed, sent })
@@ -222,15 +302,15 @@ impl<S: LocationStore> Station<S> {
     }
 
     /// What is delivered of a packet, inside or outside of its area.
-    fn handing<'a>(&self, packet: &PacketView<'a>, inside: bool) -> Option<Handed<'a>>
-        requires { inside ≡ is_inside self.now.vector.place packet.now.pdu.body }
-        ensures payload { HandsOutEndOf (payload_of packet.now.pdu.body) result }
+    fn handing<'a, F: ReceivedFrame<'a>>(&self, frame: &F, inside: bool) -> Option<Handed<'a>>
+        requires { inside ≡ is_inside self.now.vector.place (F.frame frame.now).pdu.body }
+        ensures payload { HandsOutEndOf (payload_of (F.frame frame.now).pdu.body) result }
         ensures short { HandingFits 1394 result }
         ensures message { (ports : List ℕ) (history : List Reception) →
             SamePorts self.now.ports ports → option_map said_by result
-            ≡ handing (model_of self.now ports history) packet.now.pdu.body }
+            ≡ handing (model_of self.now ports history) (F.frame frame.now).pdu.body }
     {
-        let Ok((port, info, payload)) = split(packet.payload()) else {
+        let Ok((port, info, payload)) = split(frame.payload()) else {
             return None;
         };
         if inside && self.ports.is_open(port) {
@@ -245,46 +325,54 @@ impl<S: LocationStore> Station<S> {
     }
 
     /// Whether the station is inside of the packet's area, if that has one.
-    fn is_inside(&self, packet: &PacketView<'_>) -> bool
-        ensures { result ≡ is_inside self.now.vector.place packet.now.pdu.body }
+    fn is_inside<'a, F: ReceivedFrame<'a>>(&self, frame: &F) -> bool
+        ensures { result ≡ is_inside self.now.vector.place (F.frame frame.now).pdu.body }
     {
-        match packet.area() {
+        match frame.area() {
             Some(area) => contains(&area, self.vector.place()),
             None => true,
         }
     }
 
     /// The frame in which a packet would go on to all: the one allocation of a relay.
-    fn copy_for_relay(
+    fn copy_for_relay<'a, F: ReceivedFrame<'a>>(
         &self,
-        frame: &FrameView<'_>,
+        frame: &F,
         inside: bool,
     ) -> Result<Option<Vec<u8>>, NoMemory>
-        requires { inside ≡ is_inside self.now.vector.place frame.now.packet.pdu.body }
-        ensures memory { OnErr result (IsTrue (goes_on self.now.vector.place frame.now.packet.left
-            frame.now.packet.pdu.body)) }
-        ensures copy { IfOk result (λ copy. IsRelay copy
-            (copy_of self.now.vector (transmission_of frame.now) frame.now.packet.pdu.body)) }
+        requires { inside ≡ is_inside self.now.vector.place (F.frame frame.now).pdu.body }
+        ensures memory { OnErr result (IsTrue (goes_on self.now.vector.place (F.frame frame.now).hops_left
+            (F.frame frame.now).pdu.body)) }
+        ensures copy { IfOk result (λ copy. IsRelayBy (F.Encodes frame.now) copy
+            (copy_of self.now.vector (F.frame frame.now) (F.frame frame.now).pdu.body)) }
+        ensures short { IfOk result (λ copy. IfSome copy
+            (λ w. length w.items ≤ F.most frame.now)) }
     {
-        if !goes_on(&frame.packet, inside) {
+        if !goes_on(frame, inside) {
             return Ok(None);
         }
-        let relayed = relay_frame(self.alloc, Mac::BROADCAST, self.mac(), frame)?;
+        let relayed = frame.relay(self.alloc, self.mac())?;
         Ok(Some(relayed))
     }
 
     /// Gives the frame its target, if it goes on at all.
-    fn direct(&self, now: u64, frame: &FrameView<'_>, copy: Option<Vec<u8>>) -> Option<Vec<u8>>
+    fn direct<'a, F: ReceivedFrame<'a>>(
+        &self,
+        now: u64,
+        frame: &F,
+        copy: Option<Vec<u8>>,
+    ) -> Option<Vec<u8>>
         requires time { now ≤ 2 ^ 62 }
-        requires copy { IsRelay copy
-            (copy_of self.now.vector (transmission_of frame.now) frame.now.packet.pdu.body) }
-        ensures short_frame { IfSome result (λ relayed. length relayed.items ≤ 1468) }
+        requires copy { IsRelayBy (F.Encodes frame.now) copy
+            (copy_of self.now.vector (F.frame frame.now) (F.frame frame.now).pdu.body) }
+        requires short { IfSome copy (λ w. length w.items ≤ F.most frame.now) }
+        ensures short_frame { IfSome result (λ relayed. length relayed.items ≤ F.most frame.now) }
         ensures relay { (ports : List ℕ) (history : List Reception) →
             Represents self.now.remember self.now.content history now →
-            IsRelay result (relayed (model_of self.now ports history) now
-            (transmission_of frame.now) frame.now.packet.pdu.body) }
+            IsRelayBy (F.Encodes frame.now) result (relayed (model_of self.now ports history) now
+            (F.frame frame.now) (F.frame frame.now).pdu.body) }
     {
-        let (Some(octets), Some(area)) = (copy, frame.packet.area()) else {
+        let (Some(octets), Some(area)) = (copy, frame.area()) else {
             return None;
         };
         match choose(
@@ -292,10 +380,10 @@ impl<S: LocationStore> Station<S> {
             now,
             self.vector.place(),
             &area,
-            Some(frame.from),
+            Some(frame.sender()),
         ) {
             Choice::Broadcast => Some(octets),
-            Choice::To(mac) => Some(sent_to(octets, mac)),
+            Choice::To(mac) => Some(frame.redirect(octets, mac)),
             Choice::Drop => None,
         }
     }
@@ -303,33 +391,21 @@ impl<S: LocationStore> Station<S> {
 
 /// Whether a packet goes on: a geobroadcast that has another hop left, and outside of its area a
 /// geoanycast.
-fn goes_on(packet: &PacketView<'_>, inside: bool) -> bool
-    ensures { (place : Position) → inside ≡ is_inside place packet.now.pdu.body →
-        result ≡ goes_on place packet.now.left packet.now.pdu.body }
+fn goes_on<'a, F: ReceivedFrame<'a>>(frame: &F, inside: bool) -> bool
+    ensures { (place : Position) → inside ≡ is_inside place (F.frame frame.now).pdu.body →
+        result ≡ goes_on place (F.frame frame.now).hops_left (F.frame frame.now).pdu.body }
 {
-    let has_hops = packet.hops().left() >= 2;
-    match packet.kind() {
+    let has_hops = frame.hops_left() >= 2;
+    match frame.kind() {
         Kind::Beacon | Kind::Shb => false,
         Kind::Gbc => has_hops,
         Kind::Gac => has_hops && !inside,
     }
 }
 
-/// A frame with another target.
-fn sent_to(octets: Vec<u8>, mac: Mac) -> Vec<u8>
-    requires { IsFrame octets.items }
-    ensures octets { (t : Transmission) → EncodesFrame t octets.items →
-        EncodesFrame (record t { link_target = mac }) result.items }
-    ensures short_frame { length result.items ≤ 1468 }
-{
-    let mut octets = octets;
-    retarget(octets.as_mut_slice(), mac);
-    octets
-}
-
 /// What a packet says of its source.
-fn heard_of(packet: &PacketView<'_>) -> Heard
-    ensures { result ≡ report_of packet.now.pdu }
+fn heard_of<'a, F: ReceivedFrame<'a>>(frame: &F) -> Heard
+    ensures { result ≡ report_of (F.frame frame.now).pdu }
 {
-    Heard::new(packet.vector(), packet.number())
+    Heard::new(frame.vector(), frame.number())
 }

@@ -3,7 +3,7 @@
 ghost use Rattle.std.specs.Prelude.{◌≡◌};
 
 use its_btp::PortFault;
-use its_faults::FrameFault;
+use its_faults::{FrameFault, SecuredFault};
 use its_gnvalue::NoMemory;
 use std::error::Error;
 use std::fmt;
@@ -19,6 +19,8 @@ pub enum Refused {
     JitterRange,
     /// S3: the octets are no frame.
     Frame(FrameFault),
+    /// S3: the octets are no secured frame, or with their plain part no packet.
+    Secured(SecuredFault),
     /// S8: the port can't be opened or closed.
     Port(PortFault),
     /// S6: the payload is over 1394 octets.
@@ -43,13 +45,14 @@ impl Refused {
 impl fmt::Display for Refused {
     fn fmt<W: fmt::Write>(&self, f: &mut fmt::Formatter<W>) -> fmt::Result {
         match self {
-            Refused::MomentEarlier => write!(f, "the moment is before the last one"),
-            Refused::MomentTooLate => write!(f, "the moment is over 2^62 ms"),
+            Refused::MomentEarlier => write!(f, "the time is earlier than that of the last call"),
+            Refused::MomentTooLate => write!(f, "the time is over 2^62 ms"),
             Refused::JitterRange => write!(f, "the jitter is over 750 ms"),
             Refused::Frame(fault) => write!(f, "{fault}"),
+            Refused::Secured(fault) => write!(f, "{fault}"),
             Refused::Port(fault) => write!(f, "{fault}"),
             Refused::PayloadTooLong => write!(f, "the payload is over 1394 octets"),
-            Refused::HopLimitZero => write!(f, "a packet of no hop"),
+            Refused::HopLimitZero => write!(f, "the hop limit is 0"),
             Refused::TableFull => write!(f, "the location table is full"),
             Refused::NoMemory => write!(f, "out of memory"),
         }
@@ -101,6 +104,7 @@ impl fmt::Display for RefusedCode {
             Refused::MomentEarlier => write!(f, "S1"),
             Refused::MomentTooLate => write!(f, "S2"),
             Refused::Frame(fault) => write!(f, "S3 {}", fault.code()),
+            Refused::Secured(fault) => write!(f, "S3 {}", fault.code()),
             Refused::TableFull => write!(f, "S4"),
             Refused::NoMemory => write!(f, "S5"),
             Refused::PayloadTooLong => write!(f, "S6"),

@@ -343,6 +343,7 @@ fn refusal(refused: Refused) -> Result<Reply, NoMemory>
         | Refused::MomentTooLate
         | Refused::JitterRange
         | Refused::Frame(_)
+        | Refused::Secured(_)
         | Refused::Port(_)
         | Refused::PayloadTooLong
         | Refused::HopLimitZero

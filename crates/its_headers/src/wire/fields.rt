@@ -7,6 +7,7 @@ ghost use Rattle.its_headers.specs.Encoding.{IsBytes};
 ghost use Rattle.its_headers.specs.Format.{Gives, number_at, octets_at};
 ghost use Rattle.its_headers.specs.Puts.{Puts};
 
+use crate::wire::octets::Octets;
 use byteorder::{BigEndian, ByteOrder};
 use its_faults::{Fault, FaultKind};
 
@@ -23,6 +24,9 @@ pub(crate) const LIFETIME: usize = 2;
 
 /// The hops that are left (RHL): the one octet that a relay changes.
 pub const HOPS_LEFT: usize = 3;
+
+/// Where the Basic Header ends.
+pub(crate) const BASIC_END: usize = 4;
 
 // The Common Header.
 
@@ -123,57 +127,62 @@ pub(crate) fn fault(at: usize, kind: FaultKind) -> Fault
 }
 
 /// G1: the octets end before or in a field.
-fn truncated(octets: &[u8]) -> Fault
-    ensures { result ≡ record { at = length octets.now; kind = FaultKind.Truncated } }
+fn truncated<O: Octets>(octets: &O) -> Fault
+    ensures { result ≡ record { at = length (O.octets octets.now); kind = FaultKind.Truncated } }
 {
-    fault(octets.len(), FaultKind::Truncated)
+    fault(octets.count(), FaultKind::Truncated)
 }
 
 /// The number of two octets at a place, which is there.
-pub(crate) fn u16_in(octets: &[u8], at: usize) -> u16
-    requires { at + 2 ≤ length octets.now }
-    ensures { result ≡ big_number 2 (drop at octets.now) }
+pub(crate) fn u16_in<O: Octets>(octets: &O, at: usize) -> u16
+    requires start { O.start octets.now ≤ at }
+    requires here { at + 2 ≤ length (O.octets octets.now) }
+    ensures { result ≡ big_number 2 (drop at (O.octets octets.now)) }
 {
-    BigEndian::read_u16(&octets[at..])
+    BigEndian::read_u16(octets.behind(at))
 }
 
 /// The number of four octets at a place, which is there.
-pub(crate) fn u32_in(octets: &[u8], at: usize) -> u32
-    requires { at + 4 ≤ length octets.now }
-    ensures { result ≡ big_number 4 (drop at octets.now) }
+pub(crate) fn u32_in<O: Octets>(octets: &O, at: usize) -> u32
+    requires start { O.start octets.now ≤ at }
+    requires here { at + 4 ≤ length (O.octets octets.now) }
+    ensures { result ≡ big_number 4 (drop at (O.octets octets.now)) }
 {
-    BigEndian::read_u32(&octets[at..])
+    BigEndian::read_u32(octets.behind(at))
 }
 
 /// The number of eight octets at a place, which is there.
-pub(crate) fn u64_in(octets: &[u8], at: usize) -> u64
-    requires { at + 8 ≤ length octets.now }
-    ensures { result ≡ big_number 8 (drop at octets.now) }
+pub(crate) fn u64_in<O: Octets>(octets: &O, at: usize) -> u64
+    requires start { O.start octets.now ≤ at }
+    requires here { at + 8 ≤ length (O.octets octets.now) }
+    ensures { result ≡ big_number 8 (drop at (O.octets octets.now)) }
 {
-    BigEndian::read_u64(&octets[at..])
+    BigEndian::read_u64(octets.behind(at))
 }
 
 /// The octet at a place, or G1.
 #[tactic(auto, unfolding(crate::specs::Format::number_at))]
-pub(crate) fn octet_at(octets: &[u8], at: usize) -> Result<u8, Fault>
-    requires { at < 2 ^ 32 }
-    ensures reading { Gives (λ x. x) result (number_at 1 at octets.now) }
-    ensures value { IfOk result (λ x. x ≡ big_number 1 (drop at octets.now)) }
+pub(crate) fn octet_at<O: Octets>(octets: &O, at: usize) -> Result<u8, Fault>
+    requires small { at < 2 ^ 32 }
+    requires start { O.start octets.now ≤ at }
+    ensures reading { Gives (λ x. x) result (number_at 1 at (O.octets octets.now)) }
+    ensures value { IfOk result (λ x. x ≡ big_number 1 (drop at (O.octets octets.now))) }
 {
-    if octets.len() < at + 1 {
+    if octets.count() < at + 1 {
         return Err(truncated(octets));
     }
-    Ok(octets[at])
+    Ok(octets.behind(at)[0])
 }
 
 /// The number of two octets at a place, or G1.
 #[tactic(auto, unfolding(crate::specs::Format::number_at))]
-pub(crate) fn u16_at(octets: &[u8], at: usize) -> Result<u16, Fault>
-    requires { at < 2 ^ 32 }
-    ensures reading { Gives (λ x. x) result (number_at 2 at octets.now) }
-    ensures value { IfOk result (λ x. x ≡ big_number 2 (drop at octets.now)) }
+pub(crate) fn u16_at<O: Octets>(octets: &O, at: usize) -> Result<u16, Fault>
+    requires small { at < 2 ^ 32 }
+    requires start { O.start octets.now ≤ at }
+    ensures reading { Gives (λ x. x) result (number_at 2 at (O.octets octets.now)) }
+    ensures value { IfOk result (λ x. x ≡ big_number 2 (drop at (O.octets octets.now))) }
 {
-    if octets.len() < at + 2 {
+    if octets.count() < at + 2 {
         return Err(truncated(octets));
     }
     Ok(u16_in(octets, at))
@@ -181,12 +190,13 @@ pub(crate) fn u16_at(octets: &[u8], at: usize) -> Result<u16, Fault>
 
 /// The number of four octets at a place, or G1.
 #[tactic(auto, unfolding(crate::specs::Format::number_at))]
-pub(crate) fn u32_at(octets: &[u8], at: usize) -> Result<u32, Fault>
-    requires { at < 2 ^ 32 }
-    ensures reading { Gives (λ x. x) result (number_at 4 at octets.now) }
-    ensures value { IfOk result (λ x. x ≡ big_number 4 (drop at octets.now)) }
+pub(crate) fn u32_at<O: Octets>(octets: &O, at: usize) -> Result<u32, Fault>
+    requires small { at < 2 ^ 32 }
+    requires start { O.start octets.now ≤ at }
+    ensures reading { Gives (λ x. x) result (number_at 4 at (O.octets octets.now)) }
+    ensures value { IfOk result (λ x. x ≡ big_number 4 (drop at (O.octets octets.now))) }
 {
-    if octets.len() < at + 4 {
+    if octets.count() < at + 4 {
         return Err(truncated(octets));
     }
     Ok(u32_in(octets, at))
@@ -194,12 +204,13 @@ pub(crate) fn u32_at(octets: &[u8], at: usize) -> Result<u32, Fault>
 
 /// The number of eight octets at a place, or G1.
 #[tactic(auto, unfolding(crate::specs::Format::number_at))]
-pub(crate) fn u64_at(octets: &[u8], at: usize) -> Result<u64, Fault>
-    requires { at < 2 ^ 32 }
-    ensures reading { Gives (λ x. x) result (number_at 8 at octets.now) }
-    ensures value { IfOk result (λ x. x ≡ big_number 8 (drop at octets.now)) }
+pub(crate) fn u64_at<O: Octets>(octets: &O, at: usize) -> Result<u64, Fault>
+    requires small { at < 2 ^ 32 }
+    requires start { O.start octets.now ≤ at }
+    ensures reading { Gives (λ x. x) result (number_at 8 at (O.octets octets.now)) }
+    ensures value { IfOk result (λ x. x ≡ big_number 8 (drop at (O.octets octets.now))) }
 {
-    if octets.len() < at + 8 {
+    if octets.count() < at + 8 {
         return Err(truncated(octets));
     }
     Ok(u64_in(octets, at))
@@ -207,12 +218,12 @@ pub(crate) fn u64_at(octets: &[u8], at: usize) -> Result<u64, Fault>
 
 /// Passes over a number of so many octets, each of whose values is right, or answers G1.
 #[tactic(auto, unfolding(crate::specs::Format::number_at))]
-pub(crate) fn pass_number(octets: &[u8], at: usize, count: usize) -> Result<(), Fault>
+pub(crate) fn pass_number<O: Octets>(octets: &O, at: usize, count: usize) -> Result<(), Fault>
     requires { at + count < 2 ^ 32 }
-    ensures { Gives (λ _. big_number count (drop at octets.now)) result
-        (number_at count at octets.now) }
+    ensures { Gives (λ _. big_number count (drop at (O.octets octets.now))) result
+        (number_at count at (O.octets octets.now)) }
 {
-    if octets.len() < at + count {
+    if octets.count() < at + count {
         return Err(truncated(octets));
     }
     Ok(())
@@ -220,11 +231,12 @@ pub(crate) fn pass_number(octets: &[u8], at: usize, count: usize) -> Result<(), 
 
 /// Passes over so many octets, or answers G1.
 #[tactic(auto, unfolding(crate::specs::Format::octets_at))]
-pub(crate) fn check_octets(octets: &[u8], at: usize, count: usize) -> Result<(), Fault>
+pub(crate) fn check_octets<O: Octets>(octets: &O, at: usize, count: usize) -> Result<(), Fault>
     requires { at + count < 2 ^ 32 }
-    ensures { Gives (λ _. take count (drop at octets.now)) result (octets_at count at octets.now) }
+    ensures { Gives (λ _. take count (drop at (O.octets octets.now))) result
+        (octets_at count at (O.octets octets.now)) }
 {
-    if octets.len() < at + count {
+    if octets.count() < at + count {
         return Err(truncated(octets));
     }
     Ok(())

@@ -1,4 +1,5 @@
 use Rattle.std.proofs.Common.{◌≡◌, sym, ap, ◌∙◌, subst, Bool, is_some}
+use Rattle.its_linkframe.specs.Frames.{EncodesFrame}
 use Rattle.its_station.specs.declared.run.Reply.{Reply}
 use Rattle.its_station.specs.Runs.{TellsReply, delivered}
 use Rattle.its_governor.specs.Governing.{frame_in, kept, passed_in}
@@ -27,7 +28,7 @@ returns-after-passed-2-clause-told c = λ call answer is told.
       | else-passed-2+in-None-1 v ↦
           v.result-is ∙ ap (λ (b : Bool). kept b w) (sym v.if-passed-2.false)
     ] in
-    told_reply c.args.self.now c.args.moment (frame_in call) delivered h c.if-passed.result w
+    told_reply EncodesFrame c.args.self.now c.args.moment (frame_in call) delivered h c.if-passed.result w
     c.if-passed-2.result p answer
     (subst (λ (b : Bool).
     p ≡ passed_in c.args.self.now c.args.moment (frame_in call) (is_some h) b)

@@ -4,12 +4,12 @@ use Rattle.its_headers.proofs.view.PacketView.vector.Goals as goal
 
 pub vector_in-requires-clause-here : goal.vector_in-requires-clause-here
 vector_in-requires-clause-here c =
-    (view_vector _ _ _ c.self.invariant c.self.view_is c.vector_at.ensures).here
+    (view_vector _ _ _ c.self.invariant c.self.view_is c.vector_at.ensures.value).here
 
 pub vector_in-requires-clause-fits : goal.vector_in-requires-clause-fits
 vector_in-requires-clause-fits c =
-    (view_vector _ _ _ c.self.invariant c.self.view_is c.vector_at.ensures).fits
+    (view_vector _ _ _ c.self.invariant c.self.view_is c.vector_at.ensures.value).fits
 
 pub returns : goal.returns
 returns c =
-    c.vector_in.ensures ∙ (view_vector _ _ _ c.self.invariant c.self.view_is c.vector_at.ensures).is
+    c.vector_in.ensures ∙ (view_vector _ _ _ c.self.invariant c.self.view_is c.vector_at.ensures.value).is

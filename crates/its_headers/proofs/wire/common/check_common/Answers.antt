@@ -5,24 +5,24 @@ use Rattle.its_headers.proofs.Judged.{types_then, common_judged}
 use Rattle.its_headers.proofs.wire.common.check_common.Goals as goal
 
 pub returns-then-branch-left-clause-reading : goal.returns-then-branch-left-clause-reading
-returns-then-branch-left-clause-reading c =
+returns-then-branch-left-clause-reading g c =
     types_then _ _ _ c.in_ok-header_type.ensures ∙ search rules
 
 pub returns-then-branch-ne0-2-clause-reading : goal.returns-then-branch-ne0-2-clause-reading
-returns-then-branch-ne0-2-clause-reading c =
+returns-then-branch-ne0-2-clause-reading g c =
     types_then _ _ _ c.in_ok-header_type.ensures ∙ search rules
 
 pub returns-in_err-octet_at-3-clause-reading : goal.returns-in_err-octet_at-3-clause-reading
-returns-in_err-octet_at-3-clause-reading c =
+returns-in_err-octet_at-3-clause-reading g c =
     let p = err_from_is_err_and c.from_residual-in_err-octet_at-3.result
     c.from_residual-in_err-octet_at-3.ensures.1 in
     rw (p.1, p.2) (types_then _ _ _ c.in_ok-header_type.ensures ∙ search rules)
 
 pub returns-clause-reading : goal.returns-clause-reading
-returns-clause-reading c =
+returns-clause-reading g c =
     let last = number_at-ok 1 _ _ _ c.in_ok-octet_at-3.ensures.reading in
     let judged =
-    common_judged c.args.left c.args.octets.now (
+    common_judged c.args.left (g.O.Octets.octets c.args.octets.now) (
       c.in_ok-header_type.header_type,
       c.in_ok-header_type.sub_type,
     ) c.in_ok-header_type.ensures (omega (arith, last.0))

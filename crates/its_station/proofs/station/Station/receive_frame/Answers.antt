@@ -2,7 +2,7 @@ use Rattle.std.proofs.Common.{◌≡◌}
 use Rattle.its_model.specs.Calls.{Receive}
 use Rattle.its_model.specs.Station as station
 use Rattle.its_model.specs.Station.{StationModel, verdict}
-use Rattle.its_linkframe.specs.Frames.{transmission_of}
+use Rattle.its_linkframe.specs.Frames.{EncodesFrame, transmission_of}
 use Rattle.its_station.specs.Receiving.{Tells, TakesMemory}
 use Rattle.its_station.proofs.Stations.{at_model}
 use Rattle.its_station.proofs.Hearing.{moment_exit, heard}
@@ -15,7 +15,7 @@ returns-in_err-check_moment-clause-step g c =
 
 pub returns-clause-step : goal.returns-clause-step
 returns-clause-step g c =
-    heard c.hear.result c.args.self.now c.hear.new.self c.args.now
+    heard EncodesFrame c.hear.result c.args.self.now c.hear.new.self c.args.now
     (transmission_of c.args.frame.now) c.hear.ensures.step
 
 pub returns-clause-memory : goal.returns-clause-memory

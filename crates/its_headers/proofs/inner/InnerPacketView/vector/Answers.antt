@@ -1,0 +1,12 @@
+use Rattle.std.proofs.Common.{◌∙◌}
+use Rattle.its_headers.proofs.Places.{view_vector}
+use Rattle.its_headers.proofs.inner.InnerPacketView.vector.Goals as goal
+
+pub vector_in-requires-clause-fits : goal.vector_in-requires-clause-fits
+vector_in-requires-clause-fits c =
+    (view_vector _ _ _ c.self.invariant c.self.view_is c.vector_at.ensures.value).fits
+
+pub returns : goal.returns
+returns c =
+    c.vector_in.ensures
+    ∙ (view_vector _ _ _ c.self.invariant c.self.view_is c.vector_at.ensures.value).is
