@@ -11,7 +11,7 @@ use crate::cooked::{sll_start, sll2_start};
 use crate::ethernet::type_at;
 use crate::ieee80211::{DataHeader, has, read_header};
 use crate::radiotap::{CHECK_SEQUENCE, FILLED, RadiotapHeader, read_radiotap};
-use its_linkframe::{LONGEST_FRAME, read_frame};
+use its_linkframe::{LONGEST_SECURED_FRAME, read_frame};
 use std::error::Error;
 use std::fmt;
 
@@ -23,11 +23,11 @@ const ADDRESSES: usize = 12;
 /// The octets of a check sequence.
 const CHECK: usize = 4;
 
-/// How many octets of a record are to be kept where its frame is judged: further ones change
+/// How many octets of a record have to be kept for its frame to be judged: further ones change
 /// nothing. Before a frame's type a radiotap header has 65535 octets at most, that of IEEE 802.11
-/// 36, and LLC with SNAP 6; a frame of more than 1468 octets is refused by its length, and 4 more
-/// may be a check sequence.
-pub const LONGEST_RECORD: usize = 65535 + 36 + 6 + (LONGEST_FRAME + 1) + CHECK;
+/// 36, and LLC with SNAP 6. A frame of more than 1468 octets is refused by its length, a secured one
+/// of more than 2310, and 4 more may be a check sequence.
+pub const LONGEST_RECORD: usize = 65535 + 36 + 6 + (LONGEST_SECURED_FRAME + 1) + CHECK;
 
 /// A link layer that records are read of.
 #[derive(Clone, Copy, Debug, PartialEq, Eq)]
