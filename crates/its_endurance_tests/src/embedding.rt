@@ -3,6 +3,7 @@
 mod counts;
 mod known;
 mod mobile;
+mod roadside;
 
 use crate::vectors::{GEOBROADCAST, beacon_of};
 use its_faults::{Fault, FaultKind, FrameFault};
