@@ -1,6 +1,6 @@
 -- How the program ends whose arguments are refused.
-use Rattle.its_reporting.specs.declared.status.Status.{Status}
-use Rattle.its_reporting.specs.declared.status.Status.TheVariants.{BadArguments, Failed}
+use Rattle.cmd_reporting.specs.declared.status.Status.{Status}
+use Rattle.cmd_reporting.specs.declared.status.Status.TheVariants.{BadArguments, Failed}
 use Rattle.geostation.specs.declared.fault.ArgumentFault.{ArgumentFault}
 use Rattle.geostation.specs.declared.fault.ArgumentFault.TheVariants.{NotUtf8, Key, Setting}
 use Rattle.geostation.specs.declared.fault.ArgumentFault.TheVariants.{Stopped}

@@ -2,7 +2,7 @@
 use Rattle.std.specs.Prelude.{Bool, true, false, Option, None}
 use Rattle.geostation.specs.declared.subcommand.Subcommand.{Subcommand}
 use Rattle.geostation.specs.declared.subcommand.Subcommand.TheVariants as subcommands
-use Rattle.its_terminal.specs.declared.painting.Painter.{Painter}
+use Rattle.cmd_arguments.specs.declared.terminal.painting.Painter.{Painter}
 
 -- whether a line of column heads is put before its lines
 abbrev pub is_headed : Subcommand → Bool

@@ -3,10 +3,10 @@
 use crate::subcommand::{Subcommand, matched_format, subcommand_of};
 use clap::error::ErrorKind;
 use clap::{Command, Error};
-use its_arguments::{BadArgument, add_commands, command_named};
-use its_reporting::OutputFormat;
-use its_runs::VERSION;
-use its_terminal::Console;
+use cmd_arguments::terminal::Console;
+use cmd_arguments::{BadArgument, add_commands, command_named};
+use cmd_reporting::OutputFormat;
+use sim_runs::VERSION;
 use std::alloc::{AllocError, Global};
 
 /// The name of the program.

@@ -1,8 +1,8 @@
 //! Arguments that are refused once they are read.
 
-use its_frame_text::Explanation;
-use its_keys::{Key, Quoted, SettingFault, SettingReason, WrongValue};
-use its_reporting::{CommandFault, Fault, OutputFormat, Status};
+use cmd_reporting::{CommandFault, Fault, OutputFormat, Status};
+use cmd_text::frames::Explanation;
+use sim_settings::keys::{Key, Quoted, SettingFault, SettingReason, WrongValue};
 use std::io::Write;
 use thiserror::Error;
 

@@ -8,7 +8,7 @@ mod pipe;
 mod program;
 mod subcommand;
 
-use its_terminal::Console;
+use cmd_arguments::terminal::Console;
 use std::env;
 use std::io::IsTerminal;
 use std::process::ExitCode;

@@ -1,26 +1,26 @@
 //! The program over the runtime: arguments are read, and their command is run.
 
 ghost use Rattle.std.specs.Prelude.{IfOk};
-ghost use Rattle.its_replay.specs.Units.{IsUnit};
+ghost use Rattle.cmd_stats.specs.Units.{IsUnit};
 ghost use Rattle.its_world.specs.Events.{IsConfig};
 
 use crate::arguments;
 use crate::fault::ArgumentFault;
 use crate::pipe::{CLOSED_STATUS, Pipe};
 use crate::subcommand::{Convert, Import, Replay, Show, Subcommand};
-use its_arguments::StationArguments;
-use its_commands::{check_file, convert_file, import_file, show_file};
-use its_events::read_station;
-use its_keys::{Fields, KeyFault, Quoted, SettingFault, WrongOf, WrongValue};
-use its_mesh::mesh_file;
-use its_page::{Viewing, view_file};
-use its_pipe::{Ended, run_station};
-use its_replay::{PortList, ReplayOptions, Unit, replay_file};
-use its_reporting::{CommandFault, Fault, Io, OutputFormat, Status};
-use its_runs::simulate_file;
-use its_stats::stats_file;
-use its_terminal::{Console, Meter, Reading, Screen};
+use cmd_arguments::StationArguments;
+use cmd_arguments::terminal::{Console, Meter, Reading, Screen};
+use cmd_captures::{check_file, convert_file, import_file, show_file};
+use cmd_mesh::mesh_file;
+use cmd_page::{Viewing, view_file};
+use cmd_pipe::{Ended, run_station};
+use cmd_reporting::{CommandFault, Fault, Io, OutputFormat, Status};
+use cmd_stats::replay::{PortList, ReplayOptions, Unit, replay_file};
+use cmd_stats::stats_file;
 use its_world::Config;
+use sim_runs::simulate_file;
+use sim_scenario::events::read_station;
+use sim_settings::keys::{Fields, KeyFault, Quoted, SettingFault, WrongOf, WrongValue};
 use std::alloc::{AllocError, Global};
 use std::env::Args;
 use std::io;

@@ -3,20 +3,20 @@
 ghost use Rattle.std.specs.Prelude.{◌≡◌, is_some};
 ghost use Rattle.geostation.specs.Subcommands.{is_headed, is_told_on, painter_of as painter_in};
 
+use cap_pcap::Format;
 use clap::ArgMatches;
-use its_arguments::{
+use cmd_arguments::terminal::{Coloring, Console, Painter};
+use cmd_arguments::{
     BadArgument, StationArguments, count_of, fields_of, ports_of, selection_of,
     selection_to_any_port, time_of,
 };
-use its_commands::{Conversion, Selection, Showing};
-use its_keys::{AirSettings, SettingFault};
-use its_mesh::MeshOptions;
-use its_page::Viewing;
-use its_pcap::Format;
-use its_replay::PortList;
-use its_reporting::{OutputFormat, Target, is_standard};
-use its_runs::{ResultFiles, RunFiles, RunOptions};
-use its_terminal::{Coloring, Console, Painter};
+use cmd_captures::{Conversion, Selection, Showing};
+use cmd_mesh::MeshOptions;
+use cmd_page::Viewing;
+use cmd_reporting::{OutputFormat, Target, is_standard};
+use cmd_stats::replay::PortList;
+use sim_runs::{ResultFiles, RunFiles, RunOptions};
+use sim_settings::keys::{AirSettings, SettingFault};
 
 /// What the program is to do.
 #[derive(Clone, Copy)]

@@ -7,8 +7,8 @@ use Rattle.std.specs.Prelude.{Result, Ok, Err, IsSome, IfOk, OnErr}
 use Rattle.its_model.specs.Calls.{Answer}
 use Rattle.its_model.specs.Packet.{Transmission}
 use Rattle.its_model.specs.Station.{StationModel, Step}
-use Rattle.its_pipe.specs.Knowing.{Counted}
-use Rattle.its_pipe.specs.Serving.{RepresentsCounted}
+use Rattle.cmd_pipe.specs.Knowing.{Counted}
+use Rattle.cmd_pipe.specs.Serving.{RepresentsCounted}
 use Rattle.its_station.specs.declared.counts.Counts.{Counts}
 use Rattle.its_station.specs.declared.refused.Refused.{Refused}
 use Rattle.its_station.specs.State.{StationState, RepresentsStation}

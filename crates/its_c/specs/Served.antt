@@ -1,15 +1,15 @@
 -- What C is told of a line that asks for a call, or for what the station knows.
 use Rattle.std.specs.Prelude.{◌≡◌, ◌≤◌, ◌<◌, ◌⊎◌, ℕ, List, length, Vec, Option, Some, None}
 use Rattle.std.specs.declared.alloc.Global.{Global}
-use Rattle.its_json.specs.Lines.{IsCompact}
+use Rattle.cmd_text.specs.JsonLines.{IsCompact}
 use Rattle.its_model.specs.Station.{StationModel}
 use Rattle.its_station.specs.State.{StationState, RepresentsStation}
 use Rattle.its_station.specs.declared.run.Reply.TheVariants as replies
-use Rattle.its_pipe.specs.Knowing.{Counted}
-use Rattle.its_pipe.specs.Lines.{whole_line}
-use Rattle.its_pipe.specs.Serving.{TellsLine, told_in}
-use Rattle.its_pipe.specs.declared.response.Response.{Response}
-use Rattle.its_pipe.specs.declared.response.Response.TheVariants as responses
+use Rattle.cmd_pipe.specs.Knowing.{Counted}
+use Rattle.cmd_pipe.specs.Lines.{whole_line}
+use Rattle.cmd_pipe.specs.Serving.{TellsLine, told_in}
+use Rattle.cmd_pipe.specs.declared.response.Response.{Response}
+use Rattle.cmd_pipe.specs.declared.response.Response.TheVariants as responses
 use Rattle.its_c.specs.Counted.{counts_of}
 use Rattle.its_c.specs.Told.{Holds}
 use Rattle.its_c.specs.declared.handle.Geostation.{Geostation}

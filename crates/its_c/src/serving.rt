@@ -2,7 +2,7 @@
 
 ghost use Rattle.std.specs.Prelude.{◌≡◌, ◌≢◌, ◌≤◌, ◌<◌, ◌⊎◌, pos, length, Option};
 ghost use Rattle.its_model.specs.Station.{StationModel};
-ghost use Rattle.its_pipe.specs.declared.response.Response.{Response as ToldLine};
+ghost use Rattle.cmd_pipe.specs.declared.response.Response.{Response as ToldLine};
 ghost use Rattle.its_c.specs.Open.{HoldsModel};
 ghost use Rattle.its_c.specs.Served.{IsServedLine, ShowsAnswer, ShowsFitting, ShowsLine, frame_in};
 ghost use Rattle.its_c.specs.Told.{Holds};
@@ -11,9 +11,9 @@ use crate::counting::{counts_of, told_counts};
 use crate::handle::Geostation;
 use crate::status::{NO_MEMORY, NO_ROOM, OK};
 use crate::told::hand_out;
-use its_json::JsonLine;
+use cmd_pipe::{Response, answer_line, print_response};
+use cmd_text::json_lines::JsonLine;
 use its_linkframe::LONGEST_FRAME;
-use its_pipe::{Response, answer_line, print_response};
 use its_station::Reply;
 use std::alloc::Global;
 

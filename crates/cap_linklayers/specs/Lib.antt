@@ -1,0 +1,7 @@
+pub mod Cooked
+pub mod Ethernet
+pub mod Facts
+pub mod Ieee80211
+pub mod LinkLayers
+pub mod Radiotap
+pub mod AirTime

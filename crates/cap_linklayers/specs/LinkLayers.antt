@@ -1,0 +1,97 @@
+-- The frame of a record of each link layer, and the first rule of its layer that doesn't hold.
+use Rattle.std.specs.Prelude.{◌≡◌, ℕ, ◌+◌, ◌-◌, ◌<◌, ◌≤◌, ◌⊎◌, Bool, true, false}
+use Rattle.std.specs.Prelude.{List, [], ◌∷◌, ◌++◌, length, take, drop}
+use Rattle.std.specs.Prelude.{Option, None, Some, ◌==◌, if◌then◌else◌}
+use Rattle.its_linkframe.specs.Frames.{IsFrame}
+use Rattle.cap_linklayers.specs.Cooked.{IsSll, IsSllFault, IsSll2, IsSll2Fault}
+use Rattle.cap_linklayers.specs.Ethernet.{IsTypeAt, EndsInTag}
+use Rattle.cap_linklayers.specs.Ieee80211.{IsHeader, IsHeaderFault, has_bit}
+use Rattle.cap_linklayers.specs.Radiotap.{IsRadiotap, IsRadiotapFault}
+use Rattle.cap_linklayers.specs.declared.ieee80211.DataHeader.{DataHeader}
+use Rattle.cap_linklayers.specs.declared.link.LinkFault.{LinkFault}
+use Rattle.cap_linklayers.specs.declared.link.LinkFault.TheVariants as faults
+use Rattle.cap_linklayers.specs.declared.link.LinkLayer.{LinkLayer}
+use Rattle.cap_linklayers.specs.declared.link.LinkLayer.TheVariants as layers
+use Rattle.cap_linklayers.specs.declared.radiotap.RadiotapHeader.{RadiotapHeader}
+
+-- the number of a link layer in pcap and pcapng
+abbrev pub layer_number : LinkLayer → ℕ
+layer_number layers.Ethernet = 1
+layer_number layers.Ieee80211 = 105
+layer_number layers.Radiotap = 127
+layer_number layers.Sll = 113
+layer_number layers.Sll2 = 276
+
+-- the link layer of a number, of those that are read
+abbrev pub layer_of : ℕ → Option LinkLayer
+layer_of number =
+    if number == 1 then Some layers.Ethernet
+    else if number == 105 then Some layers.Ieee80211
+    else if number == 113 then Some layers.Sll
+    else if number == 127 then Some layers.Radiotap
+    else if number == 276 then Some layers.Sll2
+    else None
+
+-- L1 and L2, as ASCII text
+abbrev pub link_code_of : LinkFault → List ℕ
+link_code_of faults.Short = 76 ∷ 49 ∷ []
+link_code_of faults.Kind = 76 ∷ 50 ∷ []
+
+-- target and source of a header, and the type with what follows it
+abbrev pub joined : DataHeader → List ℕ → List ℕ
+joined h w = (take 6 (drop h.target w) ++ take 6 (drop h.source w)) ++ drop h.kind w
+
+-- Octets, which are a frame and four octets behind it, are read without these: a check sequence,
+-- whatever its value. Others stay.
+abbrev pub IsUnchecked : List ℕ → List ℕ → Type 0
+IsUnchecked w r =
+    ((4 ≤ length w) × IsFrame (take (length w - 4) w) × (r ≡ take (length w - 4) w))
+    ⊎ ((¬ ((4 ≤ length w) × IsFrame (take (length w - 4) w))) × (r ≡ w))
+
+-- a radiotap header's flags: the record ends with a check sequence; the header of IEEE 802.11 is
+-- filled up
+abbrev pub is_checked : RadiotapHeader → Bool
+is_checked h = has_bit 16 h.flags
+
+abbrev pub is_filled : RadiotapHeader → Bool
+is_filled h = has_bit 32 h.flags
+
+-- the frame of IEEE 802.11 from an octet on, and the same without a check sequence behind it
+abbrev pub IsData : Bool → ℕ → List ℕ → List ℕ → Type 0
+IsData filled at w f = (h : DataHeader) × IsHeader filled w at h × (f ≡ joined h w)
+
+abbrev pub IsUncheckedData : Bool → ℕ → List ℕ → List ℕ → Type 0
+IsUncheckedData filled at w f =
+    (h : DataHeader) × IsHeader filled w at h × IsUnchecked (joined h w) f
+
+-- A record's octets behind a radiotap header: where they end with a check sequence, its four octets
+-- go first; else one may still stand behind the frame.
+abbrev pub IsFrameBehind : RadiotapHeader → List ℕ → List ℕ → Type 0
+IsFrameBehind r w f =
+    ((is_checked r ≡ true) × (r.length + 4 ≤ length w)
+    × IsData (is_filled r) r.length (take (length w - 4) w) f)
+    ⊎ ((is_checked r ≡ false) × IsUncheckedData (is_filled r) r.length w f)
+
+-- the frame of a record
+abbrev pub IsFrameIn : LinkLayer → List ℕ → List ℕ → Type 0
+IsFrameIn layers.Ethernet w f = (at : ℕ) × IsTypeAt w at × (f ≡ take 12 w ++ drop at w)
+IsFrameIn layers.Ieee80211 w f = IsUncheckedData false 0 w f
+IsFrameIn layers.Radiotap w f = (r : RadiotapHeader) × IsRadiotap w r × IsFrameBehind r w f
+IsFrameIn layers.Sll w f = IsSll w f
+IsFrameIn layers.Sll2 w f = IsSll2 w f
+
+abbrev pub IsFaultBehind : RadiotapHeader → List ℕ → LinkFault → Type 0
+IsFaultBehind r w f =
+    ((is_checked r ≡ true) × (length w < r.length + 4) × (f ≡ faults.Short))
+    ⊎ ((is_checked r ≡ true) × (r.length + 4 ≤ length w)
+    × IsHeaderFault (is_filled r) (take (length w - 4) w) r.length f)
+    ⊎ ((is_checked r ≡ false) × IsHeaderFault (is_filled r) w r.length f)
+
+-- The first rule that doesn't hold.
+abbrev pub IsLinkFault : LinkLayer → List ℕ → LinkFault → Type 0
+IsLinkFault layers.Ethernet w f = (f ≡ faults.Short) × EndsInTag w
+IsLinkFault layers.Ieee80211 w f = IsHeaderFault false w 0 f
+IsLinkFault layers.Radiotap w f =
+    IsRadiotapFault w f ⊎ ((r : RadiotapHeader) × IsRadiotap w r × IsFaultBehind r w f)
+IsLinkFault layers.Sll w f = IsSllFault w f
+IsLinkFault layers.Sll2 w f = IsSll2Fault w f

@@ -1,0 +1,50 @@
+//! What the headers of a link layer say of a record beside its frame.
+
+ghost use Rattle.cap_linklayers.specs.Facts.{AreFacts, AreNone};
+
+use crate::ethernet::vlan_of;
+use crate::link::LinkLayer;
+use crate::radiotap::{rate_of, signal_of};
+
+/// What the headers of a link layer say of a record beside its frame.
+#[derive(Clone, Copy, Debug, PartialEq, Eq)]
+pub struct LinkFacts {
+    /// The VLAN identifier of the first tag of Ethernet, 0 to 4095.
+    pub vlan: Option<u16>,
+    /// The signal at the antenna in dBm, from radiotap.
+    pub signal: Option<i8>,
+    /// The rate in units of 500 kbit/s, from radiotap.
+    pub rate: Option<u8>,
+}
+
+impl LinkFacts {
+    /// Nothing.
+    pub fn none() -> LinkFacts
+        ensures { AreNone result }
+    {
+        LinkFacts {
+            vlan: None,
+            signal: None,
+            rate: None,
+        }
+    }
+
+    /// Returns what the headers of this link layer say, which begin these octets. A fact that isn't
+    /// there, or of which the record has too few octets, is `None`.
+    pub fn of(layer: LinkLayer, octets: &[u8]) -> LinkFacts
+        ensures { AreFacts layer octets.now result }
+    {
+        match layer {
+            LinkLayer::Ethernet => LinkFacts {
+                vlan: vlan_of(octets),
+                ..LinkFacts::none()
+            },
+            LinkLayer::Radiotap => LinkFacts {
+                signal: signal_of(octets),
+                rate: rate_of(octets),
+                ..LinkFacts::none()
+            },
+            LinkLayer::Ieee80211 | LinkLayer::Sll | LinkLayer::Sll2 => LinkFacts::none(),
+        }
+    }
+}

@@ -1,0 +1,79 @@
+//! Whether a record has a place in a file that is written.
+
+ghost use Rattle.std.specs.Prelude.{◌≡◌, ◌↔◌, ◌≤◌, IsTrue, MatchResult, Some, length};
+ghost use Rattle.its_linkframe.specs.Captures.{IsFrameLength};
+ghost use Rattle.cap_pcap.specs.PcapWritten.{IsLate};
+ghost use Rattle.cap_pcap.specs.Places.{IsLayerFor, refusal_of, allows_layer};
+ghost use Rattle.cap_pcap.specs.RecordFiles.{HasPlace, RefusesFrame};
+
+use crate::format::Format;
+use crate::pcap::LONGEST_CAPTURED;
+use crate::put_fault::PutFault;
+use crate::record::{RecordFault, RecordHeader};
+use cap_linklayers::LinkLayer;
+use its_linkframe::LONGEST_FRAME;
+
+/// The link layer of a record that is written to a file of this one, or of any where none is given.
+///
+/// `LinkType` for a record of another one, or of one that isn't read, before `CutFrame`.
+pub fn layer_for(head: &RecordHeader, only: Option<LinkLayer>) -> Result<LinkLayer, RecordFault>
+    ensures { MatchResult result (IsLayerFor head.now only)
+        (λ f. refusal_of head.now only ≡ Some f) }
+{
+    let Some(own) = head.layer else {
+        return Err(RecordFault::LinkType);
+    };
+    if !allows(only, own) {
+        return Err(RecordFault::LinkType);
+    }
+    match head.fault() {
+        Some(fault) => Err(fault),
+        None => Ok(own),
+    }
+}
+
+/// Whether a file of this link layer, or of any where none is given, has records of this one.
+fn allows(only: Option<LinkLayer>, own: LinkLayer) -> bool
+    ensures { result ≡ allows_layer only own }
+{
+    match only {
+        Some(only) => only.number() == own.number(),
+        None => true,
+    }
+}
+
+/// Whether a file of this format has a place for such a record, of its first interface where the
+/// format has interfaces.
+///
+/// `Length` for more than 262144 octets, in a capture for none or more than 1468, before `Moment`
+/// for one whose second is 2^32 or more in classic pcap.
+pub fn has_place(format: Format, moment: u64, octets: &[u8]) -> Result<(), PutFault>
+    ensures { MatchResult result (λ _. HasPlace format 1 0 moment octets.now)
+        (RefusesFrame format 1 0 moment octets.now) }
+{
+    let fits = match format {
+        Format::Capture => is_frame_length(octets),
+        Format::Pcap | Format::Pcapng => octets.len() <= LONGEST_CAPTURED as usize,
+    };
+    if !fits {
+        return Err(PutFault::Length);
+    }
+    if format == Format::Pcap && is_late(moment) {
+        return Err(PutFault::Moment);
+    }
+    Ok(())
+}
+
+/// Whether a capture may have a frame of so many octets.
+fn is_frame_length(octets: &[u8]) -> bool
+    ensures { IsTrue result ↔ IsFrameLength (length octets.now) }
+{
+    !octets.is_empty() && octets.len() <= LONGEST_FRAME
+}
+
+/// Whether the second of a moment has no place in 32 bits.
+fn is_late(moment: u64) -> bool
+    ensures { IsTrue result ↔ IsLate moment }
+{
+    moment / 1000 > u64::from(u32::MAX)
+}

@@ -1,0 +1,98 @@
+//! What is told of a record, and what one call for records gives.
+
+ghost use Rattle.std.specs.Prelude.{◌≡◌};
+ghost use Rattle.cap_pcap.specs.Records.{fault_of, record_code_of};
+
+use cap_linklayers::LinkLayer;
+use std::error::Error;
+use std::fmt;
+
+/// The time of a record below the millisecond, and in the ticks of its interface.
+#[derive(Clone, Copy, Debug, PartialEq, Eq)]
+pub struct FineTime {
+    /// Nanoseconds since the last whole millisecond, 0 to 999999. A fraction is cut down.
+    pub nanos: u32,
+    /// Whether the file has a fraction of a nanosecond too.
+    pub finer: bool,
+    /// The time as the file has it: ticks of the record's interface.
+    pub ticks: u64,
+}
+
+/// What is told of a record beside its octets.
+#[derive(Clone, Copy, Debug, PartialEq, Eq)]
+pub struct RecordHeader {
+    /// In milliseconds since the epoch of its file; a fraction is cut down.
+    pub moment: u64,
+    /// The same below the millisecond.
+    pub fine: FineTime,
+    /// The number of its interface in the file, from 0. Sections count on. 0 in a file without
+    /// interfaces.
+    pub interface: u32,
+    /// How many of the record's octets the file has: at most 262144.
+    pub captured: u32,
+    /// How many octets the record had on the wire.
+    pub wire: u32,
+    /// The link layer that it was taken from, where that is one that is read.
+    pub layer: Option<LinkLayer>,
+}
+
+/// What one call for the next record gives.
+#[derive(Clone, Copy, Debug, PartialEq, Eq)]
+pub enum Step {
+    /// A record; its octets are in the buffer.
+    Record(RecordHeader),
+    /// An interface begins: the header of a classic pcap file, or an interface block. Call again.
+    Interface,
+    /// A block without a record or an interface was skipped. Call again.
+    Passed,
+    /// The end of the file, answered from then on.
+    End,
+}
+
+/// Why a record is no frame to be checked.
+#[derive(Clone, Copy, Debug, PartialEq, Eq)]
+pub enum RecordFault {
+    /// P3: it was taken from a link layer that is not read.
+    LinkType,
+    /// P4: fewer octets were captured than were on the wire.
+    CutFrame,
+}
+
+impl RecordHeader {
+    /// The first fault of the record: P3 before P4.
+    pub fn fault(&self) -> Option<RecordFault>
+        ensures { result ≡ fault_of self.now }
+    {
+        if self.layer.is_none() {
+            return Some(RecordFault::LinkType);
+        }
+        if self.captured < self.wire {
+            return Some(RecordFault::CutFrame);
+        }
+        None
+    }
+}
+
+impl RecordFault {
+    /// What logs and the program's lines show: `P3` or `P4`.
+    pub fn code(&self) -> &'static str
+        ensures { result.now ≡ record_code_of self.now }
+    {
+        match self {
+            RecordFault::LinkType => "P3",
+            RecordFault::CutFrame => "P4",
+        }
+    }
+}
+
+impl fmt::Display for RecordFault {
+    fn fmt<W: fmt::Write>(&self, f: &mut fmt::Formatter<W>) -> fmt::Result {
+        let sentence = match self {
+            RecordFault::LinkType => "a link layer that is not read",
+            RecordFault::CutFrame => "fewer octets were captured than were on the wire",
+        };
+        write!(f, "{sentence}")
+    }
+}
+
+impl Error for RecordFault {}

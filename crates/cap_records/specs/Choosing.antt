@@ -1,0 +1,57 @@
+-- Which records of a capture are chosen.
+use Rattle.std.specs.Prelude.{ℕ, ◌&&◌, ◌==◌, Bool, true, false, not, nat_le, Option, Some, None}
+use Rattle.std.specs.Prelude.{is_none}
+use Rattle.its_headers.specs.declared.kind.Kind.{Kind}
+use Rattle.its_headers.specs.declared.kind.Kind.TheVariants.{Beacon, Shb, Gbc, Gac}
+use Rattle.cap_records.specs.declared.choosing.Kinds.{Kinds}
+use Rattle.cap_records.specs.declared.choosing.Traits.{Traits}
+use Rattle.cap_records.specs.declared.choosing.Choice.{Choice}
+
+-- whether a kind is one of these
+abbrev pub has_kind : Kinds → Kind → Bool
+has_kind kinds Beacon = kinds.beacon
+has_kind kinds Shb = kinds.shb
+has_kind kinds Gbc = kinds.gbc
+has_kind kinds Gac = kinds.gac
+
+-- the same, and any kind where none is asked for
+abbrev pub has_kind_of : Option Kinds → Kind → Bool
+has_kind_of None kind = true
+has_kind_of (Some kinds) kind = has_kind kinds kind
+
+-- whether a number is the one that is asked for, if one is
+abbrev pub allows : Option ℕ → ℕ → Bool
+allows None n = true
+allows (Some only) n = only == n
+
+-- the same of a number that is there or not
+abbrev pub allows_port : Option ℕ → Option ℕ → Bool
+allows_port None port = true
+allows_port (Some only) None = false
+allows_port (Some only) (Some port) = only == port
+
+-- whether all holds of a frame that is asked of frames
+abbrev pub holds : Choice → Traits → Bool
+holds choice frame = has_kind_of choice.kinds frame.kind && allows choice.source frame.source
+    && allows choice.from frame.from && allows_port choice.port frame.port
+
+-- whether nothing is asked of frames alone
+abbrev pub asks_nothing : Choice → Bool
+asks_nothing choice = is_none choice.kinds && is_none choice.source && is_none choice.from
+    && is_none choice.port
+
+-- whether a frame, or what is none, is chosen whatever its moment
+abbrev pub is_chosen_frame : Choice → Option Traits → Bool
+is_chosen_frame choice (Some frame) = not choice.refused && holds choice frame
+is_chosen_frame choice None = asks_nothing choice
+
+-- whether a record of this moment is chosen: all holds that is asked for
+abbrev pub is_chosen : Choice → ℕ → Option Traits → Bool
+is_chosen choice moment frame = is_chosen_frame choice frame && nat_le choice.since moment
+    && nat_le moment choice.until
+
+-- the same of a record of which it is known whether it is of another protocol than GeoNetworking, or of
+-- a link layer that is not read
+abbrev pub selects : Choice → ℕ → Option Traits → Bool → Bool
+selects choice moment frame is_other =
+    not (choice.skips_others && is_other) && is_chosen choice moment frame

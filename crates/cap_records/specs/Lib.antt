@@ -1,0 +1,4 @@
+pub mod FileFaults
+pub mod RecordFrames
+pub mod Walks
+pub mod Choosing

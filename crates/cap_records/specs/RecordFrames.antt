@@ -1,0 +1,129 @@
+-- The frame of a record, why a record has none, and what it is chosen by.
+use Rattle.std.specs.Prelude.{◌≡◌, ℕ, ◌+◌, ◌%◌, List, slice_get, Bool, true, false}
+use Rattle.std.specs.Prelude.{Option, Some, None, Result, Ok, Err}
+use Rattle.cap_records.specs.declared.choosing.Traits.{Traits}
+use Rattle.its_faults.specs.declared.frame.FrameFault.{FrameFault}
+use Rattle.its_faults.specs.declared.frame.FrameFault.TheVariants as frames
+use Rattle.its_faults.specs.declared.packet.FaultKind.TheVariants.{BasicNext}
+use Rattle.its_headers.specs.Fields.{kind_of_body}
+use Rattle.its_linkframe.specs.FrameFaults.{IsFrameFault}
+use Rattle.its_linkframe.specs.Frames.{EncodesFrame, transmission_of}
+use Rattle.its_linkframe.specs.Padding.{IsUnpadded}
+use Rattle.its_linkframe.specs.declared.frame.FrameView.{FrameView}
+use Rattle.cap_linklayers.specs.LinkLayers.{IsFrameIn, IsLinkFault}
+use Rattle.cap_linklayers.specs.declared.link.LinkFault.TheVariants as links
+use Rattle.cap_linklayers.specs.declared.link.LinkLayer.{LinkLayer}
+use Rattle.cap_linklayers.specs.declared.link.LinkLayer.TheVariants as layers
+use Rattle.its_model.specs.Packet.{Transmission, Body, beacon, shb, gbc, gac}
+use Rattle.cap_pcap.specs.Records.{fault_of}
+use Rattle.cap_pcap.specs.declared.record.RecordFault.TheVariants as records
+use Rattle.cap_pcap.specs.declared.record.RecordHeader.{RecordHeader}
+use Rattle.cap_records.specs.declared.refusal.RecordFault.{RecordFault}
+use Rattle.cap_records.specs.declared.refusal.RecordFault.TheVariants as faults
+
+-- ---- the frame of a record
+
+-- what is read of the octets that a link layer carries: Ethernet fills short frames up, and cooked
+-- captures have them as they came
+abbrev pub IsReadAs : LinkLayer → List ℕ → List ℕ → Type 0
+IsReadAs layers.Ethernet carried text = IsUnpadded carried text
+IsReadAs layers.Ieee80211 carried text = text ≡ carried
+IsReadAs layers.Radiotap carried text = text ≡ carried
+IsReadAs layers.Sll carried text = IsUnpadded carried text
+IsReadAs layers.Sll2 carried text = IsUnpadded carried text
+
+-- what is read of a record's octets: all, or, where they have the header of their link layer, what
+-- that carries
+abbrev pub IsText : Bool → Option LinkLayer → List ℕ → List ℕ → Type 0
+IsText true (Some layer) w text =
+    (carried : List ℕ) × IsFrameIn layer w carried × IsReadAs layer carried text
+IsText true None w text = text ≡ w
+IsText false layer w text = text ≡ w
+
+-- the record is whole, of a link layer that is read, and its octets are this frame
+abbrev pub HasFrame : RecordHeader → Bool → List ℕ → Transmission → Type 0
+HasFrame h linked w t =
+    (fault_of h ≡ None) × (text : List ℕ) × IsText linked h.layer w text × EncodesFrame t text
+
+-- ---- why a record has none
+
+-- Octets are no frame because what follows the Basic Header is no Common Header, but, by its number,
+-- a secured packet.
+abbrev pub IsSecured : List ℕ → FrameFault → Type 0
+IsSecured text (frames.Packet f) =
+    (f.kind ≡ BasicNext) × (octet : ℕ) × (slice_get text (14 + f.at) ≡ Some octet)
+    × (octet % 16 ≡ 2)
+IsSecured text fault = ⊥
+
+-- how it is told that these octets are no frame, with this fault
+abbrev pub IsTold : FrameFault → List ℕ → RecordFault → Type 0
+IsTold fault text (faults.Frame f) = (f ≡ fault) × ¬ IsSecured text fault
+IsTold fault text (faults.Secured f) = (f ≡ fault) × IsSecured text fault
+IsTold fault text (faults.Record f) = ⊥
+IsTold fault text (faults.Link f) = ⊥
+
+-- why octets are no frame
+abbrev pub IsNoFrame : List ℕ → RecordFault → Type 0
+IsNoFrame text (faults.Frame f) = IsFrameFault text f × ¬ IsSecured text f
+IsNoFrame text (faults.Secured f) = IsFrameFault text f × IsSecured text f
+IsNoFrame text (faults.Record f) = ⊥
+IsNoFrame text (faults.Link f) = ⊥
+
+-- The first fault of a record: its link layer or its being cut, its link layer's header, its octets.
+abbrev pub IsRecordFault : RecordHeader → Bool → List ℕ → RecordFault → Type 0
+IsRecordFault h linked w (faults.Record f) = fault_of h ≡ Some f
+IsRecordFault h linked w (faults.Link f) =
+    (fault_of h ≡ None) × (linked ≡ true) × (layer : LinkLayer) × (h.layer ≡ Some layer)
+    × IsLinkFault layer w f
+IsRecordFault h linked w (faults.Frame f) =
+    (fault_of h ≡ None) × (text : List ℕ) × IsText linked h.layer w text
+    × IsNoFrame text (faults.Frame f)
+IsRecordFault h linked w (faults.Secured f) =
+    (fault_of h ≡ None) × (text : List ℕ) × IsText linked h.layer w text
+    × IsNoFrame text (faults.Secured f)
+
+-- ---- what it is chosen by
+
+-- the destination port of a packet; a beacon has none
+abbrev pub port_in : Body → Option ℕ
+port_in beacon = None
+port_in (shb media message) = Some message.port
+port_in (gbc number area message) = Some message.port
+port_in (gac number area message) = Some message.port
+
+-- what a frame is chosen by
+abbrev pub traits_in : Transmission → Traits
+traits_in t =
+    record {
+      kind = kind_of_body t.pdu.body;
+      source = t.pdu.vector.address;
+      from = t.link_source;
+      port = port_in t.pdu.body;
+    }
+
+-- a record that is refused because it is of another protocol: its link layer isn't read (P3), or says
+-- another kind of frame (L2), or its frame is of another type (L2)
+abbrev pub is_other : RecordFault → Bool
+is_other (faults.Record records.LinkType) = true
+is_other (faults.Record records.CutFrame) = false
+is_other (faults.Link links.Kind) = true
+is_other (faults.Link links.Short) = false
+is_other (faults.Frame frames.EtherType) = true
+is_other (faults.Frame fault) = false
+is_other (faults.Secured fault) = false
+
+-- what a record is chosen by: its frame; or that it has none, and whether it is of another protocol
+abbrev pub AreTraits : RecordHeader → Bool → List ℕ → Option Traits → Bool → Type 0
+AreTraits h linked w (Some traits) other =
+    (t : Transmission) × HasFrame h linked w t × (traits ≡ traits_in t) × (other ≡ false)
+AreTraits h linked w None other =
+    (fault : RecordFault) × IsRecordFault h linked w fault × (other ≡ is_other fault)
+
+-- the same of what was read
+abbrev pub traits_read : Result FrameView RecordFault → Option Traits
+traits_read (Ok frame) = Some (traits_in (transmission_of frame))
+traits_read (Err fault) = None
+
+abbrev pub other_read : Result FrameView RecordFault → Bool
+other_read (Ok frame) = false
+other_read (Err fault) = is_other fault

@@ -1,0 +1,162 @@
+//! Which records of a capture a command is over.
+
+ghost use Rattle.std.specs.Prelude.{◌≡◌, ◌<◌, ◌^◌, ℕ, Option, true};
+ghost use Rattle.cap_records.specs.declared.choosing.Traits.{Traits};
+ghost use Rattle.cap_records.specs.Choosing.{allows, allows_port, has_kind, has_kind_of, holds as all_holds};
+ghost use Rattle.cap_records.specs.Choosing.{is_chosen as chosen, selects};
+
+use its_gnvalue::{GnAddress, Mac};
+use its_headers::Kind;
+
+/// The kinds of packet that are chosen.
+#[derive(Clone, Copy, Debug, PartialEq, Eq)]
+pub struct Kinds {
+    /// Beacons.
+    pub beacon: bool,
+    /// Single-hop broadcasts.
+    pub shb: bool,
+    /// Geobroadcasts.
+    pub gbc: bool,
+    /// Geoanycasts.
+    pub gac: bool,
+}
+
+impl Kinds {
+    /// Whether a kind is one of them.
+    pub fn has(self, kind: Kind) -> bool
+        ensures { result ≡ has_kind self kind }
+    {
+        match kind {
+            Kind::Beacon => self.beacon,
+            Kind::Shb => self.shb,
+            Kind::Gbc => self.gbc,
+            Kind::Gac => self.gac,
+        }
+    }
+}
+
+/// What a frame is chosen by.
+#[derive(Clone, Copy, Debug, PartialEq, Eq)]
+pub struct Traits {
+    /// The kind of its packet.
+    pub kind: Kind,
+    /// The address of the packet's source.
+    pub source: GnAddress,
+    /// The link address that it comes from.
+    pub from: Mac,
+    /// The destination port, where the packet has one.
+    pub port: Option<u16>,
+}
+
+/// Which records are chosen: those of which all holds that is given.
+#[derive(Clone, Copy, Debug, PartialEq, Eq)]
+pub struct Choice {
+    /// Frames of these kinds.
+    pub kinds: Option<Kinds>,
+    /// Frames of this source.
+    pub source: Option<GnAddress>,
+    /// Frames from this link address.
+    pub from: Option<Mac>,
+    /// Frames to this port.
+    pub port: Option<u16>,
+    /// Records of this moment in milliseconds and later.
+    pub since: u64,
+    /// Records of this moment in milliseconds and before.
+    pub until: u64,
+    /// Refused records alone.
+    pub refused: bool,
+    /// Only records of GeoNetworking: those of another protocol or of a link layer that is not read
+    /// are skipped.
+    pub skips_others: bool,
+}
+
+impl Choice {
+    /// All records.
+    pub fn all() -> Choice
+        ensures { (moment : ℕ) → (frame : Option Traits) → moment < 2 ^ 64
+            → chosen result moment frame ≡ true }
+    {
+        Choice {
+            kinds: None,
+            source: None,
+            from: None,
+            port: None,
+            since: 0,
+            until: u64::MAX,
+            refused: false,
+            skips_others: false,
+        }
+    }
+
+    /// Whether a record of this moment is chosen: one that is refused, and so is no frame, has no
+    /// kind, source, link address or port.
+    pub fn is_chosen(&self, moment: u64, frame: Option<Traits>) -> bool
+        ensures { result ≡ chosen self.now moment frame }
+    {
+        let is_chosen = match frame {
+            Some(traits) => !self.refused && self.holds(traits),
+            None => {
+                self.kinds.is_none()
+                    && self.source.is_none()
+                    && self.from.is_none()
+                    && self.port.is_none()
+            }
+        };
+        is_chosen && self.since <= moment && moment <= self.until
+    }
+
+    /// Whether a record of this moment is chosen, of which this is said beside its frame: that it is
+    /// of another protocol than GeoNetworking, or of a link layer that is not read.
+    pub fn selects(&self, moment: u64, frame: Option<Traits>, is_other: bool) -> bool
+        ensures { result ≡ selects self.now moment frame is_other }
+    {
+        !(self.skips_others && is_other) && self.is_chosen(moment, frame)
+    }
+
+    /// Whether all holds of a frame that is asked of frames.
+    fn holds(&self, frame: Traits) -> bool
+        ensures { result ≡ all_holds self.now frame }
+    {
+        self.has_kind(frame.kind)
+            && self.allows_source(frame.source)
+            && self.allows_mac(frame.from)
+            && self.allows_port(frame.port)
+    }
+
+    fn has_kind(&self, kind: Kind) -> bool
+        ensures { result ≡ has_kind_of self.now.kinds kind }
+    {
+        match self.kinds {
+            Some(kinds) => kinds.has(kind),
+            None => true,
+        }
+    }
+
+    fn allows_source(&self, source: GnAddress) -> bool
+        ensures { result ≡ allows self.now.source source }
+    {
+        match self.source {
+            Some(only) => only == source,
+            None => true,
+        }
+    }
+
+    fn allows_mac(&self, from: Mac) -> bool
+        ensures { result ≡ allows self.now.from from }
+    {
+        match self.from {
+            Some(only) => only == from,
+            None => true,
+        }
+    }
+
+    fn allows_port(&self, port: Option<u16>) -> bool
+        ensures { result ≡ allows_port self.now.port port }
+    {
+        match (self.port, port) {
+            (Some(only), Some(port)) => only == port,
+            (Some(_), None) => false,
+            (None, _) => true,
+        }
+    }
+}

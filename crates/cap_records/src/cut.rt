@@ -1,0 +1,157 @@
+//! The frame of a record that was cut, read as far as it goes.
+
+ghost use Rattle.std.specs.Prelude.{◌≤◌, ◌<◌};
+
+use crate::choosing::Traits;
+use crate::frame::traits_of;
+use crate::refusal::RecordFault;
+use cap_pcap::{RecordHeader, frame_start};
+use its_headers::Kind;
+use its_linkframe::{FrameFault, FrameView, LONGEST_FRAME, read_frame};
+
+/// Where a packet begins in a frame.
+const PACKET: usize = 14;
+
+/// Fields of a packet, from its own first octet (EN 302 636-4-1 clause 9): header type and sub-type,
+/// the payload's length, and the lower octets of an area's distances.
+const TYPE: usize = 5;
+
+const LENGTH: usize = 8;
+
+const DISTANCE_A: usize = 49;
+
+const DISTANCE_B: usize = 51;
+
+/// Where a beacon, the payload of a single-hop broadcast and that of a packet for an area begin.
+const BEACON_END: usize = 36;
+
+const SHB_PAYLOAD: usize = 40;
+
+const AREA_PAYLOAD: usize = 56;
+
+/// Where the source's address ends in a packet for an area, and in another.
+const AREA_ADDRESS_END: usize = 24;
+
+const ADDRESS_END: usize = 20;
+
+/// The octets of a port.
+const PORT: usize = 2;
+
+/// The record was cut before its source's address ends.
+const CUT: RecordFault = RecordFault::Record(cap_pcap::RecordFault::CutFrame);
+
+/// A frame of which the last octets are missing.
+#[derive(Debug, Drop)]
+pub(crate) struct CutFrame<'a> {
+    /// The frame. Its missing octets are those of a packet with places, a payload and a time stamp
+    /// of 0, and so say nothing.
+    pub(crate) frame: FrameView<'a>,
+    /// How many of its octets there are: the source's address is among them.
+    pub(crate) known: usize,
+}
+
+impl CutFrame<'_> {
+    /// What it is chosen by. A port of which an octet is missing is none.
+    pub(crate) fn traits(&self) -> Traits {
+        let traits = traits_of(&self.frame);
+        let packet = &self.frame.packet;
+        let before = packet.octets().len().saturating_sub(packet.payload().len());
+        let end = PACKET.saturating_add(before).saturating_add(PORT);
+        Traits {
+            port: traits.port.filter(|_| end <= self.known),
+            ..traits
+        }
+    }
+}
+
+/// Reads the frame of a record that was cut as far as it goes. Its octets begin with the header of
+/// their link layer; the frame is put together in `room`.
+///
+/// The fault is that of the link layer's header, or the frame's first one, if what it is of is
+/// there; P4 if the record ends before the source's address does.
+pub(crate) fn cut_frame_of<'a>(
+    head: &RecordHeader,
+    octets: &mut Vec<u8>,
+    room: &'a mut [u8; LONGEST_FRAME],
+) -> Result<CutFrame<'a>, RecordFault> {
+    let Some(layer) = head.layer else {
+        return Err(CUT);
+    };
+    let start = frame_start(layer, octets)?;
+    let known = put_front(&octets.as_slice()[start..], room);
+    if known < PACKET {
+        return Err(CUT);
+    }
+    let length = complete(room, known);
+    read_front(&room[..length], known)
+}
+
+/// Puts the octets into the room, and 0 behind them. Returns how many there are.
+fn put_front(octets: &[u8], room: &mut [u8; LONGEST_FRAME]) -> usize {
+    let known = octets.len().min(room.len());
+    room.fill(0);
+    room[..known].copy_from_slice(&octets[..known]);
+    known
+}
+
+/// Completes a frame of which so many octets are there, and returns its length.
+fn complete(room: &mut [u8; LONGEST_FRAME], known: usize) -> usize
+    ensures { result ≤ 1468 }
+{
+    let kind = room[PACKET + TYPE];
+    let end = match kind / 16 {
+        3 | 4 => AREA_PAYLOAD,
+        5 => SHB_PAYLOAD,
+        _ => BEACON_END,
+    };
+    if end == AREA_PAYLOAD {
+        complete_distance(room, known, PACKET + DISTANCE_A);
+        // A circle has no second distance.
+        if kind % 16 != 0 {
+            complete_distance(room, known, PACKET + DISTANCE_B);
+        }
+    }
+    let payload = u16::from_be_bytes([room[PACKET + LENGTH], room[PACKET + LENGTH + 1]]);
+    (PACKET + end + usize::from(payload)).min(LONGEST_FRAME)
+}
+
+/// Makes a distance one that may be, if its lower octet is missing.
+fn complete_distance(room: &mut [u8; LONGEST_FRAME], known: usize, place: usize)
+    requires { place < 1468 }
+{
+    if known <= place {
+        room[place] = 1;
+    }
+}
+
+/// Reads a frame of which so many octets are there.
+fn read_front(octets: &[u8], known: usize) -> Result<CutFrame<'_>, RecordFault> {
+    match read_frame(octets) {
+        Ok(frame) => {
+            let end = match frame.packet.kind() {
+                Kind::Beacon | Kind::Shb => ADDRESS_END,
+                Kind::Gbc | Kind::Gac => AREA_ADDRESS_END,
+            };
+            if known < PACKET + end {
+                Err(CUT)
+            } else {
+                Ok(CutFrame { frame, known })
+            }
+        }
+        Err(fault) => Err(fault_in_front(fault, octets, known)),
+    }
+}
+
+/// Why a frame is refused of which so many octets are there.
+fn fault_in_front(fault: FrameFault, octets: &[u8], known: usize) -> RecordFault {
+    let is_there = match fault {
+        FrameFault::EtherType => true,
+        FrameFault::Packet(packet) => PACKET.saturating_add(packet.at) < known,
+        _ => false,
+    };
+    if is_there {
+        RecordFault::of(fault, octets)
+    } else {
+        CUT
+    }
+}

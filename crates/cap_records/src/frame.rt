@@ -1,0 +1,96 @@
+//! The frame of a record, or why it has none, and what it is chosen by.
+
+ghost use Rattle.std.specs.Prelude.{◌≡◌, ℕ, List, IfOk, IfErr};
+ghost use Rattle.its_linkframe.specs.Frames.{EncodesFrame, transmission_of};
+ghost use Rattle.its_linkframe.specs.Padding.{IsUnpadded};
+ghost use Rattle.cap_records.specs.RecordFrames.{HasFrame, IsRecordFault, traits_in};
+ghost use Rattle.cap_records.specs.RecordFrames.{IsReadAs, IsNoFrame};
+
+use crate::choosing::Traits;
+use crate::refusal::RecordFault;
+use cap_pcap::{LinkLayer, RecordHeader, frame_start, without_padding};
+use its_btp::split;
+use its_linkframe::{FrameFault, FrameView, read_frame};
+
+/// The frame of a record, or why the record is refused. Its octets are the first ones of the
+/// record, `LONGEST_RECORD` of them where there are so many; a frame that is found is put together
+/// among them. `linked` says that they have the header of their link layer, as in pcap and pcapng:
+/// then that is read first, and what Ethernet filled a short frame up with is left out.
+pub fn frame_of<'a>(
+    head: &RecordHeader,
+    octets: &'a mut Vec<u8>,
+    linked: bool,
+) -> Result<FrameView<'a>, RecordFault>
+    ensures frame { IfOk result
+        (λ v. HasFrame head.now linked octets.old.items (transmission_of v)) }
+    ensures fault { IfErr result (IsRecordFault head.now linked octets.old.items) }
+{
+    if let Some(fault) = head.fault() {
+        return Err(RecordFault::Record(fault));
+    }
+    match head.layer {
+        Some(layer) if linked => {
+            let start = frame_start(layer, octets)?;
+            read_on(layer, &octets.as_slice()[start..])
+        }
+        _ => read(octets.as_slice()),
+    }
+}
+
+/// The frame in octets that came from this link layer.
+fn read_on(layer: LinkLayer, octets: &[u8]) -> Result<FrameView<'_>, RecordFault>
+    ensures frame { IfOk result (λ v. (text : List ℕ) × IsReadAs layer octets.now text
+        × EncodesFrame (transmission_of v) text) }
+    ensures fault { IfErr result (λ f. (text : List ℕ) × IsReadAs layer octets.now text
+        × IsNoFrame text f) }
+{
+    match layer {
+        LinkLayer::Ethernet => read_filled_up(octets),
+        LinkLayer::Sll => read_filled_up(octets),
+        LinkLayer::Sll2 => read_filled_up(octets),
+        LinkLayer::Ieee80211 | LinkLayer::Radiotap => read(octets),
+    }
+}
+
+/// The frame in octets that came over Ethernet, which fills short frames up.
+fn read_filled_up(octets: &[u8]) -> Result<FrameView<'_>, RecordFault>
+    ensures frame { IfOk result (λ v. (text : List ℕ) × IsUnpadded octets.now text
+        × EncodesFrame (transmission_of v) text) }
+    ensures fault { IfErr result (λ f. (text : List ℕ) × IsUnpadded octets.now text
+        × IsNoFrame text f) }
+{
+    match read_frame(octets) {
+        Ok(frame) => Ok(frame),
+        Err(fault) => match fault {
+            FrameFault::Trailing => read(without_padding(octets)),
+            _ => Err(RecordFault::of(fault, octets)),
+        },
+    }
+}
+
+/// The frame that the octets are.
+fn read(octets: &[u8]) -> Result<FrameView<'_>, RecordFault>
+    ensures frame { IfOk result (λ v. EncodesFrame (transmission_of v) octets.now) }
+    ensures fault { IfErr result (IsNoFrame octets.now) }
+{
+    match read_frame(octets) {
+        Ok(frame) => Ok(frame),
+        Err(fault) => Err(RecordFault::of(fault, octets)),
+    }
+}
+
+/// What a frame is chosen by.
+pub fn traits_of(frame: &FrameView<'_>) -> Traits
+    ensures { result ≡ traits_in (transmission_of frame.now) }
+{
+    let port = match split(frame.packet.payload()) {
+        Ok((port, _, _)) => Some(port),
+        Err(_) => None,
+    };
+    Traits {
+        kind: frame.packet.kind(),
+        source: frame.packet.vector().address(),
+        from: frame.from,
+        port,
+    }
+}

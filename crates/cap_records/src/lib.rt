@@ -1,0 +1,16 @@
+//! The records of a capture as commands see them: which of them are chosen, what frame each has, and
+//! why it is refused.
+#![tactic(auto)]
+
+pub mod choosing;
+mod cut;
+mod frame;
+mod refusal;
+mod told;
+mod walk;
+
+pub use crate::choosing::{Choice, Kinds, Traits};
+pub use frame::{frame_of, traits_of};
+pub use refusal::{FileFault, RecordCode, RecordFault};
+pub use told::RefusedCapture;
+pub use walk::{Place, RecordVisitor, Selection, Walked, each_record, open_records};

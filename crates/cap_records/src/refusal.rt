@@ -1,0 +1,179 @@
+//! Why a record or a capture is refused: a code, and a sentence for a person.
+
+ghost use Rattle.std.specs.Prelude.{◌≡◌, IfOk, IfErr};
+ghost use Rattle.cap_pcap.specs.Codes.{code_of};
+ghost use Rattle.cap_records.specs.FileFaults.{EndsCommand, IsToldInLine};
+ghost use Rattle.cap_records.specs.RecordFrames.{IsTold, is_other};
+ghost use Rattle.cap_records.specs.declared.refusal.RecordFault.TheVariants as faults;
+
+use cap_pcap::{Format, LinkFault, SourceFault};
+use cmd_reporting::Fault;
+use cmd_text::frames::FrameReason;
+use cmd_text::lines::{GZIP, GzipFile};
+use its_faults::FaultKind;
+use its_linkframe::{CaptureFault, FrameFault};
+use std::alloc::AllocError;
+use std::fmt;
+
+/// Why a record is refused. It prints as a sentence.
+#[derive(Clone, Copy, Debug, PartialEq, Eq)]
+pub enum RecordFault {
+    /// It was taken from a link layer that isn't read, or was cut.
+    Record(cap_pcap::RecordFault),
+    /// Its link layer's header has no frame behind it.
+    Link(LinkFault),
+    /// Its octets are no frame.
+    Frame(FrameFault),
+    /// The same of a frame whose packet is a secured one: the fault is that of its next header.
+    Secured(FrameFault),
+}
+
+/// Where a packet begins in a frame.
+const PACKET: usize = 14;
+
+/// What follows the Basic Header of a secured packet, in the lower half of an octet.
+const SECURED: u8 = 2;
+
+impl RecordFault {
+    /// Why these octets are no frame, with this fault.
+    pub fn of(fault: FrameFault, frame: &[u8]) -> RecordFault
+        ensures { IsTold fault frame.now result }
+    {
+        if let FrameFault::Packet(packet) = fault
+            && packet.kind == FaultKind::BasicNext
+        {
+            let next = frame.get(PACKET.saturating_add(packet.at));
+            if next.is_some_and(|octet| octet % 16 == SECURED) {
+                return RecordFault::Secured(fault);
+            }
+        }
+        RecordFault::Frame(fault)
+    }
+
+    /// Whether it is of another protocol than GeoNetworking: of a link layer that is not read, of
+    /// another kind of its frames, or of another type.
+    pub fn is_other(&self) -> bool
+        ensures { result ≡ is_other self.now }
+    {
+        match self {
+            RecordFault::Record(cap_pcap::RecordFault::LinkType)
+            | RecordFault::Link(LinkFault::Kind)
+            | RecordFault::Frame(FrameFault::EtherType) => true,
+            _ => false,
+        }
+    }
+
+    /// What lines show, as `P4`, `L1` or `L5 G9 at 10`.
+    pub fn code(self) -> RecordCode
+        ensures { result ≡ record { 0 = self } }
+    {
+        RecordCode(self)
+    }
+}
+
+impl From<LinkFault> for RecordFault {
+    ghost from_gives = { λ fault r. r ≡ faults.Link fault };
+
+    fn from(fault: LinkFault) -> RecordFault {
+        RecordFault::Link(fault)
+    }
+}
+
+impl fmt::Display for RecordFault {
+    fn fmt<W: fmt::Write>(&self, f: &mut fmt::Formatter<W>) -> fmt::Result {
+        match self {
+            RecordFault::Record(fault) => write!(f, "{fault}"),
+            RecordFault::Link(fault) => write!(f, "{fault}"),
+            RecordFault::Frame(fault) => write!(f, "{}", FrameReason(*fault)),
+            RecordFault::Secured(fault) => {
+                write!(f, "a secured packet: {}", FrameReason(*fault))
+            }
+        }
+    }
+}
+
+/// Why a record is refused, as its code.
+#[derive(Clone, Copy, Debug, PartialEq, Eq)]
+pub struct RecordCode(RecordFault);
+
+impl fmt::Display for RecordCode {
+    fn fmt<W: fmt::Write>(&self, f: &mut fmt::Formatter<W>) -> fmt::Result {
+        match self.0 {
+            RecordFault::Record(fault) => f.write_str(fault.code()),
+            RecordFault::Link(fault) => f.write_str(fault.code()),
+            RecordFault::Frame(fault) | RecordFault::Secured(fault) => {
+                write!(f, "{}", fault.code())
+            }
+        }
+    }
+}
+
+/// Why a file is not read on, where that is told in a line. It prints as a sentence.
+#[derive(Clone, Copy, Debug, PartialEq, Eq)]
+pub struct FileFault {
+    fault: SourceFault,
+    /// Whether the file begins as one of no format that is read. Without a format it is read as a
+    /// capture, which has no first octets of its own.
+    begins_as_none: bool,
+    /// Whether the file begins as gzip's.
+    is_gzip: bool,
+}
+
+impl FileFault {
+    /// The fault of the file of this name after so many records, where its octets are at fault: a
+    /// failed read and want of memory end the command instead. The format is the one that the file
+    /// was said to have; its first four octets tell it where none was given.
+    pub fn of<'a>(
+        fault: SourceFault,
+        file: &'a str,
+        records: u64,
+        format: Option<Format>,
+    ) -> Result<FileFault, Fault<'a>>
+        ensures line { IfOk result (IsToldInLine fault records format) }
+        ensures command { IfErr result (EndsCommand fault file.entry) }
+    {
+        match fault {
+            SourceFault::Capture(CaptureFault::Io) => Err(Fault::CannotRead(file)),
+            SourceFault::Capture(CaptureFault::NoMemory) => Err(Fault::OutOfMemory(AllocError)),
+            _ => {
+                let no_length = fault == SourceFault::Capture(CaptureFault::Length);
+                Ok(FileFault {
+                    fault,
+                    begins_as_none: no_length && records == 0 && format.is_none(),
+                    is_gzip: false,
+                })
+            }
+        }
+    }
+
+    /// The same of a file of this format, whose first record has this moment, if it has a record: a
+    /// capture begins with that moment, so a file of gzip is known by it.
+    pub(crate) fn begun(self, format: Format, first: Option<u64>) -> FileFault
+        ensures { result.fault ≡ self.fault }
+    {
+        let begins = first.is_some_and(|moment| moment.to_be_bytes().starts_with(&GZIP));
+        FileFault {
+            is_gzip: begins && format == Format::Capture,
+            ..self
+        }
+    }
+
+    /// What lines show, as `C1` or `P2`.
+    pub fn code(self) -> &'static str
+        ensures { result.now ≡ code_of self.fault }
+    {
+        self.fault.code()
+    }
+}
+
+impl fmt::Display for FileFault {
+    fn fmt<W: fmt::Write>(&self, f: &mut fmt::Formatter<W>) -> fmt::Result {
+        if self.is_gzip {
+            GzipFile("show -").fmt(f)
+        } else if self.begins_as_none {
+            f.write_str("not a capture, pcap or pcapng file")
+        } else {
+            write!(f, "{}", self.fault)
+        }
+    }
+}

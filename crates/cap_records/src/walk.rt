@@ -1,0 +1,385 @@
+//! The walk over the records of a file.
+
+ghost use Rattle.std.specs.Prelude.{◌≡◌, ◌≤◌, Bool, Option, IfOk, IfErr, IsTrue, None, true, take};
+ghost use Rattle.cap_records.specs.Choosing.{selects};
+ghost use Rattle.cap_records.specs.declared.choosing.Traits.{Traits};
+ghost use Rattle.cap_linklayers.specs.declared.link.TheConstants.{LONGEST_RECORD};
+ghost use Rattle.cap_records.specs.RecordFrames.{traits_read, other_read};
+ghost use Rattle.cap_records.specs.Walks.{walk_status, Chooses};
+ghost use Rattle.cmd_reporting.specs.declared.fault.Fault.TheVariants.{CannotRead};
+
+use crate::choosing::Choice;
+use crate::cut::{CutFrame, cut_frame_of};
+use crate::frame::{frame_of, traits_of};
+use crate::refusal::{FileFault, RecordFault};
+use cap_linklayers::LinkFacts;
+use cap_pcap::{AnySource, Format, LONGEST_RECORD, RecordHeader, RecordSource, SourceFault, Step};
+use cmd_reporting::{Fault, Status, is_standard};
+use its_linkframe::{Counted, FrameView, LONGEST_FRAME, Source};
+use std::alloc::{AllocError, Global};
+use std::io::{Read, Write};
+
+/// Which records of a file a command is over.
+#[derive(Clone, Copy, Debug, PartialEq, Eq)]
+pub struct Selection {
+    /// The format of the file; its first four octets tell it where none is given.
+    pub format: Option<Format>,
+    /// Which records are chosen. The others are as if they weren't there, but that they count in
+    /// the places of those that are.
+    pub choice: Choice,
+    /// How many are chosen at most: then nothing more is read.
+    pub count: Option<u64>,
+    /// Whether records that were cut are read as far as they go.
+    pub partial: bool,
+}
+
+impl Selection {
+    /// All records of a file.
+    pub fn all() -> Selection
+        ensures { (result.format ≡ None) × (result.count ≡ None) }
+    {
+        Selection {
+            format: None,
+            choice: Choice::all(),
+            count: None,
+            partial: false,
+        }
+    }
+
+    /// Whether a record is chosen, of which these are all octets: its frame is read apart from them,
+    /// in this room, where it has to be known. `OutOfMemory` where the room can't be had.
+    pub fn has_record(
+        &self,
+        head: &RecordHeader,
+        octets: &[u8],
+        linked: bool,
+        room: &mut Vec<u8>,
+    ) -> Result<bool, AllocError>
+        ensures { IfOk result
+            (Chooses self.now.choice linked head.now (take LONGEST_RECORD octets.now)) }
+    {
+        let moment = head.moment;
+        if self.has_any(moment) {
+            return Ok(true);
+        }
+        room.clear();
+        room.extend_from_slice(&octets[..octets.len().min(LONGEST_RECORD)])?;
+        let frame = frame_of(head, room, linked);
+        Ok(self.has(moment, &frame))
+    }
+
+    /// Whether a record of this moment is chosen, whatever its frame is.
+    fn has_any(&self, moment: u64) -> bool
+        ensures { IsTrue result
+            → (traits : Option Traits) → (other : Bool)
+            → selects self.now.choice moment traits other ≡ true }
+    {
+        let choice = &self.choice;
+        choice.kinds.is_none()
+            && choice.source.is_none()
+            && choice.from.is_none()
+            && choice.port.is_none()
+            && !choice.refused
+            && !choice.skips_others
+            && choice.since <= moment
+            && moment <= choice.until
+    }
+
+    /// Whether a record of this moment is chosen, of which this was read.
+    fn has(&self, moment: u64, frame: &Result<FrameView<'_>, RecordFault>) -> bool
+        ensures { result
+            ≡ selects self.now.choice moment (traits_read frame.now) (other_read frame.now) }
+    {
+        match frame {
+            Ok(frame) => self.choice.selects(moment, Some(traits_of(frame)), false),
+            Err(fault) => self.choice.selects(moment, None, fault.is_other()),
+        }
+    }
+
+    /// Whether a record of this moment is chosen, which was cut, and of which this was read.
+    fn has_cut(&self, moment: u64, read: &Result<CutFrame<'_>, RecordFault>) -> bool {
+        match read {
+            Ok(cut) => self.choice.selects(moment, Some(cut.traits()), false),
+            Err(fault) => self.choice.selects(moment, None, fault.is_other()),
+        }
+    }
+}
+
+/// Where a record stands in its file, and what is known of it beside its frame.
+#[derive(Clone, Copy, Debug, PartialEq, Eq)]
+pub struct Place {
+    /// How many records stand before it.
+    pub number: u64,
+    /// Its moment, in milliseconds.
+    pub moment: u64,
+    /// The nanoseconds of its time below the millisecond.
+    pub nanos: u32,
+    /// The moment of the file's first record.
+    pub first: u64,
+    /// The nanoseconds of that below the millisecond.
+    pub first_nanos: u32,
+    /// The number of its interface, from 0.
+    pub interface: u32,
+    /// How many of its octets the file has.
+    pub length: u32,
+    /// What the headers of its link layer say.
+    pub link: LinkFacts,
+    /// How many octets of its frame there are, if the record was cut and is read as far as it goes.
+    pub known: Option<usize>,
+}
+
+impl Place {
+    /// The place behind so many records, of which the first has this moment and these nanoseconds
+    /// below it, if there is one, of a record with these octets.
+    fn of(
+        number: u64,
+        head: &RecordHeader,
+        first: Option<(u64, u32)>,
+        octets: &[u8],
+        linked: bool,
+    ) -> Place {
+        let (moment, nanos) = (head.moment, head.fine.nanos);
+        let (first, first_nanos) = first.unwrap_or((moment, nanos));
+        Place {
+            number,
+            moment,
+            nanos,
+            first,
+            first_nanos,
+            interface: head.interface,
+            length: head.captured,
+            link: link_facts(head, octets, linked),
+            known: None,
+        }
+    }
+}
+
+/// What the headers of the link layer say, if the octets have them.
+fn link_facts(head: &RecordHeader, octets: &[u8], linked: bool) -> LinkFacts {
+    match head.layer {
+        Some(layer) if linked => LinkFacts::of(layer, octets),
+        _ => LinkFacts::none(),
+    }
+}
+
+/// What became of a record.
+#[derive(Clone, Copy, Debug, PartialEq, Eq)]
+enum Visited {
+    /// It isn't chosen.
+    Passed,
+    /// It has a frame.
+    Frame,
+    /// It is refused.
+    Refused,
+}
+
+/// What a command does with the records of a capture.
+pub trait RecordVisitor {
+    /// Does what there is to do with a record that is chosen, which has this frame, or was refused.
+    /// `NoOutput` where a write failed, `OutOfMemory` where an allocation did.
+    fn visit<'f, W: Write>(
+        &mut self,
+        place: Place,
+        frame: Result<FrameView<'_>, RecordFault>,
+        out: &mut W,
+    ) -> Result<(), Fault<'f>>;
+}
+
+/// What a walk met.
+#[derive(Clone, Copy, Debug, PartialEq, Eq)]
+pub struct Walked {
+    /// How many records were chosen.
+    pub records: u64,
+    /// How many of these are refused.
+    pub refused: u64,
+    /// Why the file wasn't read on, where its octets are at fault.
+    pub fault: Option<FileFault>,
+    /// How many records were read before that.
+    pub read: u64,
+}
+
+impl Walked {
+    /// Nothing yet.
+    fn begin() -> Walked
+        ensures { (result.records ≡ 0) × (result.refused ≡ 0) × (result.read ≡ 0) }
+    {
+        Walked {
+            records: 0,
+            refused: 0,
+            fault: None,
+            read: 0,
+        }
+    }
+
+    /// The exit status of a command that did nothing but this walk.
+    pub fn status(self) -> Status
+        ensures { result ≡ walk_status self }
+    {
+        if self.fault.is_some() || self.refused > 0 {
+            Status::Refused
+        } else {
+            Status::Done
+        }
+    }
+}
+
+/// Opens the file of this name that the reader gives, in this format, or in that which its first
+/// four octets tell. `CannotRead` where a read failed.
+pub fn open_records<'a, R: Read + Drop>(
+    alloc: Global,
+    file: &'a str,
+    format: Option<Format>,
+    reader: R,
+) -> Result<AnySource<Counted<R>>, Fault<'a>>
+    ensures fault { IfErr result (λ f. (f ≡ CannotRead file.entry) × (format ≡ None)) }
+{
+    match AnySource::open(alloc, Counted::new(reader), format, LONGEST_RECORD) {
+        Ok(source) => Ok(source),
+        Err(_) => Err(Fault::CannotRead(file)),
+    }
+}
+
+/// Visits each record of the source that is chosen, in order. All are read into one buffer, which
+/// has room for all that is kept of one. The file has this name; where it is standard input, what
+/// was printed is written out before each read.
+///
+/// `CannotRead` where a read failed, `OutOfMemory` where an allocation did, and what a visit answers.
+pub fn each_record<'a, S: Source + Drop, V: RecordVisitor, W: Write>(
+    alloc: Global,
+    file: &'a str,
+    selection: &Selection,
+    source: &mut AnySource<S>,
+    visitor: &mut V,
+    out: &mut W,
+) -> Result<Walked, Fault<'a>>
+    ensures { IfOk result (λ walked. walked.refused ≤ walked.records) }
+{
+    let mut octets = Vec::with_capacity(alloc, LONGEST_RECORD)?;
+    let linked = source.format() != Format::Capture;
+    let waits = is_standard(file);
+    let ended = walk(selection, waits, source, linked, &mut octets, visitor, out);
+    let (walked, first, fault) = ended?;
+    match fault {
+        Some(fault) => {
+            let begun = match first {
+                Some((moment, _)) => Some(moment),
+                None => None,
+            };
+            let told = FileFault::of(fault, file, walked.read, selection.format)?;
+            Ok(Walked {
+                records: walked.records,
+                refused: walked.refused,
+                fault: Some(told.begun(source.format(), begun)),
+                read: walked.read,
+            })
+        }
+        None => Ok(walked),
+    }
+}
+
+/// Visits each record that is chosen, until as many are as are wanted, or the source ends or has a
+/// fault, which is returned, behind the moment of the first record. Where reads may wait, what was
+/// printed is written out before each.
+fn walk<'a, S: RecordSource, V: RecordVisitor, W: Write>(
+    selection: &Selection,
+    waits: bool,
+    source: &mut S,
+    linked: bool,
+    octets: &mut Vec<u8>,
+    visitor: &mut V,
+    out: &mut W,
+) -> Result<(Walked, Option<(u64, u32)>, Option<SourceFault>), Fault<'a>>
+    ensures { IfOk result (λ ended. ended.0.refused ≤ ended.0.records) }
+{
+    let mut walked = Walked::begin();
+    let mut first = None;
+    let mut room = [0; LONGEST_FRAME];
+    // The range is there so that the walk ends on any source. No file reaches its end: a step has
+    // 11 octets at least, so that many are over 2^67 octets.
+    for step in 0..u64::MAX {
+        if selection.count == Some(walked.records) {
+            return Ok((walked, first, None));
+        }
+        if waits {
+            out.flush()?;
+        }
+        match source.next_into(octets) {
+            Ok(Step::Record(head)) => {
+                let place = Place::of(walked.read, &head, first, octets.as_slice(), linked);
+                first = Some((place.first, place.first_nanos));
+                walked.read += 1;
+                let visited = if selection.partial && linked && is_cut(&head) {
+                    visit_cut(selection, place, &head, octets, &mut room, visitor, out)?
+                } else {
+                    visit(selection, place, &head, octets, linked, visitor, out)?
+                };
+                match visited {
+                    Visited::Passed => {}
+                    Visited::Frame => walked.records += 1,
+                    Visited::Refused => {
+                        walked.records += 1;
+                        walked.refused += 1;
+                    }
+                }
+            }
+            Ok(Step::Interface | Step::Passed) => {}
+            Ok(Step::End) => return Ok((walked, first, None)),
+            Err(fault) => return Ok((walked, first, Some(fault))),
+        }
+    }
+    Ok((walked, first, None))
+}
+
+/// Visits a record, if it is chosen.
+fn visit<'a, V: RecordVisitor, W: Write>(
+    selection: &Selection,
+    place: Place,
+    head: &RecordHeader,
+    octets: &mut Vec<u8>,
+    linked: bool,
+    visitor: &mut V,
+    out: &mut W,
+) -> Result<Visited, Fault<'a>> {
+    let frame = frame_of(head, octets, linked);
+    if !selection.has(head.moment, &frame) {
+        return Ok(Visited::Passed);
+    }
+    let visited = match &frame {
+        Ok(_) => Visited::Frame,
+        Err(_) => Visited::Refused,
+    };
+    visitor.visit(place, frame, out)?;
+    Ok(visited)
+}
+
+/// Whether the record is of a link layer that is read, and was cut.
+fn is_cut(head: &RecordHeader) -> bool {
+    head.fault() == Some(cap_pcap::RecordFault::CutFrame)
+}
+
+/// Visits a record that was cut, if it is chosen, as far as its frame goes.
+fn visit_cut<'a, V: RecordVisitor, W: Write>(
+    selection: &Selection,
+    place: Place,
+    head: &RecordHeader,
+    octets: &mut Vec<u8>,
+    room: &mut [u8; LONGEST_FRAME],
+    visitor: &mut V,
+    out: &mut W,
+) -> Result<Visited, Fault<'a>> {
+    let read = cut_frame_of(head, octets, room);
+    if !selection.has_cut(head.moment, &read) {
+        return Ok(Visited::Passed);
+    }
+    match read {
+        Ok(cut) => {
+            let known = Some(cut.known);
+            visitor.visit(Place { known, ..place }, Ok(cut.frame), out)?;
+            Ok(Visited::Frame)
+        }
+        Err(fault) => {
+            visitor.visit(place, Err(fault), out)?;
+            Ok(Visited::Refused)
+        }
+    }
+}

@@ -1,0 +1,64 @@
+//! An argument that can't be taken, and the word that may have been meant.
+
+use cmd_captures::{FIELDS, Field};
+use its_headers::{KINDS, Kind};
+use sim_settings::keys::nearest;
+use std::alloc::{AllocError, Global};
+use std::fmt;
+
+/// An argument that can't be taken.
+#[derive(Clone, Copy, Debug, PartialEq, Eq)]
+pub enum BadArgument<'a> {
+    /// An option, its value, and what that has to be and isn't.
+    Value(&'a str, &'a str, &'a str),
+}
+
+impl BadArgument<'_> {
+    /// The word that may be meant by the first of a list that is none: the first of those that are
+    /// the fewest changes of a letter away, at most two.
+    pub fn tip(&self, alloc: Global) -> Result<Option<&'static str>, AllocError> {
+        match self {
+            BadArgument::Value("kind", list, _) => {
+                match list.split(',').find(|word| Kind::named(word).is_none()) {
+                    Some(word) => {
+                        let near = nearest(alloc, word, &KINDS.map(Kind::word))?;
+                        Ok(near.filter(|kind| is_near(word, kind)))
+                    }
+                    None => Ok(None),
+                }
+            }
+            BadArgument::Value("fields", list, _) => {
+                match list.split(',').find(|word| Field::named(word).is_none()) {
+                    Some(word) => nearest(alloc, word, &FIELDS.map(Field::word)),
+                    None => Ok(None),
+                }
+            }
+            _ => Ok(None),
+        }
+    }
+}
+
+impl fmt::Display for BadArgument<'_> {
+    fn fmt<W: fmt::Write>(&self, f: &mut fmt::Formatter<W>) -> fmt::Result {
+        match self {
+            BadArgument::Value(option, value, wanted) => {
+                write!(f, "invalid value '{value}' for '--{option}': not {wanted}")
+            }
+        }
+    }
+}
+
+/// Whether a kind may be meant by this word: of a word as short as most kinds only one letter may be
+/// another one.
+fn is_near(word: &str, kind: &str) -> bool {
+    if word.len() > 3 || word.len() != kind.len() {
+        return true;
+    }
+    let mut others: u32 = 0;
+    for (letter, other) in word.bytes().zip(kind.bytes()) {
+        if letter != other {
+            others = others.saturating_add(1);
+        }
+    }
+    others <= 1
+}

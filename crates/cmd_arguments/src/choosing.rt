@@ -1,0 +1,322 @@
+//! What the options of a command choose: records of a capture, ports, how moments are told.
+
+ghost use Rattle.std.specs.Prelude.{◌≡◌, ℕ, List, Ok, MatchResult, IfOk, IfErr, None, codes, map};
+ghost use Rattle.hex.specs.Hex.{decode_sized};
+ghost use Rattle.std.specs.Option.{option_map};
+ghost use Rattle.cmd_arguments.specs.Options.{ArePorts, IsBadValue, IsCount, IsFieldsFault};
+ghost use Rattle.cmd_arguments.specs.Options.{IsChoice, IsGiven, IsGivenOr, IsMoment, IsRead};
+ghost use Rattle.cmd_arguments.specs.Options.{IsSelection, IsUnread, IsWhole, is_skipping};
+ghost use Rattle.cmd_arguments.specs.Options.{bare_digits, has_marks, texts_in, time_named};
+ghost use Rattle.cmd_arguments.specs.Options.{value_in};
+ghost use Rattle.cmd_stats.specs.Units.{listed};
+
+use crate::bad_argument::BadArgument;
+use cap_pcap::Format;
+use clap::ArgMatches;
+use cmd_captures::{Choice, Field, Kinds, Selection, Time, utc_moment};
+use cmd_stats::replay::PortList;
+use its_gnvalue::{GnAddress, Mac};
+use its_headers::Kind;
+use std::num::NonZeroU64;
+use std::str::FromStr;
+
+/// A list of kinds of packet.
+#[derive(Clone, Copy)]
+struct KindList(Kinds);
+
+impl FromStr for KindList {
+    type Err = ();
+
+    fn from_str(words: &str) -> Result<KindList, ()> {
+        let mut kinds = Kinds {
+            beacon: false,
+            shb: false,
+            gbc: false,
+            gac: false,
+        };
+        for word in words.split(',') {
+            match Kind::named(word).ok_or(())? {
+                Kind::Beacon => kinds.beacon = true,
+                Kind::Shb => kinds.shb = true,
+                Kind::Gbc => kinds.gbc = true,
+                Kind::Gac => kinds.gac = true,
+            }
+        }
+        Ok(KindList(kinds))
+    }
+}
+
+/// The digits of a station's address.
+#[derive(Clone, Copy)]
+struct AddressDigits(GnAddress);
+
+impl FromStr for AddressDigits {
+    type Err = ();
+
+    ghost use Rattle.std.specs.Net.Grammar.{Parses};
+    ghost use Rattle.cmd_arguments.specs.Options.{IsAddress};
+
+    ghost from_str_gives = { Parses (λ text digits. IsAddress text digits.0) };
+
+    fn from_str(digits: &str) -> Result<AddressDigits, ()> {
+        let mut octets = [0; 8];
+        hex::decode_to_slice(digits, &mut octets).map_err(|_| ())?;
+        let address = GnAddress::from_u64(u64::from_be_bytes(octets)).map_err(|_| ())?;
+        Ok(AddressDigits(address))
+    }
+}
+
+/// The digits of a link address.
+#[derive(Clone, Copy)]
+struct MacDigits(Mac);
+
+impl FromStr for MacDigits {
+    type Err = ();
+
+    ghost use Rattle.std.specs.Net.Grammar.{Parses};
+    ghost use Rattle.cmd_arguments.specs.Options.{IsMac};
+
+    ghost from_str_gives = { Parses (λ text digits. IsMac text digits.0) };
+
+    fn from_str(text: &str) -> Result<MacDigits, ()> {
+        let octets = decode(text.as_bytes())?;
+        Ok(MacDigits(Mac::from_octets(octets)))
+    }
+}
+
+/// The octets of the digits of a link address, between each two of which a colon or a hyphen may
+/// stand.
+fn decode(text: &[u8]) -> Result<[u8; 6], ()>
+    ensures { MatchResult result
+        (λ octets. decode_sized (bare_digits text.now) 6 ≡ Ok octets)
+        (λ _. (octets : List ℕ) → ¬ (decode_sized (bare_digits text.now) 6 ≡ Ok octets)) }
+{
+    let mut octets = [0; 6];
+    if has_marks(text, b':') || has_marks(text, b'-') {
+        let digits = [
+            text[0], text[1], text[3], text[4], text[6], text[7], text[9], text[10], text[12],
+            text[13], text[15], text[16],
+        ];
+        hex::decode_to_slice(digits, &mut octets).map_err(|_| ())?;
+    } else {
+        hex::decode_to_slice(text, &mut octets).map_err(|_| ())?;
+    }
+    Ok(octets)
+}
+
+/// Whether six pairs of digits have this mark between them.
+fn has_marks(text: &[u8], mark: u8) -> bool
+    ensures { result ≡ has_marks mark text.now }
+{
+    text.len() == 17
+        && text[2] == mark
+        && text[5] == mark
+        && text[8] == mark
+        && text[11] == mark
+        && text[14] == mark
+}
+
+/// A moment: a number of milliseconds, or date and time of UTC.
+#[derive(Clone, Copy)]
+struct MomentText(u64);
+
+impl FromStr for MomentText {
+    type Err = ();
+
+    ghost use Rattle.std.specs.Prelude.{IfOk};
+    ghost use Rattle.cmd_arguments.specs.Options.{IsMoment};
+
+    ghost from_str_gives = { λ text result. IfOk result (λ moment. IsMoment text moment.0) };
+
+    fn from_str(text: &str) -> Result<MomentText, ()> {
+        match text.parse() {
+            Ok(moment) => Ok(MomentText(moment)),
+            Err(_) => utc_moment(text).map(MomentText).ok_or(()),
+        }
+    }
+}
+
+/// What an option has to be.
+const MOMENT: &str =
+    "a whole number of milliseconds, or a UTC time such as 2023-11-14T22:13:20.123Z";
+
+const COUNT: &str = "a whole number of at least 1";
+
+const MAC: &str = "12 hexadecimal digits, with colons, hyphens or nothing between the pairs";
+
+const PORT: &str = "a whole number in 0..=65535";
+
+/// The value of an option, if it is given.
+fn value_of<'a, T: FromStr>(
+    matches: &ArgMatches<'a>,
+    option: &'a str,
+    wanted: &'a str,
+) -> Result<Option<T>, BadArgument<'a>>
+where
+    T::Err: Drop,
+    ensures { MatchResult result
+        (IsRead T.from_str_gives (value_in matches.now option.now))
+        (IsUnread T.from_str_gives option.now (value_in matches.now option.now)) }
+{
+    let Some(word) = matches.get_str(option) else {
+        return Ok(None);
+    };
+    match word.parse() {
+        Ok(value) => Ok(Some(value)),
+        Err(_) => Err(BadArgument::Value(option, word, wanted)),
+    }
+}
+
+/// Which records of a file of this format a command is over: those of all ports, or of the one that
+/// `--port` names. The fault is that of the first option that has a bad value, `--port` being the
+/// last.
+pub fn selection_of<'a>(
+    matches: &ArgMatches<'a>,
+    format: Option<Format>,
+) -> Result<Selection, BadArgument<'a>>
+    ensures selection { IfOk result (IsSelection matches.now format) }
+    ensures port { IfOk result (λ selection.
+        IsGiven (IsWhole 16) (value_in matches.now (codes "port")) selection.choice.port) }
+{
+    let selection = selection_to_any_port(matches, format)?;
+    Ok(Selection {
+        choice: Choice {
+            port: value_of(matches, "port", PORT)?,
+            ..selection.choice
+        },
+        ..selection
+    })
+}
+
+/// The same, of all ports, for a command whose `--port` says something else.
+pub fn selection_to_any_port<'a>(
+    matches: &ArgMatches<'a>,
+    format: Option<Format>,
+) -> Result<Selection, BadArgument<'a>>
+    ensures selection { IfOk result (IsSelection matches.now format) }
+    ensures port { IfOk result (λ selection. selection.choice.port ≡ None) }
+{
+    Ok(Selection {
+        format,
+        choice: choice_of(matches)?,
+        count: count_of(matches, "count")?,
+        partial: matches.get_flag("partial"),
+    })
+}
+
+/// The ports that a station opens at its start, by `--port`: at most 64, each given once. The fault
+/// is that of the first that is none or one too many.
+pub fn ports_of<'a>(matches: &ArgMatches<'a>) -> Result<PortList, BadArgument<'a>>
+    ensures { IfOk result (λ ports.
+        ArePorts (texts_in matches.now (codes "port")) (listed ports)) }
+{
+    ports_in(matches.get_strs("port").unwrap_or(&[]))
+}
+
+/// The ports of which these are the numbers.
+fn ports_in<'a>(words: &[&'a str]) -> Result<PortList, BadArgument<'a>>
+    ensures { IfOk result (λ ports. ArePorts (map (λ word. word.now) words.now) (listed ports)) }
+{
+    let mut ports = PortList::new();
+    for word in words {
+        let Ok(port) = word.parse() else {
+            return Err(BadArgument::Value("port", word, PORT));
+        };
+        if ports.add(port).is_err() {
+            let wanted = "one of at most 64 different ports";
+            return Err(BadArgument::Value("port", word, wanted));
+        }
+    }
+    Ok(ports)
+}
+
+/// How many an option allows at most: 1 and more, or `None` where it isn't given.
+pub fn count_of<'a>(
+    matches: &ArgMatches<'a>,
+    option: &'a str,
+) -> Result<Option<u64>, BadArgument<'a>>
+    ensures { MatchResult result
+        (IsGiven IsCount (value_in matches.now option.now))
+        (IsBadValue IsCount option.now (value_in matches.now option.now)) }
+{
+    let count = value_of::<NonZeroU64>(matches, option, COUNT)?;
+    Ok(count.map(NonZeroU64::get))
+}
+
+/// Which records are chosen, to whatever port their frames are.
+fn choice_of<'a>(matches: &ArgMatches<'a>) -> Result<Choice, BadArgument<'a>>
+    ensures choice { IfOk result (IsChoice matches.now) }
+    ensures port { IfOk result (λ choice. choice.port ≡ None) }
+{
+    let wanted = "a list of beacon, shb, gbc and gac";
+    let kinds = value_of::<KindList>(matches, "kind", wanted)?;
+    let wanted = "the 16 hexadecimal digits of a station's address";
+    let source = value_of::<AddressDigits>(matches, "source", wanted)?;
+    let from = value_of::<MacDigits>(matches, "from-mac", MAC)?;
+    let since = moment_of(matches, "since", 0)?;
+    let until = moment_of(matches, "until", u64::MAX)?;
+    Ok(Choice {
+        kinds: kinds.map(|list| list.0),
+        source: source.map(|digits| digits.0),
+        from: from.map(|digits| digits.0),
+        port: None,
+        since,
+        until,
+        refused: matches.get_flag("refused"),
+        skips_others: skips_others(matches),
+    })
+}
+
+/// The moment that an option says, or another one if it isn't given.
+fn moment_of<'a>(
+    matches: &ArgMatches<'a>,
+    option: &'a str,
+    other: u64,
+) -> Result<u64, BadArgument<'a>>
+    ensures { IfOk result (IsGivenOr IsMoment other (value_in matches.now option.now)) }
+{
+    match value_of::<MomentText>(matches, option, MOMENT)? {
+        Some(moment) => Ok(moment.0),
+        None => Ok(other),
+    }
+}
+
+/// Whether records are skipped that are of another protocol, by the word of
+/// `--not-geonetworking`.
+fn skips_others(matches: &ArgMatches<'_>) -> bool
+    ensures { result ≡ is_skipping (value_in matches.now (codes "not-geonetworking")) }
+{
+    match matches.get_str("not-geonetworking") {
+        Some("skip") => true,
+        _ => false,
+    }
+}
+
+/// How moments are told: by the word of `--time`, or as milliseconds.
+pub fn time_of(matches: &ArgMatches<'_>) -> Time
+    ensures { result ≡ time_named (value_in matches.now (codes "time")) }
+{
+    match matches.get_str("time") {
+        Some("utc") => Time::Utc,
+        Some("relative") => Time::Relative,
+        Some("delta") => Time::Delta,
+        _ => Time::Raw,
+    }
+}
+
+/// The keys whose values are shown, if `--fields` lists them, separated by commas. Refused if one is
+/// no key.
+pub fn fields_of<'a>(matches: &ArgMatches<'a>) -> Result<Option<&'a str>, BadArgument<'a>>
+    ensures names { IfOk result (λ names.
+        option_map (λ names. names.now) names ≡ value_in matches.now (codes "fields")) }
+    ensures fault { IfErr result (IsFieldsFault (value_in matches.now (codes "fields"))) }
+{
+    let Some(names) = matches.get_str("fields") else {
+        return Ok(None);
+    };
+    if names.split(',').any(|name| Field::named(name).is_none()) {
+        let wanted = "a list of the keys that show --help lists";
+        return Err(BadArgument::Value("fields", names, wanted));
+    }
+    Ok(Some(names))
+}

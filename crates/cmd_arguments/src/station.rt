@@ -1,0 +1,87 @@
+//! The station that the arguments describe.
+
+ghost use Rattle.std.specs.Prelude.{◌≡◌, IfSome};
+ghost use Rattle.cmd_arguments.specs.Arguments.{AreMatched, argument_of};
+
+use clap::ArgMatches;
+use sim_settings::keys::Fields;
+
+/// An argument, and the whole number that it spells, if it spells one that fits 64 bits with a
+/// sign.
+#[derive(Clone, Copy, Debug, PartialEq, Eq)]
+struct Argument<'a> {
+    text: &'a str,
+    number: Option<i64>,
+}
+
+impl<'a> Argument<'a> {
+    fn of(text: &'a str) -> Argument<'a>
+        ensures { result.text ≡ text.entry }
+    {
+        Argument {
+            text,
+            number: text.parse().ok(),
+        }
+    }
+}
+
+/// The arguments of a station, of which those behind the place may be missing.
+#[derive(Clone, Copy, Debug, PartialEq, Eq)]
+pub struct StationArguments<'a> {
+    address: Argument<'a>,
+    lat: Argument<'a>,
+    lon: Argument<'a>,
+    capacity: Option<Argument<'a>>,
+    remember: Option<Argument<'a>>,
+}
+
+impl<'a> StationArguments<'a> {
+    /// Those that were matched: the first three are required, so there is an answer.
+    pub fn of(matches: &ArgMatches<'a>) -> Option<StationArguments<'a>>
+        ensures { IfSome result (AreMatched matches.now) }
+    {
+        Some(StationArguments {
+            address: Argument::of(matches.get_str("ADDRESS")?),
+            lat: Argument::of(matches.get_str("LAT")?),
+            lon: Argument::of(matches.get_str("LON")?),
+            capacity: matches.get_str("capacity").map(Argument::of),
+            remember: matches.get_str("remember").map(Argument::of),
+        })
+    }
+
+    /// The argument under the name that a scenario has for it.
+    fn value(&self, name: &str) -> Option<Argument<'a>>
+        ensures { result ≡ argument_of self.now name.now }
+    {
+        match name {
+            "address" => Some(self.address),
+            "lat" => Some(self.lat),
+            "lon" => Some(self.lon),
+            "capacity" => self.capacity,
+            "remember" => self.remember,
+            _ => None,
+        }
+    }
+}
+
+impl Fields for StationArguments<'_> {
+    ghost use Rattle.cmd_arguments.specs.Arguments.{argument_values};
+
+    ghost values = { argument_values };
+
+    fn has(&self, name: &str) -> bool {
+        self.value(name).is_some()
+    }
+
+    fn integer(&self, name: &str) -> Option<i64> {
+        self.value(name)?.number
+    }
+
+    fn truth(&self, _name: &str) -> Option<bool> {
+        None
+    }
+
+    fn text(&self, name: &str) -> Option<&str> {
+        Some(self.value(name)?.text)
+    }
+}

@@ -1,0 +1,208 @@
+//! The runtime of a command that tells how far it has read a file.
+
+ghost use Rattle.std.specs.Prelude.{◌≡◌, Some, None, if◌then◌else◌};
+
+use crate::terminal::meter::millis;
+use crate::terminal::pace::Pace;
+use std::alloc::{Allocator, Global};
+use std::fs::{Files, Metadata, OpenFile, OpenOptions};
+use std::io::{Eprint, Read, Seek, SeekFrom, Write};
+use std::rt::Clock;
+use std::time::Duration;
+use std::{fmt, io};
+
+/// How many milliseconds pass from one line to the next, and before the first.
+const BETWEEN: u64 = 250;
+
+/// A runtime whose reading of one file is told on standard error, where someone looks.
+#[derive(Drop)]
+pub struct Reading<'a, R> {
+    rt: &'a R,
+    /// The name of the file; none where no one looks.
+    file: Option<&'a str>,
+}
+
+impl<'a, R> Reading<'a, R> {
+    /// One that tells of the file of this name, where `is_shown`.
+    pub fn of(rt: &'a R, file: &'a str, is_shown: bool) -> Reading<'a, R>
+        ensures { result.file ≡ if is_shown then Some file.entry else None }
+    {
+        Reading {
+            rt,
+            file: is_shown.then_some(file),
+        }
+    }
+}
+
+/// How far the reading of a file is.
+#[derive(Clone, Copy, Debug)]
+struct Far {
+    /// How many octets were read.
+    done: u64,
+    /// How many the file has.
+    size: u64,
+    started: Duration,
+    /// At how many milliseconds a line was last written; 0 before the first.
+    told: u64,
+}
+
+impl fmt::Display for Far {
+    fn fmt<W: fmt::Write>(&self, f: &mut fmt::Formatter<W>) -> fmt::Result {
+        write!(f, "{} of {} octets", self.done, self.size)?;
+        let pace = Pace {
+            done: self.done,
+            all: self.size,
+            elapsed: self.told,
+        };
+        if let (Some(rate), Some(left)) = (pace.rate(), pace.left()) {
+            write!(f, ", {} kB/s, {} s left", rate / 1000, left / 1000)?;
+        }
+        f.write_str("\x1b[K\r")
+    }
+}
+
+/// A file of which it is told how far it is read.
+#[derive(Drop)]
+pub struct ReadFile<'a, R, F: Drop> {
+    rt: &'a R,
+    file: F,
+    far: Option<Far>,
+}
+
+impl<R: Eprint + Clock, F: Drop> ReadFile<'_, R, F> {
+    /// Notes so many octets more, and tells of them from time to time; none is the end of the file,
+    /// where the line is taken away. A line that can't be written is no fault.
+    fn note(&mut self, count: usize) {
+        let Some(far) = self.far else {
+            return;
+        };
+        if count == 0 {
+            if far.told > 0 {
+                let _ = self.rt.eprint("\x1b[K");
+            }
+            self.far = None;
+            return;
+        }
+        let elapsed = match self.rt.monotonic() {
+            Ok(now) => millis(now.saturating_sub(far.started)),
+            Err(_) => 0,
+        };
+        let is_due = elapsed.saturating_sub(far.told) >= BETWEEN;
+        let far = Far {
+            done: far.done.saturating_add(count as u64),
+            told: if is_due { elapsed } else { far.told },
+            ..far
+        };
+        if is_due {
+            let _ = self.rt.eprint(far);
+        }
+        self.far = Some(far);
+    }
+}
+
+impl<R: Eprint + Clock, F: Read + Drop> Read for ReadFile<'_, R, F> {
+    fn read(&mut self, octets: &mut [u8]) -> io::Result<usize> {
+        let count = self.file.read(octets)?;
+        self.note(count);
+        Ok(count)
+    }
+}
+
+impl<R, F: Write + Drop> Write for ReadFile<'_, R, F> {
+    fn write(&mut self, octets: &[u8]) -> io::Result<usize> {
+        self.file.write(octets)
+    }
+
+    fn flush(&mut self) -> io::Result<()> {
+        self.file.flush()
+    }
+}
+
+impl<R, F: Seek + Drop> Seek for ReadFile<'_, R, F> {
+    fn seek(&mut self, to: SeekFrom) -> io::Result<u64> {
+        self.file.seek(to)
+    }
+}
+
+impl<R, F: OpenFile + Drop> OpenFile for ReadFile<'_, R, F> {
+    fn metadata(&self) -> io::Result<Metadata> {
+        self.file.metadata()
+    }
+
+    fn set_len(&self, size: u64) -> io::Result<()> {
+        self.file.set_len(size)
+    }
+
+    fn sync_all(&self) -> io::Result<()> {
+        self.file.sync_all()
+    }
+
+    fn sync_data(&self) -> io::Result<()> {
+        self.file.sync_data()
+    }
+}
+
+impl<R: AllocGlobal> Alloc for Reading<'_, R> {
+    type A = Global;
+
+    fn alloc(&self) -> Global {
+        self.rt.alloc()
+    }
+}
+
+impl<'a, R: Files + Eprint + Clock> Files for Reading<'a, R> {
+    type File = ReadFile<'a, R, R::File>;
+
+    type Dir = R::Dir;
+
+    fn open_file(&self, how: &OpenOptions, path: &str) -> io::Result<Self::File> {
+        let rt = self.rt;
+        let file = rt.open_file(how, path)?;
+        let far = match (self.file, rt.monotonic(), file.metadata()) {
+            (Some(name), Ok(started), Ok(found)) if name == path && found.is_file() => Some(Far {
+                done: 0,
+                size: found.len(),
+                started,
+                told: 0,
+            }),
+            _ => None,
+        };
+        Ok(ReadFile { rt, file, far })
+    }
+
+    fn open_dir(&self, path: &str) -> io::Result<R::Dir> {
+        self.rt.open_dir(path)
+    }
+
+    fn metadata(&self, path: &str) -> io::Result<Metadata> {
+        self.rt.metadata(path)
+    }
+
+    fn symlink_metadata(&self, path: &str) -> io::Result<Metadata> {
+        self.rt.symlink_metadata(path)
+    }
+
+    fn copy(&self, from: &str, to: &str) -> io::Result<u64> {
+        self.rt.copy(from, to)
+    }
+
+    fn rename(&self, from: &str, to: &str) -> io::Result<()> {
+        self.rt.rename(from, to)
+    }
+
+    fn remove_file(&self, path: &str) -> io::Result<()> {
+        self.rt.remove_file(path)
+    }
+
+    fn create_dir(&self, path: &str) -> io::Result<()> {
+        self.rt.create_dir(path)
+    }
+
+    fn remove_dir(&self, path: &str) -> io::Result<()> {
+        self.rt.remove_dir(path)
+    }
+
+    fn remove_dir_all<B: Allocator>(&self, alloc: B, path: &str) -> io::Result<()> {
+        self.rt.remove_dir_all(alloc, path)
+    }
+}

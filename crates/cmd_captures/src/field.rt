@@ -1,0 +1,220 @@
+//! Keys of what `show` prints of a record, as columns or as keys of an object.
+
+ghost use Rattle.std.specs.Prelude.{◌≡◌, IfSome};
+ghost use Rattle.cmd_captures.specs.Fields.{field_word};
+
+use its_headers::Kind;
+
+/// Where a packet begins in a frame.
+const PACKET: usize = 14;
+
+/// A key of the object of a record.
+#[derive(Clone, Copy, Debug, PartialEq, Eq)]
+pub enum Field {
+    /// The record's moment.
+    Moment,
+    /// The link address that the frame comes from.
+    From,
+    /// The one that it goes to.
+    To,
+    /// The packet's kind.
+    Kind,
+    /// Its source.
+    Address,
+    /// The time of the source's position.
+    Tst,
+    /// The latitude of that.
+    Lat,
+    /// Its longitude.
+    Lon,
+    /// Whether it is accurate.
+    Pai,
+    /// The source's speed.
+    Speed,
+    /// Its heading.
+    Heading,
+    /// The lifetime's octet.
+    Lt,
+    /// The traffic class.
+    Tc,
+    /// Whether the source is mobile.
+    Mobile,
+    /// The hops left.
+    Hops,
+    /// The hops that there were at most.
+    MaxHops,
+    /// The packet's number.
+    Number,
+    /// The area's shape.
+    Shape,
+    /// The latitude of its centre.
+    Alat,
+    /// The longitude of that.
+    Alon,
+    /// Its first distance.
+    A,
+    /// Its second.
+    B,
+    /// Its angle.
+    Angle,
+    /// The destination port.
+    Port,
+    /// What stands behind it.
+    Info,
+    /// The octets for the port.
+    Payload,
+    /// Why the record is refused, as a code.
+    Refused,
+    /// The number of the record in its file, from 0.
+    Record,
+    /// The number of its interface, from 0.
+    Interface,
+    /// How many octets of the record the file has.
+    Length,
+    /// The VLAN identifier of the first tag.
+    Vlan,
+    /// The signal at the antenna, in dBm.
+    Rssi,
+    /// The rate, in Mbit/s.
+    Rate,
+    /// Whether the record was cut and is read as far as it goes.
+    Cut,
+}
+
+/// All keys, in the order in which the object of a record has them; then that of a refusal, and those
+/// that an object has only if they are asked for.
+pub const FIELDS: [Field; 34] = [
+    Field::Moment,
+    Field::From,
+    Field::To,
+    Field::Kind,
+    Field::Address,
+    Field::Tst,
+    Field::Lat,
+    Field::Lon,
+    Field::Pai,
+    Field::Speed,
+    Field::Heading,
+    Field::Lt,
+    Field::Tc,
+    Field::Mobile,
+    Field::Hops,
+    Field::MaxHops,
+    Field::Number,
+    Field::Shape,
+    Field::Alat,
+    Field::Alon,
+    Field::A,
+    Field::B,
+    Field::Angle,
+    Field::Port,
+    Field::Info,
+    Field::Payload,
+    Field::Refused,
+    Field::Record,
+    Field::Interface,
+    Field::Length,
+    Field::Vlan,
+    Field::Rssi,
+    Field::Rate,
+    Field::Cut,
+];
+
+/// How many of these the object of a frame has, which come first.
+pub(crate) const FRAME_FIELDS: usize = 26;
+
+impl Field {
+    /// Its name.
+    pub fn word(self) -> &'static str
+        ensures { result.now ≡ field_word self }
+    {
+        match self {
+            Field::Moment => "moment",
+            Field::From => "from",
+            Field::To => "to",
+            Field::Kind => "kind",
+            Field::Address => "address",
+            Field::Tst => "tst",
+            Field::Lat => "lat",
+            Field::Lon => "lon",
+            Field::Pai => "pai",
+            Field::Speed => "speed",
+            Field::Heading => "heading",
+            Field::Lt => "lt",
+            Field::Tc => "tc",
+            Field::Mobile => "mobile",
+            Field::Hops => "hops",
+            Field::MaxHops => "max_hops",
+            Field::Number => "number",
+            Field::Shape => "shape",
+            Field::Alat => "alat",
+            Field::Alon => "alon",
+            Field::A => "a",
+            Field::B => "b",
+            Field::Angle => "angle",
+            Field::Port => "port",
+            Field::Info => "info",
+            Field::Payload => "payload",
+            Field::Refused => "refused",
+            Field::Record => "record",
+            Field::Interface => "interface",
+            Field::Length => "length",
+            Field::Vlan => "vlan",
+            Field::Rssi => "rssi",
+            Field::Rate => "rate",
+            Field::Cut => "cut",
+        }
+    }
+
+    /// Whether its value is a text, which has quotation marks in an object.
+    pub(crate) fn is_text(self) -> bool {
+        matches!(
+            self,
+            Field::From
+                | Field::To
+                | Field::Kind
+                | Field::Address
+                | Field::Shape
+                | Field::Payload
+                | Field::Refused
+        )
+    }
+
+    /// How many octets a frame of this kind has at least whose value of this key is there: the
+    /// octets up to its end (EN 302 636-4-1 clause 9), of a payload up to its beginning. A key that
+    /// isn't of frames needs none.
+    pub(crate) fn octets_needed(self, kind: Kind) -> usize {
+        let (vector, payload) = match kind {
+            Kind::Beacon | Kind::Shb => (PACKET + 12, PACKET + 40),
+            Kind::Gbc | Kind::Gac => (PACKET + 16, PACKET + 56),
+        };
+        match self {
+            Field::Tst => vector + 12,
+            Field::Lat => vector + 16,
+            Field::Lon => vector + 20,
+            Field::Pai | Field::Speed => vector + 22,
+            Field::Heading => vector + 24,
+            Field::Alat => PACKET + 44,
+            Field::Alon => PACKET + 48,
+            Field::A => PACKET + 50,
+            Field::B => PACKET + 52,
+            Field::Angle => PACKET + 54,
+            Field::Port => payload + 2,
+            Field::Info | Field::Payload => payload + 4,
+            // What comes before the source's address is there in each frame that was read.
+            _ => vector + 8,
+        }
+    }
+
+    /// The key of this name; `None` where none has it.
+    pub fn named(name: &str) -> Option<Field>
+        ensures { IfSome result (λ field. name.now ≡ field_word field) }
+    {
+        for field in FIELDS {
+            if field.word() == name {
+                return Some(field);
+            }
+        }
+        None
+    }
+}

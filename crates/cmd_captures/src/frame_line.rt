@@ -1,0 +1,241 @@
+//! What `show` tells of a frame, and its line of words.
+
+use crate::field::Field;
+use crate::moment::Moment;
+use crate::text::Text;
+use cmd_text::frames::{FrameKeys, MessageKeys, TargetKeys};
+use cmd_text::json_lines::Octets;
+use its_headers::Kind;
+use its_linkframe::FrameView;
+use serde::Serialize;
+use std::alloc::AllocError;
+
+/// What is told of a frame that was read at a moment, in the order in which lines tell it: as keys
+/// in JSON, and as words in text.
+#[derive(Clone, Copy, Serialize)]
+pub(crate) struct FrameLine<'a> {
+    moment: Moment,
+    #[serde(flatten)]
+    keys: FrameKeys<'a>,
+    #[serde(skip)]
+    kind: Kind,
+    /// How many octets of the frame there are, if it was cut.
+    #[serde(skip)]
+    known: Option<usize>,
+}
+
+impl<'a> FrameLine<'a> {
+    /// What is printed of a frame, of which so many octets are there if it was cut.
+    pub(crate) fn of(moment: Moment, frame: &FrameView<'a>, known: Option<usize>) -> FrameLine<'a> {
+        let kind = frame.packet.kind();
+        let keys = FrameKeys::of(frame);
+        FrameLine {
+            moment,
+            keys: FrameKeys {
+                message: keys
+                    .message
+                    .map(|message| message_within(message, kind, known)),
+                ..keys
+            },
+            kind,
+            known,
+        }
+    }
+
+    /// Whether the value of this key is there.
+    pub(crate) fn has(&self, field: Field) -> bool {
+        match self.known {
+            Some(known) => field.octets_needed(self.kind) <= known,
+            None => true,
+        }
+    }
+
+    /// Whether its payload is there, or the beginning of it.
+    pub(crate) fn has_payload(&self) -> bool {
+        self.keys.message.is_some() && self.has(Field::Payload)
+    }
+
+    /// Whether it was cut.
+    pub(crate) fn is_cut(&self) -> bool {
+        self.known.is_some()
+    }
+
+    /// Adds its words to a text, with a line feed after them.
+    pub(crate) fn add_to(&self, text: &mut Text) -> Result<(), AllocError> {
+        let keys = &self.keys;
+        self.moment.add_to(text)?;
+        text.digits(" ", &keys.from.0)?;
+        text.digits(" ", &keys.to.0)?;
+        text.word(" ")?;
+        text.word(keys.kind)?;
+        text.digits(" ", &keys.address.0)?;
+        self.add_vector(text)?;
+        add_header(keys, text)?;
+        self.add_body(text)?;
+        text.word(if self.is_cut() { " cut\n" } else { "\n" })
+    }
+
+    /// Adds where the source was, how fast and in what direction it moved, and when.
+    fn add_vector(&self, text: &mut Text) -> Result<(), AllocError> {
+        let keys = &self.keys;
+        if self.has(Field::Tst) {
+            text.number(" tst ", keys.tst)?;
+        }
+        if self.has(Field::Lat) {
+            text.number(" lat ", keys.lat)?;
+        }
+        if self.has(Field::Lon) {
+            text.number(" lon ", keys.lon)?;
+        }
+        if self.has(Field::Speed) {
+            text.number(" pai ", keys.pai as u8)?;
+            text.number(" speed ", keys.speed)?;
+        }
+        if self.has(Field::Heading) {
+            text.number(" heading ", keys.heading)?;
+        }
+        Ok(())
+    }
+
+    /// Adds what only some kinds have.
+    fn add_body(&self, text: &mut Text) -> Result<(), AllocError> {
+        if let Some(target) = &self.keys.target {
+            text.number(" number ", target.number)?;
+            if self.has(Field::Angle) {
+                add_area(target, text)?;
+            }
+        }
+        if let Some(message) = &self.keys.message
+            && self.has(Field::Info)
+        {
+            add_message(message, text)?;
+        }
+        Ok(())
+    }
+
+    /// Its moment.
+    pub(crate) fn moment(&self) -> Moment {
+        self.moment
+    }
+
+    /// Adds the value of a key to a text, as JSON has it without quotation marks; nothing if it has
+    /// no such key, or if that was cut off.
+    pub(crate) fn add_value_to(&self, field: Field, text: &mut Text) -> Result<(), AllocError> {
+        if !self.has(field) {
+            return Ok(());
+        }
+        let keys = &self.keys;
+        match field {
+            Field::Moment => self.moment.add_to(text),
+            Field::From => text.digits("", &keys.from.0),
+            Field::To => text.digits("", &keys.to.0),
+            Field::Kind => text.word(keys.kind),
+            Field::Address => text.digits("", &keys.address.0),
+            Field::Tst => text.number("", keys.tst),
+            Field::Lat => text.number("", keys.lat),
+            Field::Lon => text.number("", keys.lon),
+            Field::Pai => text.word(truth_word(keys.pai)),
+            Field::Speed => text.number("", keys.speed),
+            Field::Heading => text.number("", keys.heading),
+            Field::Lt => text.number("", keys.lt),
+            Field::Tc => text.number("", keys.tc),
+            Field::Mobile => text.word(truth_word(keys.mobile)),
+            Field::Hops => text.number("", keys.hops),
+            Field::MaxHops => text.number("", keys.max_hops),
+            Field::Cut if self.is_cut() => text.word("true"),
+            _ => self.add_part_to(field, text),
+        }
+    }
+
+    /// The same of a key that only some kinds have.
+    fn add_part_to(&self, field: Field, text: &mut Text) -> Result<(), AllocError> {
+        if let Some(target) = &self.keys.target {
+            add_target_value(target, field, text)?;
+        }
+        if let Some(message) = &self.keys.message {
+            add_message_value(message, field, text)?;
+        }
+        Ok(())
+    }
+}
+
+/// What is there of a message whose frame was cut, if it was: the payload ends where the frame does.
+fn message_within<'a>(
+    message: MessageKeys<'a>,
+    kind: Kind,
+    known: Option<usize>,
+) -> MessageKeys<'a> {
+    let Some(known) = known else {
+        return message;
+    };
+    let octets = message.payload.0;
+    let there = known.saturating_sub(Field::Payload.octets_needed(kind));
+    MessageKeys {
+        payload: Octets(&octets[..there.min(octets.len())]),
+        ..message
+    }
+}
+
+/// Adds what the headers before that say of every packet.
+fn add_header(keys: &FrameKeys<'_>, text: &mut Text) -> Result<(), AllocError> {
+    text.digits(" lt ", &[keys.lt])?;
+    text.digits(" tc ", &[keys.tc])?;
+    text.number(" mobile ", keys.mobile as u8)?;
+    text.number(" hops ", keys.hops)?;
+    text.number("/", keys.max_hops)
+}
+
+/// Adds where a packet for an area goes.
+fn add_area(target: &TargetKeys, text: &mut Text) -> Result<(), AllocError> {
+    text.word(" ")?;
+    text.word(target.shape)?;
+    text.number(" ", target.alat)?;
+    text.number(" ", target.alon)?;
+    text.number(" ", target.a)?;
+    text.number(" ", target.b)?;
+    text.number(" ", target.angle)
+}
+
+/// Adds one value of these.
+fn add_target_value(target: &TargetKeys, field: Field, text: &mut Text) -> Result<(), AllocError> {
+    match field {
+        Field::Number => text.number("", target.number),
+        Field::Shape => text.word(target.shape),
+        Field::Alat => text.number("", target.alat),
+        Field::Alon => text.number("", target.alon),
+        Field::A => text.number("", target.a),
+        Field::B => text.number("", target.b),
+        Field::Angle => text.number("", target.angle),
+        _ => Ok(()),
+    }
+}
+
+/// Adds what is sent to a port.
+fn add_message(message: &MessageKeys<'_>, text: &mut Text) -> Result<(), AllocError> {
+    text.number(" port ", message.port)?;
+    text.number(" info ", message.info)?;
+    if message.payload.0.is_empty() {
+        text.word(" -")
+    } else {
+        text.digits(" ", message.payload.0)
+    }
+}
+
+/// Adds one value of these.
+fn add_message_value(
+    message: &MessageKeys<'_>,
+    field: Field,
+    text: &mut Text,
+) -> Result<(), AllocError> {
+    match field {
+        Field::Port => text.number("", message.port),
+        Field::Info => text.number("", message.info),
+        Field::Payload => text.digits("", message.payload.0),
+        _ => Ok(()),
+    }
+}
+
+/// A truth value in JSON.
+fn truth_word(is: bool) -> &'static str {
+    if is { "true" } else { "false" }
+}

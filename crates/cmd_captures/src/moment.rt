@@ -1,0 +1,163 @@
+//! The moments of records, as `show` tells them.
+
+use crate::date::Date;
+use crate::text::Text;
+use cap_records::Place;
+use serde::{Described, Serialize, Serializer};
+use std::alloc::AllocError;
+use std::fmt;
+use std::fmt::Write;
+
+/// How the moments of records are told.
+#[derive(Clone, Copy, Debug, PartialEq, Eq)]
+pub enum Time {
+    /// In milliseconds, as the file has them.
+    Raw,
+    /// As date and time of UTC.
+    Utc,
+    /// In seconds since the first record of the file.
+    Relative,
+    /// In seconds since the record before, of those that are chosen.
+    Delta,
+}
+
+/// The time of a record.
+#[derive(Clone, Copy)]
+pub(crate) struct Instant {
+    millis: u64,
+    /// Nanoseconds below the millisecond.
+    nanos: u32,
+}
+
+impl Instant {
+    /// In nanoseconds.
+    fn in_nanos(self) -> u128 {
+        u128::from(self.millis) * NANOS_OF_MILLI + u128::from(self.nanos)
+    }
+}
+
+/// The nanoseconds of a millisecond.
+const NANOS_OF_MILLI: u128 = 1_000_000;
+
+/// The nanoseconds of a second.
+const NANOS_OF_SECOND: u128 = 1_000_000_000;
+
+/// A moment as it is told.
+#[derive(Clone, Copy)]
+pub(crate) enum Moment {
+    /// Milliseconds.
+    Raw(u64),
+    /// The time since 1970, as date and time.
+    Utc(Instant),
+    /// Seconds from one time to another, which may be before it.
+    Between(Instant, Instant),
+}
+
+impl Moment {
+    /// Whether it is a number that is told with a fraction.
+    pub(crate) fn is_fraction(self) -> bool {
+        matches!(self, Moment::Between(_, _))
+    }
+
+    /// Adds it to a text.
+    pub(crate) fn add_to(self, text: &mut Text) -> Result<(), AllocError> {
+        match self {
+            Moment::Raw(moment) => text.number("", moment),
+            _ => write!(text, "{self}").map_err(|_| AllocError),
+        }
+    }
+}
+
+impl fmt::Display for Moment {
+    fn fmt<W: fmt::Write>(&self, f: &mut fmt::Formatter<W>) -> fmt::Result {
+        match *self {
+            Moment::Raw(moment) => write!(f, "{moment}"),
+            Moment::Utc(time) => write_utc(time, f),
+            Moment::Between(from, to) => write_between(from.in_nanos(), to.in_nanos(), f),
+        }
+    }
+}
+
+/// Date and time, as RFC 3339 has them.
+fn write_utc<W: fmt::Write>(time: Instant, f: &mut fmt::Formatter<W>) -> fmt::Result {
+    let seconds = time.millis / 1000;
+    let millis = (time.millis % 1000) as u32;
+    let (minutes, second) = (seconds / 60, seconds % 60);
+    let (hours, minute) = (minutes / 60, minutes % 60);
+    let (date, hour) = (Date::of(hours / 24), hours % 24);
+    write!(f, "{date}T{hour:02}:{minute:02}:{second:02}.")?;
+    write_fraction(millis * 1_000_000 + time.nanos % 1_000_000, f)?;
+    write!(f, "Z")
+}
+
+/// The seconds between two times in nanoseconds, with a sign if the second is before the first.
+fn write_between<W: fmt::Write>(from: u128, to: u128, f: &mut fmt::Formatter<W>) -> fmt::Result {
+    if to < from {
+        write!(f, "-")?;
+        return write_seconds(from - to, f);
+    }
+    write_seconds(to - from, f)
+}
+
+/// Nanoseconds, in seconds.
+fn write_seconds<W: fmt::Write>(nanos: u128, f: &mut fmt::Formatter<W>) -> fmt::Result {
+    write!(f, "{}.", nanos / NANOS_OF_SECOND)?;
+    write_fraction((nanos % NANOS_OF_SECOND) as u32, f)
+}
+
+/// The nanoseconds below a second, in three, six or nine decimals: the fewest that lose nothing.
+fn write_fraction<W: fmt::Write>(nanos: u32, f: &mut fmt::Formatter<W>) -> fmt::Result {
+    if nanos % 1_000_000 == 0 {
+        write!(f, "{:03}", nanos / 1_000_000)
+    } else if nanos % 1000 == 0 {
+        write!(f, "{:06}", nanos / 1000)
+    } else {
+        write!(f, "{nanos:09}")
+    }
+}
+
+impl Described for Moment {}
+
+impl Serialize for Moment {
+    fn serialize<S: Serializer>(&self, out: &mut S) -> Result<(), S::Error> {
+        match self {
+            Moment::Raw(moment) => out.u64(*moment),
+            _ => out.collect_str(self),
+        }
+    }
+}
+
+/// Tells the moments of the records of a file, one after the other.
+#[derive(Clone, Copy)]
+pub(crate) struct Clock {
+    time: Time,
+    /// The time of the record before.
+    last: Option<Instant>,
+}
+
+impl Clock {
+    /// No record was told yet.
+    pub(crate) fn new(time: Time) -> Clock {
+        Clock { time, last: None }
+    }
+
+    /// The moment of the next record.
+    pub(crate) fn next(&mut self, place: Place) -> Moment {
+        let time = Instant {
+            millis: place.moment,
+            nanos: place.nanos,
+        };
+        let first = Instant {
+            millis: place.first,
+            nanos: place.first_nanos,
+        };
+        let last = self.last.unwrap_or(time);
+        self.last = Some(time);
+        match self.time {
+            Time::Raw => Moment::Raw(place.moment),
+            Time::Utc => Moment::Utc(time),
+            Time::Relative => Moment::Between(first, time),
+            Time::Delta => Moment::Between(last, time),
+        }
+    }
+}

@@ -1,0 +1,131 @@
+//! Lines of a command, as words or as objects in JSON.
+
+use crate::frame_line::FrameLine;
+use crate::moment::Moment;
+use crate::text::Text;
+use crate::told::RefusedAt;
+use cap_records::{RefusedCapture, Walked};
+use cmd_reporting::{Fault, OutputFormat};
+use cmd_text::json_lines::JsonLine;
+use serde::Serialize;
+use std::alloc::{AllocError, Global};
+use std::fmt::Display;
+use std::io;
+use std::io::Write;
+
+/// The line in the making, in a buffer that serves the next line too.
+#[derive(Drop)]
+enum Buffer {
+    Words(Text),
+    Object(JsonLine),
+}
+
+/// Where the lines of a command over a capture are made.
+#[derive(Drop)]
+pub(crate) struct Output {
+    buffer: Buffer,
+    /// Whether a refusal goes on with its sentence.
+    pub(crate) explain: bool,
+}
+
+impl Output {
+    /// No line yet, and room for one.
+    pub(crate) fn new(alloc: Global, lines: OutputFormat) -> Result<Output, AllocError> {
+        let buffer = if lines.json {
+            Buffer::Object(JsonLine::new(alloc)?)
+        } else {
+            Buffer::Words(Text::new(alloc)?)
+        };
+        Ok(Output {
+            buffer,
+            explain: lines.explain,
+        })
+    }
+
+    /// Writes the line of what is told. `NoOutput` where the write failed, `OutOfMemory` where an
+    /// allocation did.
+    pub(crate) fn line<'f, T: Display + Serialize, W: Write>(
+        &mut self,
+        told: &T,
+        out: &mut W,
+    ) -> Result<(), Fault<'f>> {
+        match &mut self.buffer {
+            Buffer::Words(_) => writeln!(out, "{told}")?,
+            Buffer::Object(line) => out.write_all(line.of(told)?)?,
+        }
+        Ok(())
+    }
+
+    /// The same of a record that is refused.
+    pub(crate) fn refused<'f, W: Write>(
+        &mut self,
+        told: &RefusedAt,
+        out: &mut W,
+    ) -> Result<(), Fault<'f>> {
+        match &mut self.buffer {
+            Buffer::Words(_) => writeln!(out, "{told}")?,
+            Buffer::Object(line) => write_object(line.of(told)?, told.moment(), out)?,
+        }
+        Ok(())
+    }
+
+    /// The same of a frame, whose words are put together in the buffer, in a third of the time that
+    /// `write!` takes.
+    pub(crate) fn frame<'f, W: Write>(
+        &mut self,
+        told: &FrameLine<'_>,
+        out: &mut W,
+    ) -> Result<(), Fault<'f>> {
+        match &mut self.buffer {
+            Buffer::Words(text) => {
+                text.clear();
+                told.add_to(text)?;
+                out.write_all(text.as_bytes())?;
+            }
+            Buffer::Object(line) => write_object(line.of(told)?, told.moment(), out)?,
+        }
+        Ok(())
+    }
+
+    /// Tells that the file was refused after the records that were read, where it was.
+    pub(crate) fn end<'f, W: Write>(
+        &mut self,
+        walked: &Walked,
+        out: &mut W,
+    ) -> Result<(), Fault<'f>> {
+        match walked.fault {
+            Some(fault) => {
+                let explain = self.explain;
+                self.line(&RefusedCapture::new(walked.read, fault, explain), out)
+            }
+            None => Ok(()),
+        }
+    }
+}
+
+/// Writes an object whose first value is a moment. One with a fraction, which stands there as a
+/// text so that its digits stay, is a number: its quotation marks are left out.
+fn write_object<W: Write>(line: &[u8], moment: Moment, out: &mut W) -> io::Result<()> {
+    if !moment.is_fraction() {
+        return out.write_all(line);
+    }
+    let (front, rest) = cut_at_mark(line, 2);
+    let (digits, end) = cut_at_mark(rest, 0);
+    out.write_all(front)?;
+    out.write_all(digits)?;
+    out.write_all(end)
+}
+
+/// What stands before and behind a quotation mark, before which there are so many others.
+fn cut_at_mark(octets: &[u8], others: usize) -> (&[u8], &[u8]) {
+    let mut left = others;
+    for (place, octet) in octets.iter().enumerate() {
+        if *octet == b'"' {
+            if left == 0 {
+                return (&octets[..place], &octets[place + 1..]);
+            }
+            left -= 1;
+        }
+    }
+    (octets, &[])
+}

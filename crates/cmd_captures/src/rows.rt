@@ -1,0 +1,221 @@
+//! The records of a capture as values of the keys that are asked for: rows of CSV (RFC 4180), or
+//! objects in JSON.
+
+use crate::field::Field;
+use crate::frame_line::FrameLine;
+use crate::moment::{Clock, Moment};
+use crate::text::Text;
+use cap_records::{Place, RecordFault, RecordVisitor};
+use cmd_reporting::Fault;
+use its_linkframe::FrameView;
+use std::alloc::{AllocError, Global};
+use std::fmt::Write as _;
+use std::io::Write;
+
+/// What is known of a record.
+#[derive(Clone, Copy)]
+struct Row<'a> {
+    place: Place,
+    moment: Moment,
+    /// Its frame, or why it is refused.
+    frame: Result<FrameLine<'a>, RecordFault>,
+}
+
+impl Row<'_> {
+    /// Adds the value of a key to a text, without quotation marks; nothing if the record has none.
+    fn add_value_to(&self, field: Field, text: &mut Text) -> Result<(), AllocError> {
+        match (field, &self.frame) {
+            (Field::Moment, _) => self.moment.add_to(text),
+            (Field::Record, _) => text.number("", self.place.number),
+            (Field::Interface, _) => text.number("", self.place.interface),
+            (Field::Length, _) => text.number("", self.place.length),
+            (Field::Vlan | Field::Rssi | Field::Rate, _) => self.add_fact_to(field, text),
+            (Field::Refused, Err(fault)) => {
+                write!(text, "{}", fault.code()).map_err(|_| AllocError)
+            }
+            (_, Ok(frame)) => frame.add_value_to(field, text),
+            (_, Err(_)) => Ok(()),
+        }
+    }
+
+    /// The same of a key of the link layer.
+    fn add_fact_to(&self, field: Field, text: &mut Text) -> Result<(), AllocError> {
+        let link = self.place.link;
+        match field {
+            Field::Vlan => match link.vlan {
+                Some(vlan) => text.number("", vlan),
+                None => Ok(()),
+            },
+            Field::Rssi => match link.signal {
+                Some(signal) => text.number("", signal),
+                None => Ok(()),
+            },
+            _ => match link.rate {
+                Some(rate) => add_rate(rate, text),
+                None => Ok(()),
+            },
+        }
+    }
+
+    /// Whether the record has a value of this key that may be an empty text.
+    fn has_payload(&self) -> bool {
+        match &self.frame {
+            Ok(frame) => frame.has_payload(),
+            Err(_) => false,
+        }
+    }
+
+    /// Whether the value of this key is a text in JSON.
+    fn is_text(&self, field: Field) -> bool {
+        field.is_text() || (field == Field::Moment && matches!(self.moment, Moment::Utc(..)))
+    }
+}
+
+/// Adds a rate in units of 500 kbit/s, as Mbit/s.
+fn add_rate(rate: u8, text: &mut Text) -> Result<(), AllocError> {
+    text.number("", rate / 2)?;
+    text.word(if rate % 2 == 1 { ".5" } else { "" })
+}
+
+/// How the values of a record are printed.
+#[derive(Clone, Copy, Debug, PartialEq, Eq)]
+pub(crate) enum RowForm {
+    /// As a row of CSV.
+    Csv,
+    /// As an object in JSON.
+    Object,
+}
+
+/// A row of values, or an object, for each record.
+#[derive(Drop)]
+pub(crate) struct Rows {
+    fields: Vec<Field>,
+    form: RowForm,
+    clock: Clock,
+    text: Text,
+    /// A value in the making.
+    value: Text,
+}
+
+impl Rows {
+    /// No row yet. The names of the keys are separated by commas; one that is none is skipped. An
+    /// object has a key once.
+    pub(crate) fn new(
+        alloc: Global,
+        names: &str,
+        form: RowForm,
+        clock: Clock,
+    ) -> Result<Rows, AllocError> {
+        let mut fields = Vec::new(alloc);
+        for name in names.split(',') {
+            if let Some(field) = Field::named(name) {
+                if form == RowForm::Csv || !fields.as_slice().contains(&field) {
+                    fields.push(field)?;
+                }
+            }
+        }
+        Rows::of(alloc, fields, form, clock)
+    }
+
+    /// No row yet, of these keys.
+    pub(crate) fn of(
+        alloc: Global,
+        fields: Vec<Field>,
+        form: RowForm,
+        clock: Clock,
+    ) -> Result<Rows, AllocError> {
+        Ok(Rows {
+            fields,
+            form,
+            clock,
+            text: Text::new(alloc)?,
+            value: Text::new(alloc)?,
+        })
+    }
+
+    /// Prints the values of a record at a moment.
+    pub(crate) fn print<'f, W: Write>(
+        &mut self,
+        place: Place,
+        moment: Moment,
+        frame: Result<FrameView<'_>, RecordFault>,
+        out: &mut W,
+    ) -> Result<(), Fault<'f>> {
+        let row = Row {
+            place,
+            moment,
+            frame: match &frame {
+                Ok(frame) => Ok(FrameLine::of(moment, frame, place.known)),
+                Err(fault) => Err(*fault),
+            },
+        };
+        self.text.clear();
+        match self.form {
+            RowForm::Csv => self.add_row(&row)?,
+            RowForm::Object => self.add_object(&row)?,
+        }
+        out.write_all(self.text.as_bytes())?;
+        Ok(())
+    }
+
+    /// Adds the row of a record to the text.
+    fn add_row(&mut self, row: &Row<'_>) -> Result<(), AllocError> {
+        let mut part = "";
+        for field in self.fields.iter() {
+            self.text.word(part)?;
+            row.add_value_to(*field, &mut self.text)?;
+            part = ",";
+        }
+        self.text.word("\n")
+    }
+
+    /// Adds the object of a record to the text: of the keys that it has.
+    fn add_object(&mut self, row: &Row<'_>) -> Result<(), AllocError> {
+        let mut part = FIRST;
+        for field in self.fields.iter() {
+            part = add_key(*field, row, part, &mut self.value, &mut self.text)?;
+        }
+        self.text.word(if part == FIRST { "{}\n" } else { "}\n" })
+    }
+}
+
+/// What comes before the first key of an object, and before another one.
+const FIRST: &str = "{\"";
+
+const NEXT: &str = ",\"";
+
+/// Adds a key of an object and its value to the text behind this part, if the record has it. Returns
+/// the part before the next key. The value is put together apart, in place of what is there.
+fn add_key(
+    field: Field,
+    row: &Row<'_>,
+    part: &'static str,
+    value: &mut Text,
+    text: &mut Text,
+) -> Result<&'static str, AllocError> {
+    value.clear();
+    row.add_value_to(field, value)?;
+    if value.as_bytes().is_empty() && !(field == Field::Payload && row.has_payload()) {
+        return Ok(part);
+    }
+    let mark = if row.is_text(field) { "\"" } else { "" };
+    text.word(part)?;
+    text.word(field.word())?;
+    text.word("\":")?;
+    text.word(mark)?;
+    text.octets(value.as_bytes())?;
+    text.word(mark)?;
+    Ok(NEXT)
+}
+
+impl RecordVisitor for Rows {
+    fn visit<'f, W: Write>(
+        &mut self,
+        place: Place,
+        frame: Result<FrameView<'_>, RecordFault>,
+        out: &mut W,
+    ) -> Result<(), Fault<'f>> {
+        let moment = self.clock.next(place);
+        self.print(place, moment, frame, out)
+    }
+}

@@ -1,0 +1,257 @@
+//! The command `show`.
+
+ghost use Rattle.std.specs.Prelude.{◌≡◌, IfErr, IfOk, None};
+ghost use Rattle.cmd_captures.specs.Faults.{show_fault_status};
+ghost use Rattle.cmd_captures.specs.declared.moment.Time.TheVariants as times;
+ghost use Rattle.cmd_reporting.specs.Statuses.{IsCommandStatus};
+
+use crate::field::{FIELDS, FRAME_FIELDS, Field};
+use crate::frame_line::FrameLine;
+use crate::moment::{Clock, Time};
+use crate::output::Output;
+use crate::rows::{RowForm, Rows};
+use crate::told::RefusedAt;
+use cap_pcap::{AnySource, Format};
+use cap_records::{
+    Place, RecordFault, RecordVisitor, RefusedCapture, Selection, each_record, open_records,
+};
+use cmd_reporting::{CommandFault, Fault, Io, OutputFormat, Status};
+use its_linkframe::{FrameView, Source};
+use std::alloc::{AllocError, Global};
+use std::io::{Read, Write};
+use thiserror::Error;
+
+/// How `show` tells records.
+#[derive(Clone, Copy, Debug, PartialEq, Eq)]
+pub struct Showing<'a> {
+    /// How moments are told.
+    pub time: Time,
+    /// The names of the keys, separated by commas, whose values are printed for each record: as a
+    /// row of CSV after a row of the names, or as an object in JSON. Without them each record has a
+    /// line.
+    pub names: Option<&'a str>,
+}
+
+impl<'a> Showing<'a> {
+    /// Lines with the moments of the file.
+    pub fn lines() -> Showing<'a>
+        ensures { (result.time ≡ times.Raw) × (result.names ≡ None) }
+    {
+        Showing {
+            time: Time::Raw,
+            names: None,
+        }
+    }
+}
+
+/// Why records were not shown.
+#[derive(Debug, Drop, Error)]
+pub(crate) enum ShowFault<'a> {
+    /// Moments were to be told in UTC, and the file has no epoch.
+    #[error("geostation: {0}: no epoch")]
+    NoEpoch(&'a str),
+    /// What ends any command.
+    #[error("{0}")]
+    Stopped(Fault<'a>),
+}
+
+impl CommandFault for ShowFault<'_> {
+    ghost use Rattle.cmd_captures.specs.Faults.{show_fault_status};
+
+    ghost status_of = { show_fault_status };
+
+    /// `BadArguments` where there is no epoch, else `Failed`.
+    fn status(&self) -> Status {
+        match self {
+            ShowFault::NoEpoch(_) => Status::BadArguments,
+            ShowFault::Stopped(fault) => fault.status(),
+        }
+    }
+
+    fn report<E: Write>(&self, format: OutputFormat, err: &mut E) {
+        match self {
+            ShowFault::NoEpoch(_) => {
+                let _ = writeln!(err, "{self}");
+            }
+            ShowFault::Stopped(fault) => fault.report(format, err),
+        }
+    }
+}
+
+impl<'a> From<Fault<'a>> for ShowFault<'a> {
+    ghost use Rattle.cmd_captures.specs.declared.showing.ShowFault.TheVariants.{Stopped};
+
+    ghost from_gives = { λ fault e. e ≡ Stopped fault };
+
+    fn from(fault: Fault<'a>) -> ShowFault<'a> {
+        ShowFault::Stopped(fault)
+    }
+}
+
+/// A line for each record.
+#[derive(Drop)]
+struct AllRecords {
+    output: Output,
+    clock: Clock,
+    /// Objects of frames that were cut, in JSON.
+    cut: Option<Rows>,
+}
+
+impl RecordVisitor for AllRecords {
+    fn visit<'f, W: Write>(
+        &mut self,
+        place: Place,
+        frame: Result<FrameView<'_>, RecordFault>,
+        out: &mut W,
+    ) -> Result<(), Fault<'f>> {
+        let moment = self.clock.next(place);
+        if place.known.is_some()
+            && let Some(rows) = &mut self.cut
+        {
+            return rows.print(place, moment, frame, out);
+        }
+        let output = &mut self.output;
+        match frame {
+            Ok(frame) => output.frame(&FrameLine::of(moment, &frame, place.known), out),
+            Err(fault) => {
+                let told = RefusedAt::new(moment, fault, output.explain);
+                output.refused(&told, out)
+            }
+        }
+    }
+}
+
+/// Prints a line, or a row of values, for each record that is chosen of the file that the reader
+/// gives. `file` is its name.
+///
+/// `BadArguments` where moments are to be told in UTC and the capture, as one of this project's
+/// own, has no epoch. `Refused` where a chosen record or the file was refused, `Failed` where a
+/// read or a write failed or memory ran out.
+pub fn show<R: Read + Drop, W: Write, E: Write>(
+    alloc: Global,
+    file: &str,
+    reader: R,
+    selection: &Selection,
+    showing: Showing<'_>,
+    io: &mut Io<W, E>,
+) -> Status
+    ensures { ¬ (showing.entry.time ≡ times.Utc) → IsCommandStatus result }
+{
+    let ended = show_records(alloc, file, reader, selection, showing, io);
+    io.status_of(ended)
+}
+
+/// The same, with the fault that ends it.
+pub(crate) fn show_records<'a, R: Read + Drop, W: Write, E: Write>(
+    alloc: Global,
+    file: &'a str,
+    reader: R,
+    selection: &Selection,
+    showing: Showing<'_>,
+    io: &mut Io<W, E>,
+) -> Result<Status, ShowFault<'a>>
+    ensures done { IfOk result IsCommandStatus }
+    ensures stopped { ¬ (showing.entry.time ≡ times.Utc) →
+        IfErr result (λ fault. IsCommandStatus (show_fault_status fault)) }
+{
+    let mut source = open_records(alloc, file, selection.format, reader)?;
+    if showing.time == Time::Utc && source.format() == Format::Capture {
+        return Err(ShowFault::NoEpoch(file));
+    }
+    Ok(show_opened(alloc, file, &mut source, selection, showing, io)?)
+}
+
+/// The same of a file that is open.
+fn show_opened<'a, S: Source + Drop, W: Write, E: Write>(
+    alloc: Global,
+    file: &'a str,
+    source: &mut AnySource<S>,
+    selection: &Selection,
+    showing: Showing<'_>,
+    io: &mut Io<W, E>,
+) -> Result<Status, Fault<'a>>
+    ensures { IfOk result IsCommandStatus }
+{
+    let clock = Clock::new(showing.time);
+    let Some(names) = showing.names else {
+        return show_lines(alloc, file, source, selection, clock, io);
+    };
+    if io.format.json {
+        let rows = Rows::new(alloc, names, RowForm::Object, clock)?;
+        return show_objects(alloc, file, source, selection, rows, io);
+    }
+    let rows = Rows::new(alloc, names, RowForm::Csv, clock)?;
+    writeln!(io.out, "{names}")?;
+    show_rows(alloc, file, source, selection, rows, io)
+}
+
+/// A line for each record.
+fn show_lines<'a, S: Source + Drop, W: Write, E>(
+    alloc: Global,
+    file: &'a str,
+    source: &mut AnySource<S>,
+    selection: &Selection,
+    clock: Clock,
+    io: &mut Io<W, E>,
+) -> Result<Status, Fault<'a>>
+    ensures { IfOk result IsCommandStatus }
+{
+    let mut visitor = AllRecords {
+        output: Output::new(alloc, io.format)?,
+        clock,
+        cut: if selection.partial && io.format.json {
+            Some(rows_of_cut(alloc, clock)?)
+        } else {
+            None
+        },
+    };
+    let walked = each_record(alloc, file, selection, source, &mut visitor, &mut io.out)?;
+    visitor.output.end(&walked, &mut io.out)?;
+    Ok(walked.status())
+}
+
+/// The objects of frames that were cut: the keys of a frame that are there, and that it was cut.
+fn rows_of_cut(alloc: Global, clock: Clock) -> Result<Rows, AllocError> {
+    let mut fields = Vec::new(alloc);
+    fields.extend_from_slice(&FIELDS[..FRAME_FIELDS])?;
+    fields.push(Field::Cut)?;
+    Rows::of(alloc, fields, RowForm::Object, clock)
+}
+
+/// An object for each record, and one of what is wrong with the file.
+fn show_objects<'a, S: Source + Drop, W: Write, E: Write>(
+    alloc: Global,
+    file: &'a str,
+    source: &mut AnySource<S>,
+    selection: &Selection,
+    rows: Rows,
+    io: &mut Io<W, E>,
+) -> Result<Status, Fault<'a>>
+    ensures { IfOk result IsCommandStatus }
+{
+    let mut visitor = rows;
+    let mut output = Output::new(alloc, io.format)?;
+    let walked = each_record(alloc, file, selection, source, &mut visitor, &mut io.out)?;
+    output.end(&walked, &mut io.out)?;
+    Ok(walked.status())
+}
+
+/// A row for each record. What is wrong with the file is told on standard error.
+fn show_rows<'a, S: Source + Drop, W: Write, E: Write>(
+    alloc: Global,
+    file: &'a str,
+    source: &mut AnySource<S>,
+    selection: &Selection,
+    rows: Rows,
+    io: &mut Io<W, E>,
+) -> Result<Status, Fault<'a>>
+    ensures { IfOk result IsCommandStatus }
+{
+    let mut visitor = rows;
+    let walked = each_record(alloc, file, selection, source, &mut visitor, &mut io.out)?;
+    if let Some(fault) = walked.fault {
+        let told = RefusedCapture::new(walked.read, fault, io.format.explain);
+        let _ = writeln!(io.err, "geostation: {told}");
+    }
+    Ok(walked.status())
+}

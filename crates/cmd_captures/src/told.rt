@@ -1,0 +1,90 @@
+//! What `show` and `check` tell beside frames: refused records, and a count. Each prints as its line of words, and is an object in JSON of the same values.
+
+use crate::moment::Moment;
+use cap_records::{RecordCode, RecordFault};
+use cmd_text::frames::Explanation;
+use cmd_text::json_lines::Printed;
+use serde::Serialize;
+use std::fmt;
+
+/// What `show` tells of a record that is refused.
+#[derive(Clone, Copy, Serialize)]
+pub(crate) struct RefusedAt {
+    moment: Moment,
+    refused: Printed<RecordCode>,
+    reason: Printed<RecordFault>,
+    #[serde(skip)]
+    explain: bool,
+}
+
+impl RefusedAt {
+    pub(crate) fn new(moment: Moment, fault: RecordFault, explain: bool) -> RefusedAt {
+        RefusedAt {
+            moment,
+            refused: Printed(fault.code()),
+            reason: Printed(fault),
+            explain,
+        }
+    }
+}
+
+impl RefusedAt {
+    /// The record's moment.
+    pub(crate) fn moment(&self) -> Moment {
+        self.moment
+    }
+}
+
+impl fmt::Display for RefusedAt {
+    fn fmt<W: fmt::Write>(&self, f: &mut fmt::Formatter<W>) -> fmt::Result {
+        let (code, reason) = (self.refused.0, self.explain.then_some(self.reason.0));
+        write!(f, "{} refused {code}{}", self.moment, Explanation(reason))
+    }
+}
+
+/// What `check` tells of a record that is refused.
+#[derive(Clone, Copy, Serialize)]
+pub(crate) struct RefusedRecord {
+    record: u64,
+    refused: Printed<RecordCode>,
+    reason: Printed<RecordFault>,
+    #[serde(skip)]
+    explain: bool,
+}
+
+impl RefusedRecord {
+    pub(crate) fn new(record: u64, fault: RecordFault, explain: bool) -> RefusedRecord {
+        RefusedRecord {
+            record,
+            refused: Printed(fault.code()),
+            reason: Printed(fault),
+            explain,
+        }
+    }
+}
+
+impl fmt::Display for RefusedRecord {
+    fn fmt<W: fmt::Write>(&self, f: &mut fmt::Formatter<W>) -> fmt::Result {
+        let (code, reason) = (self.refused.0, self.explain.then_some(self.reason.0));
+        write!(f, "record {}: {code}{}", self.record, Explanation(reason))
+    }
+}
+
+/// What `check` counted.
+#[derive(Clone, Copy, Serialize)]
+pub(crate) struct Count {
+    records: u64,
+    refused: u64,
+}
+
+impl Count {
+    pub(crate) fn new(records: u64, refused: u64) -> Count {
+        Count { records, refused }
+    }
+}
+
+impl fmt::Display for Count {
+    fn fmt<W: fmt::Write>(&self, f: &mut fmt::Formatter<W>) -> fmt::Result {
+        write!(f, "{} records, {} refused", self.records, self.refused)
+    }
+}

@@ -1,0 +1,269 @@
+//! The file that `convert` writes.
+
+ghost use Rattle.std.specs.Prelude.{◌≡◌, ◌≤◌, ℕ, List, OnOk, IfOk, IfErr, true, drop, length};
+ghost use Rattle.cap_linklayers.specs.LinkLayers.{IsLinkFault};
+ghost use Rattle.cmd_captures.specs.Conversions.{IsBegun, IsFileFault, PutsRecord, WritesText};
+ghost use Rattle.cmd_captures.specs.Conversions.{IsFrameText, MeetsInterface, HasInterface};
+ghost use Rattle.cmd_captures.specs.Conversions.{unit_with, layer_after, is_finer_unit};
+ghost use Rattle.cmd_captures.specs.Conversions.{head_to, HasSection};
+ghost use Rattle.cap_pcap.specs.InterfaceHeads.{name_in};
+ghost use Rattle.cap_pcap.specs.declared.format.Format.TheVariants as formats;
+
+use crate::losses::Losses;
+use cap_pcap::{
+    AnySink, Format, InterfaceHead, InterfaceInfo, InterfaceName, LinkFault, LinkLayer, PutFault,
+    RecordHeader, RecordSink, SinkFault, Unit, frame_start, has_place, layer_for,
+};
+use its_linkframe::Counted;
+use std::io::Write;
+use std::marker::Model;
+
+/// A file whose headers are written with its first interface, with its first record, which may say
+/// its link layer, or at its end.
+#[derive(Drop)]
+pub(crate) struct Written<W: Write + Drop> {
+    sink: AnySink<Counted<W>>,
+    frames_only: bool,
+    /// The link layer of all records, once it is known. pcapng without frames has none.
+    layer: Option<LinkLayer>,
+    /// What classic pcap counts below the second.
+    unit: Unit,
+    /// Whether the headers are written.
+    begun: bool,
+    /// What the file has no place for.
+    losses: Losses,
+}
+
+impl<W: Write + Drop> Model for Written<W> {
+    ghost use Rattle.cap_pcap.specs.Sinks.{file_of_sink};
+    ghost use Rattle.cmd_captures.specs.Conversions.{Target};
+
+    ghost Value = { Target };
+
+    ghost view = { λ w. record {
+      file = file_of_sink w.sink;
+      frames_only = w.frames_only;
+      layer = w.layer;
+      unit = w.unit;
+      begun = w.begun;
+    } };
+}
+
+impl<W: Write + Drop> Written<W> {
+    /// A file of this format of which nothing is written. A capture has frames alone.
+    pub(crate) fn new(writer: W, format: Format, frames_only: bool) -> Written<W> {
+        let frames_only = frames_only || format == Format::Capture;
+        Written {
+            sink: AnySink::new(Counted::new(writer), format),
+            frames_only,
+            layer: frames_only.then_some(LinkLayer::Ethernet),
+            unit: Unit::Micro,
+            begun: false,
+            losses: Losses::begin(),
+        }
+    }
+
+    /// Takes an interface that begins in the file that is read. pcapng gets an interface block. Else
+    /// the link layer counts, if the file that is read says one for all its records, and the unit of
+    /// the ticks until the headers are written.
+    pub(crate) fn meet(
+        &mut self,
+        layer: Option<LinkLayer>,
+        newest: Option<InterfaceInfo>,
+    ) -> Result<(), PutFault>
+        ensures met { OnOk result ((added : List ℕ) × MeetsInterface (record {
+          layer = layer;
+          newest = newest;
+        }) self.old added self.new) }
+        ensures fault { IfErr result IsFileFault }
+    {
+        let format = self.format();
+        self.losses.add_interface(format);
+        if format == Format::Pcapng {
+            return match newest {
+                Some(info) => self.add_interface(&info),
+                None => Ok(()),
+            };
+        }
+        self.layer = self.layer.or(layer);
+        if !self.begun {
+            self.unit = unit_after(self.unit, newest);
+        }
+        Ok(())
+    }
+
+    /// Writes the block of an interface, behind the section header where it is the first.
+    fn add_interface(&mut self, info: &InterfaceInfo) -> Result<(), PutFault>
+        requires { self.old.file.format ≡ formats.Pcapng }
+        ensures added { OnOk result ((added : List ℕ) × HasInterface info.now self.old added
+            self.new) }
+        ensures fault { IfErr result IsFileFault }
+    {
+        self.begin_section()?;
+        let head = head_for(info.head, self.frames_only);
+        self.sink.add_interface_on(head, name_of(&info.name))?;
+        Ok(())
+    }
+
+    /// Writes the section header, if it isn't.
+    fn begin_section(&mut self) -> Result<(), PutFault>
+        requires { self.old.file.format ≡ formats.Pcapng }
+        ensures begun { OnOk result (HasSection self.old self.new) }
+        ensures fault { IfErr result IsFileFault }
+    {
+        if self.begun {
+            return Ok(());
+        }
+        self.begun = true;
+        self.sink.start_on(LinkLayer::Ethernet, self.unit)?;
+        Ok(())
+    }
+
+    /// Writes a record, whose octets have the header of their link layer where they are linked, or
+    /// its frame, which is put together among them.
+    ///
+    /// Refused first by its link layer, then as one that was cut, where a frame is written by the
+    /// rules of its link layer, then by its length and last by its moment.
+    pub(crate) fn put(
+        &mut self,
+        head: &RecordHeader,
+        octets: &mut Vec<u8>,
+        linked: bool,
+    ) -> Result<(), SinkFault>
+        ensures { PutsRecord linked head.now octets.old.items self.old self.new result }
+    {
+        if !self.frames_only {
+            let layer = layer_for(head, self.layer)?;
+            return self.write(layer, head, octets.as_slice());
+        }
+        let layer = layer_for(head, None)?;
+        let start = text_start(layer, octets, linked)?;
+        self.write(LinkLayer::Ethernet, head, &octets.as_slice()[start..])
+    }
+
+    /// Writes a record of these octets, behind the headers where it is the first.
+    fn write(
+        &mut self,
+        layer: LinkLayer,
+        head: &RecordHeader,
+        octets: &[u8],
+    ) -> Result<(), SinkFault>
+        ensures { WritesText layer head.now octets.now self.old self.new result }
+    {
+        let format = self.format();
+        has_place(format, head.moment, octets)?;
+        self.layer = layer_with(format, layer, self.layer);
+        self.begin(layer)?;
+        let stamp = head.stamp(self.unit);
+        self.sink.put_frame(head.interface, stamp, octets)?;
+        self.losses.add_time(format, self.unit, &head.fine);
+        Ok(())
+    }
+
+    /// Writes the headers, if they aren't.
+    fn begin(&mut self, layer: LinkLayer) -> Result<(), PutFault>
+        ensures begun { OnOk result (IsBegun layer self.old self.new) }
+        ensures fault { IfErr result IsFileFault }
+    {
+        if self.begun {
+            return Ok(());
+        }
+        self.begun = true;
+        self.sink.start_on(layer, self.unit)?;
+        self.sink.add_interface("")?;
+        Ok(())
+    }
+
+    /// The format of the file.
+    fn format(&self) -> Format
+        ensures { result ≡ self.now.file.format }
+    {
+        match self.sink {
+            AnySink::Capture(_) => Format::Capture,
+            AnySink::Pcap(_) => Format::Pcap,
+            AnySink::Pcapng(_) => Format::Pcapng,
+        }
+    }
+
+    /// Writes the headers, if they aren't, and returns whether they are.
+    pub(crate) fn end(&mut self) -> bool {
+        let layer = self.layer.unwrap_or(LinkLayer::Ethernet);
+        self.begin(layer).is_ok()
+    }
+
+    /// What the file had no place for.
+    pub(crate) fn losses(&self) -> Losses {
+        self.losses
+    }
+
+    /// The writer, with what it has.
+    pub(crate) fn into_writer(self) -> W {
+        self.sink.into_inner().into_inner()
+    }
+}
+
+/// The unit of classic pcap after an interface: nanoseconds if its ticks aren't whole microseconds.
+fn unit_after(unit: Unit, newest: Option<InterfaceInfo>) -> Unit
+    ensures { result ≡ unit_with unit newest }
+{
+    match newest {
+        Some(info) if is_fine(info.head.resolution) => Unit::Nano,
+        _ => unit,
+    }
+}
+
+/// Whether ticks of this `if_tsresol` aren't whole microseconds.
+fn is_fine(resolution: u8) -> bool
+    ensures { result ≡ is_finer_unit resolution }
+{
+    (resolution > 6 && resolution < 128) || resolution > 134
+}
+
+/// The link layer of the file after a record of this one.
+fn layer_with(format: Format, layer: LinkLayer, old: Option<LinkLayer>) -> Option<LinkLayer>
+    ensures { result ≡ layer_after format layer old }
+{
+    match format {
+        Format::Pcapng => old,
+        Format::Capture | Format::Pcap => Some(layer),
+    }
+}
+
+/// The head of an interface as it is written: frames are of Ethernet.
+fn head_for(head: InterfaceHead, frames_only: bool) -> InterfaceHead
+    ensures { result ≡ head_to frames_only head }
+{
+    if !frames_only {
+        return head;
+    }
+    InterfaceHead {
+        link: 1,
+        resolution: head.resolution,
+        offset: head.offset,
+    }
+}
+
+/// The octets of a name, of which there may be none.
+fn name_of(name: &Option<InterfaceName>) -> &[u8]
+    ensures { result.now ≡ name_in name.now }
+{
+    match name {
+        Some(name) => name.as_bytes(),
+        None => &[],
+    }
+}
+
+/// Where the frame of a record of this link layer begins in its octets, after it is put together
+/// there.
+fn text_start(layer: LinkLayer, octets: &mut Vec<u8>, linked: bool) -> Result<usize, LinkFault>
+    ensures frame { IfOk result
+        (λ at. IsFrameText linked layer octets.old.items (drop at octets.new.items)) }
+    ensures inside { IfOk result (λ at. at ≤ length octets.new.items) }
+    ensures fault { IfErr result (λ f. (linked ≡ true) × IsLinkFault layer octets.old.items f) }
+{
+    if linked {
+        frame_start(layer, octets)
+    } else {
+        Ok(0)
+    }
+}

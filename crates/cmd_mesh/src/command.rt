@@ -1,0 +1,208 @@
+//! The command `mesh`.
+
+ghost use Rattle.std.specs.Prelude.{◌≡◌, IfOk, IfSome, None, map};
+ghost use Rattle.cmd_reporting.specs.FileNames.{format_of_file};
+ghost use Rattle.cmd_reporting.specs.Statuses.{IsCommandStatus};
+ghost use Rattle.its_world.specs.Events.{config_of, event_of};
+ghost use Rattle.cmd_mesh.specs.Calls.{IsMeshRun};
+ghost use Rattle.cmd_mesh.specs.Statuses.{IsMeshStatus};
+
+use crate::fault::MeshFault;
+use crate::mesh::Mesh;
+use crate::sockets::Sockets;
+use crate::udp::UdpSockets;
+use cmd_reporting::{FrameFile, Io, Status, Target, WriterFault, create, keep_apart, open};
+use sim_runs::{FrameTarget, frame_target, read_scenario_without_air, report_unknown};
+use sim_scenario::Scenario;
+use std::alloc::Global;
+use std::io::{Read, Write};
+use std::net::Net;
+use std::rt::Files;
+
+/// The most stations of a scenario.
+const MOST_STATIONS: usize = 64;
+
+/// How a mesh is run.
+#[derive(Clone, Copy, Debug, Default, PartialEq, Eq)]
+pub struct MeshOptions {
+    /// Whether a call that is refused makes the status `Refused`, where it would be `Done`. A key
+    /// of the scenario that is unknown is refused then, too.
+    pub strict: bool,
+}
+
+/// Runs the scenario in the file, of at most 64 stations, each with a UDP socket on 127.0.0.1 at a
+/// port that the system picks. Prints a line for each event but `deliver`, and for each datagram
+/// that comes: its moment, its station and what is told of it. In JSON the stations have a line
+/// before. `input` is standard input, which is read where the file is `-`. With `frames` each frame
+/// that a station gives is also written to that file, at the moment of its line; it is created once
+/// the scenario is read.
+///
+/// `BadArguments`, before anything is opened, where nothing says that file's format or its name is
+/// `-`, and before it is created where it is the scenario's own file. `Refused` for a text that is
+/// no scenario, where a frame has no place in its file and, with `strict`, where a call was refused
+/// and nothing failed. `Failed` where a file could not be read, created or written, a socket not be
+/// made or standard output not written, or memory ran out: then it ends there. `Failed` too where a
+/// send or a receive failed: that is told, and it goes on.
+pub fn mesh_file<R: Files + Net + AllocGlobal, I: Read + Drop, W: Write, E: Write>(
+    rt: &R,
+    file: &str,
+    input: I,
+    frames: Option<Target<'_>>,
+    options: MeshOptions,
+    io: &mut Io<W, E>,
+) -> Status
+where
+    R::File: Read + Write + Drop,
+    ensures alone { frames.entry ≡ None → IsCommandStatus result }
+    ensures format { IfSome frames.entry (λ target.
+        format_of_file target.to target.name.now ≡ None → result ≡ Status.BadArguments) }
+{
+    match frame_target(frames) {
+        Ok(Some(target)) => {
+            let ended = mesh_to(rt, file, input, target, options, io);
+            io.status_of(ended)
+        }
+        Ok(None) => {
+            let ended = mesh_alone(rt, file, input, options, io);
+            io.status_of(ended)
+        }
+        Err(fault) => io.status_of(Err(fault)),
+    }
+}
+
+/// Runs the scenario in the file, and writes no file.
+fn mesh_alone<'a, R: Files + Net + AllocGlobal, I: Read + Drop, W: Write, E: Write>(
+    rt: &R,
+    file: &'a str,
+    input: I,
+    options: MeshOptions,
+    io: &mut Io<W, E>,
+) -> Result<Status, MeshFault<'a>>
+where
+    R::File: Read + Write + Drop,
+    ensures { IfOk result IsCommandStatus }
+{
+    let reader = open(rt, file, input)?;
+    let mut sockets = UdpSockets::new(rt, rt.alloc());
+    mesh_read(rt.alloc(), file, reader, options, &mut sockets, io)
+}
+
+/// Reads the scenario, and only then creates the file of frames, before a socket is made.
+fn mesh_to<'a, R: Files + Net + AllocGlobal, I: Read + Drop, W: Write, E: Write>(
+    rt: &R,
+    file: &'a str,
+    input: I,
+    target: FrameTarget<'a>,
+    options: MeshOptions,
+    io: &mut Io<W, E>,
+) -> Result<Status, WriterFault<'a, MeshFault<'a>>>
+where
+    R::File: Read + Write + Drop,
+    ensures { IfOk result IsCommandStatus }
+{
+    let reader = open(rt, file, input)?;
+    let scenario = read(rt.alloc(), file, reader, options)?;
+    report_unknown(&scenario, &mut io.err);
+    keep_apart(rt, target.name, file)?;
+    let created = create(rt, target.name)?;
+    let mut sockets = UdpSockets::new(rt, rt.alloc());
+    let stations = scenario.stations.len();
+    let frames = FrameFile::start(rt.alloc(), created, target.name, target.format, stations)?;
+    Ok(mesh_with_frames(rt.alloc(), scenario, frames, options, &mut sockets, io)?)
+}
+
+/// The command over a reader, and over the sockets of the stations, of which there is none yet.
+/// `file` is the name of what is read. It ends as `mesh_file` without frames does.
+pub fn mesh_over<R: Read + Drop, S: Sockets, W: Write, E: Write>(
+    alloc: Global,
+    file: &str,
+    reader: R,
+    options: MeshOptions,
+    sockets: &mut S,
+    io: &mut Io<W, E>,
+) -> Status
+    ensures { IsCommandStatus result }
+{
+    let ended = mesh_read(alloc, file, reader, options, sockets, io);
+    io.status_of(ended)
+}
+
+/// The same, with the fault that ends it.
+fn mesh_read<'a, R: Read + Drop, S: Sockets, W: Write, E: Write>(
+    alloc: Global,
+    file: &'a str,
+    reader: R,
+    options: MeshOptions,
+    sockets: &mut S,
+    io: &mut Io<W, E>,
+) -> Result<Status, MeshFault<'a>>
+    ensures { IfOk result IsCommandStatus }
+{
+    let scenario = read(alloc, file, reader, options)?;
+    report_unknown(&scenario, &mut io.err);
+    run_mesh(alloc, scenario, options, sockets, io)
+}
+
+/// Reads the scenario, whose name is `file`.
+fn read<'a, R: Read + Drop>(
+    alloc: Global,
+    file: &'a str,
+    reader: R,
+    options: MeshOptions,
+) -> Result<Scenario, MeshFault<'a>> {
+    Ok(read_scenario_without_air(alloc, file, reader, MOST_STATIONS, options.strict)?)
+}
+
+/// Runs a scenario, and writes the frames of its stations to the file.
+pub(crate) fn mesh_with_frames<'t, F: Write + Drop, S: Sockets, W: Write, E: Write>(
+    alloc: Global,
+    scenario: Scenario,
+    file: FrameFile<'t, F>,
+    options: MeshOptions,
+    sockets: &mut S,
+    io: &mut Io<W, E>,
+) -> Result<Status, MeshFault<'t>>
+    ensures { IfOk result IsCommandStatus }
+{
+    let Scenario {
+        stations,
+        events,
+        ..
+    } = scenario;
+    let mut mesh = match Mesh::new(alloc, stations.as_slice(), sockets, io) {
+        Ok(mesh) => mesh,
+        Err(fault) => {
+            // What the file begins with is written out, and the fault is told.
+            let _ = file.end(Ok(Status::Failed));
+            return Err(fault);
+        }
+    };
+    mesh.file = Some(file);
+    let ran = mesh.run(events, options.strict);
+    let ended = match mesh.file.take() {
+        Some(file) => file.end(ran),
+        None => ran,
+    };
+    Ok(ended?)
+}
+
+fn run_mesh<'f, S: Sockets, W: Write, E: Write>(
+    alloc: Global,
+    scenario: Scenario,
+    options: MeshOptions,
+    sockets: &mut S,
+    io: &mut Io<W, E>,
+) -> Result<Status, MeshFault<'f>>
+    ensures status { IfOk result (IsMeshStatus options.strict) }
+    ensures run { IfOk result (IsMeshRun (map config_of scenario.stations.items)
+        (map event_of scenario.events.items) options.strict) }
+{
+    let Scenario {
+        stations,
+        events,
+        ..
+    } = scenario;
+    let stations = stations.as_slice();
+    let mut mesh: Mesh<'_, '_, S, W, E, Vec<u8>> = Mesh::new(alloc, stations, sockets, io)?;
+    Ok(mesh.run(events, options.strict)?)
+}

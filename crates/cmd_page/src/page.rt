@@ -1,0 +1,97 @@
+//! The page, its styles and scripts put into it.
+
+use crate::fault::PageFault;
+use crate::folder::path_in;
+use crate::part::{Part, part_of};
+use crate::way::{CopyError, Way, copy, fault_of};
+use cmd_reporting::{Fault, Opened, open};
+use cmd_text::lines::Line;
+use std::io;
+use std::io::{BufReader, Read, Write};
+use std::rt::Files;
+
+/// The most octets of a line of the page.
+const LONGEST_LINE: usize = 4096;
+
+/// The page that is being read.
+#[derive(Drop)]
+pub(crate) struct Page<F: Drop> {
+    reader: PageReader<F>,
+    line: Line,
+}
+
+/// The reader of a file of the page's folder.
+type PageReader<F> = BufReader<Opened<F, io::Empty>>;
+
+/// Opens the page. The fault is that it can't be read, or that memory ran out.
+pub(crate) fn open_page<'a, R: Files + AllocGlobal>(
+    rt: &R,
+    way: Way<'a>,
+) -> Result<Page<R::File>, Fault<'a>>
+where
+    R::File: Read + Drop,
+{
+    let line = Line::new(rt.alloc(), LONGEST_LINE)?;
+    let reader = open(rt, way.index, io::empty())?;
+    Ok(Page { reader, line })
+}
+
+/// Writes the lines of the page up to the one in whose place the run stands, or to the last, and
+/// its styles and scripts in place of the lines that name them. Gives whether there is such a line.
+pub(crate) fn write_up_to_run<'a, R: Files + AllocGlobal, W: Write>(
+    rt: &R,
+    way: Way<'a>,
+    page: &mut Page<R::File>,
+    out: &mut W,
+) -> Result<bool, PageFault<'a>>
+where
+    R::File: Read + Drop,
+{
+    // The range is there so that the walk ends on any reader.
+    for _ in 0..u64::MAX {
+        match page.line.read(&mut page.reader) {
+            Ok(true) => {}
+            Ok(false) => return Ok(false),
+            Err(error) => return Err(PageFault::from(Fault::of_read(&error, way.index))),
+        }
+        match part_of(page.line.start()) {
+            Part::Run => return Ok(true),
+            Part::Text => way.told(write_line(page.line.start(), out))?,
+            Part::Style(name) => write_element(rt, way, "style", name, out)?,
+            Part::Script(name) => write_element(rt, way, "script", name, out)?,
+        }
+    }
+    Ok(false)
+}
+
+/// Writes a line, with a line feed.
+fn write_line<W: Write>(line: &[u8], out: &mut W) -> io::Result<()> {
+    out.write_all(line)?;
+    out.write_all(b"\n")
+}
+
+/// Writes what stands in a file of the page's folder, as an element of this name.
+fn write_element<'a, R: Files + AllocGlobal, W: Write>(
+    rt: &R,
+    way: Way<'a>,
+    element: &str,
+    name: &str,
+    out: &mut W,
+) -> Result<(), PageFault<'a>>
+where
+    R::File: Read + Drop,
+{
+    let path = path_in(rt, way.folder, name)?;
+    let mut reader = match open(rt, path.as_str(), io::empty()) {
+        Ok(reader) => reader,
+        Err(Fault::OutOfMemory(error)) => return Err(PageFault::from(error)),
+        Err(Fault::NotRead(_, cause)) => return Err(PageFault::PartNotRead(path, Some(cause))),
+        Err(_) => return Err(PageFault::PartNotRead(path, None)),
+    };
+    way.told(writeln!(out, "<{element}>"))?;
+    match copy(&mut reader, out) {
+        Ok(()) => Ok(way.told(writeln!(out, "</{element}>"))?),
+        Err(CopyError::Read(error)) => Err(PageFault::of_part(&error, path)),
+        Err(CopyError::Write(error)) => Err(PageFault::from(fault_of(&error, way.target))),
+    }
+}

@@ -1,0 +1,262 @@
+//! The command `view`.
+
+ghost use Rattle.std.specs.Prelude.{◌≡◌, IfOk, true};
+ghost use Rattle.cmd_reporting.specs.FileNames.{is_standard as names_standard};
+ghost use Rattle.cmd_reporting.specs.Statuses.{IsCommandStatus};
+
+use crate::fault::PageFault;
+use crate::folder::find_page;
+use crate::limit::TooLarge;
+use crate::net::{Net, open_net, write_net};
+use crate::page::{Page, open_page, write_up_to_run};
+use crate::run::{Shown, shown_of, write_run, write_too_large};
+use crate::way::Way;
+use cmd_reporting::{
+    Fault, Io, NamedFile, Opened, Status, WriterFault, create, is_standard, open, refuse_same,
+};
+use sim_runs::{ResultFiles, RunFault, RunFiles, RunOptions, RunReader, read_inputs};
+use std::io::{BufRead, BufReader, Read, Write};
+use std::rt::Files;
+
+/// What is shown, and where it is written.
+#[derive(Clone, Copy, Debug, PartialEq, Eq)]
+pub struct Viewing<'a> {
+    /// The name of the run, or of the scenario that is run for it. `-` is standard input.
+    pub file: &'a str,
+    /// The file that is written. `-` is standard output.
+    pub target: &'a str,
+    /// The folder of the page, if it isn't the one beside the program.
+    pub viewer: Option<&'a str>,
+    /// The name of the moves with which the scenario is run, if there are any. At most one of this
+    /// file and `file` is standard input.
+    pub moves: Option<&'a str>,
+    /// The name of the street net beneath the run, if there is one: `net.xml` of SUMO, or GeoJSON.
+    pub net: Option<&'a str>,
+    /// How a scenario is run: its lines are those in JSON, with the notes of an air.
+    pub options: RunOptions,
+}
+
+/// Writes the page that shows a run, with its styles, its scripts and the run in it, as one file
+/// that a browser opens from wherever it lies. A file whose name ends in `.toml`, or that doesn't
+/// begin with `{`, is a scenario, which is run, and so is any file with `moves`; any other is the
+/// lines that `sim --json` printed, which are taken as they are. No more of a run is kept than a
+/// buffer of its octets.
+///
+/// `BadArguments` if the file that would be written is one that is read. `Refused` for a text that
+/// is no scenario and for a bad first line of moves, before anything is written, for a later bad
+/// line, and if something isn't met that the scenario expects. `Refused` too for a run of more than
+/// 400 MB and a net of more than 100 MB: the page is written without them then, and tells how to
+/// open them; what went to standard output isn't taken back. `Failed` if a file could not be read,
+/// created or written or memory ran out, and if no page is found.
+pub fn view_file<R: Files + AllocGlobal, I: Read + Drop, W: Write, E: Write>(
+    rt: &R,
+    viewing: &Viewing<'_>,
+    input: I,
+    io: &mut Io<W, E>,
+) -> Status
+where
+    R::File: Read + Write + Drop,
+    ensures { names_standard viewing.now.target.now ≡ true → IsCommandStatus result }
+{
+    let place = match find_page(rt, viewing.viewer) {
+        Ok(place) => place,
+        Err(fault) => return io.status_of(Err(fault)),
+    };
+    let way = Way {
+        folder: place.folder.as_str(),
+        index: place.index.as_str(),
+        file: viewing.file,
+        moves: viewing.moves,
+        net: viewing.net,
+        target: viewing.target,
+        format: io.format,
+    };
+    let options = &viewing.options;
+    if is_standard(viewing.target) {
+        let ended = view_to_output(rt, way, options, input, &mut io.out, &mut io.err);
+        return io.status_of(ended);
+    }
+    let ended = view_to_file(rt, way, options, input, &mut io.err);
+    io.status_of(ended)
+}
+
+/// Writes the page to standard output.
+fn view_to_output<'a, R: Files + AllocGlobal, I: Read + Drop, W: Write, E: Write>(
+    rt: &R,
+    way: Way<'a>,
+    options: &RunOptions,
+    input: I,
+    out: &mut W,
+    err: &mut E,
+) -> Result<Status, PageFault<'a>>
+where
+    R::File: Read + Write + Drop,
+    ensures { IfOk result IsCommandStatus }
+{
+    let viewed = open_viewed(rt, way, options, input)?;
+    write_page(rt, way, viewed, options, out, err)
+}
+
+/// Opens what is read, and only then creates the file; tells how that is opened.
+fn view_to_file<'a, R: Files + AllocGlobal, I: Read + Drop, E: Write>(
+    rt: &R,
+    way: Way<'a>,
+    options: &RunOptions,
+    input: I,
+    err: &mut E,
+) -> Result<Status, WriterFault<'a, PageFault<'a>>>
+where
+    R::File: Read + Write + Drop,
+    ensures { IfOk result IsCommandStatus }
+{
+    let viewed = open_viewed(rt, way, options, input)?;
+    let status = write_file(rt, way, viewed, options, err)?;
+    if !options.quiet {
+        let _ = writeln!(err, "geostation: {}: open it in a browser", way.target);
+    }
+    Ok(status)
+}
+
+/// The page, the run and the street net, all open.
+#[derive(Drop)]
+struct Viewed<'a, F: Read + Drop, L: BufRead + Drop, M: BufRead + Drop> {
+    page: Page<F>,
+    shown: Shown<'a, L, M>,
+    net: Option<Net<'a, F>>,
+}
+
+/// Opens the page, the street net and the run. `input` is standard input.
+fn open_viewed<'a, R: Files + AllocGlobal, I: Read + Drop>(
+    rt: &R,
+    way: Way<'a>,
+    options: &RunOptions,
+    input: I,
+) -> Result<
+    Viewed<'a, R::File, BufReader<Opened<R::File, I>>, RunReader<R::File, I>>,
+    PageFault<'a>,
+>
+where
+    R::File: Read + Drop,
+{
+    let page = open_page(rt, way)?;
+    let net = open_net(rt, way)?;
+    let shown = open_shown(rt, way, options, input)?;
+    Ok(Viewed { page, shown, net })
+}
+
+/// Opens the run: its lines or its scenario, which is read, and the first line of its moves.
+fn open_shown<'a, R: Files + AllocGlobal, I: Read + Drop>(
+    rt: &R,
+    way: Way<'a>,
+    options: &RunOptions,
+    input: I,
+) -> Result<Shown<'a, BufReader<Opened<R::File, I>>, RunReader<R::File, I>>, RunFault<'a>>
+where
+    R::File: Read + Drop,
+{
+    if way.moves.is_none() {
+        let reader = open(rt, way.file, input)?;
+        return shown_of(rt.alloc(), way.file, reader);
+    }
+    let files = RunFiles {
+        scenario: way.file,
+        moves: way.moves,
+        frames: None,
+        results: ResultFiles::default(),
+    };
+    Ok(Shown::Moved(read_inputs(rt, &files, input, options)?))
+}
+
+/// Creates the file, and writes the page to it. If the run or the net is too large for it, the page
+/// is written once more without them.
+fn write_file<'a, R: Files + AllocGlobal, L: BufRead + Drop, M: BufRead + Drop, E: Write>(
+    rt: &R,
+    way: Way<'a>,
+    viewed: Viewed<'a, R::File, L, M>,
+    options: &RunOptions,
+    err: &mut E,
+) -> Result<Status, WriterFault<'a, PageFault<'a>>>
+where
+    R::File: Read + Write + Drop,
+    ensures { IfOk result IsCommandStatus }
+{
+    let read = [
+        NamedFile::of(rt, way.file),
+        NamedFile::of(rt, way.moves.unwrap_or(way.file)),
+        NamedFile::of(rt, way.net.unwrap_or(way.file)),
+    ];
+    refuse_same(&[NamedFile::of(rt, way.target)], &read)?;
+    let mut created = create(rt, way.target)?;
+    let status = match write_page(rt, way, viewed, options, &mut created, err) {
+        Err(PageFault::TooLarge(fault)) => {
+            drop(created);
+            write_without_run(rt, way, fault)?;
+            return Err(WriterFault::from(PageFault::TooLarge(fault)));
+        }
+        written => written?,
+    };
+    way.told(created.flush())?;
+    Ok(status)
+}
+
+/// Writes the page with the run and the net in it. `CannotRead` if it has no place for a run.
+fn write_page<'a, R: Files + AllocGlobal, L: BufRead + Drop, M: BufRead + Drop, W: Write, E: Write>(
+    rt: &R,
+    way: Way<'a>,
+    viewed: Viewed<'a, R::File, L, M>,
+    options: &RunOptions,
+    out: &mut W,
+    err: &mut E,
+) -> Result<Status, PageFault<'a>>
+where
+    R::File: Read + Write + Drop,
+    ensures { IfOk result IsCommandStatus }
+{
+    let Viewed {
+        mut page,
+        shown,
+        net,
+    } = viewed;
+    write_start(rt, way, &mut page, out)?;
+    let status = write_run(rt.alloc(), way, shown, options, out, err)?;
+    if let Some(net) = net {
+        write_net(way, net, out)?;
+    }
+    write_up_to_run(rt, way, &mut page, out)?;
+    Ok(status)
+}
+
+/// Writes the page up to the place of its run. `CannotRead` if it has none.
+fn write_start<'a, R: Files + AllocGlobal, W: Write>(
+    rt: &R,
+    way: Way<'a>,
+    page: &mut Page<R::File>,
+    out: &mut W,
+) -> Result<(), PageFault<'a>>
+where
+    R::File: Read + Drop,
+{
+    if write_up_to_run(rt, way, page, out)? {
+        Ok(())
+    } else {
+        Err(PageFault::from(Fault::CannotRead(way.index)))
+    }
+}
+
+/// Creates the file once more, and writes the page without a run to it, which tells what is too
+/// large.
+fn write_without_run<'a, R: Files + AllocGlobal>(
+    rt: &R,
+    way: Way<'a>,
+    fault: TooLarge<'a>,
+) -> Result<(), PageFault<'a>>
+where
+    R::File: Read + Write + Drop,
+{
+    let mut page = open_page(rt, way)?;
+    let mut created = create(rt, way.target)?;
+    write_start(rt, way, &mut page, &mut created)?;
+    write_too_large(way, fault, &mut created)?;
+    write_up_to_run(rt, way, &mut page, &mut created)?;
+    Ok(way.told(created.flush())?)
+}

@@ -1,0 +1,160 @@
+-- What is answered to the lines of the input, and the station afterwards.
+use Rattle.std.specs.Prelude.{◌≡◌, ◌++◌, ◌∷◌, ◌+◌, [], ℕ, List, Option, Some, None, Ok}
+use Rattle.cmd_pipe.specs.declared.ended.Ended.{Ended}
+use Rattle.cmd_pipe.specs.declared.ended.Ended.TheVariants as ends
+use Rattle.its_model.specs.Calls as model
+use Rattle.its_model.specs.Station.{new_station, station_step}
+use Rattle.its_station.specs.Counting.{counted_call, counted_reply, kind_sent, nothing}
+use Rattle.its_station.specs.Runs.{IsCall, TellsReply}
+use Rattle.its_station.specs.declared.counts.Counts.{Counts}
+use Rattle.its_station.specs.declared.run.Call.{Call}
+use Rattle.its_station.specs.declared.run.Call.TheVariants as calls
+use Rattle.its_station.specs.declared.run.Reply.{Reply}
+use Rattle.its_station.specs.State.{StationState, RepresentsStation}
+use Rattle.cmd_pipe.specs.Knowing.{Counted, TellsQuery}
+use Rattle.cmd_pipe.specs.Lines.{LineText, AreLines}
+use Rattle.cmd_pipe.specs.Requests.{Asks}
+use Rattle.cmd_pipe.specs.declared.request.Request.{Request}
+use Rattle.cmd_pipe.specs.declared.request.Request.TheVariants as asked_by
+use Rattle.cmd_pipe.specs.declared.request.Id.{Id}
+use Rattle.cmd_pipe.specs.declared.request.Query.{Query}
+use Rattle.cmd_pipe.specs.declared.response.Done.{Done}
+use Rattle.cmd_pipe.specs.declared.response.Done.TheVariants as does
+use Rattle.cmd_pipe.specs.declared.response.Known.{Known}
+use Rattle.cmd_pipe.specs.declared.response.Response.{Response}
+use Rattle.cmd_pipe.specs.declared.response.Response.TheVariants as responses
+use Rattle.its_world.specs.declared.config.Config.{Config}
+
+-- what a call does that is answered by a word alone
+abbrev pub done_by : Call → Done
+done_by (calls.MoveTo place pai speed heading) = does.Moved
+done_by (calls.Open port) = does.Opened
+done_by (calls.Close port) = does.Closed
+done_by (calls.Restart number) = does.Restarted
+done_by call = does.Other
+
+-- the counts after the reply to a call
+abbrev pub counts_after : Call → Reply → Counts → Counts
+counts_after call reply c = counted_reply (kind_sent call) (Ok reply) (counted_call call c)
+
+-- the answer is this reply to this call, at this moment
+abbrev pub IsReplyOf : Option Id → ℕ → Call → Reply → Response → Type 0
+IsReplyOf id moment call reply (responses.Reply name at done source told) =
+    (name ≡ id) × (at ≡ moment) × (done ≡ done_by call) × (told ≡ reply)
+IsReplyOf id moment call reply response = ⊥
+
+-- The call is made at the moment: what is answered is the answer of that very step of the model,
+-- the station is the one after it, and it is counted.
+pub record TellsCall (s : Counted) (id : Option Id) (moment : ℕ) (call : Call)
+    (told : List Response) (next : Counted) : Type 0 where
+  pub made : model.Call
+  pub is : IsCall call made
+  pub reply : Reply
+  pub tells : TellsReply reply (station_step s.station moment made).answer
+  pub response : Response
+  pub response_is : IsReplyOf id moment call reply response
+  pub told_is : told ≡ response ∷ []
+  pub station_is : next.station ≡ (station_step s.station moment made).station
+  pub counts_are : next.counts ≡ counts_after call reply s.counts
+
+-- What is asked is answered as the station knows it, and nothing changes.
+pub record TellsKnown (s : Counted) (id : Option Id) (at : Option ℕ) (query : Query)
+    (told : List Response) (next : Counted) : Type 0 where
+  pub known : Known
+  pub tells : TellsQuery s at query known
+  pub told_is : told ≡ responses.Known id at known ∷ []
+  pub next_is : next ≡ s
+
+-- what is answered to line n that asks for this, and the station afterwards, which only a call
+-- changes
+abbrev pub TellsAsked : Counted → ℕ → Option Id → Request → List Response → Counted → Type 0
+TellsAsked s n id asked_by.Nothing told next = (told ≡ []) × (next ≡ s)
+TellsAsked s n id (asked_by.Call moment call) told next = TellsCall s id moment call told next
+TellsAsked s n id (asked_by.Query at query) told next = TellsKnown s id at query told next
+TellsAsked s n id (asked_by.Bad fault) told next =
+    (told ≡ responses.Fault id n fault ∷ []) × (next ≡ s)
+
+-- what is answered to line n; where `now` is given it is its moment
+pub record TellsLine (now : Option ℕ) (s : Counted) (n : ℕ) (line : LineText)
+    (told : List Response) (next : Counted) : Type 0 where
+  pub id : Option Id
+  pub asked : Request
+  pub asks : Asks now line id asked
+  pub tells : TellsAsked s n id asked told next
+
+-- what is answered to these lines, the first of which is line n, one after the other
+abbrev pub TellsLines : Counted → ℕ → List LineText → List Response → Counted → Type 0
+TellsLines s n [] told end = (told ≡ []) × (end ≡ s)
+TellsLines s n (line ∷ lines) told end =
+    (first : List Response) × (rest : List Response) × (mid : Counted) × (told ≡ first ++ rest)
+    × TellsLine None s n line first mid × TellsLines mid (n + 1) lines rest end
+
+-- the station represents that of the model, and its counts are these
+abbrev pub RepresentsCounted : StationState → Counts → Counted → Type 0
+RepresentsCounted station counts s = RepresentsStation station s.station × (counts ≡ s.counts)
+
+-- refused where a line could not be read
+abbrev pub ended_of : List Response → Ended
+ended_of [] = ends.Done
+ended_of (responses.Reply id at done source reply ∷ told) = ended_of told
+ended_of (responses.Known id at known ∷ told) = ended_of told
+ended_of (responses.Fault id line fault ∷ told) = ends.Refused
+
+-- the same after one more
+abbrev pub then_ended : Ended → Response → Ended
+then_ended ended (responses.Reply id at done source reply) = ended
+then_ended ended (responses.Known id at known) = ended
+then_ended ended (responses.Fault id line fault) = ends.Refused
+
+-- the number with which the process ends
+abbrev pub exit_code : Ended → ℕ
+exit_code ends.Done = 0
+exit_code ends.Refused = 1
+exit_code ends.Failed = 3
+
+-- what is answered to one line: one answer at most
+abbrev pub told_in : Option Response → List Response
+told_in None = []
+told_in (Some told) = told ∷ []
+
+-- Line n was served by a station that was this one, after others to which this was answered.
+pub record IsServedLine (s : Counted) (n : ℕ) (line : LineText) (log : List Response)
+    (station : StationState) (counts : Counts) (ended : Ended) (Took : List Response → Type 0)
+    : Type 0 where
+  pub told : List Response
+  pub after : Counted
+  pub tells : TellsLine None s n line told after
+  pub took : Took (log ++ told)
+  pub ended_is : ended ≡ ended_of (log ++ told)
+  pub stands : RepresentsCounted station counts after
+
+-- A station that was this one has served the lines of the input: what was answered to them, in
+-- order, was taken, and it represents the station of the model after the calls of these lines.
+pub record IsServed (s : Counted) (station : StationState) (counts : Counts) (ended : Ended)
+    (Took : List Response → Type 0) (input : Option (List ℕ)) : Type 0 where
+  pub lines : List LineText
+  pub lines_are : AreLines input lines
+  pub told : List Response
+  pub after : Counted
+  pub tells : TellsLines s 1 lines told after
+  pub took : Took told
+  pub ended_is : ended ≡ ended_of told
+  pub stands : RepresentsCounted station counts after
+
+-- a station that begins as the config says, of which nothing is counted yet
+abbrev pub beginning : Config → Counted
+beginning config =
+    record {
+      station = new_station config.address config.place config.capacity config.remember;
+      counts = nothing;
+    }
+
+-- A station that began as the config says has served the lines of the input, and ended by what was
+-- answered to them, in order.
+pub record ServesInput (config : Config) (ended : Ended) (input : Option (List ℕ)) : Type 0 where
+  pub lines : List LineText
+  pub lines_are : AreLines input lines
+  pub told : List Response
+  pub after : Counted
+  pub tells : TellsLines (beginning config) 1 lines told after
+  pub ended_is : ended ≡ ended_of told

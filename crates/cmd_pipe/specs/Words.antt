@@ -1,0 +1,15 @@
+-- The words that a line takes under `do`.
+use Rattle.std.specs.Prelude.{ℕ, List, codes}
+use Rattle.sim_settings.specs.Verbs.{verb_word}
+use Rattle.cmd_pipe.specs.declared.word.LineWord.{LineWord}
+use Rattle.cmd_pipe.specs.declared.word.LineWord.TheVariants as line_words
+
+-- the word of each
+abbrev pub line_word : LineWord → List ℕ
+line_word (line_words.Own verb) = verb_word verb
+line_word line_words.Receive = codes "receive"
+line_word line_words.NextBeacon = codes "next_beacon"
+line_word line_words.Neighbours = codes "neighbours"
+line_word line_words.LookUp = codes "look_up"
+line_word line_words.ReadFrame = codes "read_frame"
+line_word line_words.Counts = codes "counts"

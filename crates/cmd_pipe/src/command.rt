@@ -1,0 +1,75 @@
+//! The command.
+
+ghost use Rattle.std.specs.Prelude.{◌≡◌, IfOk};
+ghost use Rattle.its_model.specs.Station.{new_station};
+ghost use Rattle.its_station.specs.State.{RepresentsStation};
+ghost use Rattle.its_world.specs.Events.{IsConfig};
+ghost use Rattle.cmd_pipe.specs.Serving.{ServesInput};
+
+use crate::ended::Ended;
+use crate::fault::PipeFault;
+use crate::printing::Printer;
+use crate::serving::serve;
+use its_gnvalue::NoMemory;
+use its_loctable::SortedTable;
+use its_station::{Counts, Station};
+use its_world::Config;
+use std::alloc::Global;
+use std::io::{BufReader, Read, Write};
+
+/// Runs one station, which begins as the config says, on the lines of the input. What is answered
+/// to a line is written on `out` as one line, and flushed, before the next is read. Where the
+/// octets of the input are known the lines are all of its own, in order.
+///
+/// `Refused` where a line could not be read, `Failed` where the input could not be read, `out` not
+/// be written, or memory ran out. The line of a fault is written on `err`.
+pub fn run_station<R: Read + Drop, W: Write, E: Write>(
+    alloc: Global,
+    config: &Config,
+    input: R,
+    out: &mut W,
+    err: &mut E,
+) -> Ended
+    requires { IsConfig config.now }
+    ensures { ¬ (result ≡ Ended.Failed) → ServesInput config.now result (R.remaining input) }
+{
+    match serve_input(alloc, config, input, out) {
+        Ok(ended) => ended,
+        Err(fault) => {
+            fault.report(err);
+            Ended::Failed
+        }
+    }
+}
+
+/// Serves the lines of the input by a new station, up to the first fault that ends it.
+fn serve_input<R: Read + Drop, W: Write>(
+    alloc: Global,
+    config: &Config,
+    input: R,
+    out: &mut W,
+) -> Result<Ended, PipeFault>
+    requires { IsConfig config.now }
+    ensures { IfOk result (λ ended. ServesInput config.now ended (R.remaining input)) }
+{
+    let mut station = begin(alloc, config)?;
+    let mut reader = BufReader::new(alloc, input).map_err(|error| PipeFault::of_read(&error))?;
+    let mut printer = Printer::new(alloc, out)?;
+    serve(
+        alloc,
+        &mut station,
+        &mut Counts::new(),
+        &mut reader,
+        &mut printer,
+    )
+}
+
+/// A station to which nothing happened yet.
+fn begin(alloc: Global, config: &Config) -> Result<Station<SortedTable>, NoMemory>
+    requires { IsConfig config.now }
+    ensures { IfOk result (λ station. RepresentsStation station (new_station config.now.address
+        config.now.place config.now.capacity config.now.remember)) }
+{
+    let (address, place) = (config.address, config.place);
+    Station::new(alloc, address, place, config.capacity, config.remember).map_err(|_| NoMemory)
+}

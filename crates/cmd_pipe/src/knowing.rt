@@ -1,0 +1,120 @@
+//! What a station knows, for those who ask: it changes nothing.
+
+ghost use Rattle.std.specs.Prelude.{◌≡◌, ◌≤◌, ◌^◌, ◌∷◌, [], ℕ, IfOk, MatchResult, IsTrue, length};
+ghost use Rattle.its_model.specs.Station.{StationModel};
+ghost use Rattle.its_station.specs.State.{RepresentsStation};
+ghost use Rattle.cmd_pipe.specs.Knowing.{Counted, IsKnownAt, IsRefusedAt, TellsBeacon, TellsFrame};
+ghost use Rattle.cmd_pipe.specs.Knowing.{TellsNeighbours, TellsQuery, TellsSource, moment_of};
+ghost use Rattle.cmd_pipe.specs.Serving.{RepresentsCounted};
+
+use crate::request::Query;
+use crate::response::Known;
+use its_gnvalue::{GnAddress, LongPv};
+use its_linkframe::read_frame;
+use its_loctable::{LocationStore, SortedTable};
+use its_station::{Counts, LAST_MOMENT, Refused, Station};
+use std::alloc::{AllocError, Global};
+
+/// How many neighbours are told at once.
+const MOST_NEIGHBOURS: usize = 32;
+
+/// Answers what is asked, of a moment where one is given, else of the clock's.
+pub(crate) fn answer_query(
+    alloc: Global,
+    station: &Station<SortedTable>,
+    counts: &Counts,
+    at: Option<u64>,
+    query: Query,
+) -> Result<Known, AllocError>
+    ensures { (s : Counted) → RepresentsCounted station.now counts.now s →
+        IfOk result (TellsQuery s at query) }
+{
+    let now = at.unwrap_or(station.clock());
+    match query {
+        Query::NextBeacon(jitter) => Ok(next_beacon(station, jitter)),
+        Query::Neighbours(after) => first_neighbours(alloc, station, now, after),
+        Query::LookUp(address) => Ok(look_up(station, now, address)),
+        Query::ReadFrame(frame) => Ok(known_frame(frame)),
+        Query::Counts => Ok(Known::Counts(*counts)),
+    }
+}
+
+/// When a `tick` with this jitter gives a beacon.
+fn next_beacon(station: &Station<SortedTable>, jitter: u16) -> Known
+    ensures { (m : StationModel) → RepresentsStation station.now m →
+        TellsBeacon m jitter result }
+{
+    if jitter > 750 {
+        return Known::Refused(Refused::JitterRange);
+    }
+    Known::NextBeacon(station.beacon_at(jitter))
+}
+
+/// Whether what the station knows at a moment is told: S1, then S2.
+fn check_moment(station: &Station<SortedTable>, now: u64) -> Result<(), Refused>
+    ensures known { (m : StationModel) → RepresentsStation station.now m →
+        MatchResult result (λ _. IsKnownAt m now) (IsRefusedAt m now) }
+    ensures range { IfOk result (λ _. now ≤ 2 ^ 62) }
+{
+    if now < station.clock() {
+        return Err(Refused::MomentEarlier);
+    }
+    if now > LAST_MOMENT {
+        return Err(Refused::MomentTooLate);
+    }
+    Ok(())
+}
+
+/// The live source of an address.
+fn look_up(station: &Station<SortedTable>, now: u64, address: GnAddress) -> Known
+    ensures { (m : StationModel) → RepresentsStation station.now m →
+        TellsSource m now address result }
+{
+    if let Err(refused) = check_moment(station, now) {
+        return Known::Refused(refused);
+    }
+    match station.table().lookup(now, address) {
+        Some(known) => Known::Found(known.vector),
+        None => Known::Unknown,
+    }
+}
+
+/// The first neighbours above an address, and whether there are more.
+fn first_neighbours(
+    alloc: Global,
+    station: &Station<SortedTable>,
+    now: u64,
+    after: Option<GnAddress>,
+) -> Result<Known, AllocError>
+    ensures { (m : StationModel) → RepresentsStation station.now m →
+        IfOk result (TellsNeighbours m now after) }
+{
+    if let Err(refused) = check_moment(station, now) {
+        return Ok(Known::Refused(refused));
+    }
+    let table = station.table();
+    let mut vectors: Vec<LongPv> = Vec::new(alloc);
+    let mut last = after;
+    for _ in 0..MOST_NEIGHBOURS {
+        let Some(vector) = table.next_neighbour(now, last) else {
+            return Ok(Known::Neighbours {
+                vectors,
+                more: false,
+            });
+        };
+        last = Some(vector.address());
+        vectors.push(vector)?;
+    }
+    let more = table.next_neighbour(now, last).is_some();
+    Ok(Known::Neighbours { vectors, more })
+}
+
+/// Returns whether octets are a frame, and otherwise their first fault.
+fn known_frame(octets: Vec<u8>) -> Known
+    ensures { TellsFrame octets.items result }
+{
+    match read_frame(octets.as_slice()) {
+        Ok(_) => Known::Frame(octets),
+        Err(fault) => Known::NoFrame(fault),
+    }
+}

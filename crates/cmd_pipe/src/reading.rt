@@ -1,0 +1,365 @@
+//! Reading what a line asks for.
+
+ghost use Rattle.std.specs.Prelude.{◌≡◌, ◌↔◌, ◌⊎◌, ℕ, List, IfOk, IfErr, IfSome, IsSome, IfNone};
+ghost use Rattle.std.specs.Prelude.{OnErr, None, Some};
+ghost use Rattle.std.specs.Prelude.{codes};
+ghost use Rattle.serde_json.specs.View.{view};
+ghost use Rattle.sim_settings.specs.Faults.{IsWhatFault};
+ghost use Rattle.sim_scenario.specs.Reading.{IsBadOf as IsBadKeyOf};
+ghost use Rattle.its_station.specs.Runs.{IsInRange};
+ghost use Rattle.its_world.specs.Events.{IsOwn};
+ghost use Rattle.cmd_pipe.specs.Requests.{Asks, AsksCall, AsksIn, AsksOf, AsksQuery, IsAskedIn};
+ghost use Rattle.cmd_pipe.specs.Requests.{IsAskedAt, IsBadOf, IsBadCallKeyOf, IsFrameKey, IsFrameText, IsId};
+ghost use Rattle.cmd_pipe.specs.Requests.{IsIdFault, IsJitter, IsJsonObject, IsMomentFault, IsMomentOf, IsObject};
+ghost use Rattle.cmd_pipe.specs.Requests.{IsOfQuery, IsQueryFault, IsQueryWord, IsToldAs, IsWord, SaysCall, line_of};
+ghost use Rattle.cmd_pipe.specs.Requests.{values_in};
+ghost use Rattle.cmd_pipe.specs.Words.{line_word};
+
+use crate::lines::is_blank;
+use crate::members::Members;
+use crate::request::{Id, LineFault, LineRequest, Query, QueryKey, Request};
+use crate::word::LineWord;
+use its_gnvalue::GnAddress;
+use its_station::Call;
+use serde_json::Value;
+use sim_scenario::events::read_what;
+use sim_settings::keys::{Fields, Key, KeyFault, Verb, Wrong};
+use std::alloc::{AllocError, Global};
+
+/// The longest text of an `id`, in octets.
+const LONGEST_ID: usize = 128;
+
+/// A number of an `id` is nearer to 0 than this: others aren't exact in every reader of JSON.
+const ID_BOUND: u64 = 1 << 53;
+
+/// Why a line isn't read.
+#[derive(Clone, Copy)]
+pub(crate) enum ReadFault {
+    Bad(LineFault),
+    OutOfMemory,
+}
+
+impl From<KeyFault> for ReadFault {
+    ghost use Rattle.cmd_pipe.specs.Requests.{read_fault_of};
+
+    ghost from_gives = { λ fault read. read ≡ read_fault_of fault };
+
+    fn from(fault: KeyFault) -> ReadFault {
+        match fault {
+            KeyFault::Refused(key, wrong) => ReadFault::Bad(LineFault::Key(key, wrong)),
+            KeyFault::OutOfMemory => ReadFault::OutOfMemory,
+        }
+    }
+}
+
+/// Reads what a line asks for: its octets, the first of a `longer` one. Where `now` is given it is
+/// the moment of the line, whatever stands under `at`. A blank line asks for nothing; a line that
+/// is longer than is kept is never blank.
+pub(crate) fn read_request(
+    alloc: Global,
+    octets: &[u8],
+    longer: bool,
+    now: Option<u64>,
+) -> Result<LineRequest, AllocError>
+    ensures asks { IfOk result (λ r. Asks now (line_of octets.now longer) r.id r.request) }
+    ensures range { IfOk result (λ r. IsAskedIn IsInRange r.request) }
+{
+    if longer {
+        return Ok(LineRequest {
+            id: None,
+            request: Request::Bad(LineFault::NotJson),
+        });
+    }
+    if is_blank(octets) {
+        return Ok(LineRequest {
+            id: None,
+            request: Request::Nothing,
+        });
+    }
+    match read_object(alloc, octets)? {
+        Some(object) => read_members(alloc, &Members(&object), now),
+        None => Ok(LineRequest {
+            id: None,
+            request: Request::Bad(LineFault::NotJson),
+        }),
+    }
+}
+
+/// Reads one JSON object. `None` where the octets are none.
+fn read_object(alloc: Global, octets: &[u8]) -> Result<Option<Value>, AllocError>
+    ensures found { IfOk result (λ found. IsSome found ↔ IsJsonObject octets.now) }
+    ensures value { IfOk result (λ found.
+        IfSome found (λ value. IsObject octets.now (view value))) }
+{
+    match Value::from_slice(alloc, octets) {
+        Ok(value) => Ok(if value.is_object() { Some(value) } else { None }),
+        Err(error) if error.is_memory() => Err(AllocError),
+        Err(_) => Ok(None),
+    }
+}
+
+/// Reads the members of a line: `id`, `at`, `do`, and then the keys of the word, checked in this
+/// order.
+fn read_members(
+    alloc: Global,
+    members: &Members<'_>,
+    now: Option<u64>,
+) -> Result<LineRequest, AllocError>
+    ensures asks { IfOk result (λ r. AsksOf now (view members.now.0.now) r.id r.request) }
+    ensures range { IfOk result (λ r. IsAskedIn IsInRange r.request) }
+{
+    match read_id(alloc, members) {
+        Ok(id) => match read_call_or_query(alloc, members, now) {
+            Ok(request) => Ok(LineRequest { id, request }),
+            Err(ReadFault::Bad(fault)) => Ok(LineRequest {
+                id,
+                request: Request::Bad(fault),
+            }),
+            Err(ReadFault::OutOfMemory) => Err(AllocError),
+        },
+        Err(ReadFault::Bad(fault)) => Ok(LineRequest {
+            id: None,
+            request: Request::Bad(fault),
+        }),
+        Err(ReadFault::OutOfMemory) => Err(AllocError),
+    }
+}
+
+/// Reads what a bench calls the line by, if it does.
+fn read_id(alloc: Global, members: &Members<'_>) -> Result<Option<Id>, ReadFault>
+    ensures id { IfOk result (IsId (view members.now.0.now)) }
+    ensures fault { IfErr result (IsIdFault (view members.now.0.now)) }
+{
+    if !members.has("id") {
+        return Ok(None);
+    }
+    if let Some(text) = members.text("id") {
+        if text.len() <= LONGEST_ID {
+            return match String::from_str(alloc, text) {
+                Ok(text) => Ok(Some(Id::Text(text))),
+                Err(_) => Err(ReadFault::OutOfMemory),
+            };
+        }
+    }
+    match members.integer("id") {
+        Some(number) if number.unsigned_abs() < ID_BOUND => Ok(Some(Id::Number(number))),
+        _ => Err(ReadFault::Bad(LineFault::Id)),
+    }
+}
+
+/// Reads the moment, `do` and the keys of the word. What is asked of what the station knows needs
+/// no moment.
+#[tactic(auto, using(crate::proofs::Read::bad_told))]
+fn read_call_or_query(
+    alloc: Global,
+    members: &Members<'_>,
+    now: Option<u64>,
+) -> Result<Request, ReadFault>
+    ensures asks { IfOk result (AsksIn now (view members.now.0.now)) }
+    ensures range { IfOk result (IsAskedIn IsInRange) }
+    ensures fault { IfErr result (IsBadOf now (view members.now.0.now)) }
+{
+    let at = read_moment(members, now)?;
+    if let Some(query) = read_query(alloc, members)? {
+        return Ok(Request::Query(at, query));
+    }
+    match at {
+        Some(moment) => match read_call(alloc, members) {
+            Ok(call) => Ok(Request::Call(moment, call)),
+            Err(fault) => Err(with_word_meant(alloc, members, fault)),
+        },
+        None => Err(ReadFault::Bad(LineFault::Key(Key::At, Wrong::Missing))),
+    }
+}
+
+/// The fault of a call. Where it is that of a word that is none of a line's, the word is told with
+/// it that may be meant.
+fn with_word_meant(alloc: Global, members: &Members<'_>, fault: KeyFault) -> ReadFault
+    ensures { IsToldAs fault result }
+{
+    if !matches!(fault, KeyFault::Refused(Key::Do, Wrong::Value)) {
+        return ReadFault::from(fault);
+    }
+    match LineWord::meant_by(alloc, members.text("do").unwrap_or("")) {
+        Ok(Some(meant)) => ReadFault::Bad(LineFault::Word(meant)),
+        Ok(None) => ReadFault::from(fault),
+        Err(AllocError) => ReadFault::OutOfMemory,
+    }
+}
+
+/// Reads the moment under `at`, if something stands there; `now` stands in its place.
+fn read_moment(members: &Members<'_>, now: Option<u64>) -> Result<Option<u64>, KeyFault>
+    ensures at { IfOk result (IsAskedAt now (view members.now.0.now)) }
+    ensures moment { IfOk result (λ at. IfSome at (IsMomentOf now (view members.now.0.now))) }
+    ensures none { IfOk result (λ at. IfNone at
+        ((moment : ℕ) → ¬ IsMomentOf now (view members.now.0.now) moment)) }
+    ensures bad { OnErr result ((moment : ℕ) → ¬ IsMomentOf now (view members.now.0.now) moment) }
+    ensures key { IfErr result IsMomentFault }
+{
+    if now.is_some() {
+        return Ok(now);
+    }
+    if !members.has("at") {
+        return Ok(None);
+    }
+    match members.integer("at") {
+        Some(moment) if moment >= 0 => Ok(Some(moment as u64)),
+        Some(moment) => Err(KeyFault::Refused(Key::At, Wrong::Range(moment))),
+        None => Err(KeyFault::Refused(Key::At, Wrong::Kind)),
+    }
+}
+
+/// Reads what is asked of what the station knows. `None` where the word is none of these.
+fn read_query(alloc: Global, members: &Members<'_>) -> Result<Option<Query>, ReadFault>
+    ensures query { IfOk result (λ query. IfSome query (AsksQuery (view members.now.0.now))) }
+    ensures none { IfOk result (λ query. IfNone query
+        (¬ IsQueryWord (view members.now.0.now))) }
+    ensures fault { IfErr result (IsQueryFault (view members.now.0.now)) }
+{
+    match word_under(members) {
+        Some(LineWord::NextBeacon) => Ok(Some(Query::NextBeacon(read_jitter(members)?))),
+        Some(LineWord::Neighbours) => Ok(Some(Query::Neighbours(read_after(members)?))),
+        Some(LineWord::LookUp) => {
+            Ok(Some(Query::LookUp(read_address(members, QueryKey::Address)?)))
+        }
+        Some(LineWord::ReadFrame) => Ok(Some(Query::ReadFrame(read_octets(alloc, members)?))),
+        Some(LineWord::Counts) => Ok(Some(Query::Counts)),
+        _ => Ok(None),
+    }
+}
+
+/// The word under `do`, where it is one of a line's.
+fn word_under(members: &Members<'_>) -> Option<LineWord>
+    ensures word { IfSome result (λ word. IsWord (view members.now.0.now) (line_word word)) }
+    ensures none { IfNone result ((word : LineWord)
+        → ¬ IsWord (view members.now.0.now) (line_word word)) }
+{
+    LineWord::named(members.text("do")?)
+}
+
+/// Reads the jitter that is asked with.
+fn read_jitter(members: &Members<'_>) -> Result<u16, ReadFault>
+    ensures value { IfOk result (IsJitter (view members.now.0.now)) }
+    ensures fault { IfErr result IsOfQuery }
+{
+    match members.integer("jitter") {
+        Some(jitter) if 0 <= jitter && jitter <= 65535 => Ok(jitter as u16),
+        Some(jitter) => Err(bad(QueryKey::Jitter, Wrong::Range(jitter))),
+        None => Err(unlike(members, "jitter", QueryKey::Jitter)),
+    }
+}
+
+/// Reads the address above which neighbours are asked for, if there is one.
+fn read_after(members: &Members<'_>) -> Result<Option<GnAddress>, ReadFault>
+    ensures fault { IfErr result IsOfQuery }
+{
+    if !members.has("after") {
+        return Ok(None);
+    }
+    Ok(Some(read_address(members, QueryKey::After)?))
+}
+
+/// Reads an address of 16 hexadecimal digits, whose MID is no group.
+fn read_address(members: &Members<'_>, key: QueryKey) -> Result<GnAddress, ReadFault>
+    ensures fault { IfErr result IsOfQuery }
+{
+    let word = match key {
+        QueryKey::After => "after",
+        _ => "address",
+    };
+    let Some(digits) = members.text(word) else {
+        return Err(unlike(members, word, key));
+    };
+    let mut octets = [0u8; 8];
+    if hex::decode_to_slice(digits, &mut octets).is_err() {
+        return Err(bad(key, Wrong::Value));
+    }
+    match GnAddress::from_u64(u64::from_be_bytes(octets)) {
+        Ok(address) => Ok(address),
+        Err(_) => Err(bad(key, Wrong::Value)),
+    }
+}
+
+/// Reads the octets that are asked about.
+fn read_octets(alloc: Global, members: &Members<'_>) -> Result<Vec<u8>, ReadFault>
+    ensures frame { IfOk result (λ frame. IsFrameText (view members.now.0.now) frame.items) }
+    ensures fault { IfErr result IsOfQuery }
+{
+    match read_frame(alloc, members) {
+        Ok(octets) => Ok(octets),
+        Err(KeyFault::OutOfMemory) => Err(ReadFault::OutOfMemory),
+        Err(KeyFault::Refused(_, wrong)) => Err(bad(QueryKey::Frame, wrong)),
+    }
+}
+
+/// The fault of a key of what is asked.
+fn bad(key: QueryKey, wrong: Wrong) -> ReadFault
+    ensures { IsOfQuery result }
+{
+    ReadFault::Bad(LineFault::Query(key, wrong))
+}
+
+/// The fault of a key that has no value of the kind that it takes.
+fn unlike(members: &Members<'_>, word: &str, key: QueryKey) -> ReadFault
+    ensures { IsOfQuery result }
+{
+    let wrong = if members.has(word) {
+        Wrong::Kind
+    } else {
+        Wrong::Missing
+    };
+    bad(key, wrong)
+}
+
+/// Reads the call of a line. It has the keys of a scenario's event but for `deliver`, and beside
+/// these a frame that came.
+#[tactic(auto, using(crate::proofs::Own::asks_own, crate::proofs::Own::bad_own_of))]
+fn read_call(alloc: Global, members: &Members<'_>) -> Result<Call, KeyFault>
+    ensures call { IfOk result (AsksCall (view members.now.0.now)) }
+    ensures range { IfOk result IsInRange }
+    ensures fault { IfErr result (IsBadCallKeyOf (view members.now.0.now)) }
+{
+    match word_under(members) {
+        Some(LineWord::Receive) => Ok(Call::Receive(read_frame(alloc, members)?)),
+        Some(LineWord::Own(Verb::Deliver)) => Err(KeyFault::Refused(Key::Do, Wrong::Value)),
+        _ => read_own(alloc, members),
+    }
+}
+
+/// Reads a call of a station's own applications, which has the keys of a scenario's event.
+#[tactic(auto, using(crate::proofs::Own::says_call, crate::proofs::Own::never_delivers))]
+fn read_own(alloc: Global, members: &Members<'_>) -> Result<Call, KeyFault>
+    ensures says { IfOk result (SaysCall (view members.now.0.now)) }
+    ensures own { IfOk result IsOwn }
+    ensures range { IfOk result IsInRange }
+    ensures fault { IfErr result IsWhatFault }
+    ensures bad { (¬ IsWord (view members.now.0.now) (codes "deliver"))
+        → IfErr result (IsBadKeyOf (values_in (view members.now.0.now))) }
+{
+    match read_what(alloc, members)?.into_call() {
+        Some(call) => Ok(call),
+        None => Err(KeyFault::Refused(Key::Do, Wrong::Value)),
+    }
+}
+
+/// Reads the octets of the hexadecimal digits under `frame`, in either letter case.
+fn read_frame(alloc: Global, members: &Members<'_>) -> Result<Vec<u8>, KeyFault>
+    ensures frame { IfOk result (λ frame. IsFrameText (view members.now.0.now) frame.items) }
+    ensures fault { IfErr result (λ fault. (fault ≡ KeyFault.OutOfMemory)
+        ⊎ (IsFrameKey fault × ((frame : List ℕ)
+        → ¬ IsFrameText (view members.now.0.now) frame))) }
+{
+    let Some(digits) = members.text("frame") else {
+        let wrong = if members.has("frame") {
+            Wrong::Kind
+        } else {
+            Wrong::Missing
+        };
+        return Err(KeyFault::Refused(Key::Frame, wrong));
+    };
+    match hex::decode(alloc, digits) {
+        Ok(octets) => Ok(octets),
+        Err(hex::FromHexError::OutOfMemory) => Err(KeyFault::OutOfMemory),
+        Err(_) => Err(KeyFault::Refused(Key::Frame, Wrong::Value)),
+    }
+}

@@ -1,0 +1,121 @@
+//! What is answered to a line, and what takes it.
+
+ghost use Rattle.std.specs.Prelude.{◌≡◌};
+ghost use Rattle.cmd_pipe.specs.Serving.{done_by};
+
+use crate::fault::PipeFault;
+use crate::request::{Id, LineFault};
+use its_gnvalue::{GnAddress, LongPv};
+use its_linkframe::FrameFault;
+use its_station::{Call, Counts, Refused, Reply};
+
+/// What is answered to a line.
+#[derive(Debug, Drop, PartialEq, Eq)]
+pub enum Response {
+    /// The call for which it asked was made.
+    Reply {
+        /// What the bench calls the line by.
+        id: Option<Id>,
+        /// The moment of the call, in milliseconds.
+        at: u64,
+        /// What a call that tells nothing did.
+        done: Done,
+        /// The source of a packet that was accepted.
+        source: Option<GnAddress>,
+        /// What came of the call.
+        reply: Reply,
+    },
+    /// What it asked is known.
+    Known {
+        /// What the bench calls the line by.
+        id: Option<Id>,
+        /// The moment that the line gave, in milliseconds.
+        at: Option<u64>,
+        /// What is known.
+        known: Known,
+    },
+    /// It can't be read, and changed nothing.
+    Fault {
+        /// What the bench calls the line by.
+        id: Option<Id>,
+        /// Its number among the lines, from 1.
+        line: u64,
+        /// Why it can't be read.
+        fault: LineFault,
+    },
+}
+
+/// What a call does that is answered by a word alone.
+#[derive(Clone, Copy, Debug, PartialEq, Eq)]
+pub enum Done {
+    /// The station moved.
+    Moved,
+    /// It opened a port.
+    Opened,
+    /// It closed a port.
+    Closed,
+    /// It restarted.
+    Restarted,
+    /// It is none of these calls.
+    Other,
+}
+
+impl Done {
+    /// What a call does, where it is done.
+    pub(crate) fn of(call: &Call) -> Done
+        ensures { result ≡ done_by call.now }
+    {
+        match call {
+            Call::MoveTo { .. } => Done::Moved,
+            Call::Open(_) => Done::Opened,
+            Call::Close(_) => Done::Closed,
+            Call::Restart(_) => Done::Restarted,
+            Call::Tick(_)
+            | Call::SendShb(_)
+            | Call::SendGeobroadcast(_)
+            | Call::SendGeoanycast(_)
+            | Call::Receive(_) => Done::Other,
+        }
+    }
+}
+
+/// What is known of what was asked.
+#[derive(Debug, Drop, PartialEq, Eq)]
+pub enum Known {
+    /// The moment of the next beacon, in milliseconds.
+    NextBeacon(u64),
+    /// The first neighbours above an address, and whether there are more.
+    Neighbours {
+        /// Their position vectors, by ascending address: 32 at most.
+        vectors: Vec<LongPv>,
+        /// Whether more are above them.
+        more: bool,
+    },
+    /// The newest position vector of a live source.
+    Found(LongPv),
+    /// No live source has that address.
+    Unknown,
+    /// These octets are a frame.
+    Frame(Vec<u8>),
+    /// These octets are none.
+    NoFrame(FrameFault),
+    /// What the station heard, sent and refused so far.
+    Counts(Counts),
+    /// It can't be asked so.
+    Refused(Refused),
+}
+
+/// What takes what is answered, line by line.
+pub trait ResponseSink {
+    ghost use Rattle.std.specs.Prelude.{◌++◌, ◌∷◌, [], List, OnOk};
+    ghost use Rattle.cmd_pipe.specs.declared.response.Response.{Response};
+
+    /// What it says of having taken these, in order. A sink that keeps none may say nothing of
+    /// them.
+    ghost Took: { Self → List Response → Type 0 };
+
+    /// Takes what is answered to the next line to which anything is answered.
+    fn put(&mut self, response: Response) -> Result<(), PipeFault>
+        ensures { (log : List Response) → Took self.old log
+            → OnOk result (Took self.new (log ++ response ∷ [])) };
+}

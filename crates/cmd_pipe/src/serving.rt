@@ -1,0 +1,213 @@
+//! The lines of the input, each answered before the next is read.
+
+ghost use Rattle.std.specs.Prelude.{◌≡◌, ◌++◌, ◌∷◌, [], ℕ, List, None, Some, IfOk, OnErr, OnOk};
+ghost use Rattle.its_model.specs.Station.{StationModel};
+ghost use Rattle.its_station.specs.Counting.{nothing};
+ghost use Rattle.its_station.specs.Runs.{IsInRange};
+ghost use Rattle.its_station.specs.State.{RepresentsStation};
+ghost use Rattle.cmd_pipe.specs.declared.response.Response.{Response as ToldLine};
+ghost use Rattle.cmd_pipe.specs.Knowing.{Counted};
+ghost use Rattle.cmd_pipe.specs.Lines.{text_of};
+ghost use Rattle.cmd_pipe.specs.Lines.{whole_line};
+ghost use Rattle.cmd_pipe.specs.Requests.{line_of};
+ghost use Rattle.cmd_pipe.specs.Serving.{IsServed, IsServedLine, RepresentsCounted, TellsLine};
+ghost use Rattle.cmd_pipe.specs.Serving.{TellsCall, ended_of, then_ended, told_in};
+
+use crate::ended::Ended;
+use crate::fault::PipeFault;
+use crate::knowing::answer_query;
+use crate::lines::LONGEST_LINE;
+use crate::reading::read_request;
+use crate::request::{Id, Request};
+use crate::response::{Done, Response, ResponseSink};
+use cmd_text::lines::Line;
+use its_gnvalue::{GnAddress, NoMemory};
+use its_linkframe::read_frame;
+use its_loctable::SortedTable;
+use its_station::{Call, Counts, Reply, Station};
+use std::alloc::Global;
+use std::io::BufRead;
+
+/// Reads the lines of the reader to their end, makes the call for which each asks, or asks what the
+/// station knows, and hands what is answered to the sink before the next line is read: the answer
+/// of that very call. The station represents that of the model after the calls of these lines. Of a
+/// reader whose octets are known these are all its lines, in order. Of a line of more than 65536
+/// octets no more are kept: it can't be read.
+///
+/// `Refused` where a line could not be read. The fault is that a read or the sink failed, or that
+/// memory ran out: then no further line is read.
+pub fn serve<R: BufRead, S: ResponseSink>(
+    alloc: Global,
+    station: &mut Station<SortedTable>,
+    counts: &mut Counts,
+    reader: &mut R,
+    sink: &mut S,
+) -> Result<Ended, PipeFault>
+    ensures { (s : Counted) → RepresentsCounted station.old counts.old s → S.Took sink.old [] →
+        IfOk result (λ ended. IsServed s station.new counts.new ended (S.Took sink.new)
+        (R.remaining reader.old)) }
+{
+    let mut line = Line::new(alloc, LONGEST_LINE)?;
+    let mut ended = Ended::Done;
+    // The range is there so that the walk ends on any reader.
+    for number in 1..u64::MAX {
+        if !line
+            .read(reader)
+            .map_err(|error| PipeFault::of_read(&error))?
+        {
+            return Ok(ended);
+        }
+        let next = serve_line(alloc, station, counts, number, &line, sink, ended)?;
+        ended = next;
+    }
+    Err(PipeFault::CannotRead)
+}
+
+/// Answers the line of this number, and hands the answer to the sink. `ended` is how the station
+/// would have ended before this line; gives how it would end now.
+fn serve_line<S: ResponseSink>(
+    alloc: Global,
+    station: &mut Station<SortedTable>,
+    counts: &mut Counts,
+    number: u64,
+    line: &Line,
+    sink: &mut S,
+    ended: Ended,
+) -> Result<Ended, PipeFault>
+    ensures { (s : Counted) (log : List ToldLine) → RepresentsCounted station.old counts.old s
+        → S.Took sink.old log → ended ≡ ended_of log → IfOk result (λ next.
+        IsServedLine s number (text_of line.now) log station.new counts.new next
+        (S.Took sink.new)) }
+{
+    let (octets, longer) = (line.start(), line.passed().any);
+    match respond(alloc, station, counts, number, octets, longer, None)? {
+        Some(response) => hand_on(response, sink, ended),
+        None => Ok(ended),
+    }
+}
+
+/// Hands what is answered to a line to the sink.
+fn hand_on<S: ResponseSink>(
+    response: Response,
+    sink: &mut S,
+    ended: Ended,
+) -> Result<Ended, PipeFault>
+    ensures took { (log : List ToldLine) → S.Took sink.old log
+        → OnOk result (S.Took sink.new (log ++ response ∷ [])) }
+    ensures ended { IfOk result (λ next. next ≡ then_ended ended response) }
+{
+    let next = ended_after(ended, &response);
+    sink.put(response)?;
+    Ok(next)
+}
+
+/// Does what the line of this number asks for, and gives the answer: none to a blank line. `longer`
+/// says whether the line has more octets than these. Where `now` is given it is the moment of the
+/// line, and what stands under `at` isn't looked at. `NoMemory` where an allocation failed: the
+/// station stands as before.
+fn respond(
+    alloc: Global,
+    station: &mut Station<SortedTable>,
+    counts: &mut Counts,
+    number: u64,
+    octets: &[u8],
+    longer: bool,
+    now: Option<u64>,
+) -> Result<Option<Response>, NoMemory>
+    ensures tells { (s : Counted) → RepresentsCounted station.old counts.old s →
+        IfOk result (λ told. (next : Counted)
+        × TellsLine now s number (line_of octets.now longer) (told_in told) next
+        × RepresentsCounted station.new counts.new next) }
+    ensures unchanged { OnErr result (station.new ≡ station.old) }
+{
+    let line = read_request(alloc, octets, longer, now)?;
+    let id = line.id;
+    match line.request {
+        Request::Nothing => Ok(None),
+        Request::Call(at, call) => Ok(Some(make_call(station, counts, id, at, &call)?)),
+        Request::Query(at, query) => {
+            let known = answer_query(alloc, station, counts, at, query)?;
+            Ok(Some(Response::Known { id, at, known }))
+        }
+        Request::Bad(fault) => Ok(Some(Response::Fault {
+            id,
+            line: number,
+            fault,
+        })),
+    }
+}
+
+/// Does what one line asks for, at the moment `now`: what stands under `at`, if anything, isn't looked
+/// at. Of the line, which has no line feed, `number` is its number among the lines, from 1; one of
+/// more than 65536 octets can't be read. A blank line has no answer. `NoMemory` where an allocation
+/// failed: the station stands as before.
+pub fn answer_line(
+    alloc: Global,
+    station: &mut Station<SortedTable>,
+    counts: &mut Counts,
+    now: u64,
+    number: u64,
+    line: &[u8],
+) -> Result<Option<Response>, NoMemory>
+    ensures tells { (s : Counted) → RepresentsCounted station.old counts.old s →
+        IfOk result (λ told. (next : Counted)
+        × TellsLine (Some now) s number (whole_line line.now) (told_in told) next
+        × RepresentsCounted station.new counts.new next) }
+    ensures unchanged { OnErr result (station.new ≡ station.old) }
+{
+    let longer = line.len() > LONGEST_LINE;
+    respond(alloc, station, counts, number, line, longer, Some(now))
+}
+
+/// Makes a call of the station at a moment, counts it, and gives what came of it. `NoMemory` where
+/// an allocation failed: the station stands as before.
+fn make_call(
+    station: &mut Station<SortedTable>,
+    counts: &mut Counts,
+    id: Option<Id>,
+    at: u64,
+    call: &Call,
+) -> Result<Response, NoMemory>
+    requires { IsInRange call.now }
+    ensures tells { (s : Counted) → RepresentsCounted station.old counts.old s →
+        IfOk result (λ told. (next : Counted)
+        × TellsCall s id at call.now (told ∷ []) next
+        × RepresentsCounted station.new counts.new next) }
+    ensures unchanged { OnErr result (station.new ≡ station.old) }
+{
+    let answer = station.answer(at, call);
+    counts.note_reply(call, &answer);
+    let reply = answer?;
+    let source = match &reply {
+        Reply::Accepted { .. } => source_of(call),
+        _ => None,
+    };
+    Ok(Response::Reply {
+        id,
+        at,
+        done: Done::of(call),
+        source,
+        reply,
+    })
+}
+
+/// The source of the packet in a frame that came.
+fn source_of(call: &Call) -> Option<GnAddress> {
+    let Call::Receive(frame) = call else {
+        return None;
+    };
+    match read_frame(frame.as_slice()) {
+        Ok(frame) => Some(frame.packet.vector().address()),
+        Err(_) => None,
+    }
+}
+
+/// How a station ends after what is answered to one more line.
+fn ended_after(ended: Ended, response: &Response) -> Ended
+    ensures { result ≡ then_ended ended response.now }
+{
+    match response {
+        Response::Reply { .. } | Response::Known { .. } => ended,
+        Response::Fault { .. } => Ended::Refused,
+    }
+}

@@ -1,0 +1,25 @@
+-- How the program and its commands end.
+use Rattle.std.specs.Prelude.{ℕ, ◌≢◌}
+use Rattle.cmd_reporting.specs.declared.fault.WriterFault.{WriterFault}
+use Rattle.cmd_reporting.specs.declared.fault.WriterFault.TheVariants.{Stopped, Output}
+use Rattle.cmd_reporting.specs.declared.status.Status.{Status}
+use Rattle.cmd_reporting.specs.declared.status.Status.TheVariants.{Done, Refused, BadArguments}
+use Rattle.cmd_reporting.specs.declared.status.Status.TheVariants.{Failed}
+
+-- done; a refused record, line, capture or scenario; refused arguments; a file or socket that
+-- failed, or no memory
+abbrev pub exit_code : Status → ℕ
+exit_code Done = 0
+exit_code Refused = 1
+exit_code BadArguments = 2
+exit_code Failed = 3
+
+-- A command has its arguments already: it never refuses them.
+abbrev pub IsCommandStatus : Status → Type 0
+IsCommandStatus status = status ≢ BadArguments
+
+-- the status of a command that writes a file and was ended so: that of the fault that would end it
+-- without one, and of refused arguments where the file is not written
+abbrev pub writer_fault_status : {F : Type 0} → (F → Status) → WriterFault F → Status
+writer_fault_status status_of (Stopped fault) = status_of fault
+writer_fault_status status_of (Output fault) = BadArguments

@@ -1,0 +1,176 @@
+//! What ends a command before it is done.
+
+ghost use Rattle.std.specs.Prelude.{◌≡◌};
+
+use crate::cause::Cause;
+use crate::options::OutputFormat;
+use crate::outputs::{OutputFault, is_standard};
+use crate::status::Status;
+use cmd_text::frames::Explanation;
+use cmd_text::json_lines::JsonFault;
+use its_gnvalue::NoMemory;
+use std::alloc::AllocError;
+use std::fmt::Display;
+use std::io;
+use std::io::Write;
+use thiserror::Error;
+
+/// Why a command ended before it was done: it has an exit status, and a line on standard error.
+pub trait CommandFault {
+    ghost use Rattle.cmd_reporting.specs.declared.status.Status.{Status};
+
+    /// The exit status of a command that it ends.
+    ghost status_of: { Self → Status };
+
+    /// The exit status of a command that it ends.
+    fn status(&self) -> Status
+        ensures { result ≡ status_of self.now };
+
+    /// Writes its line on standard error, if it has one. With `explain` the line goes on with the
+    /// reason in parentheses, where there is one. What fails there is passed over.
+    fn report<E: Write>(&self, format: OutputFormat, err: &mut E);
+}
+
+/// Why a command ended before it was done, whatever it is. Its text is the line on standard error.
+#[derive(Debug, Drop, Error)]
+pub enum Fault<'a> {
+    /// The file could not be opened, or a read of it failed.
+    #[error("geostation: cannot read {0}")]
+    CannotRead(&'a str),
+    /// The file could not be created, or a write of it failed.
+    #[error("geostation: cannot write {0}")]
+    CannotWrite(&'a str),
+    /// The same, and why.
+    #[error("geostation: cannot read {0}")]
+    NotRead(&'a str, Cause),
+    /// The file could not be created, or a write of it failed, and why.
+    #[error("geostation: cannot write {0}")]
+    NotWritten(&'a str, Cause),
+    /// An allocation failed.
+    #[error("geostation: out of memory")]
+    OutOfMemory(#[from(alloc)] AllocError),
+    /// Standard output could not be written. There is no line for it.
+    #[error("")]
+    NoOutput(#[from] io::Error),
+}
+
+impl Fault<'_> {
+    /// The fault of a failed call on the file that is read: out of memory is told apart.
+    pub fn of_read<'a>(error: &io::Error, file: &'a str) -> Fault<'a> {
+        match (error.kind(), Cause::of(error)) {
+            (io::ErrorKind::OutOfMemory, _) => Fault::OutOfMemory(AllocError),
+            (_, Some(cause)) => Fault::NotRead(file, cause),
+            (_, None) => Fault::CannotRead(file),
+        }
+    }
+
+    /// The fault of a failed call on the file that is written: out of memory is told apart.
+    pub fn of_write<'a>(error: &io::Error, file: &'a str) -> Fault<'a> {
+        match (error.kind(), Cause::of(error)) {
+            (io::ErrorKind::OutOfMemory, _) => Fault::OutOfMemory(AllocError),
+            (_, Some(cause)) => Fault::NotWritten(file, cause),
+            (_, None) => Fault::CannotWrite(file),
+        }
+    }
+
+    /// The fault of a failed write to the file of this name: for standard output, `-`, there is no
+    /// line.
+    pub fn of_target(file: &str) -> Fault<'_> {
+        if is_standard(file) {
+            Fault::no_output()
+        } else {
+            Fault::CannotWrite(file)
+        }
+    }
+
+    /// The fault of standard output, if the error isn't known.
+    pub fn no_output<'a>() -> Fault<'a> {
+        Fault::NoOutput(io::Error::from(io::ErrorKind::Other))
+    }
+
+    /// The system's reason, where it gave one.
+    fn cause(&self) -> Option<Cause> {
+        match self {
+            Fault::NotRead(_, cause) | Fault::NotWritten(_, cause) => Some(*cause),
+            _ => None,
+        }
+    }
+}
+
+impl CommandFault for Fault<'_> {
+    ghost use Rattle.cmd_reporting.specs.declared.status.Status.TheVariants.{Failed};
+
+    ghost status_of = { λ _. Failed };
+
+    fn status(&self) -> Status {
+        Status::Failed
+    }
+
+    /// The line of a file goes on with the system's reason.
+    fn report<E: Write>(&self, format: OutputFormat, err: &mut E) {
+        if !matches!(self, Fault::NoOutput(_)) {
+            let cause = if format.explain { self.cause() } else { None };
+            let _ = writeln!(err, "{self}{}", Explanation(cause));
+        }
+    }
+}
+
+impl From<NoMemory> for Fault<'_> {
+    fn from(_: NoMemory) -> Self {
+        Fault::OutOfMemory(AllocError)
+    }
+}
+
+impl From<JsonFault> for Fault<'_> {
+    fn from(fault: JsonFault) -> Self {
+        match fault {
+            JsonFault::OutOfMemory => Fault::OutOfMemory(AllocError),
+            // No line of a command has such a value.
+            JsonFault::Kind => Fault::NoOutput(io::Error::from(io::ErrorKind::InvalidData)),
+        }
+    }
+}
+
+/// Why a command that writes a file ended before it was done: by a fault that would end it without
+/// one, or because of that file.
+#[derive(Debug, Drop, Error)]
+pub enum WriterFault<'a, F: Display> {
+    /// What would end it if it wrote none.
+    #[error("{0}")]
+    Stopped(F),
+    /// The file is not written.
+    #[error("{0}")]
+    Output(OutputFault<'a>),
+}
+
+impl<F: CommandFault + Display> CommandFault for WriterFault<'_, F> {
+    ghost use Rattle.cmd_reporting.specs.Statuses.{writer_fault_status};
+
+    ghost status_of = { writer_fault_status F.status_of };
+
+    fn status(&self) -> Status {
+        match self {
+            WriterFault::Stopped(fault) => fault.status(),
+            WriterFault::Output(fault) => fault.status(),
+        }
+    }
+
+    fn report<E: Write>(&self, format: OutputFormat, err: &mut E) {
+        match self {
+            WriterFault::Stopped(fault) => fault.report(format, err),
+            WriterFault::Output(fault) => fault.report(format, err),
+        }
+    }
+}
+
+impl<'a, F: Display> From<OutputFault<'a>> for WriterFault<'a, F> {
+    fn from(fault: OutputFault<'a>) -> WriterFault<'a, F> {
+        WriterFault::Output(fault)
+    }
+}
+
+impl<'a, F: Display + From<Fault<'a>>> From<Fault<'a>> for WriterFault<'a, F> {
+    fn from(fault: Fault<'a>) -> WriterFault<'a, F> {
+        WriterFault::Stopped(F::from(fault))
+    }
+}

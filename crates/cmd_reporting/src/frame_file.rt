@@ -1,0 +1,162 @@
+//! A file of frames, written as they are given.
+
+ghost use Rattle.std.specs.Prelude.{◌≡◌, ◌^◌, ◌<◌, IfOk, Ok, is_ok};
+ghost use Rattle.cmd_reporting.specs.Statuses.{IsCommandStatus};
+ghost use Rattle.cmd_reporting.specs.FrameFiles.{HasNewInterface, IsBegun, IsNoted, IsEnded};
+
+use crate::fault::Fault;
+use crate::left_out::LeftOut;
+use crate::options::OutputFormat;
+use crate::status::Status;
+use cap_pcap::{AnySink, Format, PutFault, RecordSink, SinkFault, Stamp};
+use its_linkframe::Counted;
+use std::alloc::Global;
+use std::io;
+use std::io::Write;
+use std::marker::Model;
+
+/// A file of the frames that stations give, one by one.
+#[derive(Drop)]
+pub struct FrameFile<'a, W: Write + Drop> {
+    alloc: Global,
+    sink: AnySink<Counted<W>>,
+    target: &'a str,
+    /// How many frames were given so far.
+    frames: u64,
+    /// Whether one of them was left out.
+    left_out: bool,
+    /// Whether the file could not be written.
+    failed: bool,
+}
+
+impl<'a, W: Write + Drop> Model for FrameFile<'a, W> {
+    ghost use Rattle.cap_pcap.specs.Sinks.{file_of_sink};
+    ghost use Rattle.cmd_reporting.specs.FrameFiles.{RunFile};
+
+    ghost Value = { RunFile };
+
+    ghost view = { λ f. record {
+      file = file_of_sink f.sink;
+      frames = f.frames;
+      left_out = f.left_out;
+      failed = f.failed;
+    } };
+}
+
+impl<'a, W: Write + Drop> FrameFile<'a, W> {
+    /// Begins the file `target`, in this format. One of pcapng has an interface for each of so many
+    /// stations, `station 0` and on; what their names say is printed, and no
+    /// clause speaks of it. `CannotWrite` where the file failed, `OutOfMemory` where there was none
+    /// for a name.
+    pub fn start(
+        alloc: Global,
+        writer: W,
+        target: &'a str,
+        format: Format,
+        stations: usize,
+    ) -> Result<FrameFile<'a, W>, Fault<'a>>
+        ensures { IfOk result (IsBegun format (W.contents writer) stations) }
+    {
+        let mut sink = AnySink::new(Counted::new(writer), format);
+        if sink.start().is_err() {
+            return Err(Fault::CannotWrite(target));
+        }
+        for station in 0..stations {
+            let name = format!(in alloc; "station {station}")?;
+            if sink.add_interface(name.as_str()).is_err() {
+                return Err(Fault::CannotWrite(target));
+            }
+        }
+        Ok(FrameFile {
+            alloc,
+            sink,
+            target,
+            frames: 0,
+            left_out: false,
+            failed: false,
+        })
+    }
+
+    /// Adds the interface of the station of this number, which a run made: one of pcapng has it
+    /// here, behind the packets before. The station's number has to be how many there were before
+    /// it.
+    ///
+    /// An error of the kind `OutOfMemory` says that there was none for its name; any other that the
+    /// file failed, which `end` tells then.
+    pub fn add_station(&mut self, station: usize) -> io::Result<()>
+        ensures { IfOk result (λ _. HasNewInterface self.old self.new) }
+    {
+        let name = format!(in self.alloc; "station {station}")?;
+        match self.sink.add_interface(name.as_str()) {
+            Ok(()) => Ok(()),
+            Err(_) => {
+                self.failed = true;
+                Err(io::Error::from(io::ErrorKind::Other))
+            }
+        }
+    }
+
+    /// Writes the next frame, which a station gave at this moment, as one of that station's
+    /// interface. A frame whose moment has no place in the format is told on standard error, and
+    /// left out.
+    ///
+    /// An error says that the file failed, which `end` tells then.
+    pub fn put<E: Write>(
+        &mut self,
+        station: usize,
+        moment: u64,
+        frame: &[u8],
+        lines: OutputFormat,
+        err: &mut E,
+    ) -> io::Result<()>
+        ensures { station < 2 ^ 32 →
+            IsNoted station moment frame.now self.old self.new (is_ok result) }
+    {
+        let number = self.frames;
+        // No run gives as many frames as there are numbers.
+        self.frames = number.saturating_add(1);
+        // A scenario has fewer stations than there are interfaces.
+        let interface = u32::try_from(station).unwrap_or(u32::MAX);
+        let stamp = Stamp::of_millis(moment);
+        match self.sink.put_frame(interface, stamp, frame) {
+            Ok(()) => Ok(()),
+            Err(PutFault::Moment) => {
+                self.left_out = true;
+                let fault = SinkFault::Put(PutFault::Moment);
+                let _ = writeln!(err, "{}", LeftOut::new("frame", number, fault, lines));
+                Ok(())
+            }
+            Err(_) => {
+                self.failed = true;
+                Err(io::Error::from(io::ErrorKind::Other))
+            }
+        }
+    }
+
+    /// Ends the file after a run that ended so. `Refused` where a frame was left out of a run that
+    /// is done; `CannotWrite` where the file failed.
+    pub fn end(self, ran: Result<Status, Fault<'a>>) -> Result<Status, Fault<'a>>
+        requires { IfOk ran IsCommandStatus }
+        ensures status { IfOk result IsCommandStatus }
+        ensures ended { IfOk result (IsEnded self.entry ran.entry) }
+        ensures done { result ≡ Ok Status.Done → ran.entry ≡ Ok Status.Done }
+    {
+        let FrameFile {
+            sink,
+            target,
+            left_out,
+            failed,
+            ..
+        } = self;
+        let flushed = sink.into_inner().into_inner().flush();
+        if failed {
+            return Err(Fault::CannotWrite(target));
+        }
+        let status = ran?;
+        match flushed {
+            Ok(()) if left_out && status == Status::Done => Ok(Status::Refused),
+            Ok(()) => Ok(status),
+            Err(_) => Err(Fault::CannotWrite(target)),
+        }
+    }
+}

@@ -1,0 +1,129 @@
+//! The files that a command writes: what their names say, and why one isn't written.
+
+ghost use Rattle.std.specs.Prelude.{◌≡◌, MatchResult, None, Some};
+ghost use Rattle.std.specs.Str.{str_eq_ignore_ascii_case};
+ghost use Rattle.cmd_reporting.specs.FileNames.{ends_in, format_of_file, format_of_name};
+ghost use Rattle.cmd_reporting.specs.FileNames.{format_of_output};
+ghost use Rattle.cmd_reporting.specs.FileNames.{is_standard as names_standard};
+
+use crate::fault::CommandFault;
+use crate::options::OutputFormat;
+use crate::status::Status;
+use cap_pcap::Format;
+use std::io::Write;
+use thiserror::Error;
+
+/// The name of standard input among the files that are read, and of standard output among those
+/// that are written. A file of that name is `./-`.
+const STANDARD: &str = "-";
+
+/// A file that is to be written.
+#[derive(Clone, Copy, Debug, PartialEq, Eq)]
+pub struct Target<'a> {
+    /// Its name. `-` is standard output, where the command takes it.
+    pub name: &'a str,
+    /// Its format, where one is given in place of what its name says.
+    pub to: Option<Format>,
+}
+
+impl<'a> Target<'a> {
+    /// The file of this name, in the format that the name says.
+    pub fn named(name: &'a str) -> Target<'a>
+        ensures { result ≡ record { name = name.entry; to = None } }
+    {
+        Target { name, to: None }
+    }
+
+    /// The format in which it is written: the one that is given, else by the end of its name, in
+    /// either case of letters: pcapng where that is `.pcapng`, classic pcap where it is `.pcap`,
+    /// and a capture where it is `.cap` or the name is `-`.
+    ///
+    /// `NoFormat` where nothing says one.
+    pub fn format(self) -> Result<Format, OutputFault<'a>>
+        ensures { MatchResult result
+            (λ format. format_of_output self.entry.to self.entry.name.now ≡ Some format)
+            (λ _. format_of_output self.entry.to self.entry.name.now ≡ None) }
+    {
+        let format = match self.to {
+            Some(format) => Some(format),
+            None => format_named(self.name),
+        };
+        format.ok_or(OutputFault::NoFormat(self.name))
+    }
+
+    /// The same of a file beside standard output, whose name may not be `-`.
+    pub fn file_format(self) -> Result<Format, OutputFault<'a>>
+        ensures { MatchResult result
+            (λ format. format_of_file self.entry.to self.entry.name.now ≡ Some format)
+            (λ _. format_of_file self.entry.to self.entry.name.now ≡ None) }
+    {
+        if is_standard(self.name) {
+            Err(OutputFault::NoFormat(self.name))
+        } else {
+            self.format()
+        }
+    }
+}
+
+/// The format that a name says, if it says one.
+fn format_named(name: &str) -> Option<Format>
+    ensures { result ≡ format_of_name name.now }
+{
+    if has_ending(name, ".pcapng") {
+        Some(Format::Pcapng)
+    } else if has_ending(name, ".pcap") {
+        Some(Format::Pcap)
+    } else if has_ending(name, ".cap") || is_standard(name) {
+        Some(Format::Capture)
+    } else {
+        None
+    }
+}
+
+/// Whether a name ends in these letters, each in either case.
+fn has_ending(name: &str, ending: &str) -> bool
+    ensures { result ≡ ends_in name.now ending.now }
+{
+    let (name, ending) = (name.as_bytes(), ending.as_bytes());
+    let start = name.len().saturating_sub(ending.len());
+    are_alike(&name[start..], ending)
+}
+
+/// Whether these are the same letters, each in either case.
+fn are_alike(some: &[u8], others: &[u8]) -> bool
+    ensures { result ≡ str_eq_ignore_ascii_case some.now others.now }
+{
+    some.eq_ignore_ascii_case(others)
+}
+
+/// Whether a name is that of standard input or output.
+pub fn is_standard(name: &str) -> bool
+    ensures { result ≡ names_standard name.now }
+{
+    name == STANDARD
+}
+
+/// Why a file is not written. Its text is the line on standard error.
+#[derive(Clone, Copy, Debug, PartialEq, Eq, Error)]
+pub enum OutputFault<'a> {
+    /// Neither its name nor an argument says a format.
+    #[error("geostation: {0}: no format")]
+    NoFormat(&'a str),
+    /// It is a file that is read, or another one that is written: their names, its own first.
+    #[error("geostation: {0} is {1}")]
+    SameFile(&'a str, &'a str),
+}
+
+impl CommandFault for OutputFault<'_> {
+    ghost use Rattle.cmd_reporting.specs.declared.status.Status.TheVariants.{BadArguments};
+
+    ghost status_of = { λ _. BadArguments };
+
+    fn status(&self) -> Status {
+        Status::BadArguments
+    }
+
+    fn report<E: Write>(&self, _format: OutputFormat, err: &mut E) {
+        let _ = writeln!(err, "{self}");
+    }
+}

@@ -1,0 +1,243 @@
+-- The records of a file, received by the station of the model one after the other.
+use Rattle.std.specs.Prelude.{◌≡◌, ℕ, ◌+◌, ◌-◌, ◌^◌, ◌⊎◌, ◌++◌, ◌∷◌, [], List, length, Result}
+use Rattle.std.specs.Prelude.{Ok, Err, Option, Some, None, IsSome, Bool, true, false}
+use Rattle.cap_records.specs.declared.choosing.Choice.{Choice}
+use Rattle.its_model.specs.Calls as model
+use Rattle.its_model.specs.Station.{StationModel, station_step}
+use Rattle.cap_pcap.specs.declared.fault.SourceFault.{SourceFault}
+use Rattle.cap_pcap.specs.declared.record.RecordHeader.{RecordHeader}
+use Rattle.cap_pcap.specs.declared.record.Step.{Step}
+use Rattle.cap_pcap.specs.declared.record.Step.TheVariants as steps
+use Rattle.its_station.specs.Receiving.{IsFrameCall}
+use Rattle.its_station.specs.Runs.{TellsReply}
+use Rattle.its_station.specs.State.{StationState, RepresentsStation}
+use Rattle.its_station.specs.declared.run.Call.{Call}
+use Rattle.its_station.specs.declared.run.Call.TheVariants as calls
+use Rattle.cmd_stats.specs.OnAir.{AnswersChoice, HasNothing, HasOctets, IsOnAir}
+use Rattle.cmd_stats.specs.declared.replay.heard.Heard.{Heard}
+use Rattle.cmd_stats.specs.declared.replay.heard.Heard.TheVariants as heards
+use Rattle.cmd_stats.specs.declared.replay.on_air.OnAir.{OnAir}
+use Rattle.cmd_stats.specs.declared.replay.on_air.OnAir.TheVariants as airs
+use Rattle.cmd_stats.specs.declared.replay.replaying.Gone.{Gone}
+use Rattle.cmd_stats.specs.declared.replay.replaying.Gone.TheVariants as gone
+use Rattle.cmd_stats.specs.declared.replay.replaying.Replayed.{Replayed}
+
+-- The station receives these octets at the moment: the reply is the answer of that very step of the
+-- model, and the station is the one after it.
+abbrev pub TellsReceived : StationModel → ℕ → Heard → StationModel → Type 0
+TellsReceived s moment (heards.Received at frame reply) next =
+    (at ≡ moment) × ((call : model.Call) × IsFrameCall frame.items call
+    × TellsReply reply (station_step s moment call).answer
+    × (next ≡ (station_step s moment call).station))
+TellsReceived s moment (heards.Nothing at fault) next = (at ≡ moment) × (next ≡ s)
+
+-- what is told is of the octets that the record has on the air, or of why there are none
+abbrev pub IsOf : Bool → RecordHeader → List ℕ → Heard → Type 0
+IsOf linked head w (heards.Received at frame reply) = HasOctets linked head w frame.items
+IsOf linked head w (heards.Nothing at fault) = HasNothing linked head w fault
+
+-- The record is chosen, by what there is of it to hear, and received at its moment.
+pub record TellsHeard (choice : Choice) (linked : Bool) (head : RecordHeader) (w : List ℕ)
+    (s : StationModel) (told : List Heard) (next : StationModel) : Type 0 where
+  pub air : OnAir
+  pub on_air : IsOnAir linked head w air
+  pub chosen : AnswersChoice air choice head.moment true
+  pub heard : Heard
+  pub told_is : told ≡ heard ∷ []
+  pub of : IsOf linked head w heard
+  pub received : TellsReceived s head.moment heard next
+
+-- The record isn't chosen, by what there is of it to hear: it is as if it weren't there.
+pub record TellsPassed (choice : Choice) (linked : Bool) (head : RecordHeader) (w : List ℕ)
+    (s : StationModel) (told : List Heard) (next : StationModel) : Type 0 where
+  pub air : OnAir
+  pub on_air : IsOnAir linked head w air
+  pub passed : AnswersChoice air choice head.moment false
+  pub told_is : told ≡ []
+  pub next_is : next ≡ s
+
+-- what is told of a record, and the station afterwards
+abbrev pub TellsRecord : Choice → Bool → RecordHeader → List ℕ → StationModel → List Heard → StationModel
+    → Type 0
+TellsRecord choice linked head w s told next =
+    TellsPassed choice linked head w s told next ⊎ TellsHeard choice linked head w s told next
+
+-- the same of what a call for the next record gives, with these octets: only a record is received
+abbrev pub TellsStep : Choice → Bool → List ℕ → Result Step SourceFault → StationModel
+    → List Heard → StationModel → Type 0
+TellsStep choice linked w (Ok (steps.Record head)) s told next =
+    TellsRecord choice linked head w s told next
+TellsStep choice linked w (Ok steps.Interface) s told next = (told ≡ []) × (next ≡ s)
+TellsStep choice linked w (Ok steps.Passed) s told next = (told ≡ []) × (next ≡ s)
+TellsStep choice linked w (Ok steps.End) s told next = (told ≡ []) × (next ≡ s)
+TellsStep choice linked w (Err fault) s told next = (told ≡ []) × (next ≡ s)
+
+-- what one call for the next record gave
+pub record Given : Type 0 where
+  pub octets : List ℕ
+  pub step : Result Step SourceFault
+
+-- The file gave these, one after the other, and was left so: what was told of them, and the station
+-- afterwards.
+abbrev pub TellsSteps : {S : Type 0} → (S → S → List ℕ → Result Step SourceFault → Type 0)
+    → Choice → Bool → S → StationModel → List Given → List Heard → S → StationModel → Type 0
+TellsSteps gives choice linked file s [] told left end = (told ≡ []) × (left ≡ file) × (end ≡ s)
+TellsSteps {S} gives choice linked file s (given ∷ more) told left end =
+    (first : List Heard) × (rest : List Heard) × (then : S) × (next : StationModel)
+    × (told ≡ first ++ rest) × gives file then given.octets given.step
+    × TellsStep choice linked given.octets given.step s first next
+    × TellsSteps gives choice linked then next more rest left end
+
+-- how many records one call gave, and why it gave none
+abbrev pub records_of : Result Step SourceFault → ℕ
+records_of (Ok (steps.Record head)) = 1
+records_of (Ok steps.Interface) = 0
+records_of (Ok steps.Passed) = 0
+records_of (Ok steps.End) = 0
+records_of (Err fault) = 0
+
+abbrev pub fault_of_step : Result Step SourceFault → Option SourceFault
+fault_of_step (Ok step) = None
+fault_of_step (Err fault) = Some fault
+
+-- how many records the calls gave, and the first fault
+abbrev pub records_in : List Given → ℕ
+records_in [] = 0
+records_in (given ∷ more) = records_of given.step + records_in more
+
+abbrev pub fault_first : Option SourceFault → Option SourceFault → Option SourceFault
+fault_first (Some fault) later = Some fault
+fault_first None later = later
+
+abbrev pub fault_in : List Given → Option SourceFault
+fault_in [] = None
+fault_in (given ∷ more) = fault_first (fault_of_step given.step) (fault_in more)
+
+-- The counts are those of these calls, and of what was told of them.
+pub record AreCounts (counts : Replayed) (given : List Given) (told : List Heard) : Type 0 where
+  pub read : counts.read ≡ records_in given
+  pub chosen : counts.chosen ≡ length told
+  pub fault : counts.fault ≡ fault_in given
+
+-- A station that was this one has received the records that a file gave, those that are chosen, in
+-- their order and each at its moment: what was told of them was taken, and it represents the station
+-- of the model after these very receptions.
+pub record IsReplayed {S : Type 0} (gives : S → S → List ℕ → Result Step SourceFault → Type 0)
+    (choice : Choice) (linked : Bool) (file : S) (s : StationModel) (left : S)
+    (station : StationState) (counts : Replayed) (Took : List Heard → Type 0) : Type 0 where
+  pub given : List Given
+  pub told : List Heard
+  pub end : StationModel
+  pub counted : AreCounts counts given told
+  pub tells : TellsSteps gives choice linked file s given told left end
+  pub took : Took told
+  pub stands : RepresentsStation station end
+
+-- the last call found the end of the file
+abbrev pub IsAtEnd : List Given → Type 0
+IsAtEnd given = (before : List Given) × (last : Given) × (given ≡ before ++ last ∷ [])
+    × (last.step ≡ Ok steps.End)
+
+-- Why nothing further was read: the file has a fault or ended, or as many records are chosen as are
+-- wanted. No file has so many steps as the last case says.
+abbrev pub EndsFile : Option ℕ → Replayed → List Given → Type 0
+EndsFile count counts given =
+    IsSome counts.fault ⊎ IsAtEnd given ⊎ (count ≡ Some counts.chosen)
+    ⊎ (length given ≡ 2 ^ 64 - 1)
+
+-- The same, and the file was read to its end, to its fault, or to as many chosen records as are
+-- wanted.
+pub record IsReplayedWhole {S : Type 0} (gives : S → S → List ℕ → Result Step SourceFault → Type 0)
+    (choice : Choice) (count : Option ℕ) (linked : Bool) (file : S) (s : StationModel) (left : S)
+    (station : StationState) (counts : Replayed) (Took : List Heard → Type 0) : Type 0 where
+  pub replayed : IsReplayed gives choice linked file s left station counts Took
+  pub ended : EndsFile count counts replayed.given
+
+-- ---- words of private functions
+
+-- what the end is: the file's own, where it has no fault
+abbrev pub IsEndOf : Option SourceFault → Result Step SourceFault → Type 0
+IsEndOf None step = step ≡ Ok steps.End
+IsEndOf (Some fault) step = step ≡ Err fault
+
+-- what a step met is of what the call gave and of what was told of it
+abbrev pub IsMet : Gone → Result Step SourceFault → List Heard → Type 0
+IsMet gone.Chosen step told =
+    (records_of step ≡ 1) × (length told ≡ 1) × (fault_of_step step ≡ None)
+IsMet gone.Passed step told =
+    (records_of step ≡ 1) × (length told ≡ 0) × (fault_of_step step ≡ None)
+IsMet gone.NoRecord step told =
+    (records_of step ≡ 0) × (length told ≡ 0) × (fault_of_step step ≡ None)
+IsMet (gone.End fault) step told =
+    (records_of step ≡ 0) × (length told ≡ 0) × (fault_of_step step ≡ fault)
+    × IsEndOf fault step
+
+-- whether no further step follows
+abbrev pub is_end : Gone → Bool
+is_end gone.Chosen = false
+is_end gone.Passed = false
+is_end gone.NoRecord = false
+is_end (gone.End fault) = true
+
+-- the counts after one more step
+abbrev pub counts_after : Replayed → Gone → Replayed
+counts_after r gone.Chosen =
+    record { read = r.read + 1; chosen = r.chosen + 1; fault = r.fault }
+counts_after r gone.Passed = record { read = r.read + 1; chosen = r.chosen; fault = r.fault }
+counts_after r gone.NoRecord = r
+counts_after r (gone.End fault) = record { read = r.read; chosen = r.chosen; fault = fault }
+
+-- one step of the file, after others of which this was told
+pub record IsGone {S : Type 0} (gives : S → S → List ℕ → Result Step SourceFault → Type 0)
+    (choice : Choice) (linked : Bool) (file : S) (s : StationModel) (log : List Heard) (left : S)
+    (station : StationState) (met : Gone) (Took : List Heard → Type 0) : Type 0 where
+  pub given : Given
+  pub told : List Heard
+  pub next : StationModel
+  pub met_is : IsMet met given.step told
+  pub gave : gives file left given.octets given.step
+  pub tells : TellsStep choice linked given.octets given.step s told next
+  pub took : Took (log ++ told)
+  pub stands : RepresentsStation station next
+
+-- the same of a record
+pub record IsHeard (choice : Choice) (linked : Bool) (head : RecordHeader) (w : List ℕ) (s : StationModel)
+    (log : List Heard) (station : StationState) (met : Gone) (Took : List Heard → Type 0) : Type 0 where
+  pub told : List Heard
+  pub next : StationModel
+  pub met_is : IsMet met (Ok (steps.Record head)) told
+  pub tells : TellsRecord choice linked head w s told next
+  pub took : Took (log ++ told)
+  pub stands : RepresentsStation station next
+
+-- the call is that of a frame
+abbrev pub IsReceive : Call → Type 0
+IsReceive (calls.Receive octets) = Unit {0}
+IsReceive call = ⊥
+
+-- what is told is of these octets
+abbrev pub IsToldOf : List ℕ → Heard → Type 0
+IsToldOf octets (heards.Received at frame reply) = frame.items ≡ octets
+IsToldOf octets (heards.Nothing at fault) = ⊥
+
+-- these octets were received at the moment
+pub record TellsOctets (octets : List ℕ) (moment : ℕ) (s : StationModel) (heard : Heard)
+    (station : StationState) : Type 0 where
+  pub told : IsToldOf octets heard
+  pub next : StationModel
+  pub received : TellsReceived s moment heard next
+  pub stands : RepresentsStation station next
+
+-- what is told is of what was on the air
+abbrev pub IsTold : OnAir → Heard → Type 0
+IsTold (airs.Octets octets) heard = IsToldOf octets.items heard
+IsTold (airs.Nothing fault) (heards.Nothing at why) = why ≡ fault
+IsTold (airs.Nothing fault) (heards.Received at frame reply) = ⊥
+
+-- what was on the air was received at the moment
+pub record TellsOnAir (air : OnAir) (moment : ℕ) (s : StationModel) (heard : Heard)
+    (station : StationState) : Type 0 where
+  pub told : IsTold air heard
+  pub next : StationModel
+  pub received : TellsReceived s moment heard next
+  pub stands : RepresentsStation station next

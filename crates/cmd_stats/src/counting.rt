@@ -1,0 +1,125 @@
+//! The command `stats`.
+
+ghost use Rattle.std.specs.Prelude.{IfOk};
+ghost use Rattle.cmd_reporting.specs.Statuses.{IsCommandStatus};
+
+use crate::kinds::Kinds;
+use crate::ports::Ports;
+use crate::printing::{Counted, print_object, print_tables};
+use crate::seconds::Seconds;
+use crate::sources::Sources;
+use cap_records::{
+    Place, RecordFault, RecordVisitor, Selection, each_record, open_records, traits_of,
+};
+use cmd_reporting::{Fault, Io, Status};
+use its_linkframe::FrameView;
+use std::alloc::{AllocError, Global};
+use std::io::{Read, Write};
+
+/// The octets of a frame before its packet.
+const LINK_HEADER: usize = 14;
+
+/// What is counted of the records of a capture.
+#[derive(Drop)]
+pub(crate) struct Counts {
+    pub(crate) kinds: Kinds,
+    pub(crate) sources: Sources,
+    pub(crate) ports: Ports,
+    pub(crate) seconds: Seconds,
+}
+
+impl Counts {
+    /// Nothing yet.
+    fn new(alloc: Global) -> Counts {
+        Counts {
+            kinds: Kinds::new(),
+            sources: Sources::new(alloc),
+            ports: Ports::new(alloc),
+            seconds: Seconds::new(alloc),
+        }
+    }
+
+    /// Counts a frame at a moment.
+    fn add(&mut self, moment: u64, frame: &FrameView<'_>) -> Result<(), AllocError> {
+        let length = frame.packet.octets().len().saturating_add(LINK_HEADER);
+        // No frame has more than 1468 octets.
+        let octets = u32::try_from(length).unwrap_or(u32::MAX);
+        self.kinds.add_frame(frame.packet.kind());
+        self.sources.add(moment, u64::from(octets), frame)?;
+        if let Some(port) = traits_of(frame).port {
+            self.ports.add(port, u64::from(octets))?;
+        }
+        self.seconds.add(moment, octets)
+    }
+}
+
+impl RecordVisitor for Counts {
+    fn visit<'f, W: Write>(
+        &mut self,
+        place: Place,
+        frame: Result<FrameView<'_>, RecordFault>,
+        _out: &mut W,
+    ) -> Result<(), Fault<'f>> {
+        match frame {
+            Ok(frame) => self.add(place.moment, &frame)?,
+            Err(fault) => self.kinds.add_refused(fault),
+        }
+        Ok(())
+    }
+}
+
+/// Prints what the records of the file are, of those that are chosen, and the traffic of their
+/// frames: by source, by port, and the second with the most air time. `file` is its name, and `top`
+/// how many sources are told at most. What is told is one object, or tables.
+///
+/// `Refused` where the file was refused, `Failed` where a read or a write failed or memory ran out.
+pub fn stats<R: Read + Drop, W: Write, E: Write>(
+    alloc: Global,
+    file: &str,
+    reader: R,
+    selection: &Selection,
+    top: Option<u64>,
+    io: &mut Io<W, E>,
+) -> Status
+    ensures { IsCommandStatus result }
+{
+    let ended = count(alloc, file, reader, selection, top, io);
+    io.status_of(ended)
+}
+
+/// The same, with the fault that ends it.
+pub(crate) fn count<'a, R: Read + Drop, W: Write, E>(
+    alloc: Global,
+    file: &'a str,
+    reader: R,
+    selection: &Selection,
+    top: Option<u64>,
+    io: &mut Io<W, E>,
+) -> Result<Status, Fault<'a>>
+    ensures { IfOk result IsCommandStatus }
+{
+    let mut counts = Counts::new(alloc);
+    let mut source = open_records(alloc, file, selection.format, reader)?;
+    let walked = each_record(
+        alloc,
+        file,
+        selection,
+        &mut source,
+        &mut counts,
+        &mut io.out,
+    )?;
+    let counted = Counted {
+        counts: &counts,
+        walked: &walked,
+        top,
+    };
+    if io.format.json {
+        print_object(alloc, counted, &mut io.out)?;
+    } else {
+        print_tables(alloc, counted, io.format.explain, &mut io.out)?;
+    }
+    match walked.fault {
+        Some(_) => Ok(Status::Refused),
+        None => Ok(Status::Done),
+    }
+}

@@ -1,0 +1,186 @@
+//! How many records there are of each kind of packet, and of each code of those that are refused.
+
+ghost use Rattle.std.specs.Prelude.{◌<◌};
+
+use crate::table::Table;
+use cap_pcap::LinkFault;
+use cap_records::RecordFault;
+use cmd_text::frames::Explanation;
+use its_faults::{FaultKind, FrameFault};
+use its_headers::{KINDS, Kind};
+use serde::{Case, Described, Serialize, Serializer};
+use std::alloc::{AllocError, Global};
+use std::fmt;
+
+/// How many rows there are.
+const ROWS: usize = 22;
+
+/// The names of those behind the kinds of packet, in the order in which they are printed.
+const CODES: [&str; 18] = [
+    "P3", "P4", "L1", "L2", "L3", "L4", "L5 G1", "L5 G2", "L5 G3", "L5 G4", "L5 G5", "L5 G6",
+    "L5 G7", "L5 G8", "L5 G9", "L5 G10", "L5 G11", "L5 G12",
+];
+
+/// The name of a row.
+fn name_of(row: usize) -> &'static str
+    requires { row < 22 }
+{
+    if row < KINDS.len() {
+        KINDS[row].word()
+    } else {
+        CODES[row - KINDS.len()]
+    }
+}
+
+/// How many records there are in each row.
+#[derive(Clone, Copy)]
+pub(crate) struct Kinds {
+    counts: [u64; ROWS],
+    /// The first fault of each row of refused records.
+    faults: [Option<RecordFault>; ROWS],
+}
+
+/// The name of a row, and behind it what its code means, if codes are explained.
+#[derive(Clone, Copy)]
+struct RowName {
+    name: &'static str,
+    reason: Option<Reason>,
+}
+
+impl fmt::Display for RowName {
+    fn fmt<W: fmt::Write>(&self, f: &mut fmt::Formatter<W>) -> fmt::Result {
+        write!(f, "{}{}", self.name, Explanation(self.reason))
+    }
+}
+
+/// A fault, of a packet without its place.
+#[derive(Clone, Copy)]
+struct Reason(RecordFault);
+
+impl fmt::Display for Reason {
+    fn fmt<W: fmt::Write>(&self, f: &mut fmt::Formatter<W>) -> fmt::Result {
+        match self.0 {
+            RecordFault::Frame(FrameFault::Packet(fault))
+            | RecordFault::Secured(FrameFault::Packet(fault)) => write!(f, "{}", fault.kind),
+            fault => write!(f, "{fault}"),
+        }
+    }
+}
+
+impl Kinds {
+    /// None yet.
+    pub(crate) fn new() -> Kinds {
+        Kinds {
+            counts: [0; ROWS],
+            faults: [None; ROWS],
+        }
+    }
+
+    /// Counts a frame whose packet is of this kind.
+    pub(crate) fn add_frame(&mut self, kind: Kind) {
+        self.add(row_of_kind(kind));
+    }
+
+    /// Counts a record that is refused.
+    pub(crate) fn add_refused(&mut self, fault: RecordFault) {
+        let row = row_of_fault(fault);
+        self.faults[row] = self.faults[row].or(Some(fault));
+        self.add(row);
+    }
+
+    /// Counts a record of a row. No file has 2^64 records.
+    fn add(&mut self, row: usize)
+        requires { row < 22 }
+    {
+        self.counts[row] = self.counts[row].saturating_add(1);
+    }
+
+    /// The table of the rows that occur, with what each code means if codes are explained.
+    pub(crate) fn table(&self, alloc: Global, explain: bool) -> Result<Table, AllocError> {
+        let mut table = Table::new(alloc, &["kind", "records"])?;
+        for row in 0..ROWS {
+            if self.counts[row] > 0 {
+                let reason = if explain { self.faults[row] } else { None };
+                table.add(&RowName {
+                    name: name_of(row),
+                    reason: reason.map(Reason),
+                })?;
+                table.add(&self.counts[row])?;
+            }
+        }
+        Ok(table)
+    }
+}
+
+impl Described for Kinds {}
+
+impl Serialize for Kinds {
+    fn serialize<S: Serializer>(&self, out: &mut S) -> Result<(), S::Error> {
+        out.begin_map(None)?;
+        for row in 0..ROWS {
+            if self.counts[row] > 0 {
+                out.key_cased(name_of(row), Case::AsIs)?;
+                out.u64(self.counts[row])?;
+            }
+        }
+        out.end_map()
+    }
+}
+
+/// The row of a kind of packet.
+fn row_of_kind(kind: Kind) -> usize
+    ensures { result < 22 }
+{
+    match kind {
+        Kind::Beacon => 0,
+        Kind::Shb => 1,
+        Kind::Gbc => 2,
+        Kind::Gac => 3,
+    }
+}
+
+/// The row of why a record is refused.
+fn row_of_fault(fault: RecordFault) -> usize
+    ensures { result < 22 }
+{
+    match fault {
+        RecordFault::Record(cap_pcap::RecordFault::LinkType) => 4,
+        RecordFault::Record(cap_pcap::RecordFault::CutFrame) => 5,
+        RecordFault::Link(LinkFault::Short) => 6,
+        RecordFault::Link(LinkFault::Kind) => 7,
+        RecordFault::Frame(fault) | RecordFault::Secured(fault) => row_of_frame(fault),
+    }
+}
+
+/// The row of why octets are no frame.
+fn row_of_frame(fault: FrameFault) -> usize
+    ensures { result < 22 }
+{
+    match fault {
+        FrameFault::Short => 6,
+        FrameFault::EtherType => 7,
+        FrameFault::TooLong => 8,
+        FrameFault::Trailing => 9,
+        FrameFault::Packet(fault) => row_of_packet(fault.kind),
+    }
+}
+
+/// The row of why octets are no packet.
+fn row_of_packet(kind: FaultKind) -> usize
+    ensures { result < 22 }
+{
+    match kind {
+        FaultKind::Truncated => 10,
+        FaultKind::Version => 11,
+        FaultKind::BasicNext => 12,
+        FaultKind::Reserved => 13,
+        FaultKind::HopZero => 14,
+        FaultKind::CommonNext => 15,
+        FaultKind::HeaderType => 16,
+        FaultKind::SubType => 17,
+        FaultKind::HopAboveMax => 18,
+        FaultKind::PayloadLength => 19,
+        FaultKind::Position => 20,
+        FaultKind::Area => 21,
+    }
+}

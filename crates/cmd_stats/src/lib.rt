@@ -1,0 +1,17 @@
+//! The command `stats`: what the records of a capture are, and the traffic of its frames by source,
+//! by port and by second.
+#![tactic(auto)]
+
+mod counting;
+mod files;
+mod kinds;
+mod numbers;
+mod ports;
+mod printing;
+pub mod replay;
+mod seconds;
+mod sources;
+mod table;
+
+pub use counting::stats;
+pub use files::stats_file;

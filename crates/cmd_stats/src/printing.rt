@@ -1,0 +1,99 @@
+//! What was counted, as tables and as an object in JSON.
+
+use crate::counting::Counts;
+use crate::kinds::Kinds;
+use crate::ports::{PortRow, port_table};
+use crate::seconds::{SecondRow, second_table};
+use crate::sources::{SourceRow, source_table};
+use cap_records::{RefusedCapture, Walked};
+use cmd_reporting::Fault;
+use cmd_text::json_lines::JsonLine;
+use serde::{Described, Serialize, Serializer};
+use std::alloc::Global;
+use std::io::Write;
+
+/// What there is to print.
+#[derive(Clone, Copy)]
+pub(crate) struct Counted<'c> {
+    pub(crate) counts: &'c Counts,
+    /// How far the file was read.
+    pub(crate) walked: &'c Walked,
+    /// How many sources are told at most.
+    pub(crate) top: Option<u64>,
+}
+
+/// Prints the four tables, an empty line between them, and why the file was refused, with `explain`
+/// as a sentence too.
+pub(crate) fn print_tables<'f, W: Write>(
+    alloc: Global,
+    counted: Counted<'_>,
+    explain: bool,
+    out: &mut W,
+) -> Result<(), Fault<'f>> {
+    let (counts, walked) = (counted.counts, counted.walked);
+    let sources = counts.sources.rows(counted.top)?;
+    let ports = counts.ports.rows()?;
+    counts.kinds.table(alloc, explain)?.write(out)?;
+    writeln!(out)?;
+    source_table(alloc, sources.as_slice())?.write(out)?;
+    writeln!(out)?;
+    port_table(alloc, ports.as_slice())?.write(out)?;
+    writeln!(out)?;
+    second_table(alloc, counts.seconds.busiest())?.write(out)?;
+    if let Some(fault) = walked.fault {
+        let told = RefusedCapture::new(walked.read, fault, explain);
+        writeln!(out, "{told}")?;
+    }
+    Ok(())
+}
+
+/// Rows, as an array.
+#[derive(Clone, Copy)]
+struct Rows<'a, T>(&'a [T]);
+
+impl<T> Described for Rows<'_, T> {}
+
+impl<T: Serialize> Serialize for Rows<'_, T> {
+    fn serialize<S: Serializer>(&self, out: &mut S) -> Result<(), S::Error> {
+        out.begin_seq(Some(self.0.len()))?;
+        for row in self.0 {
+            row.serialize(out)?;
+        }
+        out.end_seq()
+    }
+}
+
+/// All that was counted: its keys in this order.
+#[derive(Clone, Copy, Serialize)]
+struct Everything<'a> {
+    records: Kinds,
+    sources: Rows<'a, SourceRow>,
+    ports: Rows<'a, PortRow>,
+    load: Option<SecondRow>,
+    #[serde(flatten)]
+    fault: Option<RefusedCapture>,
+}
+
+/// Prints it as one object.
+pub(crate) fn print_object<'f, W: Write>(
+    alloc: Global,
+    counted: Counted<'_>,
+    out: &mut W,
+) -> Result<(), Fault<'f>> {
+    let (counts, walked) = (counted.counts, counted.walked);
+    let sources = counts.sources.rows(counted.top)?;
+    let ports = counts.ports.rows()?;
+    let fault = walked
+        .fault
+        .map(|fault| RefusedCapture::new(walked.read, fault, false));
+    let everything = Everything {
+        records: counts.kinds,
+        sources: Rows(sources.as_slice()),
+        ports: Rows(ports.as_slice()),
+        load: counts.seconds.busiest(),
+        fault,
+    };
+    let mut line = JsonLine::new(alloc)?;
+    out.write_all(line.of(&everything)?)?;
+    Ok(())
+}

@@ -1,0 +1,42 @@
+//! What came of the records of a capture, and what takes it.
+
+use cap_records::RecordFault;
+use cmd_reporting::Fault;
+use its_station::Reply;
+
+/// What came of a record that is chosen.
+#[derive(Debug, Drop, PartialEq, Eq)]
+pub enum Heard {
+    /// The station received its frame.
+    Received {
+        /// The record's moment, in milliseconds.
+        moment: u64,
+        /// The octets that the station received.
+        frame: Vec<u8>,
+        /// What it answered.
+        reply: Reply,
+    },
+    /// Its link layer has no frame, so nothing reached the station.
+    Nothing {
+        /// The record's moment, in milliseconds.
+        moment: u64,
+        /// Why there is none.
+        fault: RecordFault,
+    },
+}
+
+/// What takes what came of records, one by one, in their order.
+pub trait HeardSink {
+    ghost use Rattle.std.specs.Prelude.{◌++◌, ◌∷◌, [], List, OnOk};
+    ghost use Rattle.cmd_stats.specs.declared.replay.heard.Heard.{Heard};
+
+    /// What it says of having taken these, in order. A sink that keeps none may say nothing of
+    /// them.
+    ghost Took: { Self → List Heard → Type 0 };
+
+    /// Takes what came of the next record. `NoOutput` where a write failed, `OutOfMemory` where an
+    /// allocation did.
+    fn put<'f>(&mut self, heard: Heard) -> Result<(), Fault<'f>>
+        ensures { (log : List Heard) → Took self.old log
+            → OnOk result (Took self.new (log ++ heard ∷ [])) };
+}

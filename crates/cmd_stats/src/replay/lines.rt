@@ -1,0 +1,92 @@
+//! What is told of a record: its words, and its keys in JSON.
+
+use crate::replay::heard::Heard;
+use cap_records::{RecordCode, RecordFault};
+use cmd_text::answers::{AnswerKeys, PrintedAnswer, RefusedReason};
+use its_station::{Refused, RefusedCode, Reply};
+use serde::Serialize;
+use std::fmt;
+
+/// What is told of a record: in JSON its keys in this order, in text the words of an entry.
+#[derive(Clone, Copy, Serialize)]
+pub(crate) struct ReplayLine<'a> {
+    moment: u64,
+    #[serde(rename = "do")]
+    word: &'static str,
+    #[serde(flatten)]
+    answer: PrintedAnswer<'a, Code, Reason>,
+}
+
+/// The code of what is refused.
+#[derive(Clone, Copy)]
+enum Code {
+    /// By the station, as `S3 L1`.
+    Station(RefusedCode),
+    /// Before it reached the station, as `P4`.
+    Record(RecordCode),
+}
+
+impl fmt::Display for Code {
+    fn fmt<W: fmt::Write>(&self, f: &mut fmt::Formatter<W>) -> fmt::Result {
+        match self {
+            Code::Station(code) => write!(f, "{code}"),
+            Code::Record(code) => write!(f, "{code}"),
+        }
+    }
+}
+
+/// Why it is refused, as a sentence. Of octets that are no frame it is theirs.
+#[derive(Clone, Copy)]
+enum Reason {
+    Station(Refused),
+    Record(RecordFault),
+}
+
+impl fmt::Display for Reason {
+    fn fmt<W: fmt::Write>(&self, f: &mut fmt::Formatter<W>) -> fmt::Result {
+        match self {
+            Reason::Station(refused) => write!(f, "{}", RefusedReason(*refused)),
+            Reason::Record(fault) => write!(f, "{fault}"),
+        }
+    }
+}
+
+impl<'a> ReplayLine<'a> {
+    /// What is told of a record. A frame that goes on gets this number. With `explain` the words of
+    /// a refusal go on with its sentence.
+    pub(crate) fn of(heard: &'a Heard, number: u64, explain: bool) -> ReplayLine<'a> {
+        let (moment, answer) = match heard {
+            Heard::Received { moment, reply, .. } => (*moment, reply_keys(reply, number)),
+            Heard::Nothing { moment, fault } => {
+                let code = Code::Record(fault.code());
+                (*moment, AnswerKeys::refused(code, Reason::Record(*fault)))
+            }
+        };
+        ReplayLine {
+            moment,
+            word: "receive",
+            answer: answer.explaining(explain),
+        }
+    }
+}
+
+/// What is told of a reply.
+fn reply_keys(reply: &Reply, number: u64) -> PrintedAnswer<'_, Code, Reason> {
+    match reply {
+        Reply::Ignored(why) => AnswerKeys::ignored(*why),
+        Reply::Accepted { handed, sent } => {
+            AnswerKeys::accepted(handed, sent.as_ref().map(|_| number))
+        }
+        Reply::Refused(refused) => {
+            AnswerKeys::refused(Code::Station(refused.code()), Reason::Station(*refused))
+        }
+        // No frame is answered so.
+        Reply::Done | Reply::Quiet | Reply::Sent(_) => AnswerKeys::word("done"),
+    }
+}
+
+impl fmt::Display for ReplayLine<'_> {
+    fn fmt<W: fmt::Write>(&self, f: &mut fmt::Formatter<W>) -> fmt::Result {
+        write!(f, "{} {}", self.moment, self.answer)
+    }
+}

@@ -1,0 +1,216 @@
+//! The records of a file, each received by the station at its moment.
+
+ghost use Rattle.std.specs.Prelude.{◌≡◌, ◌<◌, ◌-◌, ◌^◌, [], IfOk, List, None};
+ghost use Rattle.its_model.specs.Station.{StationModel};
+ghost use Rattle.its_station.specs.State.{RepresentsStation};
+ghost use Rattle.cmd_stats.specs.declared.replay.heard.Heard.{Heard as ToldRecord};
+ghost use Rattle.cmd_stats.specs.Replays.{IsReplayedWhole, IsGone, IsHeard, TellsOctets};
+ghost use Rattle.cmd_stats.specs.Replays.{TellsOnAir};
+ghost use Rattle.cmd_stats.specs.Replays.{IsReceive, counts_after, is_end};
+
+use crate::replay::heard::{Heard, HeardSink};
+use crate::replay::on_air::OnAir;
+use cap_pcap::{LONGEST_RECORD, RecordHeader, RecordSource, SourceFault, Step};
+use cap_records::{Choice, Selection};
+use cmd_reporting::Fault;
+use its_gnvalue::NoMemory;
+use its_loctable::SortedTable;
+use its_station::{Call, Station};
+use std::alloc::Global;
+
+/// How far a file was replayed.
+#[derive(Clone, Copy, Debug, PartialEq, Eq)]
+pub struct Replayed {
+    /// How many records were read.
+    pub read: u64,
+    /// How many of them were chosen.
+    pub chosen: u64,
+    /// Why no further one was, where the file is at fault.
+    pub fault: Option<SourceFault>,
+}
+
+impl Replayed {
+    /// Nothing yet.
+    fn begin() -> Replayed
+        ensures { result ≡ record { read = 0; chosen = 0; fault = None } }
+    {
+        Replayed {
+            read: 0,
+            chosen: 0,
+            fault: None,
+        }
+    }
+
+    /// The same after one more step.
+    fn after(self, met: Gone) -> Replayed
+        requires read { self.read < 2 ^ 64 - 1 }
+        requires chosen { self.chosen < 2 ^ 64 - 1 }
+        ensures { result ≡ counts_after self met }
+    {
+        match met {
+            Gone::Chosen => Replayed {
+                read: self.read + 1,
+                chosen: self.chosen + 1,
+                fault: self.fault,
+            },
+            Gone::Passed => Replayed {
+                read: self.read + 1,
+                ..self
+            },
+            Gone::NoRecord => self,
+            Gone::End(fault) => Replayed { fault, ..self },
+        }
+    }
+}
+
+/// What a step over the file met.
+#[derive(Clone, Copy, Debug, PartialEq, Eq)]
+enum Gone {
+    /// A record that is chosen.
+    Chosen,
+    /// A record that isn't.
+    Passed,
+    /// A part of the file that has no record.
+    NoRecord,
+    /// Its end, or its fault.
+    End(Option<SourceFault>),
+}
+
+impl Gone {
+    /// Whether there is no further step.
+    fn is_end(self) -> bool
+        ensures { result ≡ is_end self }
+    {
+        matches!(self, Gone::End(_))
+    }
+}
+
+/// Reads the file to its end, to its fault or until as many records are chosen as are wanted, and
+/// gives the octets of each chosen one to the station, at the record's moment: each is a call of
+/// `Station::receive`. What came of it is handed to the sink before the next is read. The
+/// station represents that of the model after these calls. `linked` says that records have the
+/// header of their link layer.
+///
+/// `OutOfMemory` where an allocation failed, and what the sink answers: then nothing further is
+/// read.
+pub fn replay_records<'f, S: RecordSource, K: HeardSink>(
+    alloc: Global,
+    station: &mut Station<SortedTable>,
+    selection: &Selection,
+    source: &mut S,
+    linked: bool,
+    sink: &mut K,
+) -> Result<Replayed, Fault<'f>>
+    ensures { (s : StationModel) → RepresentsStation station.old s → K.Took sink.old [] →
+        IfOk result (λ counts. IsReplayedWhole S.GivesStep selection.now.choice
+        selection.now.count linked source.old s source.new station.new counts
+        (K.Took sink.new)) }
+{
+    let mut octets = Vec::with_capacity(alloc, LONGEST_RECORD)?;
+    let choice = &selection.choice;
+    let mut replayed = Replayed::begin();
+    // The range is there so that the walk ends on any source. No file reaches its end: a step has
+    // 11 octets at least, so that many are over 2^67 octets.
+    for step in 0..u64::MAX {
+        if selection.count == Some(replayed.chosen) {
+            return Ok(replayed);
+        }
+        let met = go_on(alloc, station, choice, source, linked, &mut octets, sink)?;
+        replayed = replayed.after(met);
+        if met.is_end() {
+            return Ok(replayed);
+        }
+    }
+    Ok(replayed)
+}
+
+/// Goes one step over the file.
+fn go_on<'f, S: RecordSource, K: HeardSink>(
+    alloc: Global,
+    station: &mut Station<SortedTable>,
+    choice: &Choice,
+    source: &mut S,
+    linked: bool,
+    octets: &mut Vec<u8>,
+    sink: &mut K,
+) -> Result<Gone, Fault<'f>>
+    ensures { (s : StationModel) (log : List ToldRecord) → RepresentsStation station.old s →
+        K.Took sink.old log → IfOk result (λ met. IsGone S.GivesStep choice.now linked
+        source.old s log source.new station.new met (K.Took sink.new)) }
+{
+    match source.next_into(octets) {
+        Ok(Step::Record(head)) => { hear(alloc, station, choice, &head, linked, octets, sink) }
+        Ok(Step::Interface) => Ok(Gone::NoRecord),
+        Ok(Step::Passed) => Ok(Gone::NoRecord),
+        Ok(Step::End) => Ok(Gone::End(None)),
+        Err(fault) => Ok(Gone::End(Some(fault))),
+    }
+}
+
+/// Gives a record to the station, if it is chosen, and what came of it to the sink.
+fn hear<'f, K: HeardSink>(
+    alloc: Global,
+    station: &mut Station<SortedTable>,
+    choice: &Choice,
+    head: &RecordHeader,
+    linked: bool,
+    octets: &mut Vec<u8>,
+    sink: &mut K,
+) -> Result<Gone, Fault<'f>>
+    ensures { (s : StationModel) (log : List ToldRecord) → RepresentsStation station.old s →
+        K.Took sink.old log → IfOk result (λ met. IsHeard choice.now linked head.now
+        octets.old.items s log station.new met (K.Took sink.new)) }
+{
+    let on_air = OnAir::of(alloc, head, octets, linked)?;
+    if !on_air.is_chosen(choice, head.moment) {
+        return Ok(Gone::Passed);
+    }
+    let heard = receive(station, head.moment, on_air)?;
+    sink.put(heard)?;
+    Ok(Gone::Chosen)
+}
+
+/// Gives what was on the air to the station at a moment. `NoMemory` where an allocation failed: the
+/// station stands as before.
+fn receive(
+    station: &mut Station<SortedTable>,
+    moment: u64,
+    on_air: OnAir,
+) -> Result<Heard, NoMemory>
+    ensures { (s : StationModel) → RepresentsStation station.old s →
+        IfOk result (λ heard. TellsOnAir on_air moment s heard station.new) }
+{
+    match on_air {
+        OnAir::Octets(octets) => receive_octets(station, moment, octets),
+        OnAir::Nothing(fault) => Ok(Heard::Nothing { moment, fault }),
+    }
+}
+
+/// Gives octets to the station at a moment.
+fn receive_octets(
+    station: &mut Station<SortedTable>,
+    moment: u64,
+    octets: Vec<u8>,
+) -> Result<Heard, NoMemory>
+    ensures { (s : StationModel) → RepresentsStation station.old s →
+        IfOk result (λ heard. TellsOctets octets.items moment s heard station.new) }
+{
+    let call = Call::Receive(octets);
+    let reply = station.answer(moment, &call)?;
+    Ok(Heard::Received {
+        moment,
+        frame: octets_of(call),
+        reply,
+    })
+}
+
+/// The octets of a frame that was received.
+fn octets_of(call: Call) -> Vec<u8>
+    requires { IsReceive call }
+    ensures { call ≡ Call.Receive result }
+{
+    match call {
+        Call::Receive(octets) => octets,
+        _ => unreachable!(),
+    }
+}

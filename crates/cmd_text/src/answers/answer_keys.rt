@@ -1,0 +1,119 @@
+//! What is told of an answer.
+
+use crate::answers::words::{ACCEPTED, IGNORED, REFUSED, SENT, why_word};
+use crate::frames::{Explanation, Hex, MessageKeys};
+use crate::json_lines::{Octets, Printed};
+use its_station::{Delivery, Why};
+use serde::Serialize;
+use std::fmt;
+
+/// What is told of an answer, in the order in which lines tell it: as keys in JSON, and as words in
+/// text. A refusal has a code and a reason, which words tell where they explain.
+#[derive(Clone, Copy, Serialize)]
+pub struct AnswerKeys<'a, Code, Reason> {
+    result: &'static str,
+    #[serde(skip_serializing_if = "Option::is_none")]
+    why: Option<&'static str>,
+    #[serde(skip_serializing_if = "Option::is_none")]
+    code: Option<Code>,
+    #[serde(skip_serializing_if = "Option::is_none")]
+    reason: Option<Reason>,
+    #[serde(flatten)]
+    delivered: Option<MessageKeys<'a>>,
+    #[serde(skip_serializing_if = "Option::is_none")]
+    sent: Option<u64>,
+    #[serde(skip)]
+    explain: bool,
+}
+
+/// What is told of a payload that is delivered to its port.
+pub fn delivery_keys(delivery: &Delivery) -> MessageKeys<'_> {
+    MessageKeys {
+        port: delivery.port,
+        info: delivery.info,
+        payload: Octets(delivery.payload.as_slice()),
+    }
+}
+
+/// The same, whose code and reason are told as they print.
+pub type PrintedAnswer<'a, C, R> = AnswerKeys<'a, Printed<C>, Printed<R>>;
+
+impl<'a, C: Drop, R: Drop> PrintedAnswer<'a, C, R> {
+    /// A word, as `opened`, and nothing else.
+    pub fn word(word: &'static str) -> PrintedAnswer<'a, C, R> {
+        AnswerKeys {
+            result: word,
+            why: None,
+            code: None,
+            reason: None,
+            delivered: None,
+            sent: None,
+            explain: false,
+        }
+    }
+
+    /// The frame of this number was sent.
+    pub fn sent(frame: u64) -> PrintedAnswer<'a, C, R> {
+        AnswerKeys {
+            sent: Some(frame),
+            ..AnswerKeys::word(SENT)
+        }
+    }
+
+    /// What came was ignored.
+    pub fn ignored(why: Why) -> PrintedAnswer<'a, C, R> {
+        AnswerKeys {
+            why: Some(why_word(why)),
+            ..AnswerKeys::word(IGNORED)
+        }
+    }
+
+    /// What came was accepted: this was delivered, if anything was, and it went on as the frame of
+    /// this number, if it did.
+    pub fn accepted(delivery: &'a Option<Delivery>, sent: Option<u64>) -> PrintedAnswer<'a, C, R> {
+        AnswerKeys {
+            delivered: delivery.as_ref().map(delivery_keys),
+            sent,
+            ..AnswerKeys::word(ACCEPTED)
+        }
+    }
+
+    /// It was refused, by this code and for this reason.
+    pub fn refused(code: C, reason: R) -> PrintedAnswer<'a, C, R> {
+        AnswerKeys {
+            code: Some(Printed(code)),
+            reason: Some(Printed(reason)),
+            ..AnswerKeys::word(REFUSED)
+        }
+    }
+
+    /// The same, whose words go on with the reason of a refusal where it is asked for, as
+    /// `refused M3 (there is no such frame)`.
+    pub fn explaining(self, explain: bool) -> PrintedAnswer<'a, C, R> {
+        AnswerKeys { explain, ..self }
+    }
+}
+
+impl<C: fmt::Display, R: fmt::Display> fmt::Display for PrintedAnswer<'_, C, R> {
+    fn fmt<W: fmt::Write>(&self, f: &mut fmt::Formatter<W>) -> fmt::Result {
+        f.write_str(self.result)?;
+        if let Some(why) = self.why {
+            write!(f, " {why}")?;
+        }
+        if let Some(Printed(code)) = &self.code {
+            write!(f, " {code}")?;
+        }
+        if let (true, Some(Printed(reason))) = (self.explain, &self.reason) {
+            write!(f, "{}", Explanation(Some(reason)))?;
+        }
+        if let Some(message) = &self.delivered {
+            let (port, info) = (message.port, message.info);
+            write!(f, " port {port} info {info} {}", Hex(message.payload.0))?;
+        }
+        match self.sent {
+            Some(frame) if self.result == SENT => write!(f, " {frame}"),
+            Some(frame) => write!(f, " sent {frame}"),
+            None => Ok(()),
+        }
+    }
+}

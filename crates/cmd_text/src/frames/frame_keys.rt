@@ -1,0 +1,149 @@
+//! What is told of a frame.
+
+use crate::json_lines::{Digits, Octets};
+use its_btp::split;
+use its_geometry::{Area, Shape};
+use its_headers::PacketView;
+use its_linkframe::FrameView;
+use serde::Serialize;
+
+/// What is told of a frame, in the order in which lines tell it: as keys in JSON, and as words in
+/// text.
+#[derive(Clone, Copy, Serialize)]
+pub struct FrameKeys<'a> {
+    /// The link address from which it comes.
+    pub from: Digits<6>,
+    /// The link address to which it goes.
+    pub to: Digits<6>,
+    /// The kind of its packet: `beacon`, `shb`, `gbc` or `gac`.
+    pub kind: &'static str,
+    /// The GN address of the packet's source.
+    pub address: Digits<8>,
+    /// The time stamp of the source's vector, in milliseconds modulo 2^32.
+    pub tst: u32,
+    /// Where the source was, in tenths of a microdegree.
+    pub lat: i32,
+    /// Where the source was, in tenths of a microdegree.
+    pub lon: i32,
+    /// Whether that place is accurate.
+    pub pai: bool,
+    /// In 0.01 m/s.
+    pub speed: i16,
+    /// In 0.1 degree, clockwise from north.
+    pub heading: u16,
+    /// The octet of the lifetime: a multiplier, then a base.
+    pub lt: u8,
+    /// The octet of the traffic class.
+    pub tc: u8,
+    /// Whether the source is mobile.
+    pub mobile: bool,
+    /// How many hops are left.
+    pub hops: u8,
+    /// How many hops there are at most.
+    pub max_hops: u8,
+    /// Of a packet for an area.
+    #[serde(flatten)]
+    pub target: Option<TargetKeys>,
+    /// Of a packet with a payload.
+    #[serde(flatten)]
+    pub message: Option<MessageKeys<'a>>,
+}
+
+/// Where a packet for an area goes, and its number.
+#[derive(Clone, Copy, Serialize)]
+pub struct TargetKeys {
+    /// Its sequence number.
+    pub number: u16,
+    /// `circle`, `rectangle` or `ellipse`.
+    pub shape: &'static str,
+    /// The centre, in tenths of a microdegree.
+    pub alat: i32,
+    /// The centre, in tenths of a microdegree.
+    pub alon: i32,
+    /// The radius, or the half length along the angle, in metres.
+    pub a: u16,
+    /// The half length across the angle, in metres; 0 of a circle.
+    pub b: u16,
+    /// In degrees, clockwise from north.
+    pub angle: u16,
+}
+
+/// What is sent to a port.
+#[derive(Clone, Copy, Serialize)]
+pub struct MessageKeys<'a> {
+    /// The destination port (BTP-B).
+    pub port: u16,
+    /// The destination port info.
+    pub info: u16,
+    /// What follows the header.
+    pub payload: Octets<'a>,
+}
+
+impl<'a> FrameKeys<'a> {
+    /// What is told of a frame.
+    pub fn of(frame: &FrameView<'a>) -> FrameKeys<'a> {
+        let packet = &frame.packet;
+        let vector = packet.vector();
+        let place = vector.place();
+        FrameKeys {
+            from: Digits(frame.from.octets()),
+            to: Digits(frame.to.octets()),
+            kind: packet.kind().word(),
+            address: Digits(vector.address().as_u64().to_be_bytes()),
+            tst: vector.tst(),
+            lat: place.lat(),
+            lon: place.lon(),
+            pai: vector.pai(),
+            speed: vector.speed(),
+            heading: vector.heading(),
+            lt: packet.lifetime().octet(),
+            tc: packet.class().octet(),
+            mobile: packet.mobile(),
+            hops: packet.hops().left(),
+            max_hops: packet.hops().max(),
+            target: TargetKeys::of(packet),
+            message: MessageKeys::of(packet.payload()),
+        }
+    }
+}
+
+fn shape_word(shape: Shape) -> &'static str {
+    match shape {
+        Shape::Circle => "circle",
+        Shape::Rectangle => "rectangle",
+        Shape::Ellipse => "ellipse",
+    }
+}
+
+impl TargetKeys {
+    /// Of a packet for an area alone.
+    fn of(packet: &PacketView<'_>) -> Option<TargetKeys> {
+        let (number, area) = (packet.number()?, packet.area()?);
+        Some(TargetKeys::in_area(number, area))
+    }
+
+    fn in_area(number: u16, area: Area) -> TargetKeys {
+        let centre = area.centre();
+        TargetKeys {
+            number,
+            shape: shape_word(area.shape()),
+            alat: centre.lat(),
+            alon: centre.lon(),
+            a: area.a(),
+            b: area.b(),
+            angle: area.angle(),
+        }
+    }
+}
+
+impl<'a> MessageKeys<'a> {
+    /// Port, info and what follows the BTP-B header, where there is one.
+    fn of(payload: &'a [u8]) -> Option<MessageKeys<'a>> {
+        let (port, info, rest) = split(payload).ok()?;
+        Some(MessageKeys {
+            port,
+            info,
+            payload: Octets(rest),
+        })
+    }
+}

@@ -1,5 +1,0 @@
-use Rattle.its_air_model.proofs.Heard.{deliveries_are_heard}
-use Rattle.its_air_model.proofs.laws.deliveries_are_heard.Goals as goal
-
-pub returns : goal.returns
-returns c = deliveries_are_heard

@@ -1,5 +1,0 @@
-use Rattle.its_air_model.proofs.Once.{delivers_once}
-use Rattle.its_air_model.proofs.laws.deliveries_come_once.Goals as goal
-
-pub returns : goal.returns
-returns c = delivers_once

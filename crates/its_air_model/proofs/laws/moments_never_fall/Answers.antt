@@ -1,5 +1,0 @@
-use Rattle.its_air_model.proofs.Moments.{moments_never_fall}
-use Rattle.its_air_model.proofs.laws.moments_never_fall.Goals as goal
-
-pub returns : goal.returns
-returns c = moments_never_fall

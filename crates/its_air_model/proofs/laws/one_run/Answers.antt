@@ -1,5 +1,0 @@
-use Rattle.its_air_model.proofs.OneRun.{one_run}
-use Rattle.its_air_model.proofs.laws.one_run.Goals as goal
-
-pub returns : goal.returns
-returns c = one_run

@@ -1,5 +1,0 @@
-use Rattle.its_air_model.proofs.Carried.{reaches_in_air}
-use Rattle.its_air_model.proofs.laws.reaches_in_air.Goals as goal
-
-pub returns : goal.returns
-returns c = reaches_in_air

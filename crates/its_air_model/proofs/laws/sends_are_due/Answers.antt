@@ -1,5 +1,0 @@
-use Rattle.its_air_model.proofs.Sends.{sends_are_due}
-use Rattle.its_air_model.proofs.laws.sends_are_due.Goals as goal
-
-pub returns : goal.returns
-returns c = sends_are_due

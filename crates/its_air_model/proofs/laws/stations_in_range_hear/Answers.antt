@@ -1,5 +1,0 @@
-use Rattle.its_air_model.proofs.Carried.{stations_in_range_hear}
-use Rattle.its_air_model.proofs.laws.stations_in_range_hear.Goals as goal
-
-pub returns : goal.returns
-returns c = stations_in_range_hear

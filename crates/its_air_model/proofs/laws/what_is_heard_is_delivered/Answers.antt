@@ -1,5 +1,0 @@
-use Rattle.its_air_model.proofs.Heard.{what_is_heard_is_delivered}
-use Rattle.its_air_model.proofs.laws.what_is_heard_is_delivered.Goals as goal
-
-pub returns : goal.returns
-returns c = what_is_heard_is_delivered

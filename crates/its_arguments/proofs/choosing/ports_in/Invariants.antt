@@ -1,9 +1,0 @@
-use Rattle.std.proofs.Common.{map, take}
-use Rattle.its_arguments.specs.Options.{ArePorts}
-use Rattle.its_arguments.proofs.choosing.ports_in.Given as goal
-use Rattle.its_replay.specs.Units.{listed}
-
--- the ports of the words so far
-abbrev pub invariant-loop-word : goal.invariant-loop-word
-invariant-loop-word l =
-    ArePorts (map (λ w. w.now) (take l.word-index l.words)) (listed l.ports)

@@ -1,7 +1,0 @@
-pub mod Airs
-pub mod Centres
-pub mod Events
-pub mod Reading
-pub mod Saying
-pub mod Tables
-pub mod Verbs

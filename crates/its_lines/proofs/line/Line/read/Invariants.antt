@@ -1,7 +1,0 @@
-use Rattle.its_lines.proofs.Texts.{Reading}
-use Rattle.its_lines.proofs.line.Line.read.Given as goal
-
--- the line was read so far
-abbrev pub invariant-loop : goal.invariant-loop
-invariant-loop g l =
-    Reading l.fn.self.most (g.R.Read.remaining l.fn.reader) (g.R.Read.remaining l.reader) l.self

@@ -1,6 +1,0 @@
-pub mod Hearing
-pub mod Bands
-pub mod Between
-pub mod Rows
-pub mod Shifts
-pub mod Counts

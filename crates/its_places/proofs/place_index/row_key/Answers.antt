@@ -1,7 +1,0 @@
-use Rattle.its_places.specs.PlaceIndexes.{row_key}
-use Rattle.std.proofs.Common.{rules}
-use Rattle.its_places.proofs.place_index.row_key.Goals as goal
-
-pub returns-clause-value : goal.returns-clause-value
-unfolding row_key
-returns-clause-value c = search rules

@@ -1,8 +1,0 @@
-//! Where the stations of a world stand, and which of them hear what one of them gives.
-#![tactic(auto)]
-
-mod place_index;
-mod reach;
-
-pub use place_index::{PlaceIndex, Standing};
-pub use reach::{find_hearers, is_within};

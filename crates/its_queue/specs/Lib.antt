@@ -1,9 +1,0 @@
-pub mod Traffics
-pub mod Waiting
-pub mod Counted
-pub mod Line
-pub mod Waits
-pub mod Queues
-pub mod Files
-pub mod Due
-pub mod Keeps

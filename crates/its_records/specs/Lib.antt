@@ -1,3 +1,0 @@
-pub mod FileFaults
-pub mod RecordFrames
-pub mod Walks

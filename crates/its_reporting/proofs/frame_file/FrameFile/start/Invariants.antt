@@ -1,7 +1,0 @@
-use Rattle.its_pcap.specs.Sinks.{file_of_sink}
-use Rattle.its_reporting.specs.FrameFiles.{AddsInterfaces}
-use Rattle.its_reporting.proofs.frame_file.FrameFile.start.Given as goal
-
-abbrev pub invariant-loop-station : goal.invariant-loop-station
-invariant-loop-station g l =
-    AddsInterfaces l.station-counter (file_of_sink l.initial.sink) (file_of_sink l.sink)

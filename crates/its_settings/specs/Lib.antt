@@ -1,3 +1,0 @@
-pub mod Items
-pub mod Moves
-pub mod Saying

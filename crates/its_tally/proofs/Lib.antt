@@ -1,4 +1,0 @@
-pub mod Counts
-pub mod Starts
-pub mod Summaries
-pub mod Tallies

@@ -1,5 +1,0 @@
-//! Tests of worlds through their public calls.
-#![tactic(auto)]
-
-#[cfg(test)]
-mod worlds;

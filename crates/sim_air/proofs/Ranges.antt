@@ -1,0 +1,34 @@
+-- The numbers of a scenario's file are in the ranges that a run asks for.
+use Rattle.std.proofs.Common.{List, ◌<◌, ◌^◌}
+use Rattle.std.specs.Prelude.{All}
+use Rattle.its_gnvalue.specs.Values.{IsSpeed}
+use Rattle.its_world.specs.declared.event.What.{What}
+use Rattle.its_world.specs.declared.event.What.TheVariants as whats
+use Rattle.its_world.specs.Events.{IsInRange}
+use Rattle.sim_scenario.specs.Airs.{moment_of}
+use Rattle.sim_scenario.specs.Events.{FitsFileEvent, speed_of}
+use Rattle.sim_scenario.specs.declared.events.event.FileEvent.{FileEvent}
+use Rattle.sim_scenario.specs.declared.events.event.FileEvent.TheVariants as files
+use Rattle.sim_queue.specs.Queues.{IsFiledInRange}
+
+what_in_range : (what : What) → IsSpeed (speed_of what) → IsInRange what
+what_in_range (whats.MoveTo place pai speed heading) h = h
+what_in_range (whats.Open port) h = tt
+what_in_range (whats.Close port) h = tt
+what_in_range (whats.Tick jitter) h = tt
+what_in_range (whats.SendShb request) h = tt
+what_in_range (whats.SendGeobroadcast request) h = tt
+what_in_range (whats.SendGeoanycast request) h = tt
+what_in_range (whats.Restart number) h = tt
+what_in_range (whats.Deliver frame) h = tt
+
+one_in_range : (f : FileEvent) → FitsFileEvent f → IsFiledInRange f
+one_in_range (files.Happens e) h = what_in_range e.what h.2
+one_in_range (files.Leaves station moment) h = tt
+
+pub all_in_range : (file : List FileEvent) → All FitsFileEvent file → All IsFiledInRange file
+all_in_range file h = λ k d lt. one_in_range _ (h k d lt)
+
+pub all_moments : (file : List FileEvent) → All FitsFileEvent file
+    → All (λ f. moment_of f < 2 ^ 63) file
+all_moments file h = λ k d lt. (h k d lt).1

@@ -1,0 +1,51 @@
+-- A run keeps the timetable of the model's air.
+use Rattle.std.specs.Prelude.{◌≡◌, ℕ, List, Bool, true, false, Option, cond, not, ◌&&◌}
+use Rattle.its_model.specs.Calls.{Answer}
+use Rattle.its_model.specs.Station.{StationModel}
+use Rattle.its_model.specs.World.{Config, Event, WorldModel, frame_of}
+use Rattle.its_world.specs.Entries.{TellsEntry}
+use Rattle.its_world.specs.declared.entry.Entry.{Entry}
+use Rattle.sim_simulation.specs.Simulated.{IsSimulated}
+use Rattle.sim_air.specs.AirTimed.{rules_of}
+use Rattle.sim_queue.specs.Keeps.{Keeps}
+use Rattle.its_model.specs.Reach.{is_moved}
+use Rattle.sim_air_model.specs.Timetable.{Rules, Timetable, AirModel, air_step, IsOver, was_moved}
+use Rattle.sim_queue.specs.Waiting.{happening_of, own_of}
+use Rattle.sim_air_model.specs.Timetable.{given, was_refused, is_refusal, is_tick, tick_again}
+use Rattle.sim_air_model.specs.Timetable.{send_again}
+use Rattle.sim_queue.specs.Traffics.{all_traffic, traffic_in}
+use Rattle.sim_air.specs.declared.run.Run.{Run}
+use Rattle.sim_queue.specs.declared.scheduled.Scheduled.{Scheduled}
+
+-- what follows an event of the air's own, which was refused or not
+abbrev pub follow_own : Scheduled → Bool → Option StationModel → Timetable → Timetable
+follow_own w refused s t =
+    send_again (happening_of w) (traffic_in w.own)
+    (cond (is_tick (own_of w.own) && not refused) (tick_again (happening_of w) s t) t)
+
+-- the entry is the one that was logged last
+pub record IsAnswered (entry : Entry) (after : WorldModel) : Type 0 where
+  pub answer : Answer ℕ
+  pub tells : TellsEntry entry answer
+  pub gave : given after.log ≡ frame_of answer
+  pub refused : was_refused after.log ≡ is_refusal answer
+  pub moved : was_moved after.log ≡ is_moved answer
+
+-- the air of a run goes by these rules
+abbrev pub GoesBy : Rules → Run → Type 0
+GoesBy rules run =
+    rules_of run.air (all_traffic run.every.now) run.queue.until rules.present ≡ rules
+
+-- a run that is under way stands as the air of the model does
+pub record IsTimed (rules : Rules) (configs : List Config) (a : AirModel) (run : Run)
+    (Took : List Event → List Entry → Type 0) : Type 0 where
+  pub goes_by : GoesBy rules run
+  pub present : run.present.items ≡ a.present
+  pub told : IsSimulated configs a.done run.world Took
+  pub keeps : Keeps run.queue run.draws a.timetable
+
+-- it is one step further, or it was over
+abbrev pub GoesOn : Bool → Rules → List Config → AirModel → Run
+    → (List Event → List Entry → Type 0) → Type 0
+GoesOn true rules configs a run Took = IsTimed rules configs (air_step rules configs a) run Took
+GoesOn false rules configs a run Took = IsOver rules a × IsTimed rules configs a run Took

@@ -1,0 +1,31 @@
+-- A run that is under way.
+use Rattle.std.specs.Prelude.{◌≡◌, List, take}
+use Rattle.its_model.specs.World.{Config, Event}
+use Rattle.its_world.specs.declared.entry.Entry.{Entry}
+use Rattle.sim_simulation.specs.Simulated.{IsSimulated}
+use Rattle.sim_air.specs.AirRun.{AreAmong, events_in}
+use Rattle.sim_queue.specs.Files.{filed_due}
+use Rattle.sim_queue.specs.PlaceIndexes.{AreStandingsOf}
+use Rattle.sim_air.specs.declared.run.Run.{Run}
+
+-- these events were done so far, and those of the file that were taken are among them
+pub record IsUnderWay (configs : List Config) (events : List Event) (run : Run)
+    (Took : List Event → List Entry → Type 0) : Type 0 where
+  pub told : IsSimulated configs events run.world Took
+  pub among : AreAmong (events_in (take run.queue.taken (filed_due run.queue))) events
+
+-- each station stands in the index once, at its place in the world, and no other does
+abbrev pub AreIndexed : Run → Type 0
+AreIndexed run = AreStandingsOf run.world.stations run.standings.order.items
+
+-- its rules, its world, and where the stations stand are as before
+pub record SameWorld (old new : Run) : Type 0 where
+  pub air : new.air ≡ old.air
+  pub every : new.every ≡ old.every
+  pub world : new.world ≡ old.world
+  pub standings : new.standings ≡ old.standings
+
+-- what a sink said of events and entries, it says of them still
+abbrev pub SaysAsBefore : (Before After : List Event → List Entry → Type 0) → Type 0
+SaysAsBefore Before After =
+    (events : List Event) (log : List Entry) → Before events log → After events log

@@ -1,0 +1,19 @@
+//! The air between stations: frames that are heard in reach, late and with losses, and the run of a
+//! world in it.
+#![tactic(auto)]
+
+mod copying;
+mod departures;
+mod fault;
+mod moving;
+mod moving_run;
+mod run;
+mod scenario;
+mod step;
+mod vehicles;
+
+pub use fault::AirFault;
+pub use moving::run_moves;
+pub use run::run_air;
+pub use scenario::run_scenario;
+pub use sim_queue::places::{find_hearers, is_within};

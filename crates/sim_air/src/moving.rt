@@ -1,0 +1,695 @@
+//! The run of an air in which stations move by the rows of a file, come with their first row and
+//! leave some time after their last one.
+
+ghost use Rattle.std.specs.Prelude.{[], ℕ, List, Some, None, map, ◌≡◌, ◌≤◌, ◌<◌, ◌+◌, ◌^◌, All};
+ghost use Rattle.std.specs.Prelude.{length, slice_get, true, false, vec_len, ◌⊎◌, ◌*◌};
+ghost use Rattle.std.specs.Prelude.{IfNone, IfOk, IfSome, OnOk};
+ghost use Rattle.std.specs.BinaryHeap.{heap_items};
+ghost use Rattle.std.specs.List.{AllByRecursion};
+ghost use Rattle.std.specs.List.Sorted.{IsNonDecreasingBy};
+ghost use Rattle.std.specs.Option.{ForSome};
+ghost use denote.Ref.{Bor};
+ghost use Rattle.sim_scenario.specs.Airs.{end_of, moment_of};
+ghost use Rattle.sim_scenario.specs.Events.{FitsFileEvent};
+ghost use Rattle.sim_scenario.specs.declared.events.event.AddressedEvent.{AddressedEvent as Addressed};
+ghost use Rattle.its_model.specs.World.{Config as Beginning, WorldModel, opening};
+ghost use Rattle.sim_moves.specs.Rows.{IsRowBetween};
+ghost use Rattle.its_world.specs.Events.{IsConfig, IsInRange, config_of, event_of, what_of};
+ghost use Rattle.its_world.specs.Steps.{IsKept};
+ghost use Rattle.its_world.specs.State.{RepresentsWorld};
+ghost use Rattle.sim_air.specs.AirTimed.{rules_of};
+ghost use Rattle.sim_air.specs.FitsRun.{FitsRun};
+ghost use Rattle.sim_air.specs.Keeps.{GoesBy};
+ghost use Rattle.sim_queue.specs.Keeps.{Keeps};
+ghost use Rattle.sim_air.specs.Moving.{Awaits, IsMovedRun};
+ghost use Rattle.sim_air.specs.Outside.{Came, IsByMoment, row_move};
+ghost use Rattle.sim_air.specs.Runs.{AreIndexed};
+ghost use Rattle.sim_air_model.specs.Timetable.{Filed, Pending, Rules, air_opening, at};
+ghost use Rattle.sim_queue.specs.Traffics.{all_traffic};
+ghost use Rattle.sim_air.specs.UnderRows.{CameUnder, ComesFrom, DoesEvent, DoesLeave, DoesRow};
+ghost use Rattle.sim_air.specs.UnderRows.{IsComing, IsNext, IsUnder, IsUnderSome, MakesUnder};
+ghost use Rattle.sim_air.specs.UnderRows.{StaysUnder, asked_in, class_in, end_in, stations_in};
+ghost use Rattle.sim_air.specs.UnderRows.{turn_in};
+
+use crate::departures::Departures;
+use crate::fault::AirFault;
+use crate::moving_run::{Coming, MovingRun, Outside};
+use crate::run::Run;
+use crate::step::{do_at, do_filed, do_own, move_in};
+use crate::vehicles::Vehicles;
+use its_gnvalue::Place;
+use its_model::laws::every_schedule;
+use its_world::{Config, Event, What, World};
+use sim_moves::{MovesFault, Row, Rows, Word};
+use sim_scenario::Scenario;
+use sim_scenario::events::{AddressedEvent, FileEvent};
+use sim_settings::{Air, Moves};
+use sim_simulation::{EventSink, Note};
+use std::alloc::{AllocError, Global};
+use std::io::BufRead;
+
+/// Runs a scenario of at most 65535 stations in its air while stations move by the rows of a file,
+/// and hands each event to a sink as it is done. Gives the world that the last one left.
+///
+/// A row is a move of the station of its id, with an accurate place. Of an id that is new it makes
+/// the station, numbered behind all others and absent: it is moved, opens the ports that the
+/// scenario gives it, and is present then, as one that is absent and moved always is. A station of
+/// an id leaves when its time without a row is over. Of one moment come rows first, in the file's
+/// order, then those that leave, by their numbers, then the scenario's events in their order, then
+/// the air's own as in `run_air`. An event for an id of which no station is present isn't run, and
+/// the sink has a note of it.
+///
+/// Frames are let go some time after their deliveries are done: the world that is given has only
+/// the last ones.
+///
+/// Without a last moment the run goes on for ten seconds after the greatest moment of an event or a
+/// row, 0 where there is neither. A row is read once the one before it was run, and none once
+/// nothing that waits has its moment up to the last.
+///
+/// It is the run of an air, as `run_air` does one, of the scenario's stations and those that rows
+/// made, these absent at the start, whose file is what came from outside, in the order of moments:
+/// so the laws of airs hold of it.
+///
+/// `Moves` where a row can't be read, or one that was read would need a station too many, or one of
+/// a MID that another has: the sink has the events before, as where an allocation or the sink
+/// failed.
+pub fn run_moves<R: BufRead + Drop, S: EventSink>(
+    alloc: Global,
+    scenario: &Scenario,
+    air: &Air,
+    rows: &mut Rows<R>,
+    sink: &mut S,
+) -> Result<World, AirFault>
+    requires { vec_len scenario.now.stations ≤ 65535 }
+    ensures { S.Took sink.old [] [] → IfOk result (λ world.
+        IsMovedRun (rules_of air.now (all_traffic scenario.now.every.items)
+        (end_of air.now.until []) scenario.now.present.items)
+        (map config_of scenario.now.stations.items) scenario.now.moves
+        scenario.now.addressed.items air.now.until world (S.Took sink.new)) }
+{
+    // A law, for the proof alone.
+    every_schedule();
+    let mut moving = MovingRun::begin(alloc, scenario, air)?;
+    moving.read_row(rows)?;
+    for _ in 0..usize::MAX {
+        if !moving.go_on(rows, sink)? {
+            return Ok(moving.run.world);
+        }
+    }
+    Err(AirFault::TooManyEvents)
+}
+
+/// How long an air runs on after the last event or row, in milliseconds.
+const AFTER_EVENTS: u64 = 10_000;
+
+/// The most stations of a run.
+const MOST_STATIONS: usize = 65535;
+
+/// The station of a row.
+#[derive(Clone, Copy, Debug)]
+struct RowStation<'a> {
+    /// Its number.
+    station: usize,
+    /// The ports that it opens.
+    ports: &'a [u16],
+}
+
+impl<'a> MovingRun<'a> {
+    /// A run of which nothing is done yet, and no row was read.
+    fn begin(alloc: Global, scenario: &'a Scenario, air: &Air) -> Result<MovingRun<'a>, AirFault>
+        requires { vec_len scenario.now.stations ≤ 65535 }
+        ensures world { IfOk result (λ moving. RepresentsWorld moving.run.world
+            (opening (map config_of scenario.now.stations.items))) }
+        ensures standings { IfOk result (λ moving. AreIndexed moving.run) }
+        ensures rules { IfOk result (λ moving. GoesBy (rules_of air.now
+            (all_traffic scenario.now.every.items) (end_of air.now.until [])
+            scenario.now.present.items) moving.run) }
+        ensures present { IfOk result (λ moving.
+            moving.run.present.items ≡ scenario.now.present.items) }
+        ensures keeps { IfOk result (λ moving. Keeps moving.run.queue moving.run.draws
+            (air_opening (rules_of air.now (all_traffic scenario.now.every.items)
+            (end_of air.now.until []) scenario.now.present.items)
+            (map config_of scenario.now.stations.items) []).timetable) }
+        ensures departures { IfOk result (λ moving.
+            heap_items moving.departures.waiting ≡ []) }
+        ensures row { IfOk result (λ moving. moving.row ≡ None) }
+        ensures moves { IfOk result (λ moving. moving.moves.now ≡ scenario.now.moves) }
+        ensures asked { IfOk result (λ moving.
+            IsByMoment scenario.now.addressed.items (asked_in moving)) }
+        ensures taken { IfOk result (λ moving. moving.taken ≡ 0) }
+        ensures until { IfOk result (λ moving. moving.until ≡ air.now.until) }
+        ensures frames { IfOk result (λ moving. (moving.run.world.released ≡ 0)
+            × (moving.frames_before ≡ 0) × (moving.delivered_by ≡ 0)) }
+    {
+        let stations = scenario.stations.as_slice();
+        let present = scenario.present.as_slice();
+        let moves = &scenario.moves;
+        let events = in_order(alloc, scenario.addressed.as_slice())?;
+        let greatest = last_moment(events.as_slice());
+        let none: &[FileEvent] = &[];
+        let every = scenario.every.as_slice();
+        Ok(MovingRun {
+            alloc,
+            run: Run::begin(alloc, stations, present, none, air, every)?,
+            moves,
+            vehicles: Vehicles::beside(alloc, stations, moves)?,
+            departures: Departures::of(alloc, stations.len(), moves.gone)?,
+            events,
+            taken: 0,
+            row: None,
+            known: None,
+            until: air.until,
+            greatest,
+            frames_before: 0,
+            delivered_by: 0,
+        })
+    }
+
+    /// Reads the next row.
+    fn read_row<R: BufRead + Drop>(&mut self, rows: &mut Rows<R>) -> Result<(), AirFault>
+        ensures run { self.new.run ≡ self.old.run }
+        ensures departures { self.new.departures ≡ self.old.departures }
+        ensures events { (self.new.events ≡ self.old.events) × (self.new.taken ≡ self.old.taken) }
+        ensures frames { (self.new.frames_before ≡ self.old.frames_before)
+            × (self.new.delivered_by ≡ self.old.delivered_by) }
+        ensures until { self.new.until ≡ self.old.until }
+        ensures end { self.old.greatest ≤ self.new.greatest }
+        ensures moves { self.new.moves ≡ self.old.moves }
+        ensures begin { rows.new.begin ≡ rows.old.begin }
+        ensures row { OnOk result (ForSome self.new.row
+            (IsRowBetween rows.old.begin rows.old.before rows.new.before)) }
+    {
+        let row = rows.next()?;
+        if let Some(row) = &row {
+            self.known = self.vehicles.number_of_row(row.id.as_str());
+            if !self.has_station_for(row) {
+                return Err(MovesFault::Line(rows.line(), Word::TooManyStations).into());
+            }
+            self.greatest = self.greatest.max(row.moment);
+        }
+        self.row = row;
+        Ok(())
+    }
+
+    /// Whether the station of a row is known, or one can be made for it.
+    fn has_station_for(&self, row: &Row) -> bool {
+        self.known.is_some() || self.next_config(row.place).is_some()
+    }
+
+    /// How the next station begins that a row makes, at this place. `None` where it would be one
+    /// too many, or have the MID of another or of none.
+    fn next_config(&self, place: Place) -> Option<Config>
+        ensures { IfSome result IsConfig }
+    {
+        if self.run.world.stations().len() >= MOST_STATIONS {
+            return None;
+        }
+        self.vehicles.next_config(place)
+    }
+
+    /// Takes the first that waits, if one does.
+    fn go_on<R: BufRead + Drop, S: EventSink>(
+        &mut self,
+        rows: &mut Rows<R>,
+        sink: &mut S,
+    ) -> Result<bool, AirFault>
+        requires standings { AreIndexed self.old.run }
+        ensures standings { OnOk result (AreIndexed self.new.run) }
+        ensures until { self.new.until ≡ self.old.until }
+        ensures moves { self.new.moves ≡ self.old.moves }
+        ensures asked { self.new.events ≡ self.old.events }
+        ensures moving { IfOk result (λ more. more ≡ true →
+            (rules : Rules) (configs : List Beginning) →
+            IsUnderSome rules configs rows.old.begin rows.old.before self.old (S.Took sink.old) →
+            IsUnderSome rules configs rows.new.begin rows.new.before self.new (S.Took sink.new)) }
+        ensures ended { IfOk result (λ more. more ≡ false →
+            (rules : Rules) (configs : List Beginning) (asked : List Addressed) →
+            IsByMoment asked (asked_in self.old) →
+            IsUnderSome rules configs rows.old.begin rows.old.before self.old (S.Took sink.old) →
+            IsMovedRun rules configs self.old.moves.now asked self.old.until self.new.run.world
+            (S.Took sink.new)) }
+    {
+        let end = self.end();
+        let coming = self.next_until(end);
+        let limit = limit_of(coming, end);
+        if let Some(waiting) = self.run.queue.pop_before(limit) {
+            self.release_delivered(waiting.moment);
+            do_own(&mut self.run, &waiting, sink)?;
+            return Ok(true);
+        }
+        match coming {
+            Some(coming) => {
+                self.take_in(coming, rows, sink)?;
+                Ok(true)
+            }
+            None => Ok(false),
+        }
+    }
+
+    /// The last moment that is run, as far as rows were read: with a row ahead it is no less than
+    /// that one's.
+    fn end(&self) -> u64
+        ensures end { result ≡ end_in self.now }
+        ensures bound { result ≤ 2 ^ 63 + 10000 }
+    {
+        match self.until {
+            Some(until) => until,
+            None => self.greatest + AFTER_EVENTS,
+        }
+    }
+
+    /// Lets frames go whose deliveries are done, where the next of the air's own is of this moment.
+    /// Each delivery comes the delay after its frame was given, and what waits is taken by its
+    /// moment: so those that had been given when they were last counted have all been delivered
+    /// once the delay after that is over, to whomever heard them. Then they are counted again.
+    fn release_delivered(&mut self, moment: u64)
+        requires moment { moment ≤ 2 ^ 63 + 10000 }
+        ensures stands { (w : WorldModel) → RepresentsWorld self.old.run.world w →
+            RepresentsWorld self.new.run.world w }
+        ensures stations { self.new.run.world.stations ≡ self.old.run.world.stations }
+        ensures standings { self.new.run.standings ≡ self.old.run.standings }
+        ensures air { self.new.run.air ≡ self.old.run.air }
+        ensures every { self.new.run.every ≡ self.old.run.every }
+        ensures queue { self.new.run.queue ≡ self.old.run.queue }
+        ensures draws { self.new.run.draws ≡ self.old.run.draws }
+        ensures present { self.new.run.present ≡ self.old.run.present }
+        ensures row { self.new.row ≡ self.old.row }
+        ensures moves { self.new.moves ≡ self.old.moves }
+        ensures departures { self.new.departures ≡ self.old.departures }
+        ensures events { (self.new.events ≡ self.old.events) × (self.new.taken ≡ self.old.taken) }
+        ensures end { (self.new.until ≡ self.old.until)
+            × (self.new.greatest ≡ self.old.greatest) }
+        ensures counted { (count : ℕ) → self.old.frames_before ≤ count →
+            count ≡ self.old.run.world.released + length self.old.run.world.frames →
+            self.new.frames_before ≤ count }
+        ensures frames { (waiting : List Pending) →
+            AllByRecursion (λ p. moment ≤ at p) waiting →
+            AllByRecursion (Awaits self.old.run.world.released self.old.frames_before
+            self.old.delivered_by (moment + self.old.run.air.delay)) waiting →
+            AllByRecursion (Awaits self.new.run.world.released self.new.frames_before
+            self.new.delivered_by (moment + self.old.run.air.delay)) waiting }
+    {
+        if moment > self.delivered_by {
+            self.run.world.release(self.frames_before);
+            self.frames_before = self.run.world.frames();
+            self.delivered_by = moment + self.run.delay();
+        }
+    }
+
+    /// What comes next from outside, up to a moment: of one moment first a row, then a station
+    /// that may leave, then an event.
+    fn next_until(&self, end: u64) -> Option<Coming>
+        requires end { end ≤ 2 ^ 63 + 10000 }
+        ensures until { IfSome result (λ coming. coming.moment ≤ end) }
+        ensures next { IfSome result (IsNext self.now) }
+        ensures none { IfNone result (ComesFrom (end + 1) self.now) }
+    {
+        let next = first_of(
+            first_of(self.next_row(), self.next_departure()),
+            self.next_event(),
+        )?;
+        if next.moment <= end { Some(next) } else { None }
+    }
+
+    /// The next row, as what comes.
+    fn next_row(&self) -> Option<Coming>
+        ensures some { IfSome result (λ coming. IsComing self.now coming.moment coming.outside
+            × ForSome self.now.row (λ row. coming.moment ≤ row.moment)) }
+        ensures class { IfSome result (λ coming. class_in coming.outside ≡ 0) }
+        ensures none { IfNone result (self.now.row ≡ None) }
+    {
+        match &self.row {
+            Some(row) => Some(Coming {
+                moment: row.moment,
+                outside: Outside::Row,
+            }),
+            None => None,
+        }
+    }
+
+    /// The first that may leave, as what comes.
+    fn next_departure(&self) -> Option<Coming>
+        ensures some { IfSome result (λ coming. IsComing self.now coming.moment coming.outside
+            × All (λ d. coming.moment ≤ d.moment) (heap_items self.now.departures.waiting)) }
+        ensures class { IfSome result (λ coming. class_in coming.outside ≡ 1) }
+        ensures none { IfNone result (heap_items self.now.departures.waiting ≡ []) }
+    {
+        match self.departures.first() {
+            Some(first) => Some(Coming {
+                moment: first.moment,
+                outside: Outside::Departure(first.station),
+            }),
+            None => None,
+        }
+    }
+
+    /// The next event of the scenario, as what comes.
+    fn next_event(&self) -> Option<Coming>
+        ensures some { IfSome result (λ coming. IsComing self.now coming.moment coming.outside
+            × ((e : Bor Addressed) → slice_get self.now.events.items self.now.taken ≡ Some e →
+            coming.moment ≤ moment_of e.now.filed)) }
+        ensures class { IfSome result (λ coming. class_in coming.outside ≡ 2) }
+        ensures none { IfNone result (slice_get self.now.events.items self.now.taken ≡ None) }
+    {
+        match self.events.get(self.taken) {
+            Some(event) => Some(Coming {
+                moment: event.filed.moment(),
+                outside: Outside::Event,
+            }),
+            None => None,
+        }
+    }
+
+    /// Does what comes from outside.
+    fn take_in<R: BufRead + Drop, S: EventSink>(
+        &mut self,
+        coming: Coming,
+        rows: &mut Rows<R>,
+        sink: &mut S,
+    ) -> Result<(), AirFault>
+        requires next { IsNext self.old coming }
+        requires until { coming.moment ≤ end_in self.old }
+        requires bound { coming.moment ≤ 2 ^ 63 + 10000 }
+        requires standings { AreIndexed self.old.run }
+        ensures standings { OnOk result (AreIndexed self.new.run) }
+        ensures until { self.new.until ≡ self.old.until }
+        ensures moves { self.new.moves ≡ self.old.moves }
+        ensures asked { self.new.events ≡ self.old.events }
+        ensures moving { OnOk result ((rules : Rules) (configs made : List Beginning)
+            (past : List Filed) (came : List Came) →
+            IsUnder rules configs made past coming.moment coming.moment rows.old.begin
+            rows.old.before self.old (S.Took sink.old) →
+            CameUnder (length configs) (length made) came past (turn_in coming) self.old →
+            IsUnderSome rules configs rows.new.begin rows.new.before self.new (S.Took sink.new)) }
+    {
+        match coming.outside {
+            Outside::Row => self.take_row(rows, sink),
+            Outside::Departure(station) => self.do_departure(station, coming.moment, sink),
+            Outside::Event => self.do_next_event(sink),
+        }
+    }
+
+    /// Does the next row, and reads the one after it.
+    fn take_row<R: BufRead + Drop, S: EventSink>(
+        &mut self,
+        rows: &mut Rows<R>,
+        sink: &mut S,
+    ) -> Result<(), AirFault>
+        requires standings { AreIndexed self.old.run }
+        ensures standings { OnOk result (AreIndexed self.new.run) }
+        ensures until { self.new.until ≡ self.old.until }
+        ensures moves { self.new.moves ≡ self.old.moves }
+        ensures asked { self.new.events ≡ self.old.events }
+        ensures moving { OnOk result ((rules : Rules) (configs made : List Beginning)
+            (past : List Filed) (came : List Came) (moment : ℕ) →
+            IsComing self.old moment Outside.Row → moment ≤ end_in self.old →
+            IsUnder rules configs made past moment moment rows.old.begin rows.old.before
+            self.old (S.Took sink.old) →
+            CameUnder (length configs) (length made) came past (3 * moment) self.old →
+            IsUnderSome rules configs rows.new.begin rows.new.before self.new (S.Took sink.new)) }
+    {
+        let Some(row) = self.row.take() else {
+            return Ok(());
+        };
+        self.do_row(&row, rows.line(), sink)?;
+        self.read_row(rows)
+    }
+
+    /// A station leaves, by its number, if no row of it came since.
+    fn do_departure<S: EventSink>(
+        &mut self,
+        station: usize,
+        moment: u64,
+        sink: &mut S,
+    ) -> Result<(), AirFault>
+        requires moment { moment ≤ 2 ^ 63 + 10000 }
+        requires standings { AreIndexed self.old.run }
+        ensures standings { OnOk result (AreIndexed self.new.run) }
+        ensures until { self.new.until ≡ self.old.until }
+        ensures moves { self.new.moves ≡ self.old.moves }
+        ensures row { self.new.row ≡ self.old.row }
+        ensures events { (self.new.events ≡ self.old.events) × (self.new.taken ≡ self.old.taken) }
+        ensures moving { OnOk result (DoesLeave station moment self.old (S.Took sink.old) self.new
+            (S.Took sink.new)) }
+    {
+        if self.departures.take_first()? {
+            let leaves = FileEvent::Leaves { station, moment };
+            do_filed(&mut self.run, &leaves, sink)
+        } else {
+            Ok(())
+        }
+    }
+
+    /// Moves the station of a row, of this line; one that the row makes opens its ports then. One
+    /// that was absent comes.
+    fn do_row<S: EventSink>(&mut self, row: &Row, line: u64, sink: &mut S) -> Result<(), AirFault>
+        requires row { FitsRun row.now }
+        requires standings { AreIndexed self.old.run }
+        ensures standings { OnOk result (AreIndexed self.new.run) }
+        ensures until { self.new.until ≡ self.old.until }
+        ensures end { self.new.greatest ≡ self.old.greatest }
+        ensures moves { self.new.moves ≡ self.old.moves }
+        ensures events { (self.new.events ≡ self.old.events) × (self.new.taken ≡ self.old.taken) }
+        ensures moving { OnOk result (DoesRow row.now self.old (S.Took sink.old) self.new
+            (S.Took sink.new)) }
+    {
+        let found = self.station_of(row, line, sink)?;
+        self.departures.note_row(found.station, row.moment)?;
+        let event = move_of(found.station, row);
+        move_in(&mut self.run, &event, found.ports, sink)
+    }
+
+    /// The station of a row, of this line: one that the row makes opens the ports of the scenario.
+    fn station_of<S: EventSink>(
+        &mut self,
+        row: &Row,
+        line: u64,
+        sink: &mut S,
+    ) -> Result<RowStation<'a>, AirFault>
+        requires standings { AreIndexed self.old.run }
+        ensures standings { OnOk result (AreIndexed self.new.run) }
+        ensures until { self.new.until ≡ self.old.until }
+        ensures end { self.new.greatest ≡ self.old.greatest }
+        ensures moves { self.new.moves ≡ self.old.moves }
+        ensures events { (self.new.events ≡ self.old.events) × (self.new.taken ≡ self.old.taken) }
+        ensures there { IfOk result (λ found.
+            found.station < length self.new.run.world.stations) }
+        ensures moving { IfOk result (λ found.
+            ((found.station < stations_in self.old) × (found.ports.now ≡ [])
+            × StaysUnder self.old (S.Took sink.old) self.new (S.Took sink.new))
+            ⊎ ((found.station ≡ stations_in self.old)
+            × (found.ports.now ≡ self.old.moves.now.ports.items)
+            × (config : Beginning)
+            × MakesUnder config self.old (S.Took sink.old) self.new (S.Took sink.new))) }
+    {
+        if let Some(station) = self.known_station() {
+            return Ok(RowStation {
+                station,
+                ports: &[],
+            });
+        }
+        Ok(RowStation {
+            station: self.make_station(row, line, sink)?,
+            ports: self.moves.ports.as_slice(),
+        })
+    }
+
+    /// The number of the station of an id, where a row made one.
+    fn number_of(&self, id: &str) -> Option<usize>
+        ensures { IfSome result (λ station. station < length self.now.run.world.stations) }
+    {
+        let station = self.vehicles.number(id)?;
+        if self.run.has_station(station) {
+            Some(station)
+        } else {
+            None
+        }
+    }
+
+    /// The number of the station of the row that was read last, where a row made one.
+    fn known_station(&self) -> Option<usize>
+        ensures { IfSome result (λ station. station < length self.now.run.world.stations) }
+    {
+        let station = self.known?;
+        if self.run.has_station(station) {
+            Some(station)
+        } else {
+            None
+        }
+    }
+
+    /// Makes the station of a row, of this line: its number.
+    fn make_station<S: EventSink>(
+        &mut self,
+        row: &Row,
+        line: u64,
+        sink: &mut S,
+    ) -> Result<usize, AirFault>
+        requires standings { AreIndexed self.old.run }
+        ensures standings { OnOk result (AreIndexed self.new.run) }
+        ensures until { self.new.until ≡ self.old.until }
+        ensures end { self.new.greatest ≡ self.old.greatest }
+        ensures moves { self.new.moves ≡ self.old.moves }
+        ensures events { (self.new.events ≡ self.old.events) × (self.new.taken ≡ self.old.taken) }
+        ensures number { IfOk result (λ station. station ≡ stations_in self.old) }
+        ensures moving { OnOk result ((config : Beginning)
+            × MakesUnder config self.old (S.Took sink.old) self.new (S.Took sink.new)) }
+        ensures there { IfOk result (λ station.
+            station < length self.new.run.world.stations) }
+    {
+        let station = self.run.world.stations().len();
+        let Some(config) = self.next_config(row.place) else {
+            // It was looked for when the row was read.
+            return Err(MovesFault::Line(line, Word::TooManyStations).into());
+        };
+        self.run.add_station(&config)?;
+        self.departures.add_station()?;
+        let id = row.id.as_str();
+        self.vehicles.add(self.alloc, id, station)?;
+        let made = Note::Made { station, id };
+        sink.note(&self.run.world, row.moment, &made)?;
+        Ok(station)
+    }
+
+    /// Does the next event or leave of the scenario. One for an id of which no station is present
+    /// isn't run, and noted.
+    fn do_next_event<S: EventSink>(&mut self, sink: &mut S) -> Result<(), AirFault>
+        requires standings { AreIndexed self.old.run }
+        ensures standings { OnOk result (AreIndexed self.new.run) }
+        ensures until { self.new.until ≡ self.old.until }
+        ensures moving { (e : Bor Addressed) →
+            slice_get self.old.events.items self.old.taken ≡ Some e → OnOk result
+            (DoesEvent e.now self.old (S.Took sink.old) self.new (S.Took sink.new)) }
+        ensures moves { self.new.moves ≡ self.old.moves }
+        ensures row { self.new.row ≡ self.old.row }
+        ensures departures { self.new.departures ≡ self.old.departures }
+        ensures events { (e : Bor Addressed) →
+            slice_get self.old.events.items self.old.taken ≡ Some e →
+            (self.new.events ≡ self.old.events) × (self.new.taken ≡ self.old.taken + 1) }
+        ensures asked { self.new.events ≡ self.old.events }
+    {
+        let Some(event) = self.events.get(self.taken) else {
+            return Ok(());
+        };
+        let event = *event;
+        self.taken += 1;
+        match &event.id {
+            None if !event.round_station => do_filed(&mut self.run, &event.filed, sink),
+            None => do_at(
+                self.alloc,
+                &mut self.run,
+                event,
+                event.filed.station(),
+                sink,
+            ),
+            Some(id) => match self.present_station(id.as_str()) {
+                Some(station) => do_at(self.alloc, &mut self.run, event, station, sink),
+                None => {
+                    let id = id.as_str();
+                    let has_left = self.number_of(id).is_some();
+                    let absent = Note::Absent {
+                        id,
+                        event,
+                        has_left,
+                    };
+                    sink.note(&self.run.world, event.filed.moment(), &absent)?;
+                    Ok(())
+                }
+            },
+        }
+    }
+
+    /// The number of the station of an id, where it is present.
+    fn present_station(&self, id: &str) -> Option<usize> {
+        let station = self.number_of(id)?;
+        if self.run.is_present(station) {
+            Some(station)
+        } else {
+            None
+        }
+    }
+}
+
+/// Events and leaves in the order in which they are taken: those of one moment as they stand.
+fn in_order(alloc: Global, addressed: &[AddressedEvent]) -> Result<Vec<&AddressedEvent>, AllocError>
+    requires ranges { All (λ a. FitsFileEvent a.filed) addressed.now }
+    ensures ranges { IfOk result (λ events. All (λ a. FitsFileEvent a.now.filed) events.items) }
+    ensures sorted { IfOk result (λ events.
+        IsNonDecreasingBy (λ a. moment_of a.now.filed) events.items) }
+    ensures each { IfOk result (λ events. IsByMoment addressed.now
+        (map (λ (a : Bor Addressed). a.now) events.items)) }
+{
+    let mut events = Vec::with_capacity(alloc, addressed.len())?;
+    for event in addressed {
+        events.push(event)?;
+    }
+    events.sort_by_key(|event| event.filed.moment())?;
+    Ok(events)
+}
+
+/// The moment of the last of these, 0 where there is none.
+fn last_moment(events: &[&AddressedEvent]) -> u64
+    requires { All (λ a. FitsFileEvent a.now.filed) events.now }
+    ensures { result < 2 ^ 63 }
+{
+    match events.len().checked_sub(1) {
+        Some(last) => events[last].filed.moment(),
+        None => 0,
+    }
+}
+
+/// The first of two, the former where they are of one moment.
+fn first_of(former: Option<Coming>, latter: Option<Coming>) -> Option<Coming>
+    requires classes { IfSome former (λ one. IfSome latter (λ other.
+        class_in one.outside ≤ class_in other.outside)) }
+    ensures one { IfSome result (λ first. (former ≡ Some first) ⊎ (latter ≡ Some first)) }
+    ensures former { IfSome former (λ other. IfSome result (λ first.
+        first.moment ≤ other.moment)) }
+    ensures latter { IfSome latter (λ other. IfSome result (λ first.
+        first.moment ≤ other.moment)) }
+    ensures former_turn { IfSome former (λ other. IfSome result (λ first.
+        turn_in first ≤ turn_in other)) }
+    ensures latter_turn { IfSome latter (λ other. IfSome result (λ first.
+        turn_in first ≤ turn_in other)) }
+    ensures none { IfNone result ((former ≡ None) × (latter ≡ None)) }
+{
+    match (former, latter) {
+        (Some(former), Some(latter)) if latter.moment < former.moment => Some(latter),
+        (Some(former), _) => Some(former),
+        (None, latter) => latter,
+    }
+}
+
+/// The moment before which the air's own come first: that of what comes from outside, up to the
+/// last moment.
+fn limit_of(coming: Option<Coming>, end: u64) -> u64
+    requires { end ≤ 2 ^ 63 + 10000 }
+    ensures some { IfSome coming (λ coming. result ≡ coming.moment) }
+    ensures none { IfNone coming (result ≡ end + 1) }
+{
+    match coming {
+        Some(coming) => coming.moment,
+        None => end + 1,
+    }
+}
+
+/// The move that a row is.
+fn move_of(station: usize, row: &Row) -> Event
+    requires { FitsRun row.now }
+    ensures range { IsInRange result.what }
+    ensures kept { (released : ℕ) → IsKept released (what_of result.what) }
+    ensures moment { result.moment ≡ row.now.moment }
+    ensures station { result.station ≡ station }
+    ensures event { event_of result ≡ row_move station row.now }
+{
+    Event {
+        station,
+        moment: row.moment,
+        what: What::MoveTo {
+            place: row.place,
+            pai: true,
+            speed: row.speed,
+            heading: row.heading,
+        },
+    }
+}

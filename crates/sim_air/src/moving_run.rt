@@ -1,0 +1,67 @@
+//! A run in which stations move by the rows of a file, while it is under way.
+
+ghost use Rattle.std.specs.Prelude.{◌≤◌, ◌<◌, ◌^◌, All, IfSome};
+ghost use Rattle.std.specs.List.Sorted.{IsNonDecreasingBy};
+ghost use Rattle.std.specs.Option.{ForSome};
+ghost use Rattle.std.proofs.Props.{props};
+ghost use Rattle.sim_scenario.specs.Airs.{moment_of};
+ghost use Rattle.sim_scenario.specs.Events.{FitsFileEvent};
+ghost use Rattle.sim_air.specs.FitsRun.{FitsRun};
+
+use crate::departures::Departures;
+use crate::run::Run;
+use crate::vehicles::Vehicles;
+use sim_moves::Row;
+use sim_scenario::events::AddressedEvent;
+use sim_settings::Moves;
+use std::alloc::Global;
+
+/// What comes to an air from outside.
+#[derive(Clone, Copy, Debug)]
+pub(crate) enum Outside {
+    /// The next row.
+    Row,
+    /// A station leaves, by its number, if no row of it came since.
+    Departure(usize),
+    /// The next event of the scenario.
+    Event,
+}
+
+/// What comes to an air from outside, and when.
+#[derive(Clone, Copy, Debug)]
+pub(crate) struct Coming {
+    pub(crate) moment: u64,
+    pub(crate) outside: Outside,
+}
+
+/// A run that is under way.
+#[derive(Drop)]
+pub(crate) struct MovingRun<'a> {
+    pub(crate) alloc: Global,
+    pub(crate) run: Run<'a>,
+    /// What stations the rows make.
+    pub(crate) moves: &'a Moves,
+    pub(crate) vehicles: Vehicles<'a>,
+    pub(crate) departures: Departures,
+    /// The events and leaves of the scenario, in the order in which they are taken.
+    pub(crate) events: Vec<&'a AddressedEvent>,
+    /// How many of these were taken.
+    pub(crate) taken: usize,
+    /// The next row, where there is one.
+    pub(crate) row: Option<Row>,
+    /// The number of its station, where a row made one: so its id is looked for once.
+    pub(crate) known: Option<usize>,
+    /// The last moment that is run, where one is given.
+    pub(crate) until: Option<u64>,
+    /// The greatest moment of an event, and of a row that was read; 0 where there is neither.
+    pub(crate) greatest: u64,
+    /// How many frames had been given when they were last counted.
+    pub(crate) frames_before: usize,
+    /// The moment of the last delivery of one of these, at the latest.
+    pub(crate) delivered_by: u64,
+    ghost ranges: { All (λ a. FitsFileEvent a.now.filed) events.items },
+    ghost sorted: { IsNonDecreasingBy (λ a. moment_of a.now.filed) events.items },
+    ghost next: { ForSome row FitsRun },
+    ghost last: { IfSome until (λ moment. moment ≤ 2 ^ 62) } by { Prim.hlevel props },
+    ghost bound: { greatest < 2 ^ 63 },
+}

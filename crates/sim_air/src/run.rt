@@ -1,0 +1,874 @@
+//! The run of an air.
+
+ghost use Rattle.std.specs.Prelude.{◌≡◌, ◌≤◌, ◌<◌, ◌^◌, ◌++◌, ◌∷◌, [], List, All, map, length};
+ghost use Rattle.std.specs.Prelude.{ℕ, ◌+◌, ◌↔◌, cond, slice_set};
+ghost use Rattle.std.specs.Prelude.{false, Some, IfOk, OnOk, IsTrue, slice_get};
+ghost use Rattle.std.specs.List.{filter};
+ghost use Rattle.std.specs.Option.{option_map};
+ghost use Rattle.its_model.specs.Calls.{Answer};
+ghost use Rattle.its_model.specs.Reach.{is_moved};
+ghost use Rattle.its_model.specs.World.{Config as Beginning, Event as Happening, opening};
+ghost use Rattle.its_model.specs.World.{WorldModel, world_run};
+ghost use Rattle.its_station.specs.State.{StationState};
+ghost use Rattle.its_world.specs.State.{RepresentsWorld};
+ghost use Rattle.its_world.specs.Entries.{TellsEntry};
+ghost use Rattle.its_world.specs.Steps.{AreSameBut, IsKept};
+ghost use Rattle.its_world.specs.Events.{IsConfig, IsInRange, config_of, event_of, what_of};
+ghost use Rattle.its_world.specs.Mids.{AreApart};
+ghost use Rattle.sim_scenario.specs.Airs.{end_of, moment_of};
+ghost use Rattle.sim_simulation.specs.Simulated.{IsSimulated, IsSimulation};
+ghost use Rattle.sim_queue.specs.Due.{AreDue};
+ghost use Rattle.sim_air.specs.AirRun.{IsAirRun, events_in};
+ghost use Rattle.sim_air.specs.AirTimed.{IsTimedRun, rules_of};
+ghost use Rattle.sim_queue.specs.Files.{SameFile, filed_due};
+ghost use Rattle.sim_queue.specs.Keeps.{Keeps};
+ghost use Rattle.sim_air.specs.Keeps.{IsAnswered, IsTimed, GoesBy, GoesOn, follow_own};
+ghost use Rattle.sim_air.specs.Outside.{IsDelivery};
+ghost use Rattle.sim_air_model.specs.Timetable.{Timetable, send, send_all, is_refusal, is_present};
+ghost use Rattle.sim_air_model.specs.Timetable.{schedule_first_ticks};
+ghost use Rattle.sim_air_model.specs.Timetable.{schedule_traffic, schedule_tick, heard_by};
+ghost use Rattle.sim_air_model.specs.Timetable.{spread_frame, tick_again, take_one, of_file};
+ghost use Rattle.sim_air_model.specs.Timetable.{come};
+ghost use Rattle.sim_air_model.specs.Timetable.{comes};
+ghost use Rattle.sim_air_model.specs.Timetable.{present_after, is_passed_over};
+ghost use Rattle.sim_air_model.specs.Timetable.{Rules, AirModel, spread, air_opening};
+ghost use Rattle.sim_air_model.specs.Timetable.Filed.{Happens};
+ghost use Rattle.sim_air.specs.Runs.{AreIndexed, IsUnderWay, SameWorld, SaysAsBefore};
+ghost use Rattle.sim_queue.specs.PlaceIndexes.{AreStandingsOf};
+ghost use Rattle.sim_queue.specs.Queues.{filed_of, IsFiledInRange};
+ghost use Rattle.sim_queue.specs.Waiting.{happening_of, own_of};
+ghost use Rattle.sim_queue.specs.Waiting.{delivery_of};
+ghost use Rattle.sim_queue.specs.Traffics.{all_traffic};
+ghost use Rattle.sim_queue.specs.Waits.{pending_of, planned_of};
+
+use crate::fault::AirFault;
+use its_gnvalue::Place;
+use its_model::laws::every_schedule;
+use its_world::laws::late_stations_were_there;
+use its_world::{Config, Entry, Event, What, World};
+use sim_queue::places::PlaceIndex;
+use sim_queue::{
+    AirAction, Delivery, Draws, Next, Queue, Scheduled, is_present, schedule_coming_sends,
+    schedule_coming_tick, schedule_first_ticks, schedule_tick, schedule_traffic,
+};
+use sim_scenario::events::{FileEvent, end_of};
+use sim_settings::{Air, Traffic};
+use sim_simulation::{EventSink, Note, do_event};
+use std::alloc::Global;
+
+/// Runs the events and leaves of a file in an air, in which each frame that a station gives is
+/// heard by those in reach, and hands each event to a sink as it is done. Gives the world that the
+/// last one left.
+///
+/// Events wait in the order of their moments, those of one moment in the order in which they were
+/// put: first those of the file, then, with beacons, a tick of each present station at a jitter,
+/// then, of each traffic in order, a send of each present station at a draw below its period. A
+/// frame that a present station gives is heard by each other present station in reach, in order,
+/// unless a draw loses it, and is delivered to it after the delay. After a tick of the air's own
+/// that wasn't refused, the station's next one is put at the event's moment or, where that is
+/// later, when its beacon is due by the next jitter; after a send of traffic, refused or not, its
+/// next one a period later. The run ends where nothing waits up to the last moment.
+///
+/// A station leaves where the file says so: it is absent then. A tick or a send of the air's own
+/// that is taken of an absent station isn't run, and nothing follows it. A move that isn't refused
+/// makes an absent station present: with beacons, where no tick of the air's own waits for it, its
+/// first one is put, later by a jitter; then of each traffic, in order, its first send where none
+/// waits, later by a draw below the period.
+///
+/// There is a list of events of which the world stands at the end, by the written rules: of that
+/// very end hold the laws over every schedule; the sink took just these events and their entries;
+/// and those of the file, up to the last moment, are among them, in their order. One of these laws:
+/// where deliveries come, a geobroadcast reaches (`what_is_delivered_reaches` of `its_model`).
+///
+/// The numbers of each config have to be in their ranges, of no two the MIDs the same, of at most
+/// 65535, and the speed of each `MoveTo` has to be in its range. `present` has, by numbers, which
+/// stations are present at the start. Where an allocation or the sink failed, the sink has the
+/// events before.
+pub fn run_air<S: EventSink>(
+    alloc: Global,
+    configs: &[Config],
+    present: &[bool],
+    file: &[FileEvent],
+    air: &Air,
+    every: &[Traffic],
+    sink: &mut S,
+) -> Result<World, AirFault>
+    requires configs { All IsConfig configs.now }
+    requires count { length configs.now ≤ 65535 }
+    requires apart { AreApart configs.now }
+    requires events { All IsFiledInRange file.now }
+    requires moments { All (λ filed. moment_of filed < 2 ^ 63) file.now }
+    ensures file { S.Took sink.old [] [] → IfOk result (λ world.
+        IsAirRun (map config_of configs.now) (map filed_of file.now)
+        (end_of air.now.until file.now) world (S.Took sink.new)) }
+    ensures timed { S.Took sink.old [] [] → IfOk result (λ world.
+        IsTimedRun (rules_of air.now (all_traffic every.now) (end_of air.now.until file.now)
+        present.now) (map config_of configs.now) (map filed_of file.now) world
+        (S.Took sink.new)) }
+{
+    // A law, for the proof alone.
+    every_schedule();
+    let mut run = Run::begin(alloc, configs, present, file, air, every)?;
+    for _ in 0..usize::MAX {
+        if !run.go_on(sink)? {
+            return Ok(run.world);
+        }
+    }
+    Err(AirFault::TooManyEvents)
+}
+
+/// A run that is under way.
+#[derive(Drop)]
+pub(crate) struct Run<'a> {
+    alloc: Global,
+    air: Air,
+    /// What each station sends by itself.
+    every: &'a [Traffic],
+    pub(crate) world: World,
+    pub(crate) queue: Queue<'a>,
+    draws: Draws,
+    /// Which stations are present, by their numbers.
+    present: Vec<bool>,
+    /// Where the stations of the world stand.
+    pub(crate) standings: PlaceIndex,
+    /// Who hears the last frame that was given.
+    hearers: Vec<usize>,
+    /// How many events were done.
+    done: usize,
+}
+
+impl<'a> Run<'a> {
+    /// A run of which nothing is done yet.
+    pub(crate) fn begin(
+        alloc: Global,
+        configs: &[Config],
+        present: &[bool],
+        file: &'a [FileEvent],
+        air: &Air,
+        every: &'a [Traffic],
+    ) -> Result<Run<'a>, AirFault>
+        requires configs { All IsConfig configs.now }
+        requires count { length configs.now ≤ 65535 }
+        requires apart { AreApart configs.now }
+        requires events { All IsFiledInRange file.now }
+        requires moments { All (λ filed. moment_of filed < 2 ^ 63) file.now }
+        ensures world { IfOk result (λ run.
+            RepresentsWorld run.world (opening (map config_of configs.now))) }
+        ensures kept { IfOk result (λ run. run.world.released ≡ 0) }
+        ensures due { IfOk result (λ run.
+            AreDue (map filed_of file.now) (end_of air.now.until file.now)
+            (filed_due run.queue)) }
+        ensures start { IfOk result (λ run. run.queue.taken ≡ 0) }
+        ensures present { IfOk result (λ run. run.present.items ≡ present.now) }
+        ensures rules { IfOk result (GoesBy (rules_of air.now (all_traffic every.now)
+            (end_of air.now.until file.now) present.now)) }
+        ensures timed { IfOk result (λ run. Keeps run.queue run.draws (air_opening
+            (rules_of air.now (all_traffic every.now) (end_of air.now.until file.now) present.now)
+            (map config_of configs.now) (map filed_of file.now)).timetable) }
+        ensures standings { IfOk result AreIndexed }
+        ensures ranges { IfOk result (λ run.
+            All (λ filed. IsFiledInRange filed.now) run.queue.due.items) }
+    {
+        let (queue, draws) = Run::begin_queue(alloc, configs, present, file, air, every)?;
+        let world = World::of_apart(alloc, configs)?;
+        let standings = PlaceIndex::of(alloc, air.range, world.stations())?;
+        Ok(Run {
+            alloc,
+            air: *air,
+            every,
+            world,
+            queue,
+            draws,
+            present: Vec::from_slice(alloc, present)?,
+            standings,
+            hearers: Vec::new(alloc),
+            done: 0,
+        })
+    }
+
+    /// What waits at the start, and the draws behind those that this took.
+    fn begin_queue(
+        alloc: Global,
+        configs: &[Config],
+        present: &[bool],
+        file: &'a [FileEvent],
+        air: &Air,
+        every: &[Traffic],
+    ) -> Result<(Queue<'a>, Draws), AirFault>
+        requires events { All IsFiledInRange file.now }
+        requires moments { All (λ filed. moment_of filed < 2 ^ 63) file.now }
+        ensures due { IfOk result (λ begun.
+            AreDue (map filed_of file.now) (end_of air.now.until file.now)
+            (filed_due begun.0)) }
+        ensures start { IfOk result (λ begun. begun.0.taken ≡ 0) }
+        ensures until { IfOk result (λ begun. begun.0.until ≡ end_of air.now.until file.now) }
+        ensures timed { IfOk result (λ begun. Keeps begun.0 begun.1 (air_opening
+            (rules_of air.now (all_traffic every.now) (end_of air.now.until file.now) present.now)
+            (map config_of configs.now) (map filed_of file.now)).timetable) }
+        ensures ranges { IfOk result (λ begun.
+            All (λ filed. IsFiledInRange filed.now) begun.0.due.items) }
+    {
+        let mut draws = Draws::of_seed(air.seed);
+        let mut queue = Queue::of_file(alloc, file, end_of(air, file), every.len())?;
+        let ticking = if air.beacons { configs.len() } else { 0 };
+        schedule_first_ticks(&mut queue, &mut draws, present, ticking)?;
+        schedule_traffic(&mut queue, &mut draws, present, every, configs.len())?;
+        Ok((queue, draws))
+    }
+
+    /// Adds a station of this config, numbered behind all others, that is absent.
+    pub(crate) fn add_station(&mut self, config: &Config) -> Result<(), AirFault>
+        requires config { IsConfig config.now }
+        requires standings { AreIndexed self.old }
+        ensures standings { OnOk result (AreIndexed self.new) }
+        ensures count { OnOk result
+            (length self.new.world.stations ≡ length self.old.world.stations + 1) }
+        ensures air { self.new.air ≡ self.old.air }
+        ensures every { self.new.every ≡ self.old.every }
+        ensures queue { self.new.queue ≡ self.old.queue }
+        ensures draws { self.new.draws ≡ self.old.draws }
+        ensures present { OnOk result
+            (self.new.present.items ≡ self.old.present.items ++ false ∷ []) }
+        ensures frames { OnOk result ((self.new.world.released ≡ self.old.world.released)
+            × (length self.new.world.frames ≡ length self.old.world.frames)) }
+        ensures late { (configs : List Beginning) (events : List Happening) →
+            IsSimulation configs events self.old.world →
+            All (λ event. event.station < length configs) events → OnOk result
+            (IsSimulation (configs ++ config_of config.now ∷ []) events self.new.world) }
+    {
+        // Laws, for the proof alone.
+        every_schedule();
+        late_stations_were_there();
+        let number = self.world.stations().len();
+        self.world.add_station(config)?;
+        let Some(station) = self.world.station(number) else {
+            unreachable!()
+        };
+        let place = station.vector().place();
+        self.standings.add_station(number, place)?;
+        self.present.push(false)?;
+        Ok(())
+    }
+
+    /// Whether there is a station of this number.
+    pub(crate) fn has_station(&self, station: usize) -> bool
+        ensures { IsTrue result ↔ station < length self.now.world.stations }
+    {
+        station < self.world.stations().len()
+    }
+
+    /// Whether none of the frames that were let go is delivered by what happens.
+    pub(crate) fn keeps(&self, what: &What) -> bool
+        ensures kept { IsTrue result → IsKept self.now.world.released (what_of what.now) }
+        ensures delivers { result ≡ false → IsDelivery (what_of what.now) }
+    {
+        match what {
+            What::Deliver(frame) => self.world.released() <= *frame,
+            _ => true,
+        }
+    }
+
+    /// The same of what the air does by itself.
+    pub(crate) fn keeps_own(&self, own: &AirAction) -> bool
+        ensures { IsTrue result ↔ IsKept self.now.world.released (own_of own.now) }
+    {
+        match own {
+            AirAction::Deliver(frame) => self.world.released() <= *frame,
+            _ => true,
+        }
+    }
+
+    /// How long after it was given a frame is delivered, in milliseconds.
+    pub(crate) fn delay(&self) -> u64
+        ensures delay { result ≡ self.now.air.delay }
+        ensures bound { result < 2 ^ 32 }
+    {
+        u64::from(self.air.delay)
+    }
+
+    /// Whether the station of this number is present.
+    pub(crate) fn is_present(&self, station: usize) -> bool {
+        is_present(self.present.as_slice(), station)
+    }
+
+    /// Takes the first that waits, if one does. Most are deliveries, for which no event of any kind
+    /// is copied.
+    fn go_on<S: EventSink>(&mut self, sink: &mut S) -> Result<bool, AirFault>
+        requires ranges { All (λ filed. IsFiledInRange filed.now) self.old.queue.due.items }
+        requires kept { self.old.world.released ≡ 0 }
+        requires standings { AreIndexed self.old }
+        ensures standings { OnOk result (AreIndexed self.new) }
+        ensures due { self.new.queue.due ≡ self.old.queue.due }
+        ensures kept { self.new.world.released ≡ 0 }
+        ensures ended { IfOk result (λ more.
+            more ≡ false → length self.new.queue.due.items ≤ self.new.queue.taken) }
+        ensures run { (configs : List Beginning) (events : List Happening) →
+            IsUnderWay configs events self.old (S.Took sink.old) → OnOk result (
+            (more : List Happening) × IsUnderWay configs more self.new (S.Took sink.new)) }
+        ensures timed { (rules : Rules) (configs : List Beginning) (a : AirModel) →
+            IsTimed rules configs a self.old (S.Took sink.old) → IfOk result (λ more.
+            GoesOn more rules configs a self.new (S.Took sink.new)) }
+    {
+        let Some(delivery) = self.queue.pop_delivery() else {
+            return self.take_first(sink);
+        };
+        self.deliver(&delivery, sink)?;
+        Ok(true)
+    }
+
+    /// The same of whatever waits.
+    fn take_first<S: EventSink>(&mut self, sink: &mut S) -> Result<bool, AirFault>
+        requires ranges { All (λ filed. IsFiledInRange filed.now) self.old.queue.due.items }
+        requires kept { self.old.world.released ≡ 0 }
+        requires standings { AreIndexed self.old }
+        ensures standings { OnOk result (AreIndexed self.new) }
+        ensures due { self.new.queue.due ≡ self.old.queue.due }
+        ensures kept { self.new.world.released ≡ 0 }
+        ensures ended { IfOk result (λ more.
+            more ≡ false → length self.new.queue.due.items ≤ self.new.queue.taken) }
+        ensures run { (configs : List Beginning) (events : List Happening) →
+            IsUnderWay configs events self.old (S.Took sink.old) → OnOk result (
+            (more : List Happening) × IsUnderWay configs more self.new (S.Took sink.new)) }
+        ensures timed { (rules : Rules) (configs : List Beginning) (a : AirModel) →
+            IsTimed rules configs a self.old (S.Took sink.old) → IfOk result (λ more.
+            GoesOn more rules configs a self.new (S.Took sink.new)) }
+    {
+        match self.queue.pop() {
+            None => Ok(false),
+            Some(Next::OfFile(filed)) => {
+                self.do_filed(filed, sink)?;
+                Ok(true)
+            }
+            Some(Next::Own(waiting)) => {
+                self.do_own(&waiting, sink)?;
+                Ok(true)
+            }
+        }
+    }
+
+    /// Does what the file has: an event, with which its station may come, or a leave.
+    pub(crate) fn do_filed<S: EventSink>(
+        &mut self,
+        filed: &FileEvent,
+        sink: &mut S,
+    ) -> Result<(), AirFault>
+        requires range { IsFiledInRange filed.now }
+        requires moment { moment_of filed.now ≤ 2 ^ 63 + 10000 }
+        requires kept { All (λ event. IsKept self.old.world.released event.what)
+            (events_in (filed_of filed.now ∷ [])) }
+        requires standings { AreIndexed self.old }
+        ensures file { SameFile self.old.queue self.new.queue }
+        ensures released { self.new.world.released ≡ self.old.world.released }
+        ensures standings { OnOk result (AreIndexed self.new) }
+        ensures run { (configs : List Beginning) (events : List Happening) →
+            IsSimulated configs events self.old.world (S.Took sink.old) → OnOk result (
+            IsSimulated configs (events ++ events_in (filed_of filed.now ∷ [])) self.new.world
+            (S.Took sink.new)) }
+        ensures timed { (rules : Rules) (configs : List Beginning) (a : AirModel) →
+            IsTimed rules configs a self.old (S.Took sink.old) → OnOk result
+            (IsTimed rules configs (take_one rules configs a (of_file (filed_of filed.now))
+            a.timetable) self.new (S.Took sink.new)) }
+    {
+        match filed {
+            FileEvent::Happens(event) => {
+                if self.do_outer(event, sink)? {
+                    self.note_coming(event, sink)?;
+                }
+                Ok(())
+            }
+            FileEvent::Leaves { station, moment } => self.leave(*station, *moment, sink),
+        }
+    }
+
+    /// Does an event that isn't the air's own, with which its station may come. Gives whether it
+    /// does, of which the sink has no note yet.
+    pub(crate) fn do_outer<S: EventSink>(
+        &mut self,
+        event: &Event,
+        sink: &mut S,
+    ) -> Result<bool, AirFault>
+        requires range { IsInRange event.now.what }
+        requires moment { event.now.moment ≤ 2 ^ 63 + 10000 }
+        requires kept { IsKept self.old.world.released (what_of event.now.what) }
+        requires standings { AreIndexed self.old }
+        ensures file { SameFile self.old.queue self.new.queue }
+        ensures released { self.new.world.released ≡ self.old.world.released }
+        ensures count { length self.new.world.stations ≡ length self.old.world.stations }
+        ensures standings { OnOk result (AreIndexed self.new) }
+        ensures run { (configs : List Beginning) (events : List Happening) →
+            IsSimulated configs events self.old.world (S.Took sink.old) → OnOk result (
+            IsSimulated configs (events ++ event_of event.now ∷ []) self.new.world
+            (S.Took sink.new)) }
+        ensures timed { (rules : Rules) (configs : List Beginning) (a : AirModel) →
+            IsTimed rules configs a self.old (S.Took sink.old) → OnOk result
+            (IsTimed rules configs (take_one rules configs a
+            (of_file (Happens (event_of event.now))) a.timetable) self.new (S.Took sink.new)) }
+    {
+        let entry = self.do_event(event, sink)?;
+        self.admit(event, &entry)
+    }
+
+    /// A station is absent from now on.
+    pub(crate) fn leave<S: EventSink>(
+        &mut self,
+        station: usize,
+        moment: u64,
+        sink: &mut S,
+    ) -> Result<(), AirFault>
+        ensures world { SameWorld self.old self.new }
+        ensures queue { self.new.queue ≡ self.old.queue }
+        ensures draws { self.new.draws ≡ self.old.draws }
+        ensures told { OnOk result (SaysAsBefore (S.Took sink.old) (S.Took sink.new)) }
+        ensures present { self.new.present.items ≡ slice_set self.old.present.items station false }
+    {
+        let was = is_present(self.present.as_slice(), station);
+        set_present(&mut self.present, station, false);
+        if !was {
+            return Ok(());
+        }
+        sink.note(&self.world, moment, &Note::Left { station })?;
+        Ok(())
+    }
+
+    /// Does a delivery. Nothing follows it but the deliveries of the frame that it gives.
+    fn deliver<S: EventSink>(&mut self, delivery: &Delivery, sink: &mut S) -> Result<(), AirFault>
+        requires moment { delivery.now.moment ≤ 2 ^ 63 + 10000 }
+        requires kept { self.old.world.released ≤ delivery.now.frame }
+        requires standings { AreIndexed self.old }
+        ensures file { SameFile self.old.queue self.new.queue }
+        ensures released { self.new.world.released ≡ self.old.world.released }
+        ensures standings { OnOk result (AreIndexed self.new) }
+        ensures run { (configs : List Beginning) (events : List Happening) →
+            IsSimulated configs events self.old.world (S.Took sink.old) → OnOk result (
+            (more : List Happening) × IsSimulated configs (events ++ more) self.new.world
+            (S.Took sink.new)) }
+        ensures timed { (rules : Rules) (configs : List Beginning) (a : AirModel) →
+            IsTimed rules configs a self.old (S.Took sink.old) → OnOk result
+            (IsTimed rules configs
+            (take_one rules configs a (pending_of (delivery_of delivery.now)) a.timetable) self.new
+            (S.Took sink.new)) }
+    {
+        let event = delivery.event();
+        let entry = self.do_event(&event, sink)?;
+        let came = self.come(&event, &entry, sink);
+        self.world.reuse(entry);
+        came
+    }
+
+    /// Does one of the air's own, and puts what follows it. A tick or a send of an absent station
+    /// is passed over.
+    pub(crate) fn do_own<S: EventSink>(
+        &mut self,
+        waiting: &Scheduled,
+        sink: &mut S,
+    ) -> Result<(), AirFault>
+        requires moment { waiting.now.moment ≤ 2 ^ 63 + 10000 }
+        requires kept { IsKept self.old.world.released (own_of waiting.now.own) }
+        requires standings { AreIndexed self.old }
+        ensures file { SameFile self.old.queue self.new.queue }
+        ensures released { self.new.world.released ≡ self.old.world.released }
+        ensures standings { OnOk result (AreIndexed self.new) }
+        ensures run { (configs : List Beginning) (events : List Happening) →
+            IsSimulated configs events self.old.world (S.Took sink.old) → OnOk result (
+            (more : List Happening) × IsSimulated configs (events ++ more) self.new.world
+            (S.Took sink.new)) }
+        ensures own { (configs : List Beginning) (events : List Happening) →
+            IsSimulated configs events self.old.world (S.Took sink.old) → OnOk result (
+            (more : List Happening) × All (λ event. event.station ≡ waiting.now.station) more
+            × IsSimulated configs (events ++ more) self.new.world (S.Took sink.new)) }
+        ensures timed { (rules : Rules) (configs : List Beginning) (a : AirModel) →
+            IsTimed rules configs a self.old (S.Took sink.old) → OnOk result
+            (IsTimed rules configs (take_one rules configs a (pending_of waiting.now) a.timetable)
+            self.new (S.Took sink.new)) }
+    {
+        if self.is_passed_over(waiting) {
+            return Ok(());
+        }
+        let event = waiting.event(self.alloc)?;
+        let entry = self.do_event(&event, sink)?;
+        self.schedule_next(waiting, &entry)?;
+        self.come(&event, &entry, sink)
+    }
+
+    /// Whether one of the air's own isn't run: a tick or a send of an absent station.
+    fn is_passed_over(&self, waiting: &Scheduled) -> bool
+        ensures { result ≡ is_passed_over self.now.present.items (planned_of waiting.now) }
+    {
+        !waiting.own.is_delivery() && !is_present(self.present.as_slice(), waiting.station)
+    }
+
+    /// Does an event, hands it to the sink, and puts the deliveries of the frame that it gave.
+    /// Where its station has moved, it stands there from now on.
+    pub(crate) fn do_event<S: EventSink>(
+        &mut self,
+        event: &Event,
+        sink: &mut S,
+    ) -> Result<Entry, AirFault>
+        requires range { IsInRange event.now.what }
+        requires moment { event.now.moment ≤ 2 ^ 63 + 10000 }
+        requires kept { IsKept self.old.world.released (what_of event.now.what) }
+        requires standings { AreIndexed self.old }
+        ensures file { SameFile self.old.queue self.new.queue }
+        ensures released { self.new.world.released ≡ self.old.world.released }
+        ensures count { length self.new.world.stations ≡ length self.old.world.stations }
+        ensures standings { OnOk result (AreIndexed self.new) }
+        ensures run { (configs : List Beginning) (events : List Happening) →
+            IsSimulated configs events self.old.world (S.Took sink.old) → OnOk result (
+            IsSimulated configs (events ++ event_of event.now ∷ []) self.new.world
+            (S.Took sink.new)) }
+        ensures air { self.new.air ≡ self.old.air }
+        ensures every { self.new.every ≡ self.old.every }
+        ensures present { self.new.present ≡ self.old.present }
+        ensures answered { (configs : List Beginning) (events : List Happening) →
+            IsSimulated configs events self.old.world (S.Took sink.old) → IfOk result (λ entry.
+            IsAnswered entry
+            (world_run (opening configs) (events ++ event_of event.now ∷ []))) }
+        ensures spread { (rules : Rules) (configs : List Beginning) (events : List Happening)
+            (t : Timetable) → GoesBy rules self.old →
+            IsSimulated configs events self.old.world (S.Took sink.old) →
+            Keeps self.old.queue self.old.draws t → OnOk result
+            (Keeps self.new.queue self.new.draws
+            (spread rules self.old.present.items (event_of event.now)
+            (world_run (opening configs) (events ++ event_of event.now ∷ [])) t)) }
+    {
+        let Some(next) = self.done.checked_add(1) else {
+            return Err(AirFault::TooManyEvents);
+        };
+        let stood = place_of(&self.world, event.station);
+        let entry = do_event(&mut self.world, self.done, event, sink)?;
+        self.done = next;
+        self.update_place(event.station, stood);
+        if let Some(frame) = entry.frame() {
+            self.schedule_frame(event, frame, sink)?;
+        }
+        Ok(entry)
+    }
+
+    /// A station may have moved from where it stood: it stands where the world has it.
+    fn update_place(&mut self, number: usize, stood: Option<Place>)
+        ensures air { self.new.air ≡ self.old.air }
+        ensures every { self.new.every ≡ self.old.every }
+        ensures present { self.new.present ≡ self.old.present }
+        ensures world { self.new.world ≡ self.old.world }
+        ensures queue { self.new.queue ≡ self.old.queue }
+        ensures draws { self.new.draws ≡ self.old.draws }
+        ensures standings { (before : List StationState) →
+            AreStandingsOf before self.old.standings.order.items →
+            AreSameBut number before self.old.world.stations →
+            stood ≡ option_map (λ st. st.vector.place) (slice_get before number) →
+            AreIndexed self.new }
+    {
+        let Some(place) = place_of(&self.world, number) else {
+            return;
+        };
+        if !stood_at(&stood, place) {
+            self.standings.move_station(number, stood, place);
+        }
+    }
+
+    /// Puts a delivery of a frame to each station that hears it and doesn't lose it, and notes
+    /// which of them do and which lose it. That of an absent station is heard by none.
+    fn schedule_frame<S: EventSink>(
+        &mut self,
+        event: &Event,
+        frame: usize,
+        sink: &mut S,
+    ) -> Result<(), AirFault>
+        requires moment { event.now.moment ≤ 2 ^ 63 + 10000 }
+        requires standings { AreIndexed self.old }
+        ensures world { SameWorld self.old self.new }
+        ensures present { self.new.present ≡ self.old.present }
+        ensures file { SameFile self.old.queue self.new.queue }
+        ensures told { OnOk result (SaysAsBefore (S.Took sink.old) (S.Took sink.new)) }
+        ensures spread { (rules : Rules) (w : WorldModel) (t : Timetable) → GoesBy rules self.old →
+            RepresentsWorld self.old.world w → Keeps self.old.queue self.old.draws t → OnOk result
+            (Keeps self.new.queue self.new.draws
+            (spread_frame rules self.old.present.items (event_of event.now) w (Some frame) t)) }
+    {
+        self.find_hearers(event.station)?;
+        let given = GivenFrame {
+            frame,
+            moment: event.moment,
+            heard_at: event.moment + u64::from(self.air.delay),
+        };
+        let hearers = self.hearers.as_slice();
+        let (queue, draws) = (&mut self.queue, &mut self.draws);
+        schedule_deliveries(
+            queue,
+            draws,
+            self.air.loss,
+            given,
+            hearers,
+            &self.world,
+            sink,
+        )
+    }
+
+    /// Finds who hears what a station gives: none where it is absent.
+    fn find_hearers(&mut self, giver: usize) -> Result<(), AirFault>
+        requires standings { AreIndexed self.old }
+        ensures world { SameWorld self.old self.new }
+        ensures present { self.new.present ≡ self.old.present }
+        ensures queue { self.new.queue ≡ self.old.queue }
+        ensures draws { self.new.draws ≡ self.old.draws }
+        ensures heard { (w : WorldModel) → RepresentsWorld self.old.world w → OnOk result
+            (self.new.hearers.items ≡ heard_by self.old.air.range self.old.present.items w giver) }
+    {
+        self.hearers.clear();
+        if !is_present(self.present.as_slice(), giver) {
+            return Ok(());
+        }
+        let Some(station) = self.world.station(giver) else {
+            return Ok(());
+        };
+        self.standings.find_hearers(
+            self.air.range,
+            self.world.stations(),
+            giver,
+            station.vector().place(),
+            &mut self.hearers,
+        )?;
+        keep_present(&mut self.hearers, self.present.as_slice());
+        Ok(())
+    }
+
+    /// After one of the air's own its station may come, of which the sink has a note then.
+    fn come<S: EventSink>(
+        &mut self,
+        event: &Event,
+        entry: &Entry,
+        sink: &mut S,
+    ) -> Result<(), AirFault>
+        requires moment { event.now.moment ≤ 2 ^ 63 + 10000 }
+        ensures world { SameWorld self.old self.new }
+        ensures file { SameFile self.old.queue self.new.queue }
+        ensures told { OnOk result (SaysAsBefore (S.Took sink.old) (S.Took sink.new)) }
+        ensures present { (after : WorldModel) → IsAnswered entry.now after → OnOk result
+            (self.new.present.items
+            ≡ present_after self.old.present.items (event_of event.now) after) }
+        ensures come { (rules : Rules) (after : WorldModel) (t : Timetable) →
+            GoesBy rules self.old → IsAnswered entry.now after →
+            Keeps self.old.queue self.old.draws t → OnOk result
+            (Keeps self.new.queue self.new.draws
+            (cond (comes self.old.present.items (event_of event.now) after)
+            (come rules event.now.station event.now.moment t) t)) }
+    {
+        if self.admit(event, entry)? {
+            self.note_coming(event, sink)
+        } else {
+            Ok(())
+        }
+    }
+
+    /// Makes a station present that was absent and that an event moved, and puts its first tick and
+    /// its first sends, where none of them waits. Gives whether it did, of which the sink has no
+    /// note yet.
+    fn admit(&mut self, event: &Event, entry: &Entry) -> Result<bool, AirFault>
+        requires moment { event.now.moment ≤ 2 ^ 63 + 10000 }
+        ensures world { SameWorld self.old self.new }
+        ensures file { SameFile self.old.queue self.new.queue }
+        ensures present { (after : WorldModel) → IsAnswered entry.now after → OnOk result
+            (self.new.present.items
+            ≡ present_after self.old.present.items (event_of event.now) after) }
+        ensures come { (rules : Rules) (after : WorldModel) (t : Timetable) →
+            GoesBy rules self.old → IsAnswered entry.now after →
+            Keeps self.old.queue self.old.draws t → OnOk result
+            (Keeps self.new.queue self.new.draws
+            (cond (comes self.old.present.items (event_of event.now) after)
+            (come rules event.now.station event.now.moment t) t)) }
+    {
+        if !self.is_coming(event, entry) {
+            return Ok(false);
+        }
+        set_present(&mut self.present, event.station, true);
+        self.schedule_coming(event.station, event.moment)?;
+        Ok(true)
+    }
+
+    /// Hands a sink the note that the station of an event came with it.
+    pub(crate) fn note_coming<S: EventSink>(
+        &self,
+        event: &Event,
+        sink: &mut S,
+    ) -> Result<(), AirFault>
+        ensures told { OnOk result (SaysAsBefore (S.Took sink.old) (S.Took sink.new)) }
+    {
+        let station = event.station;
+        sink.note(&self.world, event.moment, &Note::Came { station })?;
+        Ok(())
+    }
+
+    /// Whether the station of an event comes with it: it is absent, and the event moved it.
+    fn is_coming(&self, event: &Event, entry: &Entry) -> bool
+        ensures { (after : WorldModel) → IsAnswered entry.now after →
+            result ≡ comes self.now.present.items (event_of event.now) after }
+    {
+        is_move(entry) && !is_present(self.present.as_slice(), event.station)
+    }
+
+    /// Puts the first tick and the first sends of a station that comes, where none of them waits.
+    fn schedule_coming(&mut self, station: usize, moment: u64) -> Result<(), AirFault>
+        requires moment { moment ≤ 2 ^ 63 + 10000 }
+        ensures world { SameWorld self.old self.new }
+        ensures present { self.new.present ≡ self.old.present }
+        ensures file { SameFile self.old.queue self.new.queue }
+        ensures come { (rules : Rules) (t : Timetable) → GoesBy rules self.old →
+            Keeps self.old.queue self.old.draws t → OnOk result
+            (Keeps self.new.queue self.new.draws (come rules station moment t)) }
+    {
+        let (queue, draws) = (&mut self.queue, &mut self.draws);
+        schedule_coming_tick(queue, draws, self.air.beacons, station, moment)?;
+        schedule_coming_sends(queue, draws, self.every, station, moment)?;
+        Ok(())
+    }
+
+    /// Puts what follows an event of the air's own: the next tick of a station after one that
+    /// wasn't refused, its next send after one of traffic.
+    fn schedule_next(&mut self, done: &Scheduled, entry: &Entry) -> Result<(), AirFault>
+        requires moment { done.now.moment ≤ 2 ^ 63 + 10000 }
+        ensures world { SameWorld self.old self.new }
+        ensures present { self.new.present ≡ self.old.present }
+        ensures file { SameFile self.old.queue self.new.queue }
+        ensures next { (w : WorldModel) (t : Timetable) (answer : Answer ℕ) →
+            RepresentsWorld self.old.world w → TellsEntry entry.now answer →
+            Keeps self.old.queue self.old.draws t → OnOk result
+            (Keeps self.new.queue self.new.draws (follow_own done.now (is_refusal answer)
+            (slice_get w.stations done.now.station) t)) }
+    {
+        match &done.own {
+            AirAction::Tick(_) => self.schedule_next_tick(done, entry),
+            AirAction::Deliver(_) => Ok(()),
+            AirAction::Send(number, traffic) => {
+                let moment = done.moment + u64::from(traffic.period);
+                let send = AirAction::Send(*number, *traffic);
+                self.queue.push(moment, done.station, send)?;
+                Ok(())
+            }
+        }
+    }
+
+    /// Puts the next tick of a station after one that wasn't refused.
+    fn schedule_next_tick(&mut self, tick: &Scheduled, entry: &Entry) -> Result<(), AirFault>
+        ensures world { SameWorld self.old self.new }
+        ensures present { self.new.present ≡ self.old.present }
+        ensures file { SameFile self.old.queue self.new.queue }
+        ensures tick { (w : WorldModel) (t : Timetable) (answer : Answer ℕ) →
+            RepresentsWorld self.old.world w → TellsEntry entry.now answer →
+            Keeps self.old.queue self.old.draws t → OnOk result
+            (Keeps self.new.queue self.new.draws (cond (is_refusal answer) t
+            (tick_again (happening_of tick.now) (slice_get w.stations tick.now.station) t))) }
+    {
+        if matches!(entry, Entry::Refused(_)) {
+            return Ok(());
+        }
+        let Some(station) = self.world.station(tick.station) else {
+            return Ok(());
+        };
+        let (queue, draws) = (&mut self.queue, &mut self.draws);
+        schedule_tick(
+            queue,
+            draws,
+            tick.station,
+            tick.moment,
+            station.beacon_from(),
+        )?;
+        Ok(())
+    }
+}
+
+/// Where a station stands, by its number.
+pub(crate) fn place_of(world: &World, number: usize) -> Option<Place>
+    ensures { result ≡ option_map (λ st. st.vector.place) (slice_get world.now.stations number) }
+{
+    match world.station(number) {
+        Some(station) => Some(station.vector().place()),
+        None => None,
+    }
+}
+
+/// Whether a station stood at this place.
+fn stood_at(stood: &Option<Place>, place: Place) -> bool
+    ensures { IsTrue result → stood.now ≡ Some place }
+{
+    match stood {
+        Some(stood) => *stood == place,
+        None => false,
+    }
+}
+
+/// Notes that a station is present, or that it is absent. It changes nothing where there is none.
+fn set_present(present: &mut Vec<bool>, station: usize, is_present: bool)
+    ensures { present.new.items ≡ slice_set present.old.items station is_present }
+{
+    if station < present.len() {
+        present[station] = is_present;
+    }
+}
+
+/// Leaves those of these stations that are present, in order.
+fn keep_present(stations: &mut Vec<usize>, present: &[bool])
+    ensures { stations.new.items ≡ filter (is_present present.now) stations.old.items }
+{
+    stations.retain(|station| is_present(present, *station));
+}
+
+/// Whether an entry is that of a move that wasn't refused.
+fn is_move(entry: &Entry) -> bool
+    ensures { (answer : Answer ℕ) → TellsEntry entry.now answer → result ≡ is_moved answer }
+{
+    matches!(entry, Entry::Moved)
+}
+
+/// A frame that was just given.
+#[derive(Clone, Copy, Debug)]
+struct GivenFrame {
+    /// Its number.
+    frame: usize,
+    /// The moment when it was given.
+    moment: u64,
+    /// The moment of its deliveries.
+    heard_at: u64,
+}
+
+/// Puts a delivery of a frame to each of these stations that doesn't lose it, and hands a sink a
+/// note of what each draw did, in order.
+fn schedule_deliveries<S: EventSink>(
+    queue: &mut Queue<'_>,
+    draws: &mut Draws,
+    loss: u8,
+    given: GivenFrame,
+    hearers: &[usize],
+    world: &World,
+    sink: &mut S,
+) -> Result<(), AirFault>
+    ensures file { SameFile queue.old queue.new }
+    ensures told { OnOk result (SaysAsBefore (S.Took sink.old) (S.Took sink.new)) }
+    ensures sent { (t : Timetable) → Keeps queue.old draws.old t → OnOk result
+        (Keeps queue.new draws.new (send_all loss given.frame given.heard_at hearers.now t)) }
+{
+    for station in hearers {
+        let note = schedule_delivery(queue, draws, loss, given, *station)?;
+        sink.note(world, given.moment, &note)?;
+    }
+    Ok(())
+}
+
+/// Puts a delivery of a frame to a station, unless a draw loses it. Gives the note of it.
+fn schedule_delivery(
+    queue: &mut Queue<'_>,
+    draws: &mut Draws,
+    loss: u8,
+    given: GivenFrame,
+    station: usize,
+) -> Result<Note<'static>, AirFault>
+    ensures file { SameFile queue.old queue.new }
+    ensures sent { (t : Timetable) → Keeps queue.old draws.old t → OnOk result
+        (Keeps queue.new draws.new (send loss given.frame given.heard_at station t)) }
+{
+    let frame = given.frame;
+    if draws.is_lost(loss) {
+        return Ok(Note::Lost { station, frame });
+    }
+    queue.push_delivery(given.heard_at, station, frame)?;
+    Ok(Note::Heard { station, frame })
+}

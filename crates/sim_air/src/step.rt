@@ -1,0 +1,186 @@
+//! What comes to a run from outside is done, and what is the air's own.
+
+ghost use Rattle.std.specs.Prelude.{[], ℕ, IsTrue, ◌≡◌, ◌≤◌, ◌<◌, ◌+◌, ◌^◌, ◌∷◌, All, length};
+ghost use Rattle.std.specs.Prelude.{IfOk, OnOk, ◌⊎◌, false, map};
+ghost use Rattle.sim_scenario.specs.Airs.{moment_of};
+ghost use Rattle.sim_scenario.specs.Events.{FitsFileEvent, station_in};
+ghost use Rattle.its_world.specs.Events.{IsInRange, event_of, what_of};
+ghost use Rattle.its_world.specs.Steps.{IsKept};
+ghost use Rattle.sim_air.specs.AirRun.{events_in};
+ghost use Rattle.sim_air.specs.Moving.{DoesAsked, DoesFiled, DoesTaken, DoesThere};
+ghost use Rattle.sim_air.specs.Outside.{Delivers, at_station, opening_at, station_of_filed};
+ghost use Rattle.sim_queue.specs.Queues.{IsFiledInRange, filed_of};
+ghost use Rattle.sim_air.specs.Runs.{AreIndexed};
+ghost use Rattle.sim_queue.specs.Waiting.{own_of};
+ghost use Rattle.sim_air_model.specs.Timetable.Filed.{Happens};
+
+use crate::copying::copy_of;
+use crate::fault::AirFault;
+use crate::run::{Run, place_of};
+use its_world::{Event, What};
+use sim_queue::Scheduled;
+use sim_scenario::events::{AddressedEvent, FileEvent};
+use sim_simulation::EventSink;
+use std::alloc::{AllocError, Global};
+
+/// Does an event or leave of the scenario at the station of this number. An area whose centre is
+/// left out lies round where that station stands.
+pub(crate) fn do_at<S: EventSink>(
+    alloc: Global,
+    run: &mut Run<'_>,
+    event: &AddressedEvent,
+    station: usize,
+    sink: &mut S,
+) -> Result<(), AirFault>
+    requires fits { FitsFileEvent event.now.filed }
+    requires standings { AreIndexed run.old }
+    ensures standings { OnOk result (AreIndexed run.new) }
+    ensures moving { OnOk result (DoesAsked event.now station run.old (S.Took sink.old) run.new
+        (S.Took sink.new)) }
+{
+    let mut filed = filed_at(alloc, &event.filed, station)?;
+    if event.round_station {
+        if let Some(place) = place_of(&run.world, station) {
+            filed.centre_at(place);
+        }
+    }
+    do_filed(run, &filed, sink)
+}
+
+/// The same event or leave of a station of this number.
+fn filed_at(alloc: Global, filed: &FileEvent, station: usize) -> Result<FileEvent, AllocError>
+    requires range { IsFiledInRange filed.now }
+    ensures range { IfOk result IsFiledInRange }
+    ensures moment { IfOk result (λ same. moment_of same ≡ moment_of filed.now) }
+    ensures same { IfOk result (λ same. filed_of same ≡ at_station station (filed_of filed.now)) }
+{
+    Ok(match filed {
+        FileEvent::Happens(event) => FileEvent::Happens(Event {
+            station,
+            moment: event.moment,
+            what: copy_of(alloc, &event.what)?,
+        }),
+        FileEvent::Leaves { moment, .. } => FileEvent::Leaves {
+            station,
+            moment: *moment,
+        },
+    })
+}
+
+/// Does what the scenario has, of a station that is there.
+pub(crate) fn do_filed<S: EventSink>(
+    run: &mut Run<'_>,
+    filed: &FileEvent,
+    sink: &mut S,
+) -> Result<(), AirFault>
+    requires range { IsFiledInRange filed.now }
+    requires moment { moment_of filed.now ≤ 2 ^ 63 + 10000 }
+    requires standings { AreIndexed run.old }
+    ensures standings { OnOk result (AreIndexed run.new) }
+    ensures moving { OnOk result (DoesFiled (moment_of filed.now) (filed_of filed.now) run.old
+        (S.Took sink.old) run.new (S.Took sink.new)) }
+{
+    if is_there(run, filed) {
+        run.do_filed(filed, sink)
+    } else {
+        Ok(())
+    }
+}
+
+/// Whether the station is there of what the scenario has, and the frame that it delivers, if it
+/// does, is kept. Where stations move by rows a scenario delivers none.
+fn is_there(run: &Run<'_>, filed: &FileEvent) -> bool
+    ensures there { IsTrue result → station_in filed.now < length run.now.world.stations }
+    ensures kept { IsTrue result → All (λ event. IsKept run.now.world.released event.what)
+        (events_in (filed_of filed.now ∷ [])) }
+    ensures away { result ≡ false →
+        (length run.now.world.stations ≤ station_of_filed (filed_of filed.now))
+        ⊎ Delivers (filed_of filed.now) }
+{
+    match filed {
+        FileEvent::Happens(event) => run.has_station(event.station) && run.keeps(&event.what),
+        FileEvent::Leaves { station, .. } => run.has_station(*station),
+    }
+}
+
+/// Does one of the air's own, where its station is there, and the frame that it delivers, if it
+/// does, is kept. Both always are so.
+pub(crate) fn do_own<S: EventSink>(
+    run: &mut Run<'_>,
+    waiting: &Scheduled,
+    sink: &mut S,
+) -> Result<(), AirFault>
+    requires moment { waiting.now.moment ≤ 2 ^ 63 + 10000 }
+    requires standings { AreIndexed run.old }
+    ensures standings { OnOk result (AreIndexed run.new) }
+    ensures moving { OnOk result (DoesTaken waiting.now run.old (S.Took sink.old) run.new
+        (S.Took sink.new)) }
+{
+    if can_do(run, waiting) {
+        run.do_own(waiting, sink)
+    } else {
+        Ok(())
+    }
+}
+
+/// Whether the station is there of one of the air's own, and the frame is kept that it delivers, if
+/// it does.
+fn can_do(run: &Run<'_>, waiting: &Scheduled) -> bool
+    ensures there { IsTrue result → waiting.now.station < length run.now.world.stations }
+    ensures kept { IsTrue result → IsKept run.now.world.released (own_of waiting.now.own) }
+    ensures can { waiting.now.station < length run.now.world.stations →
+        IsKept run.now.world.released (own_of waiting.now.own) → IsTrue result }
+{
+    run.has_station(waiting.station) && run.keeps_own(&waiting.own)
+}
+
+/// Does a move, opens these ports at its station, and has the station come where it was absent.
+pub(crate) fn move_in<S: EventSink>(
+    run: &mut Run<'_>,
+    event: &Event,
+    ports: &[u16],
+    sink: &mut S,
+) -> Result<(), AirFault>
+    requires range { IsInRange event.now.what }
+    requires moment { event.now.moment ≤ 2 ^ 63 + 10000 }
+    requires kept { (released : ℕ) → IsKept released (what_of event.now.what) }
+    requires standings { AreIndexed run.old }
+    ensures standings { OnOk result (AreIndexed run.new) }
+    ensures moving { OnOk result (DoesThere event.now.station event.now.moment
+        (Happens (event_of event.now)
+        ∷ map (opening_at event.now.station event.now.moment) ports.now) run.old
+        (S.Took sink.old) run.new (S.Took sink.new)) }
+{
+    let came = run.do_outer(event, sink)?;
+    open_ports(run, event, ports, sink)?;
+    if came {
+        run.note_coming(event, sink)?;
+    }
+    Ok(())
+}
+
+/// Opens these ports at the station of an event, at its moment.
+fn open_ports<S: EventSink>(
+    run: &mut Run<'_>,
+    event: &Event,
+    ports: &[u16],
+    sink: &mut S,
+) -> Result<(), AirFault>
+    requires moment { event.now.moment ≤ 2 ^ 63 + 10000 }
+    requires standings { AreIndexed run.old }
+    ensures standings { OnOk result (AreIndexed run.new) }
+    ensures moving { OnOk result (DoesThere event.now.station event.now.moment
+        (map (opening_at event.now.station event.now.moment) ports.now) run.old
+        (S.Took sink.old) run.new (S.Took sink.new)) }
+{
+    for port in ports {
+        let open = Event {
+            station: event.station,
+            moment: event.moment,
+            what: What::Open(*port),
+        };
+        // No station comes with it.
+        run.do_outer(&open, sink)?;
+    }
+    Ok(())
+}

@@ -1,0 +1,190 @@
+//! Why moves can't be read on.
+
+use crate::columns::{Column, Notation};
+use cmd_text::lines::GzipFile;
+use std::alloc::{AllocError, AllocFailed};
+use std::error::Error;
+use std::{fmt, io};
+
+/// Why a first line doesn't name the columns.
+#[derive(Clone, Copy, Debug, PartialEq, Eq)]
+pub enum HeaderFault {
+    /// It begins a gzip file.
+    Gzip,
+    /// It names no column that has a meaning.
+    NoColumn,
+    /// It has names of both notations.
+    BothNotations,
+    /// It names this column of this notation twice.
+    Twice(Notation, Column),
+    /// It lacks this column of this notation.
+    Missing(Notation, Column),
+}
+
+impl fmt::Display for HeaderFault {
+    fn fmt<W: fmt::Write>(&self, f: &mut fmt::Formatter<W>) -> fmt::Result {
+        match self {
+            HeaderFault::Gzip => GzipFile("sim --moves -").fmt(f),
+            HeaderFault::NoColumn => f.write_str(
+                "it names no columns, which are at, id, lat and lon, \
+                or SUMO's timestep_time, vehicle_id, vehicle_y and vehicle_x",
+            ),
+            HeaderFault::BothNotations => {
+                f.write_str("it has names of SUMO's columns and of the own ones")
+            }
+            HeaderFault::Twice(notation, column) => {
+                write!(f, "column {} stands twice", column.word(*notation))
+            }
+            HeaderFault::Missing(notation, column) => {
+                write!(f, "column {} is missing", column.word(*notation))
+            }
+        }
+    }
+}
+
+/// The first that is wrong with a line, in the order in which it is judged.
+#[derive(Clone, Copy, Debug, PartialEq, Eq)]
+pub enum Word {
+    /// It has more octets than 4096 before its line feed.
+    Length,
+    /// It is the first, and a name of the columns stands twice or is missing, or there are names of
+    /// both notations.
+    Header(HeaderFault),
+    /// It has more fields than the first line, or fewer.
+    Fields,
+    /// Its moment is no number in its range, or is below that of the row before.
+    At,
+    /// Its id is no text of 1 to 64 octets without control characters.
+    Id,
+    /// Its latitude is no number in its range.
+    Lat,
+    /// Its longitude is no number in its range.
+    Lon,
+    /// Its speed is no number in its range.
+    Speed,
+    /// Its heading is no number in its range.
+    Heading,
+    /// Its id is new, and there is no place for one more station. `Rows` doesn't tell this: it is
+    /// for whoever makes stations of ids.
+    TooManyStations,
+}
+
+impl fmt::Display for Word {
+    fn fmt<W: fmt::Write>(&self, f: &mut fmt::Formatter<W>) -> fmt::Result {
+        f.write_str(match self {
+            Word::Length => "length",
+            Word::Header(_) => "header",
+            Word::Fields => "fields",
+            Word::At => "at",
+            Word::Id => "id",
+            Word::Lat => "lat",
+            Word::Lon => "lon",
+            Word::Speed => "speed",
+            Word::Heading => "heading",
+            Word::TooManyStations => "too many stations",
+        })
+    }
+}
+
+/// What is wrong with a line, as a sentence for a person.
+#[derive(Clone, Copy, Debug, PartialEq, Eq)]
+pub struct WordReason(pub Word);
+
+impl fmt::Display for WordReason {
+    fn fmt<W: fmt::Write>(&self, f: &mut fmt::Formatter<W>) -> fmt::Result {
+        f.write_str(match self.0 {
+            Word::Length => "more than 4096 octets",
+            Word::Header(fault) => return write!(f, "{fault}"),
+            Word::Fields => "more or fewer fields than the first line has",
+            Word::At => "not a time from the row before on: whole milliseconds, or SUMO's seconds, \
+                up to 2^62 ms",
+            Word::Id => "not 1 to 64 octets of UTF-8 without control characters",
+            Word::Lat => "not a latitude: whole tenths of a microdegree, or SUMO's degrees, \
+                up to 90 degrees",
+            Word::Lon => "not a longitude: whole tenths of a microdegree, or SUMO's degrees, \
+                up to 180 degrees",
+            Word::Speed => "not a speed: whole 0.01 m/s, or SUMO's m/s, from -163.84 to 163.83 m/s",
+            Word::Heading =>
+                "not a heading: whole tenths of a degree, or SUMO's degrees, from 0 to 360 degrees",
+            Word::TooManyStations => "no place or no address is left for the station of a new id",
+        })
+    }
+}
+
+/// Why a reader failed: the number of the system's error, if it has one. The error itself is large,
+/// and each row returns a result that may hold one.
+#[derive(Clone, Copy, Debug, PartialEq, Eq)]
+pub struct ReadFault {
+    number: Option<i32>,
+}
+
+impl ReadFault {
+    /// Returns that of an error.
+    pub(crate) fn of(error: &io::Error) -> ReadFault {
+        ReadFault {
+            number: error.raw_os_error(),
+        }
+    }
+
+    /// Returns the error: the system's, or one of no known kind.
+    pub fn error(self) -> io::Error {
+        match self.number {
+            Some(number) => io::Error::from_raw_os_error(number),
+            None => io::Error::from(io::ErrorKind::Other),
+        }
+    }
+}
+
+/// Why moves can't be read on. After one each call answers the same.
+#[derive(Clone, Copy, Debug)]
+pub enum MovesFault {
+    /// The line of this number, from 1, is refused by this word: the first of an empty file too.
+    Line(u64, Word),
+    /// The reader failed, by this error.
+    Read(ReadFault),
+    /// An allocation failed.
+    NoMemory,
+}
+
+impl fmt::Display for MovesFault {
+    fn fmt<W: fmt::Write>(&self, f: &mut fmt::Formatter<W>) -> fmt::Result {
+        match self {
+            MovesFault::Line(number, word) => write!(f, "line {number}: {word}"),
+            MovesFault::Read(fault) => write!(f, "{}", fault.error()),
+            MovesFault::NoMemory => write!(f, "out of memory"),
+        }
+    }
+}
+
+impl Error for MovesFault {}
+
+/// Why a line gives no row.
+#[derive(Clone, Copy, Debug, PartialEq, Eq)]
+pub(crate) enum LineFault {
+    /// It is refused by this word.
+    Refused(Word),
+    /// An allocation failed.
+    NoMemory,
+}
+
+impl LineFault {
+    /// The fault of the line of this number.
+    pub(crate) fn at_line(self, number: u64) -> MovesFault {
+        match self {
+            LineFault::Refused(word) => MovesFault::Line(number, word),
+            LineFault::NoMemory => MovesFault::NoMemory,
+        }
+    }
+}
+
+impl From<AllocError> for LineFault {
+    fn from(_: AllocError) -> LineFault {
+        LineFault::NoMemory
+    }
+}
+
+impl<T: Drop> From<AllocFailed<T>> for LineFault {
+    fn from(_: AllocFailed<T>) -> LineFault {
+        LineFault::NoMemory
+    }
+}

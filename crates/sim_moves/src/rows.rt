@@ -1,0 +1,346 @@
+//! The rows of a file, one after the other.
+
+ghost use Rattle.std.specs.Prelude.{◌≡◌, ◌≤◌, IfOk, IfSome, string_bytes};
+ghost use Rattle.sim_moves.specs.Fields.{cut};
+ghost use Rattle.sim_moves.specs.Rows.{IsId, IsRow, IsRowBetween, ReachesBetween, ReachesRow};
+ghost use Rattle.sim_moves.specs.Rows.{field_at};
+
+use crate::columns::{Column, Columns, Found, Notation, columns_of, find, names_none};
+use crate::fault::{HeaderFault, LineFault, MovesFault, ReadFault, Word};
+use crate::fields::{Bound, find_bounds, join, split};
+use crate::row::{Row, field, numbers_of};
+use cmd_text::lines::GZIP;
+use std::alloc::Global;
+use std::io::{BufRead, Take};
+use std::{io, str};
+
+/// The most octets of a line before its line feed.
+pub const LONGEST_LINE: usize = 4096;
+
+/// The byte order mark in UTF-8.
+const BYTE_ORDER_MARK: &[u8] = b"\xef\xbb\xbf";
+
+/// The rows of a file of moves. Of the file no more than a line is kept.
+#[derive(Drop)]
+pub struct Rows<R: BufRead> {
+    alloc: Global,
+    reader: Take<R>,
+    separator: u8,
+    columns: Columns,
+    begin: u64,
+    line: Vec<u8>,
+    /// The fields of a line with quotation marks, side by side without them.
+    text: Vec<u8>,
+    /// Where the fields stand, in the line or in that text.
+    bounds: Vec<Bound>,
+    number: u64,
+    before: u64,
+    state: State,
+}
+
+/// How reading goes on.
+#[derive(Clone, Copy, Debug)]
+enum State {
+    /// By the next line.
+    Reading,
+    /// No more: the end was reached.
+    Ended,
+    /// No more: by this fault.
+    Failed(MovesFault),
+}
+
+/// What a line gives.
+#[derive(Drop)]
+enum Reached {
+    /// A row.
+    Row(Row),
+    /// No row: it is passed over.
+    Passed,
+    /// There is none.
+    End,
+}
+
+impl<R: BufRead + Drop> Rows<R> {
+    /// Reads the first line, which names the columns. A row's moment is its `at` less `begin`, and
+    /// rows before that are passed over once they were judged. Refused for a first line that is
+    /// longer than 4096 octets (`length`), or names columns twice, not all or in both notations
+    /// (`header`), as an empty file does; where the reader failed; and where an allocation failed.
+    pub fn open(alloc: Global, begin: u64, reader: R) -> Result<Rows<R>, MovesFault> {
+        let mut reader = reader.take(0);
+        let mut line = line_room(alloc)?;
+        read_line(&mut reader, &mut line)?;
+        match header_of(alloc, &line) {
+            Ok((separator, columns)) => Ok(Rows {
+                alloc,
+                reader,
+                separator,
+                columns,
+                begin,
+                line,
+                text: Vec::new(alloc),
+                bounds: Vec::new(alloc),
+                number: 1,
+                before: 0,
+                state: State::Reading,
+            }),
+            Err(fault) => Err(fault.at_line(1)),
+        }
+    }
+
+    /// The next row, `None` at the end, and from then on: of a moment that is no earlier than that
+    /// of the row before. Lines that are empty, and rows of SUMO's without an id, are passed over.
+    /// After a fault each call answers the same.
+    pub fn next(&mut self) -> Result<Option<Row>, MovesFault>
+        ensures begin { self.new.begin ≡ self.old.begin }
+        ensures row { IfOk result (λ row. IfSome row IsRow) }
+        ensures order { IfOk result (λ row.
+            IfSome row (IsRowBetween self.old.begin self.old.before self.new.before)) }
+    {
+        match self.state {
+            State::Reading => {}
+            State::Ended => return Ok(None),
+            State::Failed(fault) => return Err(fault),
+        }
+        let reached = self.read_row();
+        self.state = match &reached {
+            Ok(Some(_)) => State::Reading,
+            Ok(None) => State::Ended,
+            Err(fault) => State::Failed(*fault),
+        };
+        reached
+    }
+
+    /// The number of the line that was read last, from 1: that of the row that `next` gave.
+    pub fn line(&self) -> u64
+        ensures { result ≡ self.now.number }
+    {
+        self.number
+    }
+
+    /// The field of the line that was read last that a word refuses, without its quotation marks.
+    /// `None` for a word that refuses no field.
+    pub fn refused(&self, word: Word) -> Option<&[u8]> {
+        let place = self.columns.place_of(word)?;
+        let octets = if self.line.contains(&b'"') {
+            &self.text
+        } else {
+            &self.line
+        };
+        Some(field(octets, &self.bounds, place))
+    }
+
+    /// Reads lines to the next that gives a row.
+    fn read_row(&mut self) -> Result<Option<Row>, MovesFault>
+        ensures begin { self.new.begin ≡ self.old.begin }
+        ensures row { IfOk result (λ row. IfSome row IsRow) }
+        ensures order { IfOk result (λ row.
+            IfSome row (IsRowBetween self.old.begin self.old.before self.new.before)) }
+    {
+        for _ in 0..u64::MAX {
+            match self.read_one()? {
+                Reached::Row(row) => return Ok(Some(row)),
+                Reached::Passed => {}
+                Reached::End => return Ok(None),
+            }
+        }
+        Ok(None)
+    }
+
+    /// Reads a line.
+    fn read_one(&mut self) -> Result<Reached, MovesFault>
+        ensures begin { self.new.begin ≡ self.old.begin }
+        ensures row { IfOk result ReachesRow }
+        ensures before { self.old.before ≤ self.new.before }
+        ensures order { IfOk result
+            (ReachesBetween self.old.begin self.old.before self.new.before) }
+    {
+        if !read_line(&mut self.reader, &mut self.line)? {
+            return Ok(Reached::End);
+        }
+        self.number = self.number.saturating_add(1);
+        match self.row_of_line() {
+            Ok(reached) => Ok(reached),
+            Err(fault) => Err(fault.at_line(self.number)),
+        }
+    }
+
+    /// The row of the line that was read.
+    fn row_of_line(&mut self) -> Result<Reached, LineFault>
+        ensures begin { self.new.begin ≡ self.old.begin }
+        ensures row { IfOk result ReachesRow }
+        ensures before { self.old.before ≤ self.new.before }
+        ensures order { IfOk result
+            (ReachesBetween self.old.begin self.old.before self.new.before) }
+    {
+        let octets = trimmed(&self.line)?;
+        if octets.is_empty() {
+            return Ok(Reached::Passed);
+        }
+        if find_bounds(self.separator, octets, &mut self.bounds)? {
+            return row_of(
+                self.alloc,
+                &self.columns,
+                self.begin,
+                &mut self.before,
+                octets,
+                &self.bounds,
+            );
+        }
+        let fields = split(self.alloc, self.separator, octets)?;
+        join(&fields, &mut self.text, &mut self.bounds)?;
+        row_of(
+            self.alloc,
+            &self.columns,
+            self.begin,
+            &mut self.before,
+            &self.text,
+            &self.bounds,
+        )
+    }
+}
+
+/// The row of the fields within these bounds, of a file whose clock shows so much at the begin and
+/// showed so much in the row before.
+fn row_of(
+    alloc: Global,
+    columns: &Columns,
+    begin: u64,
+    before: &mut u64,
+    octets: &[u8],
+    bounds: &[Bound],
+) -> Result<Reached, LineFault>
+    ensures row { IfOk result ReachesRow }
+    ensures before { before.old ≤ before.new }
+    ensures order { IfOk result (ReachesBetween begin before.old before.new) }
+{
+    if is_passed_over(columns, octets, bounds) {
+        return Ok(Reached::Passed);
+    }
+    let numbers = match numbers_of(columns, octets, bounds, *before) {
+        Ok(numbers) => numbers,
+        Err(word) => return Err(LineFault::Refused(word)),
+    };
+    *before = numbers.at;
+    if numbers.at < begin {
+        return Ok(Reached::Passed);
+    }
+    Ok(Reached::Row(Row {
+        moment: numbers.at - begin,
+        id: id_of(alloc, columns, octets, bounds)?,
+        place: numbers.place,
+        speed: numbers.speed,
+        heading: numbers.heading,
+    }))
+}
+
+/// The id of a row of these fields.
+fn id_of(
+    alloc: Global,
+    columns: &Columns,
+    octets: &[u8],
+    bounds: &[Bound],
+) -> Result<String, LineFault>
+    requires { IsId (field_at (cut octets.now bounds.now) columns.now.id) }
+    ensures { IfOk result (λ id.
+        string_bytes id ≡ field_at (cut octets.now bounds.now) columns.now.id) }
+{
+    match str::from_utf8(field(octets, bounds, columns.id)) {
+        Ok(id) => Ok(String::from_str(alloc, id)?),
+        Err(_) => unreachable!(),
+    }
+}
+
+/// Whether a row of these fields is passed over: SUMO writes one without an id where no vehicle is.
+fn is_passed_over(columns: &Columns, octets: &[u8], bounds: &[Bound]) -> bool {
+    columns.notation == Notation::Sumo
+        && bounds.len() == columns.count
+        && field(octets, bounds, columns.id).is_empty()
+}
+
+/// Room for a line.
+fn line_room(alloc: Global) -> Result<Vec<u8>, MovesFault> {
+    match Vec::with_capacity(alloc, LONGEST_LINE + 1) {
+        Ok(line) => Ok(line),
+        Err(_) => Err(MovesFault::NoMemory),
+    }
+}
+
+/// Reads the next line in place of this one, with its line feed: of a longer one 4097 octets.
+/// `false` where there is none.
+fn read_line<R: BufRead>(reader: &mut Take<R>, line: &mut Vec<u8>) -> Result<bool, MovesFault> {
+    line.clear();
+    reader.set_limit(LONGEST_LINE as u64 + 1);
+    match reader.read_until(b'\n', line) {
+        Ok(count) => Ok(count > 0),
+        Err(error) if error.kind() == io::ErrorKind::OutOfMemory => Err(MovesFault::NoMemory),
+        Err(error) => Err(MovesFault::Read(ReadFault::of(&error))),
+    }
+}
+
+/// A line without its line feed and the carriage return before that.
+fn trimmed(line: &[u8]) -> Result<&[u8], LineFault> {
+    let octets = line.strip_suffix(b"\n").unwrap_or(line);
+    if octets.len() > LONGEST_LINE {
+        return Err(LineFault::Refused(Word::Length));
+    }
+    Ok(octets.strip_suffix(b"\r").unwrap_or(octets))
+}
+
+/// The separator and the columns of a first line.
+fn header_of(alloc: Global, line: &[u8]) -> Result<(u8, Columns), LineFault> {
+    let octets = trimmed(line)?;
+    let octets = octets.strip_prefix(BYTE_ORDER_MARK).unwrap_or(octets);
+    let separator = if octets.contains(&b';') { b';' } else { b',' };
+    let names = split(alloc, separator, octets)?;
+    match columns_of(&names) {
+        Some(columns) => Ok((separator, columns)),
+        None => Err(LineFault::Refused(Word::Header(header_fault(octets, &names)))),
+    }
+}
+
+/// What is wrong with a first line, which has these fields and names the columns of no notation.
+fn header_fault(octets: &[u8], names: &[Vec<u8>]) -> HeaderFault {
+    if octets.starts_with(&GZIP) {
+        return HeaderFault::Gzip;
+    }
+    match (
+        names_none(names, Notation::Own),
+        names_none(names, Notation::Sumo),
+    ) {
+        (true, true) => HeaderFault::NoColumn,
+        (false, false) => HeaderFault::BothNotations,
+        (false, true) => fault_in(names, Notation::Own),
+        (true, false) => fault_in(names, Notation::Sumo),
+    }
+}
+
+/// What is wrong with the names of a notation: the first column that is missing, else one that
+/// stands twice.
+fn fault_in(names: &[Vec<u8>], notation: Notation) -> HeaderFault {
+    let needed = [Column::At, Column::Id, Column::Lat, Column::Lon];
+    let missing = needed.iter().find(|column| {
+        matches!(find(names, column.word(notation)), Found::Nowhere)
+    });
+    match missing {
+        Some(column) => HeaderFault::Missing(notation, *column),
+        None => HeaderFault::Twice(notation, twice_in(names, notation)),
+    }
+}
+
+/// A column of a notation that stands twice among these names; the heading, if no other does.
+fn twice_in(names: &[Vec<u8>], notation: Notation) -> Column {
+    let others = [
+        Column::At,
+        Column::Id,
+        Column::Lat,
+        Column::Lon,
+        Column::Speed,
+    ];
+    let twice = others.iter().find(|column| {
+        matches!(find(names, column.word(notation)), Found::Twice)
+    });
+    match twice {
+        Some(column) => *column,
+        None => Column::Heading,
+    }
+}

@@ -1,0 +1,12 @@
+pub mod Counted
+pub mod Lines
+pub mod Waits
+pub mod Files
+pub mod Counting
+pub mod Keeping
+pub mod Hearing
+pub mod Bands
+pub mod Between
+pub mod Rows
+pub mod Shifts
+pub mod Counts

@@ -1,0 +1,11 @@
+pub mod Traffics
+pub mod Waiting
+pub mod Counted
+pub mod Line
+pub mod Waits
+pub mod Queues
+pub mod Files
+pub mod Due
+pub mod Keeps
+pub mod Reach
+pub mod PlaceIndexes

@@ -1,0 +1,54 @@
+//! Which stations hear a frame.
+
+ghost use Rattle.std.specs.Prelude.{◌≡◌, ◌+◌, ◌*◌, ◌≤◌, OnOk, [], IsTrue};
+ghost use Rattle.sim_air_model.specs.Range.{is_within};
+ghost use Rattle.sim_queue.specs.Reach.{hearers, hears};
+
+use its_geometry::Centre;
+use its_gnvalue::Place;
+use its_loctable::SortedTable;
+use its_station::Station;
+use std::alloc::AllocError;
+
+/// The stations that hear what one of them gives, by their numbers, in order: all others at most so
+/// many metres from its place, where each stands as it was last handed in. They take the place of
+/// what was found before.
+pub fn find_hearers(
+    range: u16,
+    stations: &[Station<SortedTable>],
+    giver: usize,
+    place: Place,
+    found: &mut Vec<usize>,
+) -> Result<(), AllocError>
+    ensures { OnOk result (found.new.items ≡ hearers range stations.now giver place) }
+{
+    let centre = Centre::new(place);
+    found.clear();
+    for (number, station) in stations.iter().enumerate() {
+        if hears(range, &centre, giver, number, station) {
+            found.push(number)?;
+        }
+    }
+    Ok(())
+}
+
+/// Whether a station, by its number, hears what another one gives at this centre.
+fn hears(
+    range: u16,
+    centre: &Centre,
+    giver: usize,
+    number: usize,
+    station: &Station<SortedTable>,
+) -> bool
+    ensures { result ≡ hears range giver centre.now.place number station.now }
+{
+    number != giver && is_within(range, centre, station.vector().place())
+}
+
+/// Whether a place is at most so many metres from a centre.
+pub fn is_within(range: u16, centre: &Centre, place: Place) -> bool
+    ensures { result ≡ is_within range centre.now.place place }
+{
+    let reach = 100 * u64::from(range);
+    centre.squared_distance(place) <= reach * reach
+}

@@ -1,0 +1,40 @@
+-- The stations that packets for an area are for, and how far these came there.
+use Rattle.std.specs.Prelude.{ℕ, List, map, Bool, true, false, not, ◌&&◌, nat_le, Option, Some, None}
+use Rattle.std.specs.List.{filter}
+use Rattle.its_world.specs.declared.entry.Entry.{Entry}
+use Rattle.its_world.specs.declared.entry.Entry.TheVariants as entries
+use Rattle.its_world.specs.declared.event.What.{What}
+use Rattle.its_world.specs.declared.event.What.TheVariants as whats
+use Rattle.sim_results.specs.declared.audience.Target.{Target}
+use Rattle.sim_results.specs.declared.reach.Reach.{Reach}
+use Rattle.sim_results.specs.declared.reach.Reach.TheVariants as reaches
+
+-- it was delivered to its port
+abbrev pub is_delivered : Reach → Bool
+is_delivered reaches.Delivered = true
+is_delivered reach = false
+
+-- the packet was delivered there: where a limit is given, at most so many milliseconds after it was
+-- sent
+abbrev pub was_reached : Option ℕ → Target → Bool
+was_reached None target = is_delivered target.reach
+was_reached (Some limit) target = is_delivered target.reach && nat_le target.after limit
+
+-- the number of a station, and how far the packet came there
+abbrev pub told : Target → ℕ × Reach
+told target = (target.station, target.reach)
+
+-- those to which it wasn't delivered, in order
+abbrev pub missed_of : List Target → List (ℕ × Reach)
+missed_of targets = map told (filter (λ target. not (was_reached None target)) targets)
+
+-- a frame was given
+abbrev pub is_sent : Entry → Bool
+is_sent (entries.Sent frame) = true
+is_sent entry = false
+
+-- a packet for an area was sent
+abbrev pub is_for_area : What → Entry → Bool
+is_for_area (whats.SendGeobroadcast request) entry = is_sent entry
+is_for_area (whats.SendGeoanycast request) entry = is_sent entry
+is_for_area what entry = false

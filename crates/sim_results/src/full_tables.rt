@@ -1,0 +1,80 @@
+//! Receptions that met a full location table.
+
+ghost use Rattle.std.specs.Prelude.{◌≡◌, None, Some, if◌then◌else◌, nat_lt};
+ghost use Rattle.its_station.specs.Counting.{one_more};
+ghost use Rattle.sim_results.specs.FullTables.{met_full_table};
+
+use its_station::Refused;
+use its_world::{Entry, EntryFault};
+use sim_scenario::Scenario;
+use sim_simulation::EventRecord;
+use std::io::Write;
+
+/// For how many sources a station has room: one of the scenario's own, or one that a row of moves
+/// made.
+fn capacity_of(scenario: &Scenario, station: usize) -> u16 {
+    match scenario.stations.as_slice().get(station) {
+        Some(config) => config.capacity,
+        None => scenario.moves.capacity,
+    }
+}
+
+/// How many receptions a full location table refused, and of which capacities.
+#[derive(Clone, Copy, Debug)]
+pub struct FullTables {
+    receptions: usize,
+    /// The least capacity of a station that refused one.
+    least: u16,
+}
+
+impl FullTables {
+    /// No reception yet.
+    pub fn new() -> FullTables
+        ensures { result.receptions ≡ 0 }
+    {
+        FullTables {
+            receptions: 0,
+            least: u16::MAX,
+        }
+    }
+
+    /// How many receptions there were; `None` where there was none.
+    pub fn receptions(&self) -> Option<usize>
+        ensures { result ≡ (if nat_lt 0 self.now.receptions
+            then Some self.now.receptions else None) }
+    {
+        (self.receptions > 0).then_some(self.receptions)
+    }
+
+    /// Takes an event that was done in a run of the scenario, and counts it where it is a reception
+    /// that met a full location table.
+    pub fn take(&mut self, scenario: &Scenario, done: &EventRecord<'_>)
+        ensures { self.new.receptions ≡ (if met_full_table done.now.entry.now
+            then one_more self.old.receptions else self.old.receptions) }
+    {
+        if !matches!(
+            done.entry,
+            Entry::Refused(EntryFault::Station(Refused::TableFull))
+        ) {
+            return;
+        }
+        self.receptions = self.receptions.saturating_add(1);
+        self.least = self.least.min(capacity_of(scenario, done.station));
+    }
+
+    /// Prints a line on standard error, where there were any, with how many and with the least
+    /// capacity of a table that was full. A write that fails is passed over.
+    pub fn report<E: Write>(&self, err: &mut E)
+        ensures none { self.now.receptions ≡ 0 → err.new ≡ err.old }
+    {
+        let (receptions, least) = (self.receptions, self.least);
+        if receptions == 0 {
+            return;
+        }
+        let _ = writeln!(
+            err,
+            "geostation: {receptions} receptions met a full location table: \
+            raise capacity (least {least})"
+        );
+    }
+}

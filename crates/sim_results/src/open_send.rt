@@ -1,0 +1,182 @@
+//! A packet for an area of a run, whose row isn't written yet.
+
+use crate::audience::Audience;
+use crate::quantile::Quantiles;
+use crate::reach::Reach;
+use its_gnvalue::NoMemory;
+use its_headers::Kind;
+use its_station::{OwnedGbcRequest, Refused, Why};
+use its_world::{Entry, EntryFault, World};
+use sim_simulation::tally::Presence;
+use sim_simulation::{EventRecord, SimulationFault};
+use std::alloc::Global;
+use std::collections::HashSet;
+use std::io;
+use std::io::Write;
+
+/// A packet for an area, and what came of its frames so far.
+#[derive(Drop)]
+pub(crate) struct OpenSend {
+    /// The number of the event that sent it.
+    send: usize,
+    moment: u64,
+    station: usize,
+    kind: Kind,
+    port: u16,
+    audience: Audience,
+    /// The stations at which it was delivered to its port.
+    delivered: HashSet<usize>,
+    /// The milliseconds from the send to each of these first deliveries.
+    firsts: Vec<u64>,
+    /// Its frames, the first and the relayed ones.
+    frames: usize,
+    /// The most frames on the way to a delivery.
+    hops: usize,
+    /// Deliveries of its frames that were run.
+    heard: usize,
+    /// Deliveries that a draw lost.
+    lost: usize,
+    /// Deliveries that were ignored as duplicates.
+    duplicates: usize,
+    /// Deliveries that a full location table refused.
+    full: usize,
+    /// How many deliveries of its frames are still to come.
+    waiting: usize,
+}
+
+impl OpenSend {
+    /// The packet that an event sent, with its first frame.
+    pub(crate) fn new(
+        alloc: Global,
+        world: &World,
+        presence: &Presence,
+        done: &EventRecord<'_>,
+        kind: Kind,
+        request: &OwnedGbcRequest,
+    ) -> Result<OpenSend, NoMemory> {
+        Ok(OpenSend {
+            send: done.number,
+            moment: done.moment,
+            station: done.station,
+            kind,
+            port: request.port,
+            audience: Audience::new(alloc, world, presence, done, request)?,
+            delivered: HashSet::new(alloc),
+            firsts: Vec::new(alloc),
+            frames: 1,
+            hops: 0,
+            heard: 0,
+            lost: 0,
+            duplicates: 0,
+            full: 0,
+            waiting: 0,
+        })
+    }
+
+    /// Whether a delivery of one of its frames is still to come.
+    pub(crate) fn is_open(&self) -> bool {
+        self.waiting > 0
+    }
+
+    /// More deliveries of its frames are to come.
+    pub(crate) fn wait(&mut self, deliveries: usize) {
+        self.waiting = self.waiting.saturating_add(deliveries);
+    }
+
+    /// A delivery that was to come was done.
+    pub(crate) fn wait_no_more(&mut self) {
+        self.waiting = self.waiting.saturating_sub(1);
+    }
+
+    /// A station gave a frame of it on.
+    pub(crate) fn relay(&mut self) {
+        add_one(&mut self.frames);
+    }
+
+    /// A draw lost a delivery to a station.
+    pub(crate) fn lose(&mut self) {
+        add_one(&mut self.lost);
+    }
+
+    /// Takes the delivery of a frame that `depth` relays led to.
+    pub(crate) fn take(
+        &mut self,
+        world: &World,
+        done: &EventRecord<'_>,
+        depth: usize,
+    ) -> Result<(), NoMemory> {
+        self.count(done.entry);
+        self.audience.take(world, done);
+        if Reach::is_delivery(done.entry) {
+            self.hops = self.hops.max(depth.saturating_add(1));
+            if self.delivered.insert(done.station)? {
+                self.firsts.push(done.moment.saturating_sub(self.moment))?;
+            }
+        }
+        Ok(())
+    }
+
+    /// Counts a delivery of which this is told.
+    fn count(&mut self, entry: &Entry) {
+        match entry {
+            Entry::Refused(EntryFault::NoSuchFrame | EntryFault::NoSuchStation) => return,
+            Entry::Refused(EntryFault::Station(Refused::TableFull)) => add_one(&mut self.full),
+            Entry::Ignored(Why::Duplicate) => add_one(&mut self.duplicates),
+            _ => {}
+        }
+        add_one(&mut self.heard);
+    }
+
+    /// Its first deliveries, by how long they took.
+    fn times(&mut self) -> Result<Quantiles, NoMemory> {
+        Quantiles::of(&mut self.firsts)
+    }
+
+    /// Writes its row. `times` are those of its first deliveries.
+    fn write_row<W: Write>(&self, times: Quantiles, out: &mut W) -> io::Result<()> {
+        self.write_send(out)?;
+        self.write_audience(out)?;
+        self.write_deliveries(out)?;
+        let Quantiles {
+            least,
+            p50,
+            p95,
+            most,
+        } = times;
+        writeln!(out, "{},{least},{p50},{p95},{most}", self.hops)
+    }
+
+    /// Writes when it was sent, by which station, and as what.
+    fn write_send<W: Write>(&self, out: &mut W) -> io::Result<()> {
+        let (send, moment, station, port) = (self.send, self.moment, self.station, self.port);
+        write!(out, "{send},{moment},{station},{},{port},", self.kind)
+    }
+
+    /// Writes for how many it was, how many of these it reached, and with how many frames.
+    fn write_audience<W: Write>(&self, out: &mut W) -> io::Result<()> {
+        let (inside, reached) = (self.audience.size(), self.audience.reached(None));
+        write!(
+            out,
+            "{inside},{reached},{},{},",
+            self.delivered.len(),
+            self.frames
+        )
+    }
+
+    /// Writes what became of the deliveries of its frames.
+    fn write_deliveries<W: Write>(&self, out: &mut W) -> io::Result<()> {
+        let (heard, lost, duplicates, full) = (self.heard, self.lost, self.duplicates, self.full);
+        write!(out, "{heard},{lost},{duplicates},{full},")
+    }
+
+    /// Writes its row, when nothing more comes of it.
+    pub(crate) fn write<W: Write>(mut self, out: &mut W) -> Result<(), SimulationFault> {
+        let times = self.times()?;
+        Ok(self.write_row(times, out)?)
+    }
+}
+
+/// One more.
+fn add_one(count: &mut usize) {
+    *count = count.saturating_add(1);
+}

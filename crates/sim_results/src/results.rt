@@ -1,0 +1,316 @@
+//! The files of numbers of a run: its sends, its stations, its load.
+
+ghost use Rattle.std.specs.Prelude.{◌≡◌, ◌↔◌, None, IfOk, IsOk, IsTrue, Ok};
+ghost use Rattle.cmd_reporting.specs.Statuses.{IsCommandStatus};
+ghost use Rattle.sim_results.specs.Results.{IsNoFile};
+
+use crate::load_rows::LoadRows;
+use crate::rows::Rows;
+use crate::send_rows::SendRows;
+use crate::station_rows::StationRows;
+use cmd_reporting::{Fault, Status};
+use its_world::World;
+use sim_scenario::Scenario;
+use sim_simulation::{EventRecord, Note, SimulationFault};
+use std::alloc::Global;
+use std::io::Write;
+
+/// The names of the files of numbers that a run is to write, where it is.
+#[derive(Clone, Copy, Debug, Default, PartialEq, Eq)]
+pub struct ResultFiles<'a> {
+    /// Of the packets for an area, a row each.
+    pub sends: Option<&'a str>,
+    /// Of the stations, a row each.
+    pub stations: Option<&'a str>,
+    /// Of the seconds in which a frame was given, a row each.
+    pub load: Option<&'a str>,
+}
+
+impl ResultFiles<'_> {
+    /// Whether no file is to be written.
+    pub fn is_empty(&self) -> bool
+        ensures { IsTrue result ↔ IsNoFile self.now }
+    {
+        self.sends.is_none() && self.stations.is_none() && self.load.is_none()
+    }
+}
+
+/// A file of numbers that is being written.
+#[derive(Drop)]
+struct ResultFile<'a, R: Drop, W: Write + Drop> {
+    name: &'a str,
+    rows: R,
+    writer: W,
+    /// Whether the file could not be written.
+    failed: bool,
+}
+
+impl<'a, R: Rows + Drop, W: Write + Drop> ResultFile<'a, R, W> {
+    /// Begins the file of this name with the names of its columns.
+    fn begin(name: &'a str, rows: R, writer: W) -> Result<ResultFile<'a, R, W>, Fault<'a>> {
+        let mut writer = writer;
+        match rows.begin(&mut writer) {
+            Ok(()) => Ok(ResultFile {
+                name,
+                rows,
+                writer,
+                failed: false,
+            }),
+            Err(_) => Err(Fault::CannotWrite(name)),
+        }
+    }
+
+    /// Takes an event that was done.
+    fn take(&mut self, world: &World, done: &EventRecord<'_>) -> Result<(), SimulationFault> {
+        let taken = self.rows.take(world, done, &mut self.writer);
+        self.failed |= is_failure(&taken);
+        taken
+    }
+
+    /// Takes a note of the run.
+    fn take_note(
+        &mut self,
+        world: &World,
+        moment: u64,
+        note: &Note<'_>,
+    ) -> Result<(), SimulationFault> {
+        let taken = self.rows.take_note(world, moment, note, &mut self.writer);
+        self.failed |= is_failure(&taken);
+        taken
+    }
+
+    /// Ends the file after a run that ended so. `CannotWrite` where it failed.
+    fn end(mut self, ran: Result<Status, Fault<'a>>) -> Result<Status, Fault<'a>>
+        requires { IfOk ran IsCommandStatus }
+        ensures status { IfOk result IsCommandStatus }
+        ensures done { result ≡ Ok Status.Done → ran.entry ≡ Ok Status.Done }
+    {
+        let finished = self.finish();
+        if self.failed {
+            return Err(Fault::CannotWrite(self.name));
+        }
+        let status = ran?;
+        match finished {
+            Ok(()) => Ok(status),
+            Err(SimulationFault::OutOfMemory(error)) => Err(Fault::OutOfMemory(error)),
+            Err(_) => Err(Fault::CannotWrite(self.name)),
+        }
+    }
+
+    /// Writes the rows that are left, and flushes the file in any case.
+    fn finish(&mut self) -> Result<(), SimulationFault> {
+        let ended = self.rows.end(&mut self.writer);
+        let flushed = self.writer.flush();
+        ended?;
+        Ok(flushed?)
+    }
+}
+
+/// Begins the file of this name, where there is one.
+fn begin_file<'a, R: Rows + Drop, W: Write + Drop>(
+    name: Option<&'a str>,
+    rows: R,
+    writer: Option<W>,
+) -> Result<Option<ResultFile<'a, R, W>>, Fault<'a>>
+    ensures { name.entry ≡ None → IfOk result (λ file. file ≡ None) }
+{
+    match (name, writer) {
+        (Some(name), Some(writer)) => Ok(Some(ResultFile::begin(name, rows, writer)?)),
+        _ => Ok(None),
+    }
+}
+
+/// The same of the packets for an area.
+fn begin_sends<'a, W: Write + Drop>(
+    alloc: Global,
+    scenario: &Scenario,
+    name: Option<&'a str>,
+    writer: Option<W>,
+) -> Result<Option<ResultFile<'a, SendRows, W>>, Fault<'a>>
+    ensures { name.entry ≡ None → IfOk result (λ file. file ≡ None) }
+{
+    begin_file(name, SendRows::new(alloc, scenario)?, writer)
+}
+
+/// The same of the stations.
+fn begin_stations<'a, W: Write + Drop>(
+    alloc: Global,
+    scenario: &Scenario,
+    name: Option<&'a str>,
+    writer: Option<W>,
+) -> Result<Option<ResultFile<'a, StationRows, W>>, Fault<'a>>
+    ensures { name.entry ≡ None → IfOk result (λ file. file ≡ None) }
+{
+    let configs = scenario.stations.as_slice();
+    let rows = StationRows::new(alloc, configs, scenario.present.as_slice())?;
+    begin_file(name, rows, writer)
+}
+
+/// The same of the load.
+fn begin_load<'a, W: Write + Drop>(
+    alloc: Global,
+    scenario: &Scenario,
+    name: Option<&'a str>,
+    writer: Option<W>,
+) -> Result<Option<ResultFile<'a, LoadRows, W>>, Fault<'a>>
+    ensures { name.entry ≡ None → IfOk result (λ file. file ≡ None) }
+{
+    let rows = LoadRows::new(alloc, scenario.present.as_slice())?;
+    begin_file(name, rows, writer)
+}
+
+/// The file, where there is one, takes an event that was done.
+fn take_in<'a, R: Rows + Drop, W: Write + Drop>(
+    file: &mut Option<ResultFile<'a, R, W>>,
+    world: &World,
+    done: &EventRecord<'_>,
+) -> Result<(), SimulationFault>
+    ensures { file.old ≡ None → IsOk result }
+{
+    match file {
+        Some(file) => file.take(world, done),
+        None => Ok(()),
+    }
+}
+
+/// The same of a note of the run.
+fn take_note_in<'a, R: Rows + Drop, W: Write + Drop>(
+    file: &mut Option<ResultFile<'a, R, W>>,
+    world: &World,
+    moment: u64,
+    note: &Note<'_>,
+) -> Result<(), SimulationFault>
+    ensures { file.old ≡ None → IsOk result }
+{
+    match file {
+        Some(file) => file.take_note(world, moment, note),
+        None => Ok(()),
+    }
+}
+
+/// Ends the file, where there is one, after a run that ended so.
+fn end_file<'a, R: Rows + Drop, W: Write + Drop>(
+    file: Option<ResultFile<'a, R, W>>,
+    ran: Result<Status, Fault<'a>>,
+) -> Result<Status, Fault<'a>>
+    requires { IfOk ran IsCommandStatus }
+    ensures status { IfOk result IsCommandStatus }
+    ensures none { file.entry ≡ None → result ≡ ran.entry }
+    ensures done { result ≡ Ok Status.Done → ran.entry ≡ Ok Status.Done }
+{
+    match file {
+        Some(file) => file.end(ran),
+        None => ran,
+    }
+}
+
+/// Whether a write failed.
+fn is_failure(taken: &Result<(), SimulationFault>) -> bool {
+    matches!(taken, Err(SimulationFault::Output))
+}
+
+/// What the files of numbers are written to, where they are. A file is written that has both a name
+/// and a writer.
+#[derive(Drop)]
+pub struct ResultWriters<W: Drop> {
+    /// The file of the packets for an area.
+    pub sends: Option<W>,
+    /// The file of the stations.
+    pub stations: Option<W>,
+    /// The file of the load.
+    pub load: Option<W>,
+}
+
+/// The files of numbers of a run that are being written.
+#[derive(Drop)]
+pub struct Results<'a, W: Write + Drop> {
+    sends: Option<ResultFile<'a, SendRows, W>>,
+    stations: Option<ResultFile<'a, StationRows, W>>,
+    load: Option<ResultFile<'a, LoadRows, W>>,
+}
+
+impl<'a, W: Write + Drop> Results<'a, W> {
+    /// No file is written.
+    pub fn none() -> Results<'a, W>
+        ensures sends { result.sends ≡ None }
+        ensures stations { result.stations ≡ None }
+        ensures load { result.load ≡ None }
+    {
+        Results {
+            sends: None,
+            stations: None,
+            load: None,
+        }
+    }
+
+    /// Begins the files of these names, of a run of the scenario that has not begun, each with the
+    /// names of its columns. `CannotWrite`, with its name, where one could not be written;
+    /// `OutOfMemory` where an allocation failed.
+    pub fn begin(
+        alloc: Global,
+        scenario: &Scenario,
+        names: ResultFiles<'a>,
+        writers: ResultWriters<W>,
+    ) -> Result<Results<'a, W>, Fault<'a>>
+        ensures sends { names.entry.sends ≡ None → IfOk result (λ results. results.sends ≡ None) }
+        ensures stations { names.entry.stations ≡ None →
+            IfOk result (λ results. results.stations ≡ None) }
+        ensures load { names.entry.load ≡ None → IfOk result (λ results. results.load ≡ None) }
+    {
+        let sends = begin_sends(alloc, scenario, names.sends, writers.sends)?;
+        let stations = begin_stations(alloc, scenario, names.stations, writers.stations)?;
+        let load = begin_load(alloc, scenario, names.load, writers.load)?;
+        Ok(Results {
+            sends,
+            stations,
+            load,
+        })
+    }
+
+    /// Takes an event that was done, with the world as it stands after it, and writes the rows that
+    /// are complete then. `Output` where a file could not be written, which `end` tells then;
+    /// `OutOfMemory` where an allocation failed.
+    #[inline(always)]
+    pub fn take(&mut self, world: &World, done: &EventRecord<'_>) -> Result<(), SimulationFault>
+        ensures none { self.old.sends ≡ None → self.old.stations ≡ None → self.old.load ≡ None →
+            IsOk result }
+    {
+        take_in(&mut self.sends, world, done)?;
+        take_in(&mut self.stations, world, done)?;
+        take_in(&mut self.load, world, done)
+    }
+
+    /// Takes a note of the run, of this moment in milliseconds, with the world as it stands then.
+    /// Fails as `take` does.
+    pub fn take_note(
+        &mut self,
+        world: &World,
+        moment: u64,
+        note: &Note<'_>,
+    ) -> Result<(), SimulationFault>
+        ensures none { self.old.sends ≡ None → self.old.stations ≡ None → self.old.load ≡ None →
+            IsOk result }
+    {
+        take_note_in(&mut self.sends, world, moment, note)?;
+        take_note_in(&mut self.stations, world, moment, note)?;
+        take_note_in(&mut self.load, world, moment, note)
+    }
+
+    /// Writes the rows that are left and ends the files, after a run that ended as `ran` says,
+    /// which is no status of refused arguments. The result is `ran`, but `CannotWrite`, with its
+    /// name, where a file could not be written, and `OutOfMemory` where an allocation failed.
+    pub fn end(self, ran: Result<Status, Fault<'a>>) -> Result<Status, Fault<'a>>
+        requires { IfOk ran IsCommandStatus }
+        ensures status { IfOk result IsCommandStatus }
+        ensures none { self.entry.sends ≡ None → self.entry.stations ≡ None →
+            self.entry.load ≡ None → result ≡ ran.entry }
+        ensures done { result ≡ Ok Status.Done → ran.entry ≡ Ok Status.Done }
+    {
+        let Results {
+            sends,
+            stations,
+            load,
+        } = self;
+        end_file(load, end_file(stations, end_file(sends, ran)))
+    }
+}

@@ -1,0 +1,250 @@
+//! The file of the packets for an area of a run: a row each, which is written once no delivery of
+//! its frames is still to come. One that an event asks for and that isn't sent has a row too.
+
+use crate::late_events::late_events;
+use crate::open_send::OpenSend;
+use crate::rows::Rows;
+use crate::unsent::UnsentPacket;
+use crate::waiting_frames::WaitingFrames;
+use its_gnvalue::NoMemory;
+use its_headers::Kind;
+use its_station::OwnedGbcRequest;
+use its_world::{Entry, What, World};
+use sim_scenario::Scenario;
+use sim_simulation::tally::{CarriedPacket, Presence};
+use sim_simulation::{EventRecord, Note, SimulationFault};
+use std::alloc::Global;
+use std::collections::VecDeque;
+use std::io;
+use std::io::Write;
+
+/// The names of the columns.
+const HEAD: &str = "send,moment,station,kind,port,inside,reached,delivered,frames,heard,lost,\
+    duplicates,full,hops,first,p50,p95,last";
+
+/// A row that isn't written yet.
+#[derive(Drop)]
+enum WaitingRow {
+    /// Of a packet that was sent.
+    Sent(OpenSend),
+    /// Of one that wasn't.
+    Unsent(UnsentPacket),
+}
+
+impl WaitingRow {
+    /// Whether a delivery of its packet is still to come.
+    fn is_open(&self) -> bool {
+        match self {
+            WaitingRow::Sent(packet) => packet.is_open(),
+            WaitingRow::Unsent(_) => false,
+        }
+    }
+
+    /// Writes it, when nothing more comes of its packet.
+    fn write<W: Write>(self, out: &mut W) -> Result<(), SimulationFault> {
+        match self {
+            WaitingRow::Sent(packet) => packet.write(out),
+            WaitingRow::Unsent(packet) => Ok(packet.write(out)?),
+        }
+    }
+}
+
+/// The packets for an area whose rows aren't written yet, in the order in which they were sent.
+#[derive(Drop)]
+pub(crate) struct SendRows {
+    alloc: Global,
+    presence: Presence,
+    frames: WaitingFrames,
+    /// How many rows were written.
+    written: usize,
+    open: VecDeque<WaitingRow>,
+    /// The packets of events after the end of the run.
+    late: Vec<UnsentPacket>,
+}
+
+impl SendRows {
+    /// Those of a run of a scenario that has not begun.
+    pub(crate) fn new(alloc: Global, scenario: &Scenario) -> Result<SendRows, NoMemory> {
+        Ok(SendRows {
+            alloc,
+            presence: Presence::at_start(alloc, scenario.present.as_slice())?,
+            frames: WaitingFrames::new(alloc, scenario)?,
+            written: 0,
+            open: VecDeque::new(alloc),
+            late: late_packets(alloc, scenario)?,
+        })
+    }
+
+    /// The packet that was sent whose row has this place, if that isn't written yet.
+    fn packet(&mut self, row: usize) -> Option<&mut OpenSend> {
+        match self.open.get_mut(row.checked_sub(self.written)?)? {
+            WaitingRow::Sent(packet) => Some(packet),
+            WaitingRow::Unsent(_) => None,
+        }
+    }
+
+    /// Adds the row of a packet that wasn't sent, if there is one.
+    fn add_unsent(&mut self, packet: Option<UnsentPacket>) -> Result<(), NoMemory> {
+        match packet {
+            Some(packet) => Ok(self.open.push_back(WaitingRow::Unsent(packet))?),
+            None => Ok(()),
+        }
+    }
+
+    /// Writes the rows of the first packets, up to one that still has deliveries to come.
+    fn write_finished<W: Write>(&mut self, out: &mut W) -> Result<(), SimulationFault> {
+        self.frames.forget_finished();
+        for _ in 0..self.open.len() {
+            match self.open.front() {
+                Some(first) if !first.is_open() => self.write_first(out)?,
+                _ => break,
+            }
+        }
+        Ok(())
+    }
+
+    /// Writes the row of the first packet.
+    fn write_first<W: Write>(&mut self, out: &mut W) -> Result<(), SimulationFault> {
+        let Some(first) = self.open.pop_front() else {
+            return Ok(());
+        };
+        self.written = self.written.saturating_add(1);
+        first.write(out)
+    }
+
+    /// Takes the event. Returns what the frame that it gave carries, if it gave one that carries a
+    /// packet for an area.
+    fn count(
+        &mut self,
+        world: &World,
+        done: &EventRecord<'_>,
+    ) -> Result<Option<CarriedPacket>, NoMemory> {
+        match done.what {
+            What::SendGeobroadcast(request) => { self.count_send(world, done, Kind::Gbc, request) }
+            What::SendGeoanycast(request) => self.count_send(world, done, Kind::Gac, request),
+            What::Deliver(frame) => self.count_delivery(world, done, *frame),
+            _ => Ok(None),
+        }
+    }
+
+    /// Takes the send of a packet for an area, where it was sent.
+    fn count_send(
+        &mut self,
+        world: &World,
+        done: &EventRecord<'_>,
+        kind: Kind,
+        request: &OwnedGbcRequest,
+    ) -> Result<Option<CarriedPacket>, NoMemory> {
+        if let Entry::Refused(fault) = done.entry {
+            self.add_unsent(UnsentPacket::refused(done, *fault))?;
+        }
+        if done.entry.frame().is_none() {
+            return Ok(None);
+        }
+        let send = self.written.saturating_add(self.open.len());
+        let packet = OpenSend::new(self.alloc, world, &self.presence, done, kind, request)?;
+        self.open.push_back(WaitingRow::Sent(packet))?;
+        Ok(Some(CarriedPacket { send, depth: 0 }))
+    }
+
+    /// Takes the delivery of a frame.
+    fn count_delivery(
+        &mut self,
+        world: &World,
+        done: &EventRecord<'_>,
+        frame: usize,
+    ) -> Result<Option<CarriedPacket>, NoMemory> {
+        let Some(carried) = self.frames.deliver(frame) else {
+            return Ok(None);
+        };
+        let is_relayed = done.entry.frame().is_some();
+        let Some(packet) = self.packet(carried.send) else {
+            return Ok(None);
+        };
+        packet.wait_no_more();
+        packet.take(world, done, carried.depth)?;
+        if !is_relayed {
+            return Ok(None);
+        }
+        packet.relay();
+        Ok(Some(carried.relayed()))
+    }
+
+    /// Takes a frame that was given, with what it carries.
+    fn note_given(&mut self, frame: usize, carried: CarriedPacket) -> Result<(), NoMemory> {
+        let waiting = self.frames.note_given(frame, carried)?;
+        if let Some(packet) = self.packet(carried.send) {
+            packet.wait(waiting);
+        }
+        Ok(())
+    }
+}
+
+impl Rows for SendRows {
+    fn begin<W: Write>(&self, out: &mut W) -> io::Result<()> {
+        writeln!(out, "{HEAD}")
+    }
+
+    fn take<W: Write>(
+        &mut self,
+        world: &World,
+        done: &EventRecord<'_>,
+        out: &mut W,
+    ) -> Result<(), SimulationFault> {
+        self.write_finished(out)?;
+        let carried = self.count(world, done)?;
+        if let (Some(frame), Some(carried)) = (done.entry.frame(), carried) {
+            self.note_given(frame, carried)?;
+        }
+        Ok(())
+    }
+
+    fn take_note<W: Write>(
+        &mut self,
+        _world: &World,
+        _moment: u64,
+        note: &Note<'_>,
+        _out: &mut W,
+    ) -> Result<(), SimulationFault> {
+        self.presence.take(note)?;
+        let (frame, is_heard) = match *note {
+            Note::Heard { frame, .. } => (frame, true),
+            Note::Lost { frame, .. } => (frame, false),
+            Note::Absent { event, .. } => return Ok(self.add_unsent(UnsentPacket::absent(event))?),
+            _ => return Ok(()),
+        };
+        let Some(CarriedPacket { send, .. }) = self.frames.get(frame) else {
+            return Ok(());
+        };
+        if is_heard {
+            self.frames.wait(frame);
+        }
+        match self.packet(send) {
+            Some(packet) if is_heard => packet.wait(1),
+            Some(packet) => packet.lose(),
+            None => {}
+        }
+        Ok(())
+    }
+
+    fn end<W: Write>(&mut self, out: &mut W) -> Result<(), SimulationFault> {
+        for _ in 0..self.open.len() {
+            self.write_first(out)?;
+        }
+        for packet in &self.late {
+            packet.write(out)?;
+        }
+        Ok(())
+    }
+}
+
+/// The packets for an area that events after the end of the run ask for.
+fn late_packets(alloc: Global, scenario: &Scenario) -> Result<Vec<UnsentPacket>, NoMemory> {
+    let mut packets = Vec::new(alloc);
+    for event in late_events(alloc, scenario)? {
+        if let Some(packet) = UnsentPacket::late(&event) {
+            packets.push(packet)?;
+        }
+    }
+    Ok(packets)
+}

@@ -1,0 +1,319 @@
+//! The file of the stations of a run: a row each.
+
+use crate::busy::{frame_time, octets_time};
+use crate::rows::Rows;
+use its_gnvalue::{GnAddress, NoMemory};
+use its_station::{Refused, Why};
+use its_world::{Config, Entry, EntryFault, What, World};
+use sim_simulation::{EventRecord, Note, SimulationFault};
+use std::alloc::Global;
+use std::io;
+use std::io::Write;
+
+/// The names of the columns.
+const HEAD: &str = "station,id,address,from,to,away,sent,relayed,octets,heard,delivered,duplicates,\
+    ignored,refused,full,lost,busy,busiest";
+
+/// The milliseconds of an interval of which the busiest is told.
+const INTERVAL: u64 = 100;
+
+/// When a station is present.
+#[derive(Clone, Copy)]
+struct PresenceTimes {
+    is_present: bool,
+    /// When it was first present, where it was.
+    from: Option<u64>,
+    /// When it left for the last time.
+    to: u64,
+    /// The milliseconds between in which it was absent.
+    away: u64,
+}
+
+impl PresenceTimes {
+    /// Of a station that is there from the start, or not yet.
+    fn new(is_present: bool) -> PresenceTimes {
+        PresenceTimes {
+            is_present,
+            from: is_present.then_some(0),
+            to: 0,
+            away: 0,
+        }
+    }
+
+    /// It comes.
+    fn come(&mut self, moment: u64) {
+        match self.from {
+            Some(_) => self.away = self.away.saturating_add(moment.saturating_sub(self.to)),
+            None => self.from = Some(moment),
+        }
+        self.is_present = true;
+    }
+
+    /// It leaves.
+    fn leave(&mut self, moment: u64) {
+        self.to = moment;
+        self.is_present = false;
+    }
+}
+
+/// How long the channel is busy at a station, in microseconds.
+#[derive(Clone, Copy, Default)]
+struct BusyTime {
+    whole: u64,
+    /// The interval of the last frame, counted from the start of the run.
+    interval: u64,
+    /// How long the channel was busy in that interval.
+    within: u64,
+    /// The most in one interval.
+    most: u64,
+}
+
+impl BusyTime {
+    /// Adds a frame that is given at this moment.
+    fn add(&mut self, moment: u64, time: u64) {
+        let interval = moment / INTERVAL;
+        if interval != self.interval {
+            self.interval = interval;
+            self.within = 0;
+        }
+        self.whole = self.whole.saturating_add(time);
+        self.within = self.within.saturating_add(time);
+        self.most = self.most.max(self.within);
+    }
+}
+
+/// What a station did, in numbers.
+#[derive(Clone, Copy, Default)]
+struct Counts {
+    sent: u64,
+    relayed: u64,
+    octets: u64,
+    heard: u64,
+    delivered: u64,
+    duplicates: u64,
+    ignored: u64,
+    refused: u64,
+    full: u64,
+    lost: u64,
+}
+
+impl Counts {
+    /// Counts an event of the station.
+    fn count(&mut self, done: &EventRecord<'_>) {
+        match done.entry {
+            Entry::Sent(_) => add_one(&mut self.sent),
+            Entry::Accepted { handed, sent } => {
+                self.delivered = self.delivered.saturating_add(u64::from(handed.is_some()));
+                self.relayed = self.relayed.saturating_add(u64::from(sent.is_some()));
+            }
+            Entry::Ignored(Why::Duplicate) => add_one(&mut self.duplicates),
+            Entry::Ignored(_) => add_one(&mut self.ignored),
+            Entry::Refused(fault) => self.count_refused(*fault),
+            Entry::Moved | Entry::Opened | Entry::Closed | Entry::Restarted | Entry::Quiet => {}
+        }
+        let is_missing = matches!(done.entry, Entry::Refused(EntryFault::NoSuchFrame));
+        if matches!(done.what, What::Deliver(_)) && !is_missing {
+            add_one(&mut self.heard);
+        }
+        if let Some(octets) = done.octets {
+            self.octets = self.octets.saturating_add(octets.len() as u64);
+        }
+    }
+
+    /// Counts an event that was refused.
+    fn count_refused(&mut self, fault: EntryFault) {
+        add_one(&mut self.refused);
+        if let EntryFault::Station(Refused::TableFull) = fault {
+            add_one(&mut self.full);
+        }
+    }
+}
+
+/// One more.
+fn add_one(count: &mut u64) {
+    *count = count.saturating_add(1);
+}
+
+/// A station of a run.
+#[derive(Drop)]
+struct Row {
+    /// Its id in a file of moves; empty for one of the scenario's own.
+    id: String,
+    address: GnAddress,
+    times: PresenceTimes,
+    counts: Counts,
+    busy: BusyTime,
+}
+
+impl Row {
+    /// Of a station that has done nothing yet, and is there from the start or not yet.
+    fn new(id: String, address: GnAddress, is_present: bool) -> Row {
+        Row {
+            id,
+            address,
+            times: PresenceTimes::new(is_present),
+            counts: Counts::default(),
+            busy: BusyTime::default(),
+        }
+    }
+}
+
+/// The rows of the stations, as they are known so far.
+#[derive(Drop)]
+pub(crate) struct StationRows {
+    alloc: Global,
+    rows: Vec<Row>,
+    /// The moment of the last event or note.
+    last: u64,
+}
+
+impl StationRows {
+    /// Those of a run of these stations that has not begun, of which some are present then.
+    pub(crate) fn new(
+        alloc: Global,
+        configs: &[Config],
+        present: &[bool],
+    ) -> Result<StationRows, NoMemory> {
+        let mut rows = Vec::with_capacity(alloc, configs.len())?;
+        for (config, is_present) in configs.iter().zip(present.iter()) {
+            rows.push(Row::new(String::new(alloc), config.address, *is_present))?;
+        }
+        Ok(StationRows {
+            alloc,
+            rows,
+            last: 0,
+        })
+    }
+
+    /// Adds a station that a file of moves made.
+    fn make(&mut self, world: &World, station: usize, id: &str) -> Result<(), NoMemory> {
+        let Some(made) = world.station(station) else {
+            return Ok(());
+        };
+        let id = String::from_str(self.alloc, id)?;
+        self.rows
+            .push(Row::new(id, made.vector().address(), false))?;
+        Ok(())
+    }
+
+    /// A station comes.
+    fn come(&mut self, station: usize, moment: u64) {
+        if let Some(row) = self.row(station) {
+            row.times.come(moment);
+        }
+    }
+
+    /// A station leaves.
+    fn leave(&mut self, station: usize, moment: u64) {
+        if let Some(row) = self.row(station) {
+            row.times.leave(moment);
+        }
+    }
+
+    /// A station loses a frame.
+    fn lose(&mut self, station: usize) {
+        if let Some(row) = self.row(station) {
+            add_one(&mut row.counts.lost);
+        }
+    }
+
+    /// Adds a frame that came into the hearing of a station, heard or lost.
+    fn hear(&mut self, world: &World, moment: u64, station: usize, frame: usize) {
+        let time = frame_time(world, frame);
+        if let Some(row) = self.row(station) {
+            row.busy.add(moment, time);
+        }
+    }
+
+    /// The row of a station.
+    fn row(&mut self, station: usize) -> Option<&mut Row> {
+        self.rows.as_mut_slice().get_mut(station)
+    }
+}
+
+impl Rows for StationRows {
+    fn begin<W: Write>(&self, out: &mut W) -> io::Result<()> {
+        writeln!(out, "{HEAD}")
+    }
+
+    fn take<W: Write>(
+        &mut self,
+        _world: &World,
+        done: &EventRecord<'_>,
+        _out: &mut W,
+    ) -> Result<(), SimulationFault> {
+        self.last = done.moment;
+        if let Some(row) = self.row(done.station) {
+            row.counts.count(done);
+            if let Some(octets) = done.octets {
+                row.busy.add(done.moment, octets_time(octets));
+            }
+        }
+        Ok(())
+    }
+
+    fn take_note<W: Write>(
+        &mut self,
+        world: &World,
+        moment: u64,
+        note: &Note<'_>,
+        _out: &mut W,
+    ) -> Result<(), SimulationFault> {
+        self.last = moment;
+        match *note {
+            Note::Made { station, id } => self.make(world, station, id)?,
+            Note::Came { station } => self.come(station, moment),
+            Note::Left { station } => self.leave(station, moment),
+            Note::Heard { station, frame } => self.hear(world, moment, station, frame),
+            Note::Lost { station, frame } => {
+                self.hear(world, moment, station, frame);
+                self.lose(station);
+            }
+            Note::Absent { .. } => {}
+        }
+        Ok(())
+    }
+
+    fn end<W: Write>(&mut self, out: &mut W) -> Result<(), SimulationFault> {
+        for (number, row) in self.rows.iter().enumerate() {
+            write!(out, "{number},")?;
+            write_id(row.id.as_str(), out)?;
+            write!(out, ",{:016x},", row.address.as_u64())?;
+            write_row(row, self.last, out)?;
+        }
+        Ok(())
+    }
+}
+
+/// Writes an id, in quotation marks where it has a comma or such a mark.
+fn write_id<W: Write>(id: &str, out: &mut W) -> io::Result<()> {
+    if !id.contains(',') && !id.contains('"') {
+        return write!(out, "{id}");
+    }
+    write!(out, "\"")?;
+    for (place, part) in id.split('"').enumerate() {
+        let before = if place == 0 { "" } else { "\"\"" };
+        write!(out, "{before}{part}")?;
+    }
+    write!(out, "\"")
+}
+
+/// Writes the row of a station from its presence on. `last` is the end of the run.
+fn write_row<W: Write>(row: &Row, last: u64, out: &mut W) -> io::Result<()> {
+    let times = &row.times;
+    match times.from {
+        Some(from) => {
+            let to = if times.is_present { last } else { times.to };
+            write!(out, "{from},{to},{},", times.away)?;
+        }
+        None => write!(out, ",,{},", times.away)?,
+    }
+    let counts = &row.counts;
+    let (sent, relayed, octets) = (counts.sent, counts.relayed, counts.octets);
+    write!(out, "{sent},{relayed},{octets},")?;
+    let (heard, delivered, duplicates) = (counts.heard, counts.delivered, counts.duplicates);
+    write!(out, "{heard},{delivered},{duplicates},")?;
+    let (ignored, refused, full, lost) = (counts.ignored, counts.refused, counts.full, counts.lost);
+    write!(out, "{ignored},{refused},{full},{lost},")?;
+    writeln!(out, "{},{}", row.busy.whole, row.busy.most)
+}

@@ -1,0 +1,139 @@
+//! The frames of packets for an area that still have deliveries to come.
+
+use its_gnvalue::NoMemory;
+use its_world::{Event, What};
+use sim_scenario::Scenario;
+use sim_scenario::events::FileEvent;
+use sim_simulation::tally::CarriedPacket;
+use std::alloc::Global;
+use std::collections::HashMap;
+
+/// A frame with deliveries still to come, or one that was just given.
+#[derive(Clone, Copy)]
+struct WaitingFrame {
+    carried: CarriedPacket,
+    /// How many deliveries of it are still to come.
+    waiting: usize,
+}
+
+/// The frames of packets for an area that still have deliveries to come, by their numbers. A frame
+/// is forgotten once its last delivery is done.
+#[derive(Drop)]
+pub(crate) struct WaitingFrames {
+    frames: HashMap<usize, WaitingFrame>,
+    /// The scenario's own deliveries of frames that aren't given yet, or carry no such packet.
+    own: HashMap<usize, usize>,
+    /// The frames that the last event gave and delivered: they may have no deliveries to come.
+    given: Option<usize>,
+    delivered: Option<usize>,
+}
+
+impl WaitingFrames {
+    /// Those of a run of a scenario that has not begun.
+    pub(crate) fn new(alloc: Global, scenario: &Scenario) -> Result<WaitingFrames, NoMemory> {
+        let mut waiting = WaitingFrames {
+            frames: HashMap::new(alloc),
+            own: HashMap::new(alloc),
+            given: None,
+            delivered: None,
+        };
+        waiting.expect_events(scenario.events.as_slice())?;
+        waiting.expect_file(scenario.file.as_slice())?;
+        Ok(waiting)
+    }
+
+    /// Takes events of the scenario's own that are still to be done.
+    fn expect_events(&mut self, events: &[Event]) -> Result<(), NoMemory> {
+        for event in events {
+            self.expect(event)?;
+        }
+        Ok(())
+    }
+
+    /// Takes the events of a file that are still to be done.
+    fn expect_file(&mut self, file: &[FileEvent]) -> Result<(), NoMemory> {
+        for filed in file {
+            if let Some(event) = filed.event() {
+                self.expect(event)?;
+            }
+        }
+        Ok(())
+    }
+
+    /// Takes an event of the scenario's own that is still to be done.
+    fn expect(&mut self, event: &Event) -> Result<(), NoMemory> {
+        if let What::Deliver(frame) = &event.what {
+            let before = self.own.get(frame).copied().unwrap_or(0);
+            self.own.insert(*frame, before.saturating_add(1))?;
+        }
+        Ok(())
+    }
+
+    /// What the frame of this number carries, where that is a packet for an area and the frame has
+    /// deliveries to come or was just given.
+    pub(crate) fn get(&self, frame: usize) -> Option<CarriedPacket> {
+        match self.frames.get(&frame) {
+            Some(frame) => Some(frame.carried),
+            None => None,
+        }
+    }
+
+    /// Takes a frame that was given, with what it carries. Returns how many of the scenario's own
+    /// deliveries of it are still to come.
+    pub(crate) fn note_given(
+        &mut self,
+        frame: usize,
+        carried: CarriedPacket,
+    ) -> Result<usize, NoMemory> {
+        let waiting = self.own.remove(&frame).unwrap_or(0);
+        self.frames
+            .insert(frame, WaitingFrame { carried, waiting })?;
+        self.given = Some(frame);
+        Ok(waiting)
+    }
+
+    /// One more delivery of a frame is to come.
+    pub(crate) fn wait(&mut self, frame: usize) {
+        if let Some(found) = self.frames.get_mut(&frame) {
+            found.waiting = found.waiting.saturating_add(1);
+        }
+    }
+
+    /// Takes the delivery of a frame. Returns what the frame carries.
+    pub(crate) fn deliver(&mut self, frame: usize) -> Option<CarriedPacket> {
+        let Some(found) = self.frames.get_mut(&frame) else {
+            self.skip(frame);
+            return None;
+        };
+        found.waiting = found.waiting.saturating_sub(1);
+        self.delivered = Some(frame);
+        Some(found.carried)
+    }
+
+    /// A delivery of the scenario's own comes too early, or of a frame that carries no such packet.
+    fn skip(&mut self, frame: usize) {
+        if let Some(waiting) = self.own.get_mut(&frame) {
+            *waiting = waiting.saturating_sub(1);
+        }
+    }
+
+    /// Forgets the frames of the last event that have no more deliveries to come.
+    pub(crate) fn forget_finished(&mut self) {
+        for frame in [self.given.take(), self.delivered.take()] {
+            if let Some(frame) = frame {
+                self.forget(frame);
+            }
+        }
+    }
+
+    /// Forgets a frame, unless a delivery of it is still to come.
+    fn forget(&mut self, frame: usize) {
+        let is_done = match self.frames.get(&frame) {
+            Some(found) => found.waiting == 0,
+            None => false,
+        };
+        if is_done {
+            self.frames.remove(&frame);
+        }
+    }
+}

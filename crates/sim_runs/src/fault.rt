@@ -1,0 +1,109 @@
+//! What keeps a scenario from being run, or ends its run.
+
+use crate::bad_row::BadRow;
+use crate::in_file::InFile;
+use cmd_reporting::{CommandFault, Fault, OutputFormat, Status, WriterFault};
+use cmd_text::frames::Explanation;
+use sim_air::AirFault;
+use sim_moves::MovesFault;
+use sim_scenario::ScenarioFault;
+use std::alloc::AllocError;
+use std::io::Write;
+use thiserror::Error;
+
+/// Why a scenario was not run. Its text is the line on standard error.
+#[derive(Debug, Drop, Error)]
+pub enum RunFault<'a> {
+    /// The text of the file of this name is no scenario.
+    #[error("geostation: {1}")]
+    Scenario(&'a str, ScenarioFault),
+    /// A line of the file of moves is bad.
+    #[error("{0}")]
+    Row(BadRow<'a>),
+    /// What ends any command.
+    #[error("{0}")]
+    Stopped(Fault<'a>),
+}
+
+impl CommandFault for RunFault<'_> {
+    ghost use Rattle.sim_runs.specs.Runs.{run_fault_status};
+
+    ghost status_of = { run_fault_status };
+
+    /// `Refused` for a scenario and a line of moves, else `Failed`.
+    fn status(&self) -> Status {
+        match self {
+            RunFault::Scenario(..) => Status::Refused,
+            RunFault::Row(row) => row.status(),
+            RunFault::Stopped(fault) => fault.status(),
+        }
+    }
+
+    /// The line of a text that is no scenario, and of a bad line of moves, goes on with the name of
+    /// its file and a sentence, that of a file with the system's reason.
+    fn report<E: Write>(&self, format: OutputFormat, err: &mut E) {
+        match self {
+            RunFault::Scenario(file, fault) => {
+                let reason = format.explain.then_some(InFile(file, fault.reason()));
+                let _ = writeln!(err, "{self}{}", Explanation(reason));
+            }
+            RunFault::Row(row) => row.report(format, err),
+            RunFault::Stopped(fault) => fault.report(format, err),
+        }
+    }
+}
+
+/// What keeps the scenario of the file of this name from being run.
+pub(crate) fn fault_of_scenario(fault: ScenarioFault, file: &str) -> RunFault<'_> {
+    match fault {
+        ScenarioFault::OutOfMemory => RunFault::Stopped(Fault::OutOfMemory(AllocError)),
+        _ => RunFault::Scenario(file, fault),
+    }
+}
+
+impl<'a> From<Fault<'a>> for RunFault<'a> {
+    fn from(fault: Fault<'a>) -> RunFault<'a> {
+        RunFault::Stopped(fault)
+    }
+}
+
+impl<'a> From<RunFault<'a>> for WriterFault<'a, RunFault<'a>> {
+    fn from(fault: RunFault<'a>) -> WriterFault<'a, RunFault<'a>> {
+        WriterFault::Stopped(fault)
+    }
+}
+
+/// What ends the command where the rows of the file of this name can't be read on.
+pub(crate) fn fault_of_moves<'a>(fault: MovesFault, file: &'a str) -> RunFault<'a> {
+    match fault {
+        MovesFault::Line(line, word) => RunFault::Row(BadRow {
+            file,
+            line,
+            word,
+            value: None,
+        }),
+        MovesFault::Read(fault) => RunFault::Stopped(Fault::of_read(&fault.error(), file)),
+        MovesFault::NoMemory => RunFault::Stopped(Fault::OutOfMemory(AllocError)),
+    }
+}
+
+/// What ends the command where the run of an air was ended by this. `moves` is the name of the file
+/// of moves, where there is one.
+pub(crate) fn fault_of_air<'a>(fault: AirFault, moves: Option<&'a str>) -> RunFault<'a> {
+    match fault {
+        AirFault::OutOfMemory(error) => RunFault::Stopped(Fault::OutOfMemory(error)),
+        AirFault::Output => RunFault::Stopped(Fault::no_output()),
+        AirFault::Moves(fault) => fault_of_moves(fault, moves.unwrap_or("")),
+        // No memory has the counts of so many.
+        AirFault::TooManyEvents => RunFault::Stopped(Fault::OutOfMemory(AllocError)),
+    }
+}
+
+/// Whether a run was ended by its file of moves, of which a line is bad or a read failed: what was
+/// run till then is told.
+pub(crate) fn is_cut_short(fault: &AirFault) -> bool {
+    matches!(
+        fault,
+        AirFault::Moves(MovesFault::Line(..) | MovesFault::Read(_))
+    )
+}

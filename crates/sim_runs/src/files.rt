@@ -1,0 +1,260 @@
+//! The command `sim` over named files. A file that is read is standard input where its name is `-`.
+
+ghost use Rattle.std.specs.Prelude.{◌≡◌, ◌≤◌, ◌++◌, IfOk, OnOk, IfSome, None, vec_len, option_to_list};
+ghost use Rattle.cmd_reporting.specs.FileNames.{format_of_file};
+ghost use Rattle.cmd_reporting.specs.Statuses.{IsCommandStatus};
+ghost use Rattle.sim_results.specs.Results.{IsNoFile};
+ghost use Rattle.sim_runs.specs.Files.{AreAllApart, names_of, names_read, names_written};
+
+use crate::course::{Course, MovesFile};
+use crate::fault::RunFault;
+use crate::input::Input;
+use crate::options::RunOptions;
+use crate::outputs::{Outputs, create_outputs};
+use crate::simulating::{MOST_STATIONS, read_scenario, run_into};
+use crate::target::{FrameTarget, frame_target};
+use cmd_reporting::{Fault, Io, NamedFile, Opened, Status, Target, WriterFault, open, refuse_same};
+use sim_results::ResultFiles;
+use sim_scenario::{Reading, Scenario};
+use std::alloc::Global;
+use std::io::{BufRead, BufReader, Read, Write};
+use std::rt::Files;
+
+/// The files of a run.
+#[derive(Clone, Copy, Debug, PartialEq, Eq)]
+pub struct RunFiles<'a> {
+    /// The scenario.
+    pub scenario: &'a str,
+    /// The moves by which its stations are made and go, where there are any. They are another file
+    /// than the scenario's, and one of the two at most is standard input.
+    pub moves: Option<&'a str>,
+    /// The frames that stations give, where they are written.
+    pub frames: Option<Target<'a>>,
+    /// The numbers of the run, where they are written.
+    pub results: ResultFiles<'a>,
+}
+
+impl RunFiles<'_> {
+    /// How the scenario is read.
+    fn reading(&self, options: &RunOptions) -> Reading {
+        options.reading(!self.results.is_empty(), self.moves.is_some())
+    }
+}
+
+/// Runs the scenario in the file and prints a line for each event. `input` is standard input. With
+/// `moves` it is run with the rows of that file, whose first line is read once the scenario is, and
+/// the others as the run comes to them. With `frames` each frame that a station gives is also
+/// written to that file, and with `results` its numbers to those; all are created once the scenario
+/// and the first line of the moves are read.
+///
+/// `BadArguments`, before anything is opened, where nothing says the format of the file of frames
+/// or its name is `-`, and before a file is created where one is a file that is read or another
+/// one. `Refused` for a text that is no scenario, for a bad line of moves, where a frame has no
+/// place in its file, and, with `strict`, where an event was refused; `Failed` where a file could
+/// not be read, created or written or standard output not written, or memory ran out.
+pub fn simulate_file<R: Files + AllocGlobal, I: Read + Drop, W: Write, E: Write>(
+    rt: &R,
+    files: &RunFiles<'_>,
+    input: I,
+    options: &RunOptions,
+    io: &mut Io<W, E>,
+) -> Status
+where
+    R::File: Read + Write + Drop,
+    ensures alone { files.now.frames ≡ None → IsNoFile files.now.results →
+        IsCommandStatus result }
+    ensures format { IfSome files.now.frames (λ target.
+        format_of_file target.to target.name.now ≡ None → result ≡ Status.BadArguments) }
+{
+    match frame_target(files.frames) {
+        Ok(None) if files.results.is_empty() => {
+            let ended = simulate_alone(rt, files, input, options, io);
+            io.status_of(ended)
+        }
+        Ok(target) => {
+            let ended = simulate_to(rt, files, target, input, options, io);
+            io.status_of(ended)
+        }
+        Err(fault) => io.status_of(Err(fault)),
+    }
+}
+
+/// Runs the scenario in the file, and writes no file.
+fn simulate_alone<'a, R: Files + AllocGlobal, I: Read + Drop, W: Write, E: Write>(
+    rt: &R,
+    files: &RunFiles<'a>,
+    input: I,
+    options: &RunOptions,
+    io: &mut Io<W, E>,
+) -> Result<Status, RunFault<'a>>
+where
+    R::File: Read + Write + Drop,
+    ensures { IfOk result IsCommandStatus }
+{
+    let inputs = read_inputs(rt, files, input, options)?;
+    Ok(inputs.run(rt.alloc(), options, io)?)
+}
+
+/// Reads the scenario and the first line of the moves, and only then creates the files.
+fn simulate_to<'a, R: Files + AllocGlobal, I: Read + Drop, W: Write, E: Write>(
+    rt: &R,
+    files: &RunFiles<'a>,
+    target: Option<FrameTarget<'a>>,
+    input: I,
+    options: &RunOptions,
+    io: &mut Io<W, E>,
+) -> Result<Status, WriterFault<'a, RunFault<'a>>>
+where
+    R::File: Read + Write + Drop,
+    ensures { IfOk result IsCommandStatus }
+{
+    let inputs = read_inputs(rt, files, input, options)?;
+    keep_all_apart(rt, files)?;
+    let outputs = create_outputs(rt, &inputs.scenario, target, files.results)?;
+    Ok(run_inputs(rt.alloc(), inputs, options, outputs, io)?)
+}
+
+/// What is read before a run: a scenario, and the first line of its moves.
+#[derive(Drop)]
+pub struct RunInputs<'a, M: BufRead + Drop> {
+    scenario: Scenario,
+    /// The file of moves, if there is one, with its first line read.
+    moves: Option<MovesFile<'a, M>>,
+    ghost few: { vec_len scenario.stations ≤ 65535 },
+}
+
+impl<'a, M: BufRead + Drop> RunInputs<'a, M> {
+    /// Runs the scenario with its moves, prints its lines and writes no file. The status is
+    /// `Refused` if the scenario expects something that isn't met.
+    ///
+    /// `NoOutput` if a write failed, `CannotRead` or `NotRead` if a read of the moves failed,
+    /// `OutOfMemory` if an allocation failed.
+    pub fn run<W: Write, E: Write>(
+        self,
+        alloc: Global,
+        options: &RunOptions,
+        io: &mut Io<W, E>,
+    ) -> Result<Status, Fault<'a>>
+        ensures { IfOk result IsCommandStatus }
+    {
+        let outputs: Outputs<'_, Vec<u8>> = Outputs::none();
+        run_inputs(alloc, self, options, outputs, io)
+    }
+}
+
+/// Runs the scenario that was read, with its moves, and writes these files.
+fn run_inputs<'a, M: BufRead + Drop, F: Write + Drop, W: Write, E: Write>(
+    alloc: Global,
+    inputs: RunInputs<'a, M>,
+    options: &RunOptions,
+    outputs: Outputs<'a, F>,
+    io: &mut Io<W, E>,
+) -> Result<Status, Fault<'a>>
+    ensures { IfOk result IsCommandStatus }
+{
+    let RunInputs { scenario, moves } = inputs;
+    let mut course = Course {
+        scenario: &scenario,
+        options,
+        moves,
+    };
+    run_into(alloc, &mut course, outputs, io)
+}
+
+/// The reader of a file of a run.
+pub type RunReader<F, I> = BufReader<Opened<F, Input<I>>>;
+
+/// Reads the scenario of these files, and the first line of the moves, if there are any. `input` is
+/// standard input. The fault is that the text is no scenario, that the line is bad, that a file
+/// can't be read, or that memory ran out.
+pub fn read_inputs<'a, R: Files + AllocGlobal, I: Read + Drop>(
+    rt: &R,
+    files: &RunFiles<'a>,
+    input: I,
+    options: &RunOptions,
+) -> Result<RunInputs<'a, RunReader<R::File, I>>, RunFault<'a>>
+where
+    R::File: Read + Drop,
+{
+    let (for_scenario, for_moves) = Input::split(input, files.moves);
+    let reader = open(rt, files.scenario, for_scenario)?;
+    let reading = files.reading(options);
+    let scenario = read_scenario(rt.alloc(), files.scenario, reader, MOST_STATIONS, &reading)?;
+    let moves = open_moves(rt, files.moves, for_moves, &scenario)?;
+    Ok(RunInputs { scenario, moves })
+}
+
+/// Opens the file of moves of this name, where there is one, and reads its first line. `input` is
+/// standard input.
+fn open_moves<'a, R: Files + AllocGlobal, I: Read + Drop>(
+    rt: &R,
+    name: Option<&'a str>,
+    input: Input<I>,
+    scenario: &Scenario,
+) -> Result<Option<MovesFile<'a, RunReader<R::File, I>>>, RunFault<'a>>
+where
+    R::File: Read + Drop,
+{
+    let Some(name) = name else {
+        return Ok(None);
+    };
+    let reader = open(rt, name, input)?;
+    Ok(Some(MovesFile::open(rt.alloc(), name, reader, scenario)?))
+}
+
+/// Refuses a file to be written that is one of those that are read, or another one to be written.
+fn keep_all_apart<'a, R: Files + AllocGlobal>(
+    rt: &R,
+    files: &RunFiles<'a>,
+) -> Result<(), WriterFault<'a, RunFault<'a>>>
+    ensures { OnOk result (AreAllApart files.now) }
+{
+    let written = written_files(rt, files)?;
+    let read = read_files(rt, files)?;
+    Ok(refuse_same(written.as_slice(), read.as_slice())?)
+}
+
+/// Returns the files that a run writes.
+fn written_files<'a, R: Files + AllocGlobal>(
+    rt: &R,
+    files: &RunFiles<'a>,
+) -> Result<Vec<NamedFile<'a>>, Fault<'a>>
+    ensures { IfOk result (λ named. names_of named.items ≡ names_written files.now) }
+{
+    let frames = files.frames.map(|target| target.name);
+    let mut named = Vec::new(rt.alloc());
+    add_named(rt, frames, &mut named)?;
+    add_named(rt, files.results.sends, &mut named)?;
+    add_named(rt, files.results.stations, &mut named)?;
+    add_named(rt, files.results.load, &mut named)?;
+    Ok(named)
+}
+
+/// Returns the files that a run reads.
+fn read_files<'a, R: Files + AllocGlobal>(
+    rt: &R,
+    files: &RunFiles<'a>,
+) -> Result<Vec<NamedFile<'a>>, Fault<'a>>
+    ensures { IfOk result (λ named. names_of named.items ≡ names_read files.now) }
+{
+    let mut named = Vec::new(rt.alloc());
+    add_named(rt, Some(files.scenario), &mut named)?;
+    add_named(rt, files.moves, &mut named)?;
+    Ok(named)
+}
+
+/// Adds the file of this name, if there is one.
+#[tactic(auto, using(crate::proofs::Named::names_last))]
+fn add_named<'a, R: Files + AllocGlobal>(
+    rt: &R,
+    name: Option<&'a str>,
+    files: &mut Vec<NamedFile<'a>>,
+) -> Result<(), Fault<'a>>
+    ensures { OnOk result
+        (names_of files.new.items ≡ names_of files.old.items ++ option_to_list name.entry) }
+{
+    if let Some(name) = name {
+        files.push(NamedFile::of(rt, name))?;
+    }
+    Ok(())
+}

@@ -1,0 +1,33 @@
+//! The command `sim`: a scenario is run, its lines are printed, and its frames go to a file.
+#![tactic(auto)]
+
+mod asked;
+mod bad_row;
+mod both;
+mod course;
+mod fault;
+mod files;
+mod findings;
+mod frames;
+mod in_file;
+mod input;
+mod options;
+mod outputs;
+mod progress;
+mod simulating;
+mod summary;
+mod target;
+mod watched;
+
+pub use bad_row::BadRow;
+pub use fault::RunFault;
+pub use files::{RunFiles, RunInputs, RunReader, read_inputs, simulate_file};
+pub use input::Input;
+pub use options::RunOptions;
+pub use sim_results::ResultFiles;
+pub use sim_simulation::VERSION;
+pub use simulating::{
+    read_scenario, read_scenario_without_air, report_unknown, simulate, simulate_scenario,
+};
+pub use target::{FrameTarget, frame_target};
+pub use watched::is_refused;

@@ -1,0 +1,81 @@
+//! The files that are written of a run.
+
+use crate::target::FrameTarget;
+use cmd_reporting::{Fault, FrameFile, create};
+use sim_results::{ResultFiles, ResultWriters, Results};
+use sim_scenario::Scenario;
+use std::io::{BufWriter, Write};
+use std::rt::Files;
+
+/// The files that are being written of a run.
+#[derive(Drop)]
+pub(crate) struct Outputs<'a, W: Write + Drop> {
+    /// The file of the frames that stations give, where there is one.
+    pub(crate) frames: Option<FrameFile<'a, W>>,
+    /// The files of numbers.
+    pub(crate) results: Results<'a, W>,
+}
+
+impl<'a, W: Write + Drop> Outputs<'a, W> {
+    /// No file is written.
+    pub(crate) fn none() -> Outputs<'a, W> {
+        Outputs {
+            frames: None,
+            results: Results::none(),
+        }
+    }
+}
+
+/// Creates the files, and begins them, of a run of the scenario. The fault is that one could not be
+/// created or written, or that memory ran out.
+pub(crate) fn create_outputs<'a, R: Files + AllocGlobal>(
+    rt: &R,
+    scenario: &Scenario,
+    target: Option<FrameTarget<'a>>,
+    names: ResultFiles<'a>,
+) -> Result<Outputs<'a, BufWriter<R::File>>, Fault<'a>>
+where
+    R::File: Write + Drop,
+{
+    let created = create_named(rt, target.map(|target| target.name))?;
+    let results = create_results(rt, scenario, names)?;
+    let stations = scenario.stations.len();
+    let frames = match (target, created) {
+        (Some(FrameTarget { name, format }), Some(writer)) => {
+            Some(FrameFile::start(rt.alloc(), writer, name, format, stations)?)
+        }
+        _ => None,
+    };
+    Ok(Outputs { frames, results })
+}
+
+/// Creates the file of this name, where there is one.
+fn create_named<'a, R: Files + AllocGlobal>(
+    rt: &R,
+    name: Option<&'a str>,
+) -> Result<Option<BufWriter<R::File>>, Fault<'a>>
+where
+    R::File: Write + Drop,
+{
+    match name {
+        Some(name) => Ok(Some(create(rt, name)?)),
+        None => Ok(None),
+    }
+}
+
+/// Creates the files of numbers, and begins them.
+fn create_results<'a, R: Files + AllocGlobal>(
+    rt: &R,
+    scenario: &Scenario,
+    names: ResultFiles<'a>,
+) -> Result<Results<'a, BufWriter<R::File>>, Fault<'a>>
+where
+    R::File: Write + Drop,
+{
+    let writers = ResultWriters {
+        sends: create_named(rt, names.sends)?,
+        stations: create_named(rt, names.stations)?,
+        load: create_named(rt, names.load)?,
+    };
+    Results::begin(rt.alloc(), scenario, names, writers)
+}

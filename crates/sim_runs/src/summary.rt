@@ -1,0 +1,148 @@
+//! The lines of a run that is summed up.
+
+use crate::findings::SummaryDetails;
+use cmd_reporting::OutputFormat;
+use cmd_text::json_lines::JsonLine;
+use its_gnvalue::NoMemory;
+use serde::Serialize;
+use sim_results::Reach;
+use sim_simulation::SimulationFault;
+use sim_simulation::tally::{SendSummary, Tally, Totals};
+use std::alloc::Global;
+use std::fmt;
+use std::io::Write;
+
+/// Prints a line for each packet for an area that was sent, in order, and one of the counts of all
+/// events, unless the run was cut short. With `explain` each of the first goes on with the stations
+/// that it didn't reach.
+pub(crate) fn print_summary<D: SummaryDetails, W: Write>(
+    alloc: Global,
+    tally: &Tally,
+    details: &D,
+    lines: OutputFormat,
+    is_whole: bool,
+    out: &mut W,
+) -> Result<(), SimulationFault> {
+    if lines.json {
+        print_objects(alloc, tally, details, lines.explain, out)?;
+        return if is_whole {
+            print_total_object(alloc, tally, details, out)
+        } else {
+            Ok(())
+        };
+    }
+    for (place, send) in tally.sends().iter().enumerate() {
+        let missed = missed_of(alloc, details, place, lines.explain)?;
+        writeln!(out, "{send}{}", MissedText(&missed))?;
+    }
+    if is_whole {
+        writeln!(out, "{}{}", tally.totals(), FullText(details.table_full()))?;
+    }
+    Ok(())
+}
+
+/// The same of the packets, as objects.
+fn print_objects<D: SummaryDetails, W: Write>(
+    alloc: Global,
+    tally: &Tally,
+    details: &D,
+    explain: bool,
+    out: &mut W,
+) -> Result<(), SimulationFault> {
+    let mut line = JsonLine::new(alloc)?;
+    for (place, send) in tally.sends().iter().enumerate() {
+        let missed = missed_of(alloc, details, place, explain)?;
+        out.write_all(line.of(&SendLine { send, missed })?)?;
+    }
+    Ok(())
+}
+
+/// The same of the counts.
+fn print_total_object<D: SummaryDetails, W: Write>(
+    alloc: Global,
+    tally: &Tally,
+    details: &D,
+    out: &mut W,
+) -> Result<(), SimulationFault> {
+    let mut line = JsonLine::new(alloc)?;
+    let total = CountsLine {
+        counts: tally.totals(),
+        table_full: details.table_full(),
+    };
+    out.write_all(line.of(&TotalLine { total })?)?;
+    Ok(())
+}
+
+/// A station that a packet didn't reach, and how far it came there.
+type Miss = (usize, Reach);
+
+/// The stations that a packet didn't reach, where they are told.
+fn missed_of<D: SummaryDetails>(
+    alloc: Global,
+    details: &D,
+    send: usize,
+    are_told: bool,
+) -> Result<Option<Vec<Miss>>, NoMemory> {
+    match details.audience(send) {
+        Some(audience) if are_told => Ok(Some(audience.missed(alloc)?)),
+        _ => Ok(None),
+    }
+}
+
+/// The stations that a packet didn't reach, as ` (missed: 10 lost, 11 full)`, or nothing.
+#[derive(Clone, Copy)]
+struct MissedText<'a>(&'a Option<Vec<Miss>>);
+
+impl fmt::Display for MissedText<'_> {
+    fn fmt<W: fmt::Write>(&self, f: &mut fmt::Formatter<W>) -> fmt::Result {
+        let Some(missed) = self.0 else {
+            return Ok(());
+        };
+        for (place, (station, reach)) in missed.iter().enumerate() {
+            let before = if place == 0 { " (missed:" } else { "," };
+            write!(f, "{before} {station} {reach}")?;
+        }
+        if missed.is_empty() {
+            Ok(())
+        } else {
+            f.write_str(")")
+        }
+    }
+}
+
+/// How many receptions met a full location table, as ` full 3`, or nothing.
+#[derive(Clone, Copy)]
+struct FullText(Option<usize>);
+
+impl fmt::Display for FullText {
+    fn fmt<W: fmt::Write>(&self, f: &mut fmt::Formatter<W>) -> fmt::Result {
+        match self.0 {
+            Some(receptions) => write!(f, " full {receptions}"),
+            None => Ok(()),
+        }
+    }
+}
+
+/// What the JSON of a packet for an area tells.
+#[derive(Drop, Serialize)]
+struct SendLine<'a> {
+    #[serde(flatten)]
+    send: &'a SendSummary,
+    #[serde(skip_serializing_if = "Option::is_none")]
+    missed: Option<Vec<Miss>>,
+}
+
+/// The counts of a run, and how many receptions met a full location table, where any did.
+#[derive(Clone, Copy, Serialize)]
+struct CountsLine {
+    #[serde(flatten)]
+    counts: Totals,
+    #[serde(skip_serializing_if = "Option::is_none")]
+    table_full: Option<usize>,
+}
+
+/// The same, under their key.
+#[derive(Clone, Copy, Serialize)]
+struct TotalLine {
+    total: CountsLine,
+}

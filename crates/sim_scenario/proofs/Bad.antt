@@ -1,0 +1,64 @@
+-- Keys under which nothing stands that they take.
+use Rattle.std.proofs.Common.{◌≡◌, ℕ, false, List, codes, nat_eq, refl, sym, ap, subst, ◌∙◌}
+use Rattle.std.proofs.lemmas.Bool.{false≢true}
+use Rattle.std.specs.Cmp.Lexicographic.{pointwise}
+use Rattle.sim_settings.specs.Faults.{IsFaultOf}
+use Rattle.sim_settings.specs.Fields.{FieldValues, IsNumber, IsText, IsUntaken}
+use Rattle.sim_settings.specs.Verbs.{verb_word}
+use Rattle.sim_settings.specs.declared.keys.fault.KeyFault.TheVariants as key_faults
+use Rattle.sim_settings.specs.declared.keys.fault.KeyFault.{KeyFault}
+use Rattle.sim_settings.specs.declared.keys.key.Key.TheVariants as keys
+use Rattle.sim_settings.specs.declared.keys.key.Key.{Key}
+use Rattle.sim_settings.specs.declared.keys.verb.Verb.{Verb}
+use Rattle.its_model.specs.Calls.OwnCall.{Move, Open, Close, Tick, SendShb, SendGbc, SendGac}
+use Rattle.its_model.specs.Calls.OwnCall.{Restart}
+use Rattle.its_model.specs.World.{What}
+use Rattle.its_model.specs.World.What.{Calls, Deliver}
+use Rattle.sim_scenario.specs.Reading.{IsBadAt, IsBadOf}
+use Rattle.sim_scenario.specs.Reading.{IsBadMeasure}
+use Rattle.sim_scenario.specs.Verbs.{verb_of}
+
+-- the fault of a bad key
+pub bad_of : (values : FieldValues) (key : Key) (fault : KeyFault) → IsFaultOf key fault
+    → IsBadAt values key → IsBadOf values fault
+bad_of values key (key_faults.Refused bad wrong) is at = subst (IsBadAt values) (sym is) at
+bad_of values key key_faults.OutOfMemory is at = tt
+
+-- a measure of a circle
+pub bad_of_circle : (values : FieldValues) (key : Key) → IsText values keys.Shape (codes "circle")
+    → (¬ IsNumber values key 0) → IsBadMeasure values key
+bad_of_circle values key circle bad = (λ _. bad, λ not. absurd (not circle))
+
+-- a measure of another shape
+pub bad_of_rectangle : (values : FieldValues) (key : Key)
+    → IsText values keys.Shape (codes "rectangle") → IsUntaken values key → IsBadMeasure values key
+bad_of_rectangle values key is bad = (λ circle. absurd (cc), λ _. bad)
+
+pub bad_of_ellipse : (values : FieldValues) (key : Key)
+    → IsText values keys.Shape (codes "ellipse") → IsUntaken values key → IsBadMeasure values key
+bad_of_ellipse values key is bad = (λ circle. absurd (cc), λ _. bad)
+
+-- a word for what a station does that is none
+pub bad_word : (values : FieldValues) (word : List ℕ) → IsText values keys.Do word
+    → ((verb : Verb) → ¬ (word ≡ verb_word verb)) → IsBadAt values keys.Do
+bad_word values word is none = λ what says. none (verb_of what) (cc)
+
+-- another word than that for a leave
+differ : (word : List ℕ) → pointwise nat_eq (codes "leave") word ≡ false → ¬ (codes "leave" ≡ word)
+differ word unlike e = false≢true (sym unlike ∙ sym (ap (pointwise nat_eq (codes "leave")) e))
+
+-- nothing that happens in a world has the word for a leave
+never_leaves : (what : What) → ¬ (codes "leave" ≡ verb_word (verb_of what))
+never_leaves (Calls (Move place accurate speed heading)) = differ _ refl
+never_leaves (Calls (Open port)) = differ _ refl
+never_leaves (Calls (Close port)) = differ _ refl
+never_leaves (Calls (Tick jitter)) = differ _ refl
+never_leaves (Calls (SendShb request)) = differ _ refl
+never_leaves (Calls (SendGbc request)) = differ _ refl
+never_leaves (Calls (SendGac request)) = differ _ refl
+never_leaves (Calls (Restart number)) = differ _ refl
+never_leaves (Deliver frame) = differ _ refl
+
+pub bad_leave : (values : FieldValues) (word : List ℕ) → IsText values keys.Do word
+    → word ≡ codes "leave" → IsBadAt values keys.Do
+bad_leave values word is leave = λ what says. never_leaves what (cc)

@@ -1,0 +1,46 @@
+-- The events of a scenario.
+use Rattle.std.specs.Prelude.{ℕ, ℤ, pos, ◌<◌, ◌^◌}
+use Rattle.its_gnvalue.specs.Values.{IsSpeed}
+use Rattle.its_world.specs.declared.event.Event.{Event}
+use Rattle.its_world.specs.declared.event.What.{What}
+use Rattle.its_world.specs.declared.event.What.TheVariants as whats
+use Rattle.sim_scenario.specs.Airs.{moment_of}
+use Rattle.sim_scenario.specs.declared.events.event.FileEvent.{FileEvent}
+use Rattle.sim_scenario.specs.declared.events.event.FileEvent.TheVariants as files
+
+-- the speed of a move; 0 where none is given
+abbrev pub speed_of : What → ℤ
+speed_of (whats.MoveTo place pai speed heading) = speed
+speed_of what = pos 0
+
+-- the frame that is delivered; 0 where none is
+abbrev pub frame_of : What → ℕ
+frame_of (whats.Deliver frame) = frame
+frame_of what = 0
+
+-- the numbers of what happens are in the ranges that a scenario gives them
+abbrev pub FitsWhat : What → Type 0
+FitsWhat what = IsSpeed (speed_of what) × (frame_of what < 2 ^ 32)
+
+-- the numbers of an event are in the ranges that a scenario gives them
+abbrev pub FitsEvent : Event → Type 0
+FitsEvent e = (e.station < 2 ^ 16) × (e.moment < 2 ^ 63) × FitsWhat e.what
+
+-- the station of what a file has
+abbrev pub station_in : FileEvent → ℕ
+station_in (files.Happens e) = e.station
+station_in (files.Leaves station moment) = station
+
+-- what it does, if it is an event: its speed and its frame, 0 where it has none
+abbrev pub speed_in : FileEvent → ℤ
+speed_in (files.Happens e) = speed_of e.what
+speed_in (files.Leaves station moment) = pos 0
+
+abbrev pub frame_in : FileEvent → ℕ
+frame_in (files.Happens e) = frame_of e.what
+frame_in (files.Leaves station moment) = 0
+
+-- its numbers are in the ranges that a scenario gives them
+abbrev pub FitsFileEvent : FileEvent → Type 0
+FitsFileEvent f =
+    (station_in f < 2 ^ 16) × (moment_of f < 2 ^ 63) × IsSpeed (speed_in f) × (frame_in f < 2 ^ 32)

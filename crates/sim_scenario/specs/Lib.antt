@@ -1,0 +1,10 @@
+pub mod Documents
+pub mod Faults
+pub mod Scenarios
+pub mod Airs
+pub mod Centres
+pub mod Events
+pub mod Reading
+pub mod Saying
+pub mod Tables
+pub mod Verbs

@@ -1,0 +1,187 @@
+-- Which scenario a document is.
+use Rattle.std.specs.Prelude.{◌≡◌, ℕ, Bool, true, false, List, [], ◌∷◌, Option, Some, None, cond}
+use Rattle.std.specs.Prelude.{String, is_some}
+use Rattle.std.specs.Option.{option_map}
+use Rattle.std.specs.declared.alloc.Global.{Global}
+use Rattle.sim_settings.specs.Fields.{FieldValues}
+use Rattle.sim_settings.specs.Keys.{word_of}
+use Rattle.sim_settings.specs.Settings.{set_values}
+use Rattle.sim_settings.specs.Tables.{table_values}
+use Rattle.sim_settings.specs.declared.keys.key.Key.TheVariants as keys
+use Rattle.sim_settings.specs.declared.keys.settings.AirSettings.{AirSettings}
+use Rattle.sim_settings.specs.declared.keys.settings.SetAir.{SetAir}
+use Rattle.sim_scenario.specs.Centres.{IsCentred}
+use Rattle.sim_settings.specs.Items.{SayItems, SaysItem, items_if, items_under, members_if}
+use Rattle.sim_settings.specs.Moves.{SaysMoves}
+use Rattle.sim_scenario.specs.Saying.{SaysAddressed, SaysEvent, SaysFiled, SaysPresent, SaysStation}
+use Rattle.sim_settings.specs.Saying.{SaysAir, SaysExpectation, SaysTraffic}
+use Rattle.sim_settings.specs.declared.air.Air.{Air}
+use Rattle.sim_scenario.specs.declared.tables.Tables.{Tables}
+use Rattle.sim_scenario.specs.declared.events.event.FileEvent.{FileEvent}
+use Rattle.sim_scenario.specs.declared.scenario.Reading.{Reading}
+use Rattle.sim_scenario.specs.declared.scenario.Scenario.{Scenario}
+use Rattle.std.specs.BTreeMap.{BTreeMap}
+use Rattle.toml.specs.Data.{Data, Items, no_items, item, Members, no_members, as_table, get_member}
+use Rattle.toml.specs.Parse.{parse_document}
+use Rattle.toml.specs.View.{items_view, table_view}
+use Rattle.toml.specs.declared.value.Value.{Value}
+use denote.Ref.{Bor}
+
+-- The parts of a document that say a scenario: the items of its arrays, what stands under the words
+-- of its air, if it has one, and the members of its table of moves; and whether it is run with the
+-- moves of a file.
+pub record Parts : Type 0 where
+  pub stations : Items
+  pub events : Items
+  pub has_moves : Bool
+  pub air : Option FieldValues
+  pub every : Items
+  pub moves : Members
+  pub expectations : Items
+
+-- what stands under the words of an air, if it is a table, with values in place of its own
+abbrev pub air_of_found : AirSettings → Option Data → Option (Option FieldValues)
+air_of_found settings None = Some None
+air_of_found settings (Some found) =
+    option_map (λ members. Some (set_values settings (table_values members))) (as_table found)
+
+-- the same of a document's air
+abbrev pub air_under : AirSettings → Members → Option (Option FieldValues)
+air_under settings document = air_of_found settings (get_member (word_of keys.Air) document)
+
+-- the parts of a document that are read without an air
+pub record AreWithoutAir (document : Members) (parts : Parts) : Type 0 where
+  pub stations : items_under keys.Station document ≡ Some parts.stations
+  pub events : items_under keys.Event document ≡ Some parts.events
+  pub has_moves : parts.has_moves ≡ false
+  pub air : parts.air ≡ None
+  pub every : parts.every ≡ no_items
+  pub moves : parts.moves ≡ no_members
+  pub expectations : parts.expectations ≡ no_items
+
+-- the parts of a document that are read in this way
+pub record ArePartsOf (reading : Reading) (document : Members) (parts : Parts) : Type 0 where
+  pub stations : items_under keys.Station document ≡ Some parts.stations
+  pub events : items_under keys.Event document ≡ Some parts.events
+  pub has_moves : parts.has_moves ≡ reading.moves
+  pub air : air_under reading.settings document ≡ Some parts.air
+  pub every : items_if (is_some parts.air) keys.Every document ≡ Some parts.every
+  pub moves : members_if (is_some parts.air) keys.Moves document ≡ Some parts.moves
+  pub expectations : items_under keys.Expect document ≡ Some parts.expectations
+
+-- whether a station is present at the start, by its keys in an air; else it is
+abbrev pub SaysPresence : Bool → FieldValues → Bool → Type 0
+SaysPresence true values present = SaysPresent values present
+SaysPresence false values present = present ≡ true
+
+-- an air, where there is one
+abbrev pub SaysAirIf : Option FieldValues → Option Air → Type 0
+SaysAirIf None None = Unit {0}
+SaysAirIf None (Some air) = ⊥
+SaysAirIf (Some values) None = ⊥
+SaysAirIf (Some values) (Some air) = SaysAir values air
+
+-- the keys say what waits in an air; an area whose centre they leave out has some centre
+abbrev pub SaysFileEvent : FieldValues → FileEvent → Type 0
+SaysFileEvent values waiting =
+    (filed : FileEvent) × (round_station : Bool) × SaysFiled values filed round_station
+    × IsCentred round_station filed waiting
+
+-- each item is a table whose keys say what waits in its place, and whether its area lies round its
+-- station
+abbrev pub SayFiled : Items → List FileEvent → List Bool → Type 0
+SayFiled no_items [] [] = Unit {0}
+SayFiled no_items [] (b ∷ bs) = ⊥
+SayFiled no_items (f ∷ fs) bs = ⊥
+SayFiled (item found more) [] bs = ⊥
+SayFiled (item found more) (f ∷ fs) [] = ⊥
+SayFiled (item found more) (f ∷ fs) (b ∷ bs) =
+    SaysItem (λ values (filed : FileEvent). SaysFiled values filed b) found f
+    × SayFiled more fs bs
+
+-- the items of the events, by how they are read: without an air, in one, and in one with moves
+abbrev pub events_alone : Parts → Items
+events_alone parts = cond (is_some parts.air) no_items parts.events
+
+abbrev pub events_filed : Parts → Items
+events_filed parts =
+    cond (is_some parts.air) (cond parts.has_moves no_items parts.events) no_items
+
+abbrev pub events_addressed : Parts → Items
+events_addressed parts =
+    cond (is_some parts.air) (cond parts.has_moves parts.events no_items) no_items
+
+-- these parts of a document say a scenario
+pub record SayScenario (parts : Parts) (scenario : Scenario) : Type 0 where
+  pub stations : SayItems SaysStation parts.stations scenario.stations.items
+  pub present :
+      SayItems (SaysPresence (is_some parts.air)) parts.stations scenario.present.items
+  pub events : SayItems SaysEvent (events_alone parts) scenario.events.items
+  pub file : SayItems SaysFileEvent (events_filed parts) scenario.file.items
+  pub addressed : SayItems SaysAddressed (events_addressed parts) scenario.addressed.items
+  pub air : SaysAirIf parts.air scenario.air
+  pub every : SayItems SaysTraffic parts.every scenario.every.items
+  pub moves : SaysMoves parts.moves scenario.moves
+  pub expectations : SayItems SaysExpectation parts.expectations scenario.expectations.items
+
+-- what stands under the words of an air that was found
+abbrev pub set_air_values : SetAir → FieldValues
+set_air_values air = set_values air.settings.now (table_values (table_view air.table.now))
+
+-- the same of one that may be missing
+abbrev pub air_in : Option SetAir → Option FieldValues
+air_in air = option_map set_air_values air
+
+-- the members of a table, none where there is no table
+abbrev pub members_in : Option (Bor (BTreeMap (String Global) Value)) → Members
+members_in None = no_members
+members_in (Some table) = table_view table.now
+
+-- the parts that these tables are
+abbrev pub parts_in : Tables → Parts
+parts_in tables =
+    record {
+      stations = items_view tables.stations.now;
+      events = items_view tables.events.now;
+      has_moves = tables.has_moves;
+      air = air_in tables.air;
+      every = items_view tables.every.now;
+      moves = members_in tables.moves;
+      expectations = items_view tables.expectations.now;
+    }
+
+-- how `from_toml` reads a document: it need have no air, nothing stands in place of the air's own
+-- values, and it isn't run with moves
+abbrev pub usual_reading : Reading
+usual_reading =
+    record {
+      strict = false;
+      needs_air = false;
+      moves = false;
+      settings =
+          record {
+            range = None;
+            delay = None;
+            loss = None;
+            seed = None;
+            beacons = None;
+            until = None;
+          };
+    }
+
+-- the text is a document whose parts, read in this way, say this scenario
+pub record SaysScenario (reading : Reading) (text : List ℕ) (scenario : Scenario)
+    : Type 0 where
+  pub document : Members
+  pub parsed : parse_document text ≡ Some document
+  pub parts : Parts
+  pub are_its : ArePartsOf reading document parts
+  pub say : SayScenario parts scenario
+
+-- the same of a document that is read without an air
+pub record SaysWithoutAir (text : List ℕ) (scenario : Scenario) : Type 0 where
+  pub document : Members
+  pub parsed : parse_document text ≡ Some document
+  pub parts : Parts
+  pub are_its : AreWithoutAir document parts
+  pub say : SayScenario parts scenario

@@ -1,0 +1,39 @@
+-- What a station does, by its word.
+use Rattle.std.specs.Prelude.{Option, Some, None}
+use Rattle.sim_settings.specs.declared.keys.verb.Verb.TheVariants as verbs
+use Rattle.sim_settings.specs.declared.keys.verb.Verb.{Verb}
+use Rattle.its_model.specs.Calls.{OwnCall}
+use Rattle.its_model.specs.Calls.OwnCall.{Move, Open, Close, Tick, SendShb, SendGbc, SendGac}
+use Rattle.its_model.specs.Calls.OwnCall.{Restart}
+use Rattle.its_model.specs.World.{What}
+use Rattle.its_model.specs.World.What.{Calls, Deliver}
+use Rattle.its_station.specs.declared.run.Call.{Call}
+use Rattle.its_station.specs.declared.run.Call.TheVariants as calls
+
+-- that of what a station's own applications ask of it
+abbrev pub own_verb : OwnCall → Verb
+own_verb (Move place accurate speed heading) = verbs.Move
+own_verb (Open port) = verbs.Open
+own_verb (Close port) = verbs.Close
+own_verb (Tick jitter) = verbs.Tick
+own_verb (SendShb request) = verbs.Shb
+own_verb (SendGbc request) = verbs.Gbc
+own_verb (SendGac request) = verbs.Gac
+own_verb (Restart number) = verbs.Restart
+
+-- that of what happens in a world
+abbrev pub verb_of : What → Verb
+verb_of (Calls call) = own_verb call
+verb_of (Deliver frame) = verbs.Deliver
+
+-- that of a call of a station; none is that of a frame that came
+abbrev pub call_verb : Call → Option Verb
+call_verb (calls.MoveTo place pai speed heading) = Some verbs.Move
+call_verb (calls.Open port) = Some verbs.Open
+call_verb (calls.Close port) = Some verbs.Close
+call_verb (calls.Tick jitter) = Some verbs.Tick
+call_verb (calls.SendShb request) = Some verbs.Shb
+call_verb (calls.SendGeobroadcast request) = Some verbs.Gbc
+call_verb (calls.SendGeoanycast request) = Some verbs.Gac
+call_verb (calls.Restart number) = Some verbs.Restart
+call_verb (calls.Receive frame) = None

@@ -1,0 +1,112 @@
+//! Reading a scenario from a document.
+
+ghost use Rattle.std.specs.Prelude.{◌≡◌, ◌≤◌, IfOk, IfErr, vec_len};
+ghost use Rattle.sim_scenario.specs.Documents.{IsToml, IsOfToml};
+ghost use Rattle.sim_scenario.specs.Scenarios.{SaysScenario, SaysWithoutAir, usual_reading};
+ghost use Rattle.toml.specs.Parse.{parse_document};
+ghost use Rattle.toml.specs.View.{table_view};
+
+use crate::fault::ScenarioFault;
+use crate::position::TomlFault;
+use crate::scenario::{Reading, Scenario};
+use crate::tables::Tables;
+use std::alloc::Global;
+use toml::Table;
+
+impl Scenario {
+    /// Reads a TOML document with the arrays of tables `station`, `event` and `expect`, the table
+    /// `air` and, where there is one, the array of tables `every` and the table `moves`, each of
+    /// which may be missing. A key of the air, of traffic, of moves or of what is expected that is
+    /// none of its words is refused; other keys are passed over. At most so many stations are
+    /// taken.
+    ///
+    /// The first fault is given: that of the document, of its arrays `station` and `event`, of the
+    /// kind of `air`, of `every`, of `moves` and of `expect`, of the number of stations, of each
+    /// station in turn, of the air, of each traffic in turn, of moves, of each event in turn, of
+    /// each table of what is expected, of two stations with the same MID.
+    pub fn from_toml(
+        alloc: Global,
+        text: &[u8],
+        most_stations: usize,
+    ) -> Result<Scenario, ScenarioFault>
+        ensures toml { IfOk result (λ _. IsToml text.now) }
+        ensures refused { IfErr result (λ fault. IsOfToml fault → ¬ IsToml text.now) }
+        ensures says { IfOk result (SaysScenario usual_reading text.now) }
+        ensures few { IfOk result (λ scenario. vec_len scenario.stations ≤ most_stations) }
+    {
+        Scenario::read(alloc, text, most_stations, &Reading::default())
+    }
+
+    /// The same, but that `air`, `every`, `moves` and `expect` are among the keys that are passed
+    /// over.
+    pub fn from_toml_without_air(
+        alloc: Global,
+        text: &[u8],
+        most_stations: usize,
+    ) -> Result<Scenario, ScenarioFault>
+        ensures toml { IfOk result (λ _. IsToml text.now) }
+        ensures refused { IfErr result (λ fault. IsOfToml fault → ¬ IsToml text.now) }
+        ensures says { IfOk result (SaysWithoutAir text.now) }
+        ensures few { IfOk result (λ scenario. vec_len scenario.stations ≤ most_stations) }
+        ensures none { IfOk result (λ scenario. scenario.air ≡ None) }
+    {
+        Scenario::read_without_air(alloc, text, most_stations, false)
+    }
+
+    /// Reads a document as `from_toml` does, in this way: with values in place of the air's own;
+    /// one without an air is refused where it is needed, where the air's kind is checked; and where
+    /// the reading is strict, each key of the document, of its stations and of its events that is
+    /// none of their words is refused, last of all, in this order.
+    pub fn read(
+        alloc: Global,
+        text: &[u8],
+        most_stations: usize,
+        reading: &Reading,
+    ) -> Result<Scenario, ScenarioFault>
+        ensures toml { IfOk result (λ _. IsToml text.now) }
+        ensures refused { IfErr result (λ fault. IsOfToml fault → ¬ IsToml text.now) }
+        ensures says { IfOk result (SaysScenario reading.now text.now) }
+        ensures few { IfOk result (λ scenario. vec_len scenario.stations ≤ most_stations) }
+    {
+        let document = document_of(alloc, text)?;
+        let tables = Tables::of(alloc, &document, reading)?;
+        let scenario = tables.read(alloc, most_stations)?;
+        tables.refuse_unknown(alloc, &document, reading.strict)?;
+        Ok(scenario)
+    }
+
+    /// Reads a document as `from_toml_without_air` does; where the reading is strict, keys that are
+    /// unknown are refused as by `read`.
+    pub fn read_without_air(
+        alloc: Global,
+        text: &[u8],
+        most_stations: usize,
+        strict: bool,
+    ) -> Result<Scenario, ScenarioFault>
+        ensures toml { IfOk result (λ _. IsToml text.now) }
+        ensures refused { IfErr result (λ fault. IsOfToml fault → ¬ IsToml text.now) }
+        ensures says { IfOk result (SaysWithoutAir text.now) }
+        ensures few { IfOk result (λ scenario. vec_len scenario.stations ≤ most_stations) }
+        ensures none { IfOk result (λ scenario. scenario.air ≡ None) }
+    {
+        let document = document_of(alloc, text)?;
+        let tables = Tables::without_air(alloc, &document)?;
+        let scenario = tables.read(alloc, most_stations)?;
+        tables.refuse_unknown(alloc, &document, strict)?;
+        Ok(scenario)
+    }
+}
+
+/// The table of a text.
+fn document_of(alloc: Global, text: &[u8]) -> Result<Table, ScenarioFault>
+    ensures toml { IfOk result (λ _. IsToml text.now) }
+    ensures says { IfOk result (λ document.
+        parse_document text.now ≡ Some (table_view document)) }
+    ensures refused { IfErr result (λ fault. IsOfToml fault → ¬ IsToml text.now) }
+{
+    match toml::table_from_slice(alloc, text) {
+        Ok(document) => Ok(document),
+        Err(error) if error.is_memory() => Err(ScenarioFault::OutOfMemory),
+        Err(error) => Err(ScenarioFault::NotToml(TomlFault::new(text, error))),
+    }
+}

@@ -1,0 +1,36 @@
+//! When the run of an air ends.
+
+ghost use Rattle.std.specs.Prelude.{◌≡◌, ◌<◌, ◌^◌, ◌+◌, All};
+ghost use Rattle.sim_scenario.specs.Airs.{end_of, greatest_moment, moment_of};
+
+use crate::events::event::FileEvent;
+use sim_settings::Air;
+
+/// How long an air runs on after the last event, in milliseconds.
+const AFTER_EVENTS: u64 = 10_000;
+
+/// The last moment that is run in an air over these events and leaves, in milliseconds: the one
+/// that is given, else ten seconds after the greatest moment of one of them.
+pub fn end_of(air: &Air, file: &[FileEvent]) -> u64
+    requires { All (λ waiting. moment_of waiting < 2 ^ 63) file.now }
+    ensures end { result ≡ end_of air.now.until file.now }
+    ensures bound { result < 2 ^ 63 + 10000 }
+{
+    match air.until {
+        Some(until) => until,
+        None => greatest(file) + AFTER_EVENTS,
+    }
+}
+
+/// The greatest moment of an event or a leave, 0 where there is none.
+fn greatest(file: &[FileEvent]) -> u64
+    requires { All (λ waiting. moment_of waiting < 2 ^ 63) file.now }
+    ensures last { result ≡ greatest_moment file.now }
+    ensures bound { result < 2 ^ 63 }
+{
+    let mut last = 0;
+    for waiting in file {
+        last = last.max(waiting.moment());
+    }
+    last
+}

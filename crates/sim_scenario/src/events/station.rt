@@ -1,0 +1,65 @@
+//! The stations of a scenario.
+
+ghost use Rattle.std.specs.Prelude.{◌≡◌, IfOk, length};
+ghost use Rattle.sim_settings.specs.Fields.{AreOctets};
+ghost use Rattle.sim_settings.specs.declared.keys.key.Key.TheVariants as keys;
+ghost use Rattle.sim_scenario.specs.Saying.{IsAddress, SaysPresent, SaysStation};
+ghost use Rattle.its_world.specs.Events.{IsConfig};
+
+use its_gnvalue::GnAddress;
+use its_world::Config;
+use sim_settings::keys::{Fields, Key, KeyFault, Wrong, octets_into, place, truth, whole_or};
+
+/// The capacity where none is given.
+const USUAL_ENTRIES: i64 = 64;
+
+/// How many numbers are remembered of a source where nothing is given.
+const USUAL_NUMBERS: i64 = 8;
+
+/// Reads a station: `address`, `lat`, `lon`, `capacity`, `remember`, checked in this order. The last
+/// two may be missing: 64 and 8 stand for them then.
+///
+/// The first key that is missing, of another kind or out of range is refused.
+pub fn read_station<F: Fields>(fields: &F) -> Result<Config, KeyFault>
+    ensures says { IfOk result (SaysStation (F.values fields.now)) }
+    ensures ranges { IfOk result IsConfig }
+{
+    let address = read_address(fields)?;
+    let place = place(fields, Key::Lat, Key::Lon)?;
+    let capacity = whole_or(fields, Key::Capacity, USUAL_ENTRIES)? as u16;
+    let remember = whole_or(fields, Key::Remember, USUAL_NUMBERS)? as u8;
+    Ok(Config {
+        address,
+        place,
+        capacity,
+        remember,
+    })
+}
+
+/// Whether a station is present at the start: `absent` is checked where it is there, else it is.
+pub fn read_present<F: Fields>(fields: &F) -> Result<bool, KeyFault>
+    ensures { IfOk result (SaysPresent (F.values fields.now)) }
+{
+    Ok(!fields.has(Key::Absent.word()) || !truth(fields, Key::Absent)?)
+}
+
+/// The address of 16 hexadecimal digits, whose MID is no group.
+fn read_address<F: Fields>(fields: &F) -> Result<GnAddress, KeyFault>
+    ensures { IfOk result (IsAddress (F.values fields.now)) }
+{
+    let octets = address_octets(fields)?;
+    match GnAddress::from_u64(u64::from_be_bytes(octets)) {
+        Ok(address) => Ok(address),
+        Err(_) => Err(KeyFault::Refused(Key::Address, Wrong::Value)),
+    }
+}
+
+/// The octets of 16 hexadecimal digits.
+fn address_octets<F: Fields>(fields: &F) -> Result<[u8; 8], KeyFault>
+    ensures stand { IfOk result (AreOctets (F.values fields.now) keys.Address) }
+    ensures count { IfOk result (λ octets. length octets ≡ 8) }
+{
+    let mut octets = [0u8; 8];
+    octets_into(fields, Key::Address, &mut octets)?;
+    Ok(octets)
+}

@@ -1,0 +1,53 @@
+//! The values that a message shows.
+
+use sim_settings::keys::{Key, Quoted, value_of};
+use std::alloc::{AllocError, Global};
+use std::fmt;
+use toml::{Table, Value};
+
+/// A value of a scenario's document, as a message shows it: a text in quotation marks, cut after 40
+/// characters, an array or a table by its kind. It prints as `"wide"`, `20.5`, `a table`.
+#[derive(Debug, Drop, PartialEq, Eq)]
+pub struct Found(String);
+
+impl Found {
+    /// Returns what is shown of the value under this key of a table. `None` for a missing key.
+    pub(crate) fn under(
+        alloc: Global,
+        key: Key,
+        table: &Table,
+    ) -> Result<Option<Found>, AllocError> {
+        match value_of(table, key.word()) {
+            Some(value) => Ok(Some(Found::of(alloc, value)?)),
+            None => Ok(None),
+        }
+    }
+
+    /// The same under a key that takes arrays. Nothing is shown of an array: what is wrong is in it.
+    pub(crate) fn under_no_array(
+        alloc: Global,
+        key: Key,
+        table: &Table,
+    ) -> Result<Option<Found>, AllocError> {
+        match value_of(table, key.word()) {
+            Some(Value::Array(_)) => Ok(None),
+            _ => Found::under(alloc, key, table),
+        }
+    }
+
+    /// Returns what is shown of a value.
+    fn of(alloc: Global, value: &Value) -> Result<Found, AllocError> {
+        Ok(Found(match value {
+            Value::Array(_) => String::from_str(alloc, "an array")?,
+            Value::Table(_) => String::from_str(alloc, "a table")?,
+            Value::String(text) => format!(in alloc; "{}", Quoted(text.as_str()))?,
+            _ => format!(in alloc; "{value}")?,
+        }))
+    }
+}
+
+impl fmt::Display for Found {
+    fn fmt<W: fmt::Write>(&self, f: &mut fmt::Formatter<W>) -> fmt::Result {
+        f.write_str(self.0.as_str())
+    }
+}

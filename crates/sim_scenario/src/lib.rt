@@ -1,0 +1,27 @@
+//! Scenarios: the stations, the air and the events of a TOML document, as those of a world. Each
+//! number is in its range, by the type of a scenario.
+#![tactic(auto)]
+
+mod centre;
+mod document;
+mod event_tables;
+pub mod events;
+mod fault;
+mod found;
+mod part;
+mod position;
+mod reason;
+mod scenario;
+mod settings;
+mod stations;
+mod table_keys;
+mod tables;
+mod unknown;
+
+pub use fault::ScenarioFault;
+pub use found::Found;
+pub use part::Part;
+pub use position::TomlFault;
+pub use reason::Reason;
+pub use scenario::{Reading, Scenario};
+pub use unknown::{Misspelled, Tip, UnknownKey};

@@ -1,0 +1,59 @@
+//! What was wrong with a scenario, as a sentence.
+
+use crate::fault::ScenarioFault;
+use crate::found::Found;
+use sim_settings::keys::{Key, NotOneOf, WrongOf, WrongValue};
+use std::fmt;
+
+/// The sentence of a scenario's fault, for a person: what was wrong and, in a text that is no TOML,
+/// where. Its place in the scenario is told by the fault itself.
+#[derive(Clone, Copy, Debug)]
+pub struct Reason<'a>(pub &'a ScenarioFault);
+
+impl fmt::Display for Reason<'_> {
+    fn fmt<W: fmt::Write>(&self, f: &mut fmt::Formatter<W>) -> fmt::Result {
+        match self.0 {
+            ScenarioFault::NotToml(fault) => write!(f, "{fault}"),
+            ScenarioFault::Kind(key, found) => write_kind(f, *key, found.as_ref()),
+            ScenarioFault::NoAir => f.write_str("missing"),
+            ScenarioFault::TooManyStations => f.write_str("more than the command takes"),
+            ScenarioFault::Key(_, key, wrong, found) => {
+                write_wrong(f, WrongOf(*key, *wrong), found)
+            }
+            ScenarioFault::Misspelled(misspelled) => misspelled.write_reason(f),
+            ScenarioFault::Unknown(key) => match key.tip() {
+                Some(tip) => write!(f, "{tip}"),
+                None => NotOneOf(key.known()).fmt(f),
+            },
+            ScenarioFault::SharedMid(..) => {
+                f.write_str("the last 48 bits of their addresses are the same")
+            }
+            ScenarioFault::OutOfMemory => f.write_str("an allocation failed"),
+        }
+    }
+}
+
+/// Writes what is wrong with the value of a key.
+fn write_wrong<W: fmt::Write>(
+    f: &mut fmt::Formatter<W>,
+    wrong: WrongOf,
+    found: &Option<Found>,
+) -> fmt::Result {
+    let value = found.as_ref();
+    write!(f, "{}", WrongValue { wrong, value })
+}
+
+/// Writes that a value is not of the kind that a key of the document takes.
+fn write_kind<W: fmt::Write>(
+    f: &mut fmt::Formatter<W>,
+    key: Key,
+    found: Option<&Found>,
+) -> fmt::Result {
+    if let Some(found) = found {
+        write!(f, "{found} is ")?;
+    }
+    f.write_str(match key {
+        Key::Air | Key::Moves => "not a table",
+        _ => "not an array of tables",
+    })
+}

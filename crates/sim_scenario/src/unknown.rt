@@ -1,0 +1,208 @@
+//! Keys that are none of the words of their table.
+
+ghost use Rattle.sim_scenario.specs.Documents.{IsPastToml};
+ghost use Rattle.std.specs.Prelude.{◌≡◌, IfErr};
+
+use crate::fault::ScenarioFault;
+use crate::part::Part;
+use crate::table_keys::keys_of;
+use sim_settings::keys::{Key, nearest};
+use std::alloc::{AllocError, Global};
+use std::fmt;
+use toml::{Table, Value};
+
+/// A key that is none of the words of its table. It prints as its place in the scenario: `air: hop`,
+/// `expect 0: sent`, or `unknown: station 3: lattitude` where only a strict reading refuses it.
+#[derive(Debug, Drop, PartialEq, Eq)]
+pub struct UnknownKey {
+    /// The part of the scenario that has it. `None` for the scenario itself.
+    part: Option<Part>,
+    name: String,
+    nearest: Option<Key>,
+}
+
+impl UnknownKey {
+    /// Returns the key of this name in this part of a scenario.
+    fn of(alloc: Global, part: Option<Part>, name: &str) -> Result<UnknownKey, AllocError> {
+        Ok(UnknownKey {
+            part,
+            name: String::from_str(alloc, name)?,
+            nearest: nearest(alloc, name, keys_of(part))?,
+        })
+    }
+
+    /// The word of the table that may be meant: the first of those that are the fewest changes of a
+    /// letter away, at most two.
+    pub fn nearest(&self) -> Option<Key>
+        ensures { result ≡ self.now.nearest }
+    {
+        self.nearest
+    }
+
+    /// That word as a question to the reader. `None` if there is none.
+    pub fn tip(&self) -> Option<Tip> {
+        self.nearest().map(Tip)
+    }
+
+    /// Returns the keys that its table may have.
+    pub fn known(&self) -> &'static [Key] {
+        keys_of(self.part)
+    }
+}
+
+/// The word that may be meant by a key. It prints as `did you mean 'event'?`.
+#[derive(Clone, Copy, Debug, PartialEq, Eq)]
+pub struct Tip(Key);
+
+impl fmt::Display for Tip {
+    fn fmt<W: fmt::Write>(&self, f: &mut fmt::Formatter<W>) -> fmt::Result {
+        write!(f, "did you mean '{}'?", self.0)
+    }
+}
+
+impl fmt::Display for UnknownKey {
+    fn fmt<W: fmt::Write>(&self, f: &mut fmt::Formatter<W>) -> fmt::Result {
+        let name = self.name.as_str();
+        match self.part {
+            None => write!(f, "unknown: {name}"),
+            Some(part) if is_strict_alone(part) => write!(f, "unknown: {part}: {name}"),
+            Some(part) => write!(f, "{part}: {name}"),
+        }
+    }
+}
+
+/// Whether an unknown key of a part is refused by a strict reading alone.
+fn is_strict_alone(part: Part) -> bool {
+    matches!(part, Part::Station(_) | Part::Event(_))
+}
+
+/// Whether a name is one of these words.
+fn is_known(name: &str, known: &[Key]) -> bool {
+    known.iter().any(|key| key.word() == name)
+}
+
+/// The first key of a table, by its octets, that is none of these words.
+fn first_unknown<'a>(table: &'a Table, known: &[Key]) -> Option<&'a str> {
+    for name in table.keys() {
+        if !is_known(name.as_str(), known) {
+            return Some(name.as_str());
+        }
+    }
+    None
+}
+
+/// The keys of the document itself that are none of its words, in the order of their octets.
+pub(crate) fn unknown_keys(alloc: Global, document: &Table) -> Result<Vec<UnknownKey>, AllocError> {
+    let mut unknown = Vec::new(alloc);
+    for name in document.keys() {
+        let name = name.as_str();
+        if !is_known(name, keys_of(None)) {
+            unknown.push(UnknownKey::of(alloc, None, name)?)?;
+        }
+    }
+    Ok(unknown)
+}
+
+/// A key that is missing from a part of the scenario, where a key that is none of its words is near.
+/// It prints as the missing one's place in the scenario: `air: range`.
+#[derive(Debug, Drop, PartialEq, Eq)]
+pub struct Misspelled {
+    /// The part of the scenario. `None` for the scenario itself.
+    part: Option<Part>,
+    missing: Key,
+    name: String,
+}
+
+impl Misspelled {
+    /// The name that stands there in place of the missing key. It prints as
+    /// `missing: did you mean 'range' by 'rnage'?`.
+    pub(crate) fn write_reason<W: fmt::Write>(&self, f: &mut fmt::Formatter<W>) -> fmt::Result {
+        let (key, name) = (self.missing, self.name.as_str());
+        write!(f, "missing: did you mean '{key}' by '{name}'?")
+    }
+
+    /// Returns the first key of this part's table, by its octets, that is unknown and may mean the
+    /// missing one. `None` if there is no such key.
+    pub(crate) fn find(
+        alloc: Global,
+        table: &Table,
+        missing: Key,
+        part: Option<Part>,
+    ) -> Result<Option<Misspelled>, AllocError> {
+        for name in table.keys() {
+            let name = name.as_str();
+            if !is_known(name, keys_of(part)) && nearest(alloc, name, &[missing])?.is_some() {
+                return Ok(Some(Misspelled {
+                    part,
+                    missing,
+                    name: String::from_str(alloc, name)?,
+                }));
+            }
+        }
+        Ok(None)
+    }
+}
+
+impl fmt::Display for Misspelled {
+    fn fmt<W: fmt::Write>(&self, f: &mut fmt::Formatter<W>) -> fmt::Result {
+        let key = self.missing;
+        match self.part {
+            Some(part) => write!(f, "{part}: {key}"),
+            None => write!(f, "{key}"),
+        }
+    }
+}
+
+/// Refuses a part of the scenario that has an unknown key: `Unknown` with the first, by its octets.
+pub(crate) fn refuse_unknown(alloc: Global, table: &Table, part: Part) -> Result<(), ScenarioFault>
+    ensures { IfErr result IsPastToml }
+{
+    refuse_unknown_of(alloc, table, Some(part))
+}
+
+/// Refuses a part of the scenario, or the scenario itself, that has an unknown key.
+fn refuse_unknown_of(alloc: Global, table: &Table, part: Option<Part>) -> Result<(), ScenarioFault>
+    ensures { IfErr result IsPastToml }
+{
+    match first_unknown(table, keys_of(part)) {
+        Some(name) => Err(ScenarioFault::Unknown(UnknownKey::of(alloc, part, name)?)),
+        None => Ok(()),
+    }
+}
+
+/// Refuses each key of the scenario, of its stations and of its events that is none of their words,
+/// in this order.
+pub(crate) fn refuse_all_unknown(
+    alloc: Global,
+    document: &Table,
+    stations: &[Value],
+    events: &[Value],
+) -> Result<(), ScenarioFault>
+    ensures { IfErr result IsPastToml }
+{
+    refuse_unknown_of(alloc, document, None)?;
+    for (number, station) in stations.iter().enumerate() {
+        refuse_unknown_in(alloc, station, Part::Station(number))?;
+    }
+    refuse_unknown_events(alloc, events)
+}
+
+/// Refuses each key of these events that is none of their words.
+fn refuse_unknown_events(alloc: Global, events: &[Value]) -> Result<(), ScenarioFault>
+    ensures { IfErr result IsPastToml }
+{
+    for (number, event) in events.iter().enumerate() {
+        refuse_unknown_in(alloc, event, Part::Event(number))?;
+    }
+    Ok(())
+}
+
+/// Refuses a value that is a table and has an unknown key.
+fn refuse_unknown_in(alloc: Global, item: &Value, part: Part) -> Result<(), ScenarioFault>
+    ensures { IfErr result IsPastToml }
+{
+    match item {
+        Value::Table(table) => refuse_unknown(alloc, table, part),
+        _ => Ok(()),
+    }
+}

@@ -1,0 +1,20 @@
+//! What an event does, in a word.
+
+use its_world::What;
+use sim_scenario::events::verb_of;
+use std::fmt;
+
+/// What an event does. It prints as the word that a scenario has for it, `deliver` with the frame's
+/// number after it.
+#[derive(Clone, Copy, Debug)]
+pub(crate) struct Action<'a>(pub(crate) &'a What);
+
+impl fmt::Display for Action<'_> {
+    fn fmt<W: fmt::Write>(&self, f: &mut fmt::Formatter<W>) -> fmt::Result {
+        let verb = verb_of(self.0);
+        match self.0 {
+            What::Deliver(frame) => write!(f, "{verb} {frame}"),
+            _ => write!(f, "{verb}"),
+        }
+    }
+}

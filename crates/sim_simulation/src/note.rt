@@ -1,0 +1,107 @@
+//! What is told of a run beside its events.
+
+ghost use Rattle.std.specs.Prelude.{◌≡◌};
+ghost use Rattle.sim_simulation.specs.Notes.{is_told};
+
+use serde::Serialize;
+use sim_scenario::events::AddressedEvent;
+use std::fmt;
+
+/// What happens in an air and is no event of its world: it has no number and no entry.
+#[derive(Clone, Copy, Debug, PartialEq, Eq)]
+pub enum Note<'a> {
+    /// A station was made, which has this id in a file of moves. It is absent, and no event of it
+    /// was done.
+    Made {
+        station: usize,
+        id: &'a str,
+    },
+    /// A station was absent, and is present from now on.
+    Came {
+        station: usize,
+    },
+    /// A station was present, and is absent from now on.
+    Left {
+        station: usize,
+    },
+    /// A frame that was just given will come to a station: no draw lost it.
+    Heard {
+        station: usize,
+        frame: usize,
+    },
+    /// A frame that was just given would have come to a station, and a draw lost it.
+    Lost {
+        station: usize,
+        frame: usize,
+    },
+    /// An event of this id wasn't run. The station of the id is absent, or no row has made one yet.
+    Absent {
+        id: &'a str,
+        event: &'a AddressedEvent,
+        /// Whether a row had made that station: it was present, and has left.
+        has_left: bool,
+    },
+}
+
+/// A note and its moment in milliseconds. It prints as its line, `- 500 1 came`, `- 1001 1 lost 1`
+/// or `- 3000 - absent v1`, and as nothing where there is none.
+#[derive(Clone, Copy, Debug, PartialEq, Eq)]
+pub(crate) struct NoteText<'a> {
+    pub(crate) moment: u64,
+    pub(crate) note: &'a Note<'a>,
+}
+
+impl fmt::Display for NoteText<'_> {
+    fn fmt<W: fmt::Write>(&self, f: &mut fmt::Formatter<W>) -> fmt::Result {
+        let moment = self.moment;
+        match self.note {
+            Note::Came { station } => write!(f, "- {moment} {station} came"),
+            Note::Left { station } => write!(f, "- {moment} {station} left"),
+            Note::Lost { station, frame } => write!(f, "- {moment} {station} lost {frame}"),
+            Note::Absent { id, .. } => write!(f, "- {moment} - absent {id}"),
+            Note::Made { .. } | Note::Heard { .. } => Ok(()),
+        }
+    }
+}
+
+/// What the JSON of a note tells, its keys in order.
+#[derive(Clone, Copy, Serialize)]
+pub(crate) struct NoteLine<'a> {
+    note: &'static str,
+    moment: u64,
+    #[serde(skip_serializing_if = "Option::is_none")]
+    station: Option<usize>,
+    #[serde(skip_serializing_if = "Option::is_none")]
+    frame: Option<usize>,
+    #[serde(skip_serializing_if = "Option::is_none")]
+    id: Option<&'a str>,
+}
+
+impl<'a> NoteLine<'a> {
+    /// The line of a note, where it has one.
+    pub(crate) fn of(moment: u64, note: &Note<'a>) -> Option<NoteLine<'a>> {
+        let (word, station, frame, id) = match *note {
+            Note::Came { station } => ("came", Some(station), None, None),
+            Note::Left { station } => ("left", Some(station), None, None),
+            Note::Lost { station, frame } => ("lost", Some(station), Some(frame), None),
+            Note::Absent { id, .. } => ("absent", None, None, Some(id)),
+            Note::Made { .. } | Note::Heard { .. } => return None,
+        };
+        Some(NoteLine {
+            note: word,
+            moment,
+            station,
+            frame,
+            id,
+        })
+    }
+}
+
+impl Note<'_> {
+    /// Whether it has a line among those of events.
+    pub fn is_told(&self) -> bool
+        ensures { result ≡ is_told self.now }
+    {
+        !matches!(self, Note::Made { .. } | Note::Heard { .. })
+    }
+}

@@ -1,0 +1,18 @@
+//! Why an event is refused, as a sentence for a person.
+
+use cmd_text::answers::RefusedReason;
+use its_world::EntryFault;
+use std::fmt;
+
+/// Why an event was refused, as a sentence. Of octets that are no frame it is theirs.
+#[derive(Clone, Copy, Debug, PartialEq, Eq)]
+pub struct EntryReason(pub EntryFault);
+
+impl fmt::Display for EntryReason {
+    fn fmt<W: fmt::Write>(&self, f: &mut fmt::Formatter<W>) -> fmt::Result {
+        match self.0 {
+            EntryFault::Station(refused) => write!(f, "{}", RefusedReason(refused)),
+            fault => write!(f, "{fault}"),
+        }
+    }
+}

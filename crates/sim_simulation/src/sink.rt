@@ -1,0 +1,44 @@
+//! Where the events of a simulation go.
+
+ghost use Rattle.std.specs.Prelude.{◌++◌, ◌∷◌, [], List, OnOk};
+ghost use Rattle.its_model.specs.World.{Event as Happening};
+ghost use Rattle.sim_simulation.specs.Records.{happening_in, IsRecordOf};
+
+use crate::fault::SimulationFault;
+use crate::note::Note;
+use crate::record::EventRecord;
+use its_world::World;
+
+/// What takes the events of a simulation, one by one, as they are done.
+pub trait EventSink {
+    ghost use Rattle.its_world.specs.declared.entry.Entry.{Entry};
+
+    /// What it says of having taken these events and these entries, in order. A sink that keeps none
+    /// may say nothing of them.
+    ghost Took: { Self → List Happening → List Entry → Type 0 };
+
+    /// Takes an event that was done, with the world as it stands after it: the octets of the record
+    /// are those of the frame that its entry names.
+    ///
+    /// `OutOfMemory` where an allocation failed, `Output` where a write did.
+    fn put(&mut self, world: &World, done: &EventRecord<'_>) -> Result<(), SimulationFault>
+        requires { IsRecordOf world.now done.now }
+        ensures { (events : List Happening) (log : List Entry) → Took self.old events log
+            → OnOk result (Took self.new (events ++ happening_in done.now ∷ [])
+            (log ++ done.now.entry.now ∷ [])) };
+    /// Takes a note of this moment, in milliseconds, with the world as it stands then. Of the events
+    /// and entries it says what it said before.
+    ///
+    /// `OutOfMemory` where an allocation failed, `Output` where a write did.
+    fn note(
+        &mut self,
+        _world: &World,
+        _moment: u64,
+        _note: &Note<'_>,
+    ) -> Result<(), SimulationFault>
+        ensures { (events : List Happening) (log : List Entry) → Took self.old events log
+            → OnOk result (Took self.new events log) }
+    {
+        Ok(())
+    }
+}

@@ -1,0 +1,74 @@
+//! Stations behind governors.
+
+use its_geometry::Area;
+use its_gnvalue::{GnAddress, Lifetime, Place, TrafficClass};
+use its_governor::{Governor, Limits};
+use its_loctable::SortedTable;
+use its_station::{GbcRequest, Outcome, Station};
+use std::alloc::Global;
+use test_support::PORT;
+
+/// A station and its governor.
+#[derive(Drop)]
+pub(crate) struct Unit {
+    pub(crate) station: Station<SortedTable>,
+    pub(crate) governor: Governor,
+}
+
+/// What became of a frame.
+#[derive(Drop)]
+pub(crate) struct Heard {
+    pub(crate) delivered: bool,
+    pub(crate) relay: Option<Vec<u8>>,
+}
+
+impl Unit {
+    /// The unit of an address, inside of the area, with its port open since time 0.
+    pub(crate) fn new(alloc: Global, address: u64, limits: &Limits) -> Result<Unit, &'static str> {
+        let Ok(address) = GnAddress::from_u64(address) else {
+            return Err("address");
+        };
+        let Ok(place) = Place::new(449, 0) else {
+            return Err("place");
+        };
+        let Ok(mut station) = Station::new(alloc, address, place, 64, 64) else {
+            return Err("no station");
+        };
+        if station.open(0, PORT).is_err() {
+            return Err("port");
+        }
+        let Ok(governor) = Governor::new(alloc, limits) else {
+            return Err("no governor");
+        };
+        Ok(Unit { station, governor })
+    }
+
+    /// Receives a frame.
+    pub(crate) fn hear(&mut self, now: u64, octets: &[u8]) -> Heard {
+        match self.governor.receive(&mut self.station, now, octets) {
+            Ok(Outcome::Accepted { handed, sent }) => Heard {
+                delivered: handed.is_some(),
+                relay: sent,
+            },
+            Ok(Outcome::Ignored(_)) | Err(_) => Heard {
+                delivered: false,
+                relay: None,
+            },
+        }
+    }
+
+    /// Sends a geobroadcast over this many hops at time 0, past the governor.
+    pub(crate) fn warn(&mut self, max_hops: u8) -> Option<Vec<u8>> {
+        let area = Area::circle(Place::new(0, 0).ok()?, 100).ok()?;
+        let request = GbcRequest {
+            port: PORT,
+            info: 0,
+            class: TrafficClass::from_octet(0),
+            lifetime: Lifetime::from_octet(26),
+            max_hops,
+            area,
+            payload: b"ice",
+        };
+        self.station.send_geobroadcast(0, &request).ok()
+    }
+}
