@@ -1,4 +1,4 @@
-//! What lines tell of a station's answer: its words, and the keys that objects have for them.
+//! A station's answer as text: its words, and the keys for them in JSON.
 
 mod answer_keys;
 mod reason;

@@ -1,5 +1,4 @@
-//! What lines tell of a frame: its fields, by the keys that objects have for them, its octets, and
-//! why octets are none.
+//! A frame as text: its fields by their keys in JSON, its octets, and why octets are no frame.
 
 mod explanation;
 mod frame_keys;

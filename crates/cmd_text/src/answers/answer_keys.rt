@@ -1,4 +1,4 @@
-//! What is told of an answer.
+//! An answer as keys of JSON, or as words of a line.
 
 use crate::answers::words::{ACCEPTED, IGNORED, REFUSED, SENT, why_word};
 use crate::frames::{Explanation, Hex, MessageKeys};
@@ -7,8 +7,8 @@ use its_station::{Delivery, Why};
 use serde::Serialize;
 use std::fmt;
 
-/// What is told of an answer, in the order in which lines tell it: as keys in JSON, and as words in
-/// text. A refusal has a code and a reason, which words tell where they explain.
+/// An answer in the order in which it is printed: as keys in JSON, and as words in text. A refusal has a
+/// code and a reason. Words have the reason only with `--explain`.
 #[derive(Clone, Copy, Serialize)]
 pub struct AnswerKeys<'a, Code, Reason> {
     result: &'static str,
@@ -26,7 +26,7 @@ pub struct AnswerKeys<'a, Code, Reason> {
     explain: bool,
 }
 
-/// What is told of a payload that is delivered to its port.
+/// The keys of a payload that is delivered to its port.
 pub fn delivery_keys(delivery: &Delivery) -> MessageKeys<'_> {
     MessageKeys {
         port: delivery.port,
@@ -35,7 +35,7 @@ pub fn delivery_keys(delivery: &Delivery) -> MessageKeys<'_> {
     }
 }
 
-/// The same, whose code and reason are told as they print.
+/// An answer whose code and reason are values that print.
 pub type PrintedAnswer<'a, C, R> = AnswerKeys<'a, Printed<C>, Printed<R>>;
 
 impl<'a, C: Drop, R: Drop> PrintedAnswer<'a, C, R> {

@@ -4,7 +4,7 @@ use crate::frames::{FrameReason, SecuredReason};
 use its_station::Refused;
 use std::fmt;
 
-/// The sentence of a call that is refused. Of octets that are no frame it is theirs.
+/// The sentence of a call that is refused. If the octets are no frame, it says why.
 #[derive(Clone, Copy, Debug, PartialEq, Eq)]
 pub struct RefusedReason(pub Refused);
 

@@ -1,9 +1,9 @@
-//! Sentences for a person, of what lines tell by a code.
+//! Sentences for a person beside the codes of lines.
 
 use its_faults::{FrameFault, SecuredFault};
 use std::fmt;
 
-/// A space and a sentence in parentheses, after what a line tells by a code; or nothing.
+/// A space and a sentence in parentheses, after the code of a line; or nothing.
 #[derive(Clone, Copy, Debug, PartialEq, Eq)]
 pub struct Explanation<T>(pub Option<T>);
 
@@ -16,8 +16,8 @@ impl<T: fmt::Display> fmt::Display for Explanation<T> {
     }
 }
 
-/// Why octets are no frame, as a sentence. Of a frame with no packet it is the packet's fault, as
-/// `more hops left than the maximum, at octet 10`.
+/// Why octets are no frame, as a sentence. If the packet is at fault, it is the packet's sentence, for
+/// example `more hops left than the maximum, at octet 10`.
 #[derive(Clone, Copy, Debug, PartialEq, Eq)]
 pub struct FrameReason(pub FrameFault);
 
@@ -30,8 +30,8 @@ impl fmt::Display for FrameReason {
     }
 }
 
-/// Why octets are no secured frame, or with their plain part no packet, as a sentence. Of a fault of
-/// a packet it is that fault.
+/// Why octets are no secured frame, or no packet with their plain part, as a sentence. If a packet is
+/// at fault, it is the packet's sentence.
 #[derive(Clone, Copy, Debug, PartialEq, Eq)]
 pub struct SecuredReason(pub SecuredFault);
 

@@ -1,4 +1,4 @@
-//! What is told of a frame.
+//! A frame as keys of JSON, or as words of a line.
 
 use crate::json_lines::{Digits, Octets};
 use its_btp::split;
@@ -7,8 +7,7 @@ use its_headers::PacketView;
 use its_linkframe::FrameView;
 use serde::Serialize;
 
-/// What is told of a frame, in the order in which lines tell it: as keys in JSON, and as words in
-/// text.
+/// The fields of a frame in the order in which they are printed: as keys in JSON, and as words in text.
 #[derive(Clone, Copy, Serialize)]
 pub struct FrameKeys<'a> {
     /// The link address from which it comes.
@@ -41,10 +40,10 @@ pub struct FrameKeys<'a> {
     pub hops: u8,
     /// How many hops there are at most.
     pub max_hops: u8,
-    /// Of a packet for an area.
+    /// The number and the area, if the packet is for an area.
     #[serde(flatten)]
     pub target: Option<TargetKeys>,
-    /// Of a packet with a payload.
+    /// The port and the payload, if the packet has a payload.
     #[serde(flatten)]
     pub message: Option<MessageKeys<'a>>,
 }
@@ -80,7 +79,7 @@ pub struct MessageKeys<'a> {
 }
 
 impl<'a> FrameKeys<'a> {
-    /// What is told of a frame.
+    /// The fields of this frame.
     pub fn of(frame: &FrameView<'a>) -> FrameKeys<'a> {
         let packet = &frame.packet;
         let vector = packet.vector();
@@ -116,7 +115,7 @@ fn shape_word(shape: Shape) -> &'static str {
 }
 
 impl TargetKeys {
-    /// Of a packet for an area alone.
+    /// The number and the area of a packet, if it is for an area.
     fn of(packet: &PacketView<'_>) -> Option<TargetKeys> {
         let (number, area) = (packet.number()?, packet.area()?);
         Some(TargetKeys::in_area(number, area))

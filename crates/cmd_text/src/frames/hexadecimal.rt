@@ -2,7 +2,7 @@
 
 use std::{fmt, str};
 
-/// Octets as hexadecimal digits in lower case, or `-` where there are none.
+/// Octets as hexadecimal digits in lower case, or `-` if there are no octets.
 #[derive(Drop)]
 pub struct Hex<'a>(pub &'a [u8]);
 

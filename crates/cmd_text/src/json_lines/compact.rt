@@ -17,7 +17,7 @@ pub(crate) struct Room {
     digits: Vec<u8>,
     /// What a value prints.
     text: String,
-    /// Of each map that is open, whether it has braces of its own.
+    /// Whether each open map has braces of its own.
     braces: Vec<bool>,
     /// Whether the members of the next map go into the one that is open.
     flattens: bool,

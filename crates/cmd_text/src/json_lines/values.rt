@@ -3,7 +3,7 @@
 use serde::{Described, Serialize, Serializer};
 use std::fmt::Display;
 
-/// Octets as a text of hexadecimal digits in lower case, empty where there are none.
+/// Octets as a text of hexadecimal digits in lower case, empty without octets.
 #[derive(Clone, Copy, Debug, PartialEq, Eq)]
 pub struct Octets<'a>(pub &'a [u8]);
 

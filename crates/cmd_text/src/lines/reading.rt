@@ -45,11 +45,11 @@ impl Line {
         self.start.is_empty()
     }
 
-    /// Reads the next line of the reader in place of this, without its line feed. `false` where
-    /// there is none: it has no octet then.
+    /// Reads the next line of the reader in place of this, without its line feed. `false` if
+    /// there is no further line: it has no octet then.
     ///
-    /// Of a reader whose octets are known it is their first line, and the reader is left with what
-    /// follows the line feed.
+    /// If the reader's octets are known, it is their first line, and the reader is left with the octets
+    /// behind the line feed.
     pub fn read<R: BufRead>(&mut self, reader: &mut R) -> io::Result<bool>
         ensures kept { self.new.most ≡ self.old.most }
         ensures none { IfOk result (λ is_there. ¬ IsTrue is_there → vec_len self.new.start ≡ 0) }

@@ -40,7 +40,7 @@ const DONE: &str = "send ffffffffffff020000000010894711001a0100100000000001003c0
     duplicates 1 junk 1\n\
     beacons 2 relays 1\n";
 
-/// A station, and what stands beside it.
+/// A station, its counts and its draws.
 #[derive(Drop)]
 struct Unit {
     station: Station<SortedTable>,
@@ -104,7 +104,7 @@ impl Unit {
         Ok(())
     }
 
-    /// Sends each beacon that is due until a moment, with its place as handed in just before.
+    /// Sends each beacon that is due until a moment, with its place as given just before.
     fn sleep_until(&mut self, alloc: Global, moment: u64) -> Result<(), Fail> {
         for _ in 0..u64::MAX {
             let wakes = self.station.beacon_at(self.jitter);
