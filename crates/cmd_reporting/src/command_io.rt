@@ -12,10 +12,10 @@ use std::io::Write;
 pub struct Io<W, E> {
     /// Standard output.
     pub out: W,
-    /// Standard error. What fails there is passed over.
+    /// Standard error. A failed write to it changes nothing.
     pub err: E,
-    /// How lines are printed. Of a command that prints none to standard output only `explain`
-    /// counts.
+    /// How lines are printed. For a command that prints none to standard output, only `explain`
+    /// matters.
     pub format: OutputFormat,
 }
 

@@ -27,7 +27,7 @@ pub trait CommandFault {
         ensures { result ≡ status_of self.now };
 
     /// Writes its line on standard error, if it has one. With `explain` the line goes on with the
-    /// reason in parentheses, where there is one. What fails there is passed over.
+    /// reason in parentheses, if there is one. A failed write changes nothing.
     fn report<E: Write>(&self, format: OutputFormat, err: &mut E);
 }
 
@@ -55,7 +55,7 @@ pub enum Fault<'a> {
 }
 
 impl Fault<'_> {
-    /// The fault of a failed call on the file that is read: out of memory is told apart.
+    /// The fault of a failed call on the file that is read. Out of memory is a fault of its own.
     pub fn of_read<'a>(error: &io::Error, file: &'a str) -> Fault<'a> {
         match (error.kind(), Cause::of(error)) {
             (io::ErrorKind::OutOfMemory, _) => Fault::OutOfMemory(AllocError),
@@ -64,7 +64,7 @@ impl Fault<'_> {
         }
     }
 
-    /// The fault of a failed call on the file that is written: out of memory is told apart.
+    /// The fault of a failed call on the file that is written. Out of memory is a fault of its own.
     pub fn of_write<'a>(error: &io::Error, file: &'a str) -> Fault<'a> {
         match (error.kind(), Cause::of(error)) {
             (io::ErrorKind::OutOfMemory, _) => Fault::OutOfMemory(AllocError),

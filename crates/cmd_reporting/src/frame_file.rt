@@ -97,8 +97,8 @@ impl<'a, W: Write + Drop> FrameFile<'a, W> {
     }
 
     /// Writes the next frame, which a station gave at this moment, as one of that station's
-    /// interface. A frame whose moment has no place in the format is told on standard error, and
-    /// left out.
+    /// interface. A frame whose moment has no place in the format is left out, with a line
+    /// on standard error.
     ///
     /// An error says that the file failed, which `end` tells then.
     pub fn put<E: Write>(

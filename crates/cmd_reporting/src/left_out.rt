@@ -7,7 +7,7 @@ use cap_pcap::SinkFault;
 use cmd_text::frames::Explanation;
 use std::fmt;
 
-/// What is told of a record, or a frame, that has no place in a file: its line on standard error.
+/// A record or a frame that has no place in a file. It prints as its line on standard error.
 #[derive(Clone, Copy)]
 pub struct LeftOut {
     noun: &'static str,
@@ -17,8 +17,8 @@ pub struct LeftOut {
 }
 
 impl LeftOut {
-    /// Of a `record` or a `frame`, which is the noun, its number and why it has no place. Of `lines`
-    /// only `explain` counts.
+    /// A `record` or a `frame` (the noun) by its number, with the reason. Only `explain` of `lines`
+    /// matters.
     pub fn new(noun: &'static str, number: u64, fault: SinkFault, lines: OutputFormat) -> LeftOut
         ensures { result ≡ record {
           noun = noun.entry;

@@ -51,7 +51,7 @@ impl<'a> Target<'a> {
         format.ok_or(OutputFault::NoFormat(self.name))
     }
 
-    /// The same of a file beside standard output, whose name may not be `-`.
+    /// The same for a file beside standard output, whose name may not be `-`.
     pub fn file_format(self) -> Result<Format, OutputFault<'a>>
         ensures { MatchResult result
             (λ format. format_of_file self.entry.to self.entry.name.now ≡ Some format)

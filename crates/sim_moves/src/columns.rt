@@ -8,7 +8,7 @@ ghost use Rattle.sim_moves.specs.declared.columns.Columns.{Columns};
 
 use crate::fault::Word;
 
-/// A column that has a meaning; others are passed over.
+/// A column that has a meaning. Others are ignored.
 #[derive(Clone, Copy, Debug, PartialEq, Eq)]
 pub enum Column {
     /// The moment, in milliseconds: 0 to 2^62.
@@ -39,7 +39,7 @@ pub enum Notation {
 pub struct Columns {
     /// Whose names they have.
     pub notation: Notation,
-    /// How many fields there are, those that are passed over among them.
+    /// How many fields there are, ignored ones included.
     pub count: usize,
     /// The moment's.
     pub at: usize,

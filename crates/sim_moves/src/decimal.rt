@@ -92,7 +92,7 @@ fn signed(octets: &[u8], magnitude: u128) -> i128
 }
 
 #[tactic(auto, using(crate::proofs::Numbers::before_at, crate::proofs::Numbers::behind_here, crate::proofs::Numbers::before_none, crate::proofs::Numbers::behind_none))]
-/// What stands before the first point, and behind it.
+/// The octets before the first point, and those behind it.
 fn pointed(octets: &[u8]) -> (&[u8], &[u8])
     ensures before { result.0.now ≡ before_point octets.now }
     ensures behind { result.1.now ≡ behind_point octets.now }

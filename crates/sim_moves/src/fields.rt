@@ -55,7 +55,7 @@ fn outside(separator: u8, octet: u8) -> Effect
     }
 }
 
-/// The fields of a line, parted by this separator. A field that begins with a quotation mark is
+/// The fields of a line between these separators. A field that begins with a quotation mark is
 /// quoted: in it two marks are one, and one alone ends that part; what stands between it and the
 /// separator is added as it is.
 pub(crate) fn split(alloc: Global, separator: u8, line: &[u8]) -> Result<Vec<Vec<u8>>, AllocError>

@@ -21,7 +21,7 @@ use std::str;
 pub struct Row {
     /// When, in milliseconds: its `at` less the begin.
     pub moment: u64,
-    /// Of what: 1 to 64 octets of UTF-8, without control characters.
+    /// Its id: 1 to 64 octets of UTF-8, without control characters.
     pub id: String,
     /// Where to.
     pub place: Place,

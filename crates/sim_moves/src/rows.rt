@@ -20,7 +20,7 @@ pub const LONGEST_LINE: usize = 4096;
 /// The byte order mark in UTF-8.
 const BYTE_ORDER_MARK: &[u8] = b"\xef\xbb\xbf";
 
-/// The rows of a file of moves. Of the file no more than a line is kept.
+/// The rows of a file of moves. At most one line of it is in memory.
 #[derive(Drop)]
 pub struct Rows<R: BufRead> {
     alloc: Global,
@@ -54,15 +54,15 @@ enum State {
 enum Reached {
     /// A row.
     Row(Row),
-    /// No row: it is passed over.
+    /// A line without a row: it is skipped.
     Passed,
-    /// There is none.
+    /// The end of the file.
     End,
 }
 
 impl<R: BufRead + Drop> Rows<R> {
     /// Reads the first line, which names the columns. A row's moment is its `at` less `begin`, and
-    /// rows before that are passed over once they were judged. Refused for a first line that is
+    /// rows before that are skipped after their check. Refused for a first line that is
     /// longer than 4096 octets (`length`), or names columns twice, not all or in both notations
     /// (`header`), as an empty file does; where the reader failed; and where an allocation failed.
     pub fn open(alloc: Global, begin: u64, reader: R) -> Result<Rows<R>, MovesFault> {
@@ -87,9 +87,9 @@ impl<R: BufRead + Drop> Rows<R> {
         }
     }
 
-    /// The next row, `None` at the end, and from then on: of a moment that is no earlier than that
-    /// of the row before. Lines that are empty, and rows of SUMO's without an id, are passed over.
-    /// After a fault each call answers the same.
+    /// The next row, whose moment is no earlier than that of the row before. `None` at the end, and
+    /// from then on. Empty lines, and SUMO's rows without an id, are skipped. After a fault each call
+    /// returns the same fault.
     pub fn next(&mut self) -> Result<Option<Row>, MovesFault>
         ensures begin { self.new.begin ≡ self.old.begin }
         ensures row { IfOk result (λ row. IfSome row IsRow) }
@@ -250,7 +250,7 @@ fn id_of(
     }
 }
 
-/// Whether a row of these fields is passed over: SUMO writes one without an id where no vehicle is.
+/// Whether a row of these fields is skipped: SUMO writes one without an id if there is no vehicle.
 fn is_passed_over(columns: &Columns, octets: &[u8], bounds: &[Bound]) -> bool {
     columns.notation == Notation::Sumo
         && bounds.len() == columns.count
@@ -265,8 +265,8 @@ fn line_room(alloc: Global) -> Result<Vec<u8>, MovesFault> {
     }
 }
 
-/// Reads the next line in place of this one, with its line feed: of a longer one 4097 octets.
-/// `false` where there is none.
+/// Reads the next line in place of this one, with its line feed, and at most 4097 octets of it.
+/// `false` at the end of the file.
 fn read_line<R: BufRead>(reader: &mut Take<R>, line: &mut Vec<u8>) -> Result<bool, MovesFault> {
     line.clear();
     reader.set_limit(LONGEST_LINE as u64 + 1);
