@@ -93,7 +93,8 @@ extern "C" {
 #define GEOSTATION_FRAME_MAX 1468
 /**
  * The longest secured frame, in bytes. The buffers to which geostation_receive_verified() and
- * geostation_seal() write need this size.
+ * geostation_seal() write need this size. So does that of geostation_handle_json() for a line whose
+ * command is `seal`, or `receive` with a key `plain`.
  */
 #define GEOSTATION_SECURED_FRAME_MAX 2310
 /** The longest line that geostation_handle_json() reads, in bytes. A longer one is malformed. */
@@ -144,7 +145,10 @@ enum geostation_status {
     GEOSTATION_PORT_NOT_OPEN = 11,
     /** An argument is out of its range. It has no code. */
     GEOSTATION_BAD_ARGUMENT = 20,
-    /** A buffer is smaller than #GEOSTATION_FRAME_MAX or #GEOSTATION_ANSWER_MAX. It has no code. */
+    /**
+     * A buffer is smaller than #GEOSTATION_FRAME_MAX, #GEOSTATION_SECURED_FRAME_MAX or
+     * #GEOSTATION_ANSWER_MAX. It has no code.
+     */
     GEOSTATION_NO_ROOM = 21,
     /** Own packets are over their rate (`own_rate` and `own_burst`). It has no code. */
     GEOSTATION_OVER_RATE = 22
@@ -198,7 +202,7 @@ typedef struct geostation geostation_handle;
 #endif
 
 /**
- * The result of geostation_receive().
+ * The result of geostation_receive() and geostation_receive_verified().
  *
  * If the status is not #GEOSTATION_OK, all fields are 0, except the fault fields in case of
  * #GEOSTATION_BAD_FRAME. The last five fields are set for each frame with status #GEOSTATION_OK,
@@ -209,12 +213,12 @@ struct geostation_reception {
     uint32_t delivered;    /**< 1 if a payload is delivered, otherwise 0 */
     uint16_t port;         /**< destination port of the payload (BTP-B) */
     uint16_t info;         /**< destination port info of the payload */
-    size_t payload_start;  /**< offset of the payload in the received frame */
+    size_t payload_start;  /**< offset of the payload in the received frame, or in `plain` */
     size_t payload_length; /**< length of the payload, in bytes */
     size_t relay_length;   /**< number of bytes to send from the relay buffer, or 0 */
-    uint32_t fault;        /**< #GEOSTATION_BAD_FRAME: 1 to 5, for L1 to L5 */
-    uint32_t fault_kind;   /**< if `fault` is 5: 1 to 12, for G1 to G12 */
-    size_t fault_at;       /**< if `fault` is 5: offset of the faulty field in the packet */
+    uint32_t fault;        /**< #GEOSTATION_BAD_FRAME: 1 to 6, for L1 to L6 */
+    uint32_t fault_kind;   /**< if `fault` is 5 or 6: 1 to 12, for G1 to G12 */
+    size_t fault_at;       /**< if `fault` is 5 or 6: offset of the faulty field in the packet */
     uint64_t source;       /**< GN address of the packet's source */
     uint32_t kind;         /**< type of the packet (enum geostation_kind) */
     uint16_t number;       /**< sequence number of a GBC or GAC, otherwise 0 */
@@ -907,7 +911,9 @@ void geostation_counts(const geostation_handle *s, struct geostation_counts *out
  * @param answer_room         size of `answer`, at least #GEOSTATION_ANSWER_MAX
  * @param[out] answer_length  length of the answer, 0 for a blank line
  * @param[out] frame          the frame to send
- * @param frame_room          size of `frame`, at least #GEOSTATION_FRAME_MAX
+ * @param frame_room          size of `frame`, at least #GEOSTATION_FRAME_MAX. A line whose command
+ *                            is `seal`, or `receive` with a key `plain`, needs
+ *                            #GEOSTATION_SECURED_FRAME_MAX. Nothing is done if it is too small.
  * @param[out] frame_length   length of the frame, or 0
  * @return #GEOSTATION_OK, #GEOSTATION_NO_MEMORY or #GEOSTATION_NO_ROOM
  */

@@ -64,20 +64,32 @@ struct Frame {
     std::size_t size = 0;                                  ///< length of the frame
 };
 
+/// A buffer for a secured frame to send. `size` is 0 if there is no frame.
+struct SecuredFrame {
+    std::array<std::uint8_t, GEOSTATION_SECURED_FRAME_MAX> octets; ///< the buffer
+    std::size_t size = 0;                                          ///< length of the frame
+};
+
 /// A buffer for the answer to a JSON request. `size` is 0 for a blank line.
 struct Answer {
     std::array<std::uint8_t, GEOSTATION_ANSWER_MAX> octets; ///< the buffer
     std::size_t size = 0;                                   ///< length of the answer
 };
 
-/// The result of Station::receive.
+/// The result of Station::receive and Station::receive_verified.
 ///
-/// `payload` points into the bytes that were passed to Station::receive. It is empty if nothing is
-/// delivered.
+/// `payload` points into the frame that was passed to Station::receive, or into the plain part that
+/// was passed to Station::receive_verified. It is empty if nothing is delivered.
 struct Received {
     Status status;                  ///< status of the call
     geostation_reception reception; ///< the result, with the fault of a bad frame
     Octets payload;                 ///< the delivered payload
+};
+
+/// The result of message_of and plain_part.
+struct Part {
+    Status status; ///< Ok or BadFrame
+    Octets octets; ///< the part of the frame, or nothing
 };
 
 /// The result of read_frame.
@@ -106,6 +118,31 @@ inline Packet read_frame(Octets frame) noexcept {
 /// Returns the length of the frame at the start of a buffer, or 0 if it does not start with one.
 inline std::size_t frame_length(Octets octets) noexcept {
     return geostation_frame_length(octets.data, octets.size);
+}
+
+/// Finds the message of a secured frame, for the security entity to verify. It points into `frame`.
+/// @return status Ok, or BadFrame if it is not a secured frame
+inline Part message_of(Octets frame) noexcept {
+    std::size_t start = 0, size = 0;
+    const Status status = Status(geostation_message(frame.data, frame.size, &start, &size));
+    return status == Status::Ok ? Part{status, {frame.data + start, size}} : Part{status, {}};
+}
+
+/// Finds the plain part of an unsecured frame, for the security entity to sign. It points into
+/// `frame`.
+/// @return status Ok, or BadFrame if it is not a valid unsecured frame
+inline Part plain_part(Octets frame) noexcept {
+    std::size_t start = 0, size = 0;
+    const Status status = Status(geostation_plain_part(frame.data, frame.size, &start, &size));
+    return status == Status::Ok ? Part{status, {frame.data + start, size}} : Part{status, {}};
+}
+
+/// Writes the secured frame of an unsecured one, with the message in place of the plain part:
+/// geostation_seal().
+/// @return Ok, BadFrame, BadArgument (the message is empty or too long) or NoMemory
+inline Status seal(Octets frame, Octets message, SecuredFrame &secured) noexcept {
+    return Status(geostation_seal(frame.data, frame.size, message.data, message.size,
+                                  secured.octets.data(), secured.octets.size(), &secured.size));
 }
 
 /// Returns the default parameters of a station. Set the address, the position and what differs.
@@ -273,12 +310,40 @@ class Station {
         return got;
     }
 
+    /// Processes a secured frame whose message was verified into `plain`:
+    /// geostation_receive_verified(). If the packet is to be forwarded, the secured frame to send is
+    /// written to `relay`.
+    /// @return status Ok, MomentEarlier, MomentTooLate, BadFrame, TableFull or NoMemory
+    Received receive_verified(std::uint64_t now, Octets frame, Octets plain,
+                              SecuredFrame &relay) noexcept {
+        Received got{};
+        got.status = Status(geostation_receive_verified(
+            handle_, now, frame.data, frame.size, plain.data, plain.size, &got.reception,
+            relay.octets.data(), relay.octets.size()));
+        relay.size = got.reception.relay_length;
+        if (got.reception.delivered != 0) {
+            got.payload = {plain.data + got.reception.payload_start,
+                           got.reception.payload_length};
+        }
+        return got;
+    }
+
     /// Executes one JSON request at time `now`: geostation_handle_json(). Failed calls and
     /// malformed lines are reported inside the answer. `number` is the line number, for a malformed
     /// line.
-    /// @return Ok or NoMemory
+    /// @return Ok, NoMemory, or NoRoom for a line that needs a SecuredFrame: one whose command is
+    ///         `seal`, or `receive` with a key `plain`
     Status handle_json(std::uint64_t now, std::uint64_t number, Octets line, Answer &answer,
                        Frame &frame) noexcept {
+        return Status(geostation_handle_json(
+            handle_, now, number, line.data, line.size, answer.octets.data(),
+            answer.octets.size(), &answer.size, frame.octets.data(), frame.octets.size(),
+            &frame.size));
+    }
+    /// Executes one JSON request, of any command.
+    /// @return Ok or NoMemory
+    Status handle_json(std::uint64_t now, std::uint64_t number, Octets line, Answer &answer,
+                       SecuredFrame &frame) noexcept {
         return Status(geostation_handle_json(
             handle_, now, number, line.data, line.size, answer.octets.data(),
             answer.octets.size(), &answer.size, frame.octets.data(), frame.octets.size(),

@@ -23,6 +23,18 @@ int proved_geostation_send_gac(geostation_handle *s, uint64_t now,
 int proved_geostation_receive(geostation_handle *s, uint64_t now, const uint8_t *frame,
                               size_t length, struct geostation_reception *out, uint8_t *relay,
                               size_t room);
+int proved_geostation_receive_verified(geostation_handle *s, uint64_t now,
+                                       const uint8_t *frame, size_t length,
+                                       const uint8_t *plain, size_t plain_length,
+                                       struct geostation_reception *out, uint8_t *relay,
+                                       size_t room);
+int proved_geostation_message(const uint8_t *frame, size_t length, size_t *start,
+                              size_t *message_length);
+int proved_geostation_plain_part(const uint8_t *frame, size_t length, size_t *start,
+                                 size_t *plain_length);
+int proved_geostation_seal(const uint8_t *frame, size_t length,
+                           const uint8_t *message, size_t message_length,
+                           uint8_t *out, size_t room, size_t *out_length);
 int proved_geostation_handle_json(geostation_handle *s, uint64_t now, uint64_t number,
                                   const uint8_t *line, size_t line_length,
                                   uint8_t *answer, size_t answer_room, size_t *answer_length,
@@ -74,6 +86,31 @@ int geostation_send_gac(geostation_handle *s, uint64_t now,
 int geostation_receive(geostation_handle *s, uint64_t now, const uint8_t *frame, size_t length,
                        struct geostation_reception *out, uint8_t *relay, size_t room) {
     return proved_geostation_receive(s, now, address(frame), length, out, relay, room);
+}
+
+int geostation_receive_verified(geostation_handle *s, uint64_t now,
+                                const uint8_t *frame, size_t length,
+                                const uint8_t *plain, size_t plain_length,
+                                struct geostation_reception *out, uint8_t *relay, size_t room) {
+    return proved_geostation_receive_verified(s, now, address(frame), length, address(plain),
+                                              plain_length, out, relay, room);
+}
+
+int geostation_message(const uint8_t *frame, size_t length, size_t *start,
+                       size_t *message_length) {
+    return proved_geostation_message(address(frame), length, start, message_length);
+}
+
+int geostation_plain_part(const uint8_t *frame, size_t length, size_t *start,
+                          size_t *plain_length) {
+    return proved_geostation_plain_part(address(frame), length, start, plain_length);
+}
+
+int geostation_seal(const uint8_t *frame, size_t length,
+                    const uint8_t *message, size_t message_length,
+                    uint8_t *out, size_t room, size_t *out_length) {
+    return proved_geostation_seal(address(frame), length, address(message), message_length, out,
+                                  room, out_length);
 }
 
 int geostation_handle_json(geostation_handle *s, uint64_t now, uint64_t number,

@@ -685,6 +685,236 @@ static void test_large_lines(void) {
     geostation_free(a);
 }
 
+static uint8_t sealed[GEOSTATION_SECURED_FRAME_MAX], forwarded[GEOSTATION_SECURED_FRAME_MAX];
+#define SECURED_ROOM GEOSTATION_SECURED_FRAME_MAX
+static const uint8_t SIGNED[] = { 3, 0x81, 0x40 };
+
+/* The parts of frames, and the secured frame of one with a message. */
+static void test_sealing(void) {
+    struct geostation *a = station(A_ADDRESS, 0, 64);
+    static uint8_t message[2293];
+    size_t n, start = 9, m = 9;
+    CHECK(geostation_send_gbc(a, 20, &AREA, HI, 2, frame, ROOM, &n) == GEOSTATION_OK && n == 76);
+    CHECK(geostation_plain_part(frame, n, &start, &m) == GEOSTATION_OK);
+    CHECK(start == 18 && m == n - 18);
+    CHECK(geostation_message(frame, n, &start, &m) == GEOSTATION_BAD_FRAME);
+    CHECK(start == 0 && m == 0);
+    start = m = 9;
+    CHECK(geostation_plain_part(frame, n - 1, &start, &m) == GEOSTATION_BAD_FRAME);
+    CHECK(start == 0 && m == 0);
+    CHECK(geostation_plain_part(NULL, 0, &start, &m) == GEOSTATION_BAD_FRAME);
+    CHECK(geostation_message(NULL, 0, &start, &m) == GEOSTATION_BAD_FRAME);
+
+    CHECK(geostation_seal(frame, n, SIGNED, 3, sealed, SECURED_ROOM, &m) == GEOSTATION_OK);
+    CHECK(m == 21 && memcmp(sealed, frame, 14) == 0 && sealed[14] == 0x12);
+    CHECK(memcmp(sealed + 15, frame + 15, 3) == 0 && memcmp(sealed + 18, SIGNED, 3) == 0);
+    CHECK(geostation_message(sealed, m, &start, &n) == GEOSTATION_OK && start == 18 && n == 3);
+    CHECK(geostation_plain_part(sealed, m, &start, &n) == GEOSTATION_BAD_FRAME && start == 0);
+    CHECK(geostation_message(sealed, 18, &start, &n) == GEOSTATION_BAD_FRAME && n == 0);
+    n = 76;
+    CHECK(geostation_seal(frame, n, message, 2292, sealed, SECURED_ROOM, &m) == GEOSTATION_OK);
+    CHECK(m == SECURED_ROOM);
+    memset(sealed, 7, SECURED_ROOM);
+    CHECK(geostation_seal(frame, n, message, 2293, sealed, SECURED_ROOM, &m)
+          == GEOSTATION_BAD_ARGUMENT && m == 0);
+    CHECK(geostation_seal(frame, n, NULL, 0, sealed, SECURED_ROOM, &m) == GEOSTATION_BAD_ARGUMENT);
+    m = 9;
+    CHECK(geostation_seal(frame, n, SIGNED, 3, sealed, SECURED_ROOM - 1, &m) == GEOSTATION_NO_ROOM
+          && m == 0);
+    CHECK(geostation_seal(NULL, 0, SIGNED, 3, sealed, SECURED_ROOM, &m) == GEOSTATION_BAD_FRAME);
+    CHECK(geostation_seal(frame, n - 1, SIGNED, 3, sealed, SECURED_ROOM, &m)
+          == GEOSTATION_BAD_FRAME);
+    until_fail = 0;
+    CHECK(geostation_seal(frame, n, SIGNED, 3, sealed, SECURED_ROOM, &m) == GEOSTATION_NO_MEMORY);
+    until_fail = -1;
+    CHECK(m == 0 && sealed[0] == 7 && memcmp(sealed, sealed + 1, SECURED_ROOM - 1) == 0);
+    geostation_free(a);
+}
+
+/* Passes a secured frame to a station, with a plain part. */
+static int hear(struct geostation *s, uint64_t now, const uint8_t *octets, size_t length,
+                const uint8_t *plain, size_t plain_length) {
+    return geostation_receive_verified(s, now, octets, length, plain, plain_length, &r, forwarded,
+                                       SECURED_ROOM);
+}
+
+/* The fault that the reception has is this one. */
+static int is_fault(int status, uint32_t layer, uint32_t kind, size_t at) {
+    const int is = status == GEOSTATION_BAD_FRAME && r.fault == layer && r.fault_kind == kind
+        && r.fault_at == at;
+    r.fault = r.fault_kind = 0, r.fault_at = 0;
+    return is && is_nothing();
+}
+
+/* Each fault of a secured frame, and of the packet that its plain part is. */
+static void test_verified_faults(struct geostation *b, const uint8_t *plain, size_t n) {
+    static uint8_t octets[SECURED_ROOM + 1], more[100];
+    memcpy(octets, sealed, 21);
+    for (size_t k = 0; k < 14; k++) CHECK(is_fault(hear(b, 26, octets, k, plain, n), 1, 0, 0));
+    for (size_t k = 14; k < 19; k++)
+        CHECK(is_fault(hear(b, 26, octets, k, plain, n), 5, 1, k - 14));
+    octets[13] = 0;
+    CHECK(is_fault(hear(b, 26, octets, 21, plain, n), 2, 0, 0));
+    octets[13] = 0x47;
+    CHECK(is_fault(hear(b, 26, octets, SECURED_ROOM + 1, plain, n), 3, 0, 0));
+    static const struct { size_t at; uint8_t octet; uint32_t kind; } wrong[] = {
+        { 0, 0x22, 2 }, { 0, 0x11, 3 }, { 1, 1, 4 }, { 3, 0, 5 },
+    };
+    for (size_t k = 0; k < sizeof wrong / sizeof *wrong; k++) {
+        octets[14 + wrong[k].at] = wrong[k].octet;
+        CHECK(is_fault(hear(b, 26, octets, 21, plain, n), 5, wrong[k].kind, wrong[k].at));
+        memcpy(octets, sealed, 21);
+    }
+    CHECK(is_fault(hear(b, 26, octets, 21, NULL, 0), 6, 1, 4));
+    for (size_t k = 0; k < n; k++) CHECK(is_fault(hear(b, 26, octets, 21, plain, k), 6, 1, k + 4));
+    octets[17] = 6; /* the Basic Header has more hops left than the plain part allows */
+    CHECK(is_fault(hear(b, 26, octets, 21, plain, n), 6, 9, 10));
+    octets[17] = 5;
+    memcpy(more, plain, n);
+    CHECK(is_fault(hear(b, 26, octets, 21, more, n + 1), 4, 0, 0));
+}
+
+/* A secured frame is the packet in its plain part. */
+static void test_verified(void) {
+    struct geostation *a = station(A_ADDRESS, 0, 64), *b = station(B_ADDRESS, 900, 64);
+    struct geostation *full = station(C_ADDRESS, 900, 1);
+    struct geostation_shb_request shb = { .port = 2001, .info = 0, .traffic_class = 0 };
+    uint8_t plain[58], both[200];
+    size_t n, m;
+    CHECK(geostation_open_port(b, 20, 2002) == GEOSTATION_OK);
+    CHECK(geostation_send_gbc(a, 20, &AREA, HI, 2, frame, ROOM, &n) == GEOSTATION_OK && n == 76);
+    memcpy(plain, frame + 18, 58);
+    CHECK(geostation_seal(frame, n, SIGNED, 3, sealed, SECURED_ROOM, &m) == GEOSTATION_OK);
+
+    CHECK(geostation_receive_verified(b, 21, sealed, m, plain, 58, &r, forwarded, SECURED_ROOM - 1)
+          == GEOSTATION_NO_ROOM);
+    CHECK(is_nothing());
+    until_fail = 0;
+    CHECK(hear(b, 21, sealed, m, plain, 58) == GEOSTATION_NO_MEMORY && is_nothing());
+    until_fail = -1;
+    CHECK(hear(b, 19, sealed, m, plain, 58) == GEOSTATION_MOMENT_EARLIER && is_nothing());
+    CHECK(hear(b, GEOSTATION_LAST_MOMENT + 1, NULL, 0, NULL, 0) == GEOSTATION_MOMENT_TOO_LATE);
+    CHECK(is_nothing());
+    CHECK(hear(b, 21, sealed, m, plain, 58) == GEOSTATION_OK);
+    CHECK(r.ignored == 0 && r.delivered == 1 && r.port == 2002 && r.info == 7 && r.fault == 0);
+    CHECK(is_of(A_ADDRESS, GEOSTATION_GBC, 0, 2, 5));
+    CHECK(r.payload_start == 56 && r.payload_length == 2 && memcmp(plain + 56, HI, 2) == 0);
+    CHECK(r.relay_length == m);
+    CHECK(memcmp(forwarded, "\xff\xff\xff\xff\xff\xff\x02\x00\x00\x00\x00\x02", 12) == 0);
+    CHECK(memcmp(forwarded + 12, sealed + 12, 5) == 0 && forwarded[17] == 4);
+    CHECK(memcmp(forwarded + 18, SIGNED, 3) == 0);
+
+    CHECK(geostation_receive(b, 22, frame, n, &r, relay, ROOM) == GEOSTATION_OK);
+    CHECK(r.ignored == GEOSTATION_DUPLICATE);
+    CHECK(hear(b, 22, sealed, m, plain, 58) == GEOSTATION_OK);
+    CHECK(r.ignored == GEOSTATION_DUPLICATE && is_of(A_ADDRESS, GEOSTATION_GBC, 0, 2, 5));
+    CHECK(hear(a, 22, sealed, m, plain, 58) == GEOSTATION_OK && r.ignored == GEOSTATION_OWN_SOURCE);
+    sealed[0] = 2;
+    CHECK(hear(b, 23, sealed, m, plain, 58) == GEOSTATION_OK && r.ignored == GEOSTATION_NOT_FOR_ME);
+    sealed[0] = 0xff;
+    CHECK(hear(full, 23, sealed, m, plain, 58) == GEOSTATION_OK && r.relay_length == m);
+    CHECK(geostation_send_shb(b, 24, &shb, HI, 2, other, ROOM, &n) == GEOSTATION_OK);
+    CHECK(geostation_seal(other, n, SIGNED, 3, forwarded, SECURED_ROOM, &m) == GEOSTATION_OK);
+    memcpy(both, forwarded, m);
+    CHECK(hear(full, 24, both, m, other + 18, n - 18) == GEOSTATION_TABLE_FULL && is_nothing());
+    both[11] = 9;
+    CHECK(hear(a, 24, both, m, other + 18, n - 18) == GEOSTATION_OK);
+    CHECK(r.ignored == GEOSTATION_SENDER_MISMATCH);
+
+    /* a message that has its plain part inside: the two buffers overlap */
+    CHECK(geostation_send_gbc(a, 25, &AREA, HI, 2, frame, ROOM, &n) == GEOSTATION_OK && n == 76);
+    memcpy(both, SIGNED, 3), memcpy(both + 3, frame + 18, 58), both[61] = 0xee;
+    CHECK(geostation_seal(frame, n, both, 62, sealed, SECURED_ROOM, &m) == GEOSTATION_OK && m == 80);
+    CHECK(hear(b, 25, sealed, m, sealed + 21, 58) == GEOSTATION_OK);
+    CHECK(r.delivered == 1 && r.payload_start == 56 && r.relay_length == 80);
+    CHECK(memcmp(forwarded + 18, both, 62) == 0);
+
+    CHECK(geostation_seal(frame, n, SIGNED, 3, sealed, SECURED_ROOM, &m) == GEOSTATION_OK);
+    struct geostation_counts before, after;
+    geostation_counts(b, &before);
+    test_verified_faults(b, frame + 18, 58);
+    geostation_counts(b, &after);
+    CHECK(after.received - before.received == after.refused.frame - before.refused.frame);
+    CHECK(after.refused.frame > before.refused.frame && after.accepted == before.accepted);
+    check_code("S3 L6 G10 at 8", GEOSTATION_BAD_FRAME, 6, 10, 8);
+    CHECK(strcmp(geostation_fault_text(6, 10), geostation_fault_text(5, 10)) == 0);
+    geostation_free(a);
+    geostation_free(b);
+    geostation_free(full);
+}
+
+/* Damaged secured frames and plain parts, each in a block of exactly its size. */
+static void test_damaged(long damaged) {
+    struct geostation *a = station(A_ADDRESS, 0, 64), *b = station(B_ADDRESS, 900, 64);
+    size_t n, m;
+    CHECK(geostation_send_gbc(a, 20, &AREA, HI, 2, frame, ROOM, &n) == GEOSTATION_OK && n == 76);
+    CHECK(geostation_seal(frame, n, SIGNED, 3, sealed, SECURED_ROOM, &m) == GEOSTATION_OK);
+    for (long i = 0; i < damaged; i++) {
+        const size_t l = i % 5 ? m : (size_t)rand() % (m + 1);
+        const size_t k = i % 7 ? n - 18 : (size_t)rand() % (n - 17);
+        uint8_t *block = malloc(l != 0 ? l : 1), *plain = malloc(k != 0 ? k : 1);
+        memcpy(block, sealed, l), memcpy(plain, frame + 18, k);
+        if (l != 0 && i % 2) block[(size_t)rand() % l] = (uint8_t)rand();
+        for (int j = 0; j < 3 && k != 0 && i % 3; j++) plain[(size_t)rand() % k] = (uint8_t)rand();
+        const int status = hear(b, 26, block, l, plain, k);
+        CHECK(status == GEOSTATION_OK || status == GEOSTATION_BAD_FRAME
+              || status == GEOSTATION_TABLE_FULL);
+        CHECK((r.fault != 0) == (status == GEOSTATION_BAD_FRAME) && r.fault <= 6);
+        if (r.delivered) CHECK(r.payload_start + r.payload_length == k);
+        if (r.relay_length != 0)
+            CHECK(r.relay_length == l && memcmp(forwarded + 18, block + 18, l - 18) == 0);
+        free(block), free(plain);
+    }
+    geostation_free(a);
+    geostation_free(b);
+}
+
+/* Writes a line of JSON whose keys have digits. */
+static size_t put_key(char *line, size_t at, const char *key, const uint8_t *octets, size_t n) {
+    at += (size_t)sprintf(line + at, ",\"%s\":\"", key);
+    for (size_t i = 0; i < n; i++) at += (size_t)sprintf(line + at, "%02x", octets[i]);
+    return at + (size_t)sprintf(line + at, "\"");
+}
+
+/* Lines of JSON for a security entity need room for a secured frame, and do nothing without it. */
+static void test_signed_lines(void) {
+    struct geostation *a = station(A_ADDRESS, 0, 64), *b = station(B_ADDRESS, 900, 64);
+    static char seal[300], receive[300];
+    size_t n, m, l, k;
+    CHECK(geostation_send_gbc(a, 20, &AREA, HI, 2, frame, ROOM, &n) == GEOSTATION_OK && n == 76);
+    CHECK(geostation_seal(frame, n, SIGNED, 3, sealed, SECURED_ROOM, &m) == GEOSTATION_OK);
+    k = (size_t)sprintf(seal, "{\"do\":\"seal\"");
+    k = put_key(seal, put_key(seal, k, "frame", frame, n), "message", SIGNED, 3);
+    k += (size_t)sprintf(seal + k, "}");
+    l = (size_t)sprintf(receive, "{\"do\":\"receive\"");
+    l = put_key(receive, put_key(receive, l, "frame", sealed, m), "plain", frame + 18, n - 18);
+    l += (size_t)sprintf(receive + l, "}");
+    CHECK(serve(b, 30, seal) == GEOSTATION_NO_ROOM && answered == 0 && framed == 0);
+    CHECK(serve(b, 30, receive) == GEOSTATION_NO_ROOM && answered == 0 && framed == 0);
+    CHECK(serve(b, 30, "{\"do\":\"seal\"}") == GEOSTATION_NO_ROOM);
+    CHECK(geostation_handle_json(b, 30, 1, (const uint8_t *)receive, l, answer, sizeof answer,
+                                 &answered, forwarded, SECURED_ROOM - 1, &framed)
+          == GEOSTATION_NO_ROOM);
+    struct geostation_counts counts;
+    geostation_counts(b, &counts);
+    CHECK(counts.received == 0 && geostation_next_beacon(b) == 0);
+
+    CHECK(geostation_handle_json(b, 30, 1, (const uint8_t *)seal, k, answer, sizeof answer,
+                                 &answered, forwarded, SECURED_ROOM, &framed) == GEOSTATION_OK);
+    static const char is_sealed[] = "{\"at\":30,\"result\":\"sealed\",\"frame\":\"";
+    CHECK(framed == m && memcmp(forwarded, sealed, m) == 0);
+    CHECK(memcmp(answer, is_sealed, sizeof is_sealed - 1) == 0);
+    CHECK(are_digits(answer + sizeof is_sealed - 1, sealed, m));
+    CHECK(geostation_handle_json(b, 31, 1, (const uint8_t *)receive, l, answer, sizeof answer,
+                                 &answered, forwarded, SECURED_ROOM, &framed) == GEOSTATION_OK);
+    CHECK(framed == m && forwarded[11] == 2 && forwarded[17] == 4);
+    CHECK(memcmp(forwarded + 18, SIGNED, 3) == 0);
+    geostation_counts(b, &counts);
+    CHECK(counts.received == 1 && counts.accepted == 1 && counts.relayed == 1);
+    geostation_free(a);
+    geostation_free(b);
+}
+
 /* A config without limits. */
 static struct geostation_config unlimited(uint64_t address, int32_t longitude) {
     struct geostation_config c;
@@ -887,6 +1117,10 @@ int main(int argc, char **argv) {
     test_counts();
     test_lines();
     test_large_lines();
+    test_sealing();
+    test_verified();
+    test_damaged(argc > 1 ? atol(argv[1]) / 10 : 100);
+    test_signed_lines();
     test_calls();
     test_beacons();
     test_beacon_moments();

@@ -55,9 +55,10 @@ const char *geostation_fault_text(uint32_t fault, uint32_t fault_kind) {
     case 0: return "no fault";
     case 1: return "a frame of fewer than 14 octets";
     case 2: return "a frame of another type than 0x8947";
-    case 3: return "a frame of more than 1468 octets";
+    case 3: return "a frame that is too long";
     case 4: return "octets after the packet";
-    case 5: return kind_text(fault_kind);
+    case 5:
+    case 6: return kind_text(fault_kind);
     default: return "no fault";
     }
 }
@@ -113,10 +114,10 @@ size_t geostation_code(int status, uint32_t fault, uint32_t fault_kind, size_t f
                        char *out, size_t room) {
     struct code code = { .out = out, .room = room, .length = 0 };
     put_text(&code, status_code(status));
-    if (status == GEOSTATION_BAD_FRAME && fault >= 1 && fault <= 5) {
+    if (status == GEOSTATION_BAD_FRAME && fault >= 1 && fault <= 6) {
         put_text(&code, " L");
         put_number(&code, fault);
-        if (fault == 5) {
+        if (fault >= 5) {
             put_text(&code, " G");
             put_number(&code, fault_kind);
             put_text(&code, " at ");

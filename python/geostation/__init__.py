@@ -7,10 +7,10 @@ Times are in milliseconds. `latitude` and `longitude` are ints in 0.1 microdegre
 pair of floats in degrees.
 """
 
-from .calls import FRAME_MAX, LAST_MOMENT, PAYLOAD_MAX
+from .calls import FRAME_MAX, LAST_MOMENT, PAYLOAD_MAX, SECURED_FRAME_MAX
 from .errors import BadArgument, BadFrame, Fault, OverRate, Refused, Status
 from .line import Ended, Line, PipeStation, ProcessExited
-from .station import Station, frame_length, read_frame
+from .station import Station, frame_length, message_of, plain_part, read_frame, seal
 from .values import (
     NO_LIMITS,
     Area,
@@ -53,6 +53,7 @@ __all__ = [
     "Reception",
     "Refused",
     "RefusedCounts",
+    "SECURED_FRAME_MAX",
     "SentCounts",
     "Shape",
     "Station",
@@ -60,6 +61,9 @@ __all__ = [
     "Vector",
     "Why",
     "frame_length",
+    "message_of",
+    "plain_part",
     "read_frame",
+    "seal",
 ]
 __version__ = "0.2.0"

@@ -11,6 +11,8 @@ from .values import Area, Counts, Reception, Vector, place, whole
 
 FRAME_MAX = 1468
 """The longest frame, in bytes."""
+SECURED_FRAME_MAX = 2310
+"""The longest secured frame, in bytes."""
 ANSWER_MAX = 16384
 """The longest answer to a JSON request, in bytes."""
 PAYLOAD_MAX = 1394
@@ -370,6 +372,29 @@ class Calls(ABC):
         with self._calling:
             return self._receive(moment(now), octets("frame", frame))
 
+    def receive_verified(self, now: int, frame: bytes, plain: bytes) -> Reception:
+        """Processes a secured frame whose message was verified.
+
+        It does what `receive` does with the same packet in an unsecured frame. If the packet is to
+        be forwarded, `relay` of the result is a secured frame with the message that arrived.
+
+        The station does not compare `plain` with the message, and does not judge when it was
+        signed. The lifetime, the remaining hop limit and the link addresses are not signed.
+
+        Args:
+            now: Time, in ms.
+            frame: The received secured frame.
+            plain: The plain part that the security entity returned for its message.
+
+        Raises:
+            BadFrame: The bytes are not a secured frame, or with the plain part not a valid packet.
+            Refused: The source is new and the location table is full, or memory ran out.
+        """
+        with self._calling:
+            return self._receive_verified(
+                moment(now), octets("frame", frame), octets("plain", plain)
+            )
+
     @abstractmethod
     def _make(
         self, address: int, latitude: int, longitude: int, capacity: int, remember: int
@@ -429,3 +454,6 @@ class Calls(ABC):
 
     @abstractmethod
     def _receive(self, now: int, frame: bytes) -> Reception: ...
+
+    @abstractmethod
+    def _receive_verified(self, now: int, frame: bytes, plain: bytes) -> Reception: ...

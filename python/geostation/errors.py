@@ -64,7 +64,7 @@ TEXTS = {
 FAULT_TEXTS = {
     1: "a frame of fewer than 14 octets",
     2: "a frame of another type than 0x8947",
-    3: "a frame of more than 1468 octets",
+    3: "a frame that is too long",
     4: "octets after the packet",
 }
 PACKET_TEXTS = {
@@ -88,19 +88,20 @@ class Fault:
     """Why bytes are not a valid frame. `str()` gives a message."""
 
     layer: int
-    """1 to 5, for the codes L1 to L5."""
+    """1 to 6, for the codes L1 to L6."""
     kind: int = 0
-    """1 to 12, for G1 to G12, if `layer` is 5; otherwise 0."""
+    """1 to 12, for G1 to G12, if `layer` is 5 or 6; otherwise 0."""
     at: int = 0
-    """Offset of the faulty field in the packet, if `layer` is 5; otherwise 0."""
+    """Offset of the faulty field in the packet, if `layer` is 5 or 6; otherwise 0."""
 
     @property
     def code(self) -> str:
         """A short code for logs, for example `L1` or `L5 G9 at 10`."""
-        return f"L5 G{self.kind} at {self.at}" if self.layer == 5 else f"L{self.layer}"
+        layer = f"L{self.layer}"
+        return f"{layer} G{self.kind} at {self.at}" if self.layer >= 5 else layer
 
     def __str__(self) -> str:
-        if self.layer == 5:
+        if self.layer >= 5:
             return f"{PACKET_TEXTS[self.kind]}, at octet {self.at}"
         return FAULT_TEXTS[self.layer]
 
@@ -155,7 +156,8 @@ class BadFrame(Refused):
 
     Attributes:
         fault: Why they are not.
-        received: Whether a station received them. It is false for `read_frame`.
+        received: Whether a station received them. It is false for `read_frame`, `plain_part` and
+            `seal`.
     """
 
     def __init__(self, fault: Fault, received: bool = True):
@@ -168,14 +170,17 @@ class BadFrame(Refused):
 
     @property
     def code(self) -> str:
-        """A short code for logs: `S3` and the code of the fault; without `S3` from `read_frame`."""
+        """A short code for logs: `S3` and the code of the fault; without `S3` if no station
+        received it."""
         return f"S3 {self.fault.code}" if self.received else self.fault.code
 
 
 def refused_by(code: str) -> Refused:
     """Returns the exception for a code in an answer of the program."""
-    frame = re.fullmatch(r"(S3 )?L([1-5])(?: G(\d+) at (\d+))?", code)
+    frame = re.fullmatch(r"(S3 )?L([1-6])(?: G(\d+) at (\d+))?", code)
     if frame:
         received, layer, kind, at = frame.groups("0")
         return BadFrame(Fault(int(layer), int(kind), int(at)), received=received == "S3 ")
+    if code in ("message empty", "too long"):
+        return BadArgument("message")
     return Refused(STATUSES[code])

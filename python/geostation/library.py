@@ -171,6 +171,7 @@ SIZES = {
 
 _OCTETS = (c.c_char_p, c.c_size_t)
 _WRITTEN = (c.c_char_p, c.c_size_t, c.POINTER(c.c_size_t))
+_PART = (c.POINTER(c.c_size_t), c.POINTER(c.c_size_t))
 _AREA = (c.c_void_p, c.c_uint64, c.POINTER(AreaRequest), *_OCTETS, *_WRITTEN)
 _FOUND = (c.c_void_p, c.c_uint64, c.c_uint64, c.POINTER(Vector))
 
@@ -225,6 +226,19 @@ CALLS = {
         c.c_char_p,
         c.c_size_t,
     ),
+    "receive_verified": (
+        c.c_int,
+        c.c_void_p,
+        c.c_uint64,
+        *_OCTETS,
+        *_OCTETS,
+        c.POINTER(Reception),
+        c.c_char_p,
+        c.c_size_t,
+    ),
+    "message": (c.c_int, *_OCTETS, *_PART),
+    "plain_part": (c.c_int, *_OCTETS, *_PART),
+    "seal": (c.c_int, *_OCTETS, *_OCTETS, *_WRITTEN),
     "handle_json": (c.c_int, c.c_void_p, c.c_uint64, c.c_uint64, *_OCTETS, *_WRITTEN, *_WRITTEN),
     "beacon_at": (c.c_uint64, c.c_void_p, c.c_uint16),
     "next_number": (c.c_uint16, c.c_void_p),

@@ -7,7 +7,7 @@ import os
 import subprocess
 from typing import Any, Dict, List, Optional, Sequence, Tuple, Union
 
-from .calls import FRAME_MAX, PAYLOAD_MAX, Calls, octets
+from .calls import FRAME_MAX, PAYLOAD_MAX, SECURED_FRAME_MAX, Calls, octets
 from .errors import BadArgument, Refused, Status, refused_by
 from .values import (
     Area,
@@ -286,8 +286,32 @@ class PipeStation(Calls):
             None if kind is Kind.BEACON else _message(told),
         )
 
+    def seal(self, frame: bytes, message: bytes) -> bytes:
+        """Returns the secured frame of an unsecured one, as `geostation.seal` does, but by the
+        program.
+
+        Raises:
+            BadFrame: The bytes are not a valid unsecured frame.
+            BadArgument: The message is empty or too long.
+        """
+        frame, message = octets("frame", frame), octets("message", message)
+        keys = {"frame": _short(frame, FRAME_MAX), "message": _short(message, SECURED_FRAME_MAX)}
+        with self._calling:
+            return self._sent(
+                self._ask("seal", None, **{key: value.hex() for key, value in keys.items()})
+            )
+
     def _receive(self, now: int, frame: bytes) -> Reception:
-        answer = self._ask("receive", now, frame=_short(frame, FRAME_MAX).hex())
+        return self._heard(self._ask("receive", now, frame=_short(frame, FRAME_MAX).hex()))
+
+    def _receive_verified(self, now: int, frame: bytes, plain: bytes) -> Reception:
+        secured = _short(frame, SECURED_FRAME_MAX).hex()
+        # A plain part that is longer than a frame is an error, however long it is.
+        return self._heard(
+            self._ask("receive", now, frame=secured, plain=_short(plain, FRAME_MAX).hex())
+        )
+
+    def _heard(self, answer: Dict[str, Any]) -> Reception:
         if answer["result"] == "ignored":
             return Reception(ignored=_REASONS[answer["why"]])
         delivered = _message(answer) if "payload" in answer else None

@@ -7,8 +7,9 @@ from dataclasses import fields
 from typing import Any, List, Optional, Tuple
 
 from . import library
-from .calls import ANSWER_MAX, FRAME_MAX, Address, Calls, Degrees, moment, octets
-from .errors import BadFrame, OverRate, Refused, Status
+from .calls import ANSWER_MAX, FRAME_MAX, SECURED_FRAME_MAX, Address, Calls, Degrees
+from .calls import moment, octets
+from .errors import BadArgument, BadFrame, Fault, OverRate, Refused, Status
 from .values import (
     Area,
     Counts,
@@ -111,7 +112,7 @@ class Station(Calls):
             setattr(config, field.name, int(getattr(self._limits, field.name)))
         _done(self._library.new_from_config(handle, config))
         self._handle = handle
-        self._frame = c.create_string_buffer(FRAME_MAX)
+        self._frame = c.create_string_buffer(SECURED_FRAME_MAX)
         self._length = c.c_size_t()
         self._reception = library.Reception()
 
@@ -129,7 +130,7 @@ class Station(Calls):
         return self._handle
 
     def _written(self, call: Any, *arguments: Any) -> bytes:
-        _done(call(self._open(), *arguments, self._frame, FRAME_MAX, self._length))
+        _done(call(self._open(), *arguments, self._frame, SECURED_FRAME_MAX, self._length))
         return c.string_at(self._frame, self._length.value)
 
     def _move(
@@ -185,17 +186,35 @@ class Station(Calls):
         return self._written(call, now, request, payload, len(payload))
 
     def _receive(self, now: int, frame: bytes) -> Reception:
-        told = self._reception
         status = self._library.receive(
-            self._open(), now, frame, len(frame), told, self._frame, FRAME_MAX
+            self._open(), now, frame, len(frame), self._reception, self._frame, FRAME_MAX
         )
+        return self._heard(status, frame)
+
+    def _receive_verified(self, now: int, frame: bytes, plain: bytes) -> Reception:
+        status = self._library.receive_verified(
+            self._open(),
+            now,
+            frame,
+            len(frame),
+            plain,
+            len(plain),
+            self._reception,
+            self._frame,
+            SECURED_FRAME_MAX,
+        )
+        return self._heard(status, plain)
+
+    def _heard(self, status: int, whole: bytes) -> Reception:
+        """Returns the result of a received frame, whose payload is a part of these bytes."""
+        told = self._reception
         if status == Status.BAD_FRAME:
             raise BadFrame(library.fault_of(told))
         _done(status)
         delivered = None
         if told.delivered:
             start = told.payload_start
-            payload = frame[start : start + told.payload_length]
+            payload = whole[start : start + told.payload_length]
             delivered = Message(told.port, told.info, payload)
         return Reception(
             IgnoreReason(told.ignored) if told.ignored else None,
@@ -358,6 +377,72 @@ def frame_length(data: bytes) -> int:
     """
     data = octets("data", data)
     return int(library.load().frame_length(data, len(data)))
+
+
+def message_of(frame: bytes) -> bytes:
+    """Returns the message of a secured frame, for the security entity to verify.
+
+    Args:
+        frame: The secured frame.
+
+    Raises:
+        Refused: The bytes are not a secured frame (`Status.BAD_FRAME`).
+    """
+    frame = octets("frame", frame)
+    start, length = c.c_size_t(), c.c_size_t()
+    if library.load().message(frame, len(frame), start, length):
+        raise Refused(Status.BAD_FRAME, "not a secured frame")
+    return frame[start.value : start.value + length.value]
+
+
+def plain_part(frame: bytes) -> bytes:
+    """Returns the plain part of an unsecured frame, for the security entity to sign.
+
+    It is what follows the Basic Header: the Common Header, the extended header and the payload.
+
+    Args:
+        frame: The unsecured frame, as a method of a station returned it.
+
+    Raises:
+        BadFrame: The bytes are not a valid unsecured frame.
+    """
+    frame = octets("frame", frame)
+    start, length = c.c_size_t(), c.c_size_t()
+    if library.load().plain_part(frame, len(frame), start, length):
+        raise BadFrame(_fault_of(frame), received=False)
+    return frame[start.value : start.value + length.value]
+
+
+def seal(frame: bytes, message: bytes) -> bytes:
+    """Returns the secured frame of an unsecured one: the message replaces its plain part.
+
+    Args:
+        frame: The unsecured frame, as a method of a station returned it.
+        message: What the security entity signed its plain part into: at least one byte. The secured
+            frame has at most `SECURED_FRAME_MAX` bytes.
+
+    Raises:
+        BadFrame: The bytes are not a valid unsecured frame.
+        BadArgument: The message is empty or too long.
+        Refused: Memory ran out.
+    """
+    frame, message = octets("frame", frame), octets("message", message)
+    sealed, length = c.create_string_buffer(SECURED_FRAME_MAX), c.c_size_t()
+    status = library.load().seal(
+        frame, len(frame), message, len(message), sealed, SECURED_FRAME_MAX, length
+    )
+    if status == Status.BAD_FRAME:
+        raise BadFrame(_fault_of(frame), received=False)
+    if status == Status.BAD_ARGUMENT:
+        raise BadArgument("message")
+    _done(status)
+    return c.string_at(sealed, length.value)
+
+
+def _fault_of(frame: bytes) -> Fault:
+    told = library.Packet()
+    library.load().read_frame(frame, len(frame), told)
+    return library.fault_of(told)
 
 
 def read_frame(frame: bytes) -> Packet:

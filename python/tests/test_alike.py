@@ -10,11 +10,14 @@ from geostation import (
     NO_LIMITS,
     Area,
     BadArgument,
+    BadFrame,
     PipeStation,
     ProcessExited,
     Reception,
     Refused,
     Station,
+    plain_part,
+    seal,
 )
 
 PROGRAM = os.environ.get("GEOSTATION_PROGRAM", "geostation")
@@ -81,6 +84,29 @@ class Traffic:
             frame = frame[: draws.randrange(len(frame) + 1)] + b"\1" * draws.choice([0, 3, 3000])
         return frame
 
+    def secured(self):
+        """A secured frame, or nearly one, and its plain part, or nearly that."""
+        draws, frame = self.draws, b""
+        while not frame:
+            try:
+                frame = self.frame()
+                plain = plain_part(frame)
+                message = draws.randbytes(draws.choice([1, 1, 60, 2292]))
+                frame = seal(frame, message)
+            except BadFrame:
+                frame = b""
+        if draws.randrange(4) == 0:
+            at = draws.randrange(18)
+            frame = frame[:at] + bytes([draws.randrange(256)]) + frame[at + 1 :]
+        if draws.randrange(6) == 0:
+            frame = frame[: draws.randrange(len(frame) + 1)] + bytes(draws.choice([0, 0, 3000]))
+        if draws.randrange(4) == 0:
+            at = draws.randrange(len(plain))
+            plain = plain[:at] + bytes([draws.randrange(256)]) + plain[at + 1 :]
+        if draws.randrange(6) == 0:
+            plain = plain[: draws.randrange(len(plain) + 1)] + bytes(draws.choice([0, 1, 40000]))
+        return frame, plain
+
     def call(self):
         """A call, as a function of a station."""
         draws = self.draws
@@ -88,7 +114,7 @@ class Traffic:
         now = draws.choice([self.now] * 20 + [max(self.now - 1, 0), (1 << 62) + 1])
         word = draws.choice(
             ["move", "open_port", "close_port", "tick", "send_shb", "send_gbc", "send_gac"]
-            + ["next_beacon", "look_up", "neighbours", "counts"] + ["receive"] * 7 + ["restart"] * (draws.randrange(10) == 0) + ["bad"]
+            + ["next_beacon", "look_up", "neighbours", "counts"] + ["receive"] * 7 + ["receive_verified"] * 4 + ["restart"] * (draws.randrange(10) == 0) + ["bad"]
         )
         if word == "receive":
             frame = self.frame()
@@ -97,6 +123,9 @@ class Traffic:
                 frame = self.last
             self.last = frame
             return lambda s: s.receive(now, frame)
+        if word == "receive_verified":
+            frame, plain = self.secured()
+            return lambda s: s.receive_verified(now, frame, plain)
         if word == "next_beacon":
             jitter = draws.choice([0, 750, 751])
             return lambda s: s.next_beacon(jitter)
@@ -140,7 +169,8 @@ class Alike(unittest.TestCase):
                   "int", "Vector", "list", "Counts",
                   "ignored", "accepted", "delivered", "relay"}
         self.assertEqual(set(), wanted - kinds)
-        self.assertTrue({"S3 L1", "S3 L3"} <= kinds)
+        self.assertTrue({"S3 L1", "S3 L3", "S3 L4"} <= kinds)
+        self.assertTrue(any(kind.startswith("S3 L6 ") for kind in kinds))
 
     @staticmethod
     def kind(told):
@@ -172,6 +202,19 @@ class PipeStations(unittest.TestCase):
         self.assertEqual("port", told.exception.name)
         line.free()
         self.assertRaises(ValueError, lambda: line.tick(0))
+
+    def test_the_program_seals(self):
+        with Station(0x1400020000000001, latitude=0, longitude=0) as station:
+            frame = station.send_shb(0, port=2002, payload=b"hi")
+        with PipeStation(0x1400020000000001, latitude=0, longitude=0, program=[PROGRAM]) as line:
+            self.assertEqual(seal(frame, b"s"), line.seal(frame, b"s"))
+            for message in (b"", bytes(2293), bytes(100000)):
+                with self.assertRaises(BadArgument) as told:
+                    line.seal(frame, message)
+                self.assertEqual("message", told.exception.name)
+            with self.assertRaises(BadFrame) as told:
+                line.seal(seal(frame, b"s"), b"s")
+            self.assertEqual("L5 G3 at 0", told.exception.code)
 
     def test_a_program_that_ends(self):
         line = PipeStation(0x1400020000000001, latitude=0, longitude=0, program=["false"])

@@ -21,6 +21,7 @@ from pathlib import Path
 from geostation import (
     LAST_MOMENT,
     NO_LIMITS,
+    SECURED_FRAME_MAX,
     Area,
     BadArgument,
     BadFrame,
@@ -38,7 +39,10 @@ from geostation import (
     errors,
     frame_length,
     library,
+    message_of,
+    plain_part,
     read_frame,
+    seal,
 )
 
 A, B = 0x1400020000000001, 0x1400020000000002
@@ -123,6 +127,84 @@ class Stations(unittest.TestCase):
         self.assertEqual((2, 1, 0, 0), dataclasses.astuple(counts)[:4])
         self.assertEqual((0, 0, 1, 0, 0, 0), dataclasses.astuple(counts.refused))
         self.assertEqual((0, 0, 1, 0), dataclasses.astuple(counts.sent))
+
+    def test_signed_packets(self):
+        a, b = Station(A, latitude=449, longitude=0), Station(B, latitude=449, longitude=900)
+        b.open_port(0, 2002)
+        frame = a.send_gbc(10, port=2002, payload=b"hi", area=CIRCLE, info=7, max_hops=5)
+        plain, message = plain_part(frame), b"\x03\x81\x40"
+        self.assertEqual(frame[18:], plain)
+        secured = seal(frame, message)
+        # The link addresses, 12 in place of 11, lifetime and hop limit, and the message.
+        self.assertEqual(frame[:14] + b"\x12" + frame[15:18] + message, secured)
+        self.assertEqual(message, message_of(bytearray(secured)))
+        got = b.receive_verified(11, secured, plain)
+        self.assertEqual((None, Message(2002, 7, b"hi")), (got.ignored, got.delivered))
+        relayed = secured[:6] + bytes.fromhex("020000000002") + secured[12:17] + b"\x04" + message
+        self.assertEqual((relayed, A), (got.relay, got.source))
+        self.assertEqual("duplicate", str(b.receive(12, frame).ignored))
+        self.assertEqual("own-source", str(a.receive_verified(12, got.relay, plain).ignored))
+        counts = b.counts()
+        self.assertEqual((2, 1, 1, 1), dataclasses.astuple(counts)[:4])
+
+    def test_the_longest_secured_frame(self):
+        a = Station(A, latitude=449, longitude=0)
+        frame = a.send_gbc(10, port=2002, payload=b"", area=CIRCLE)
+        secured = seal(frame, bytes(SECURED_FRAME_MAX - 18))
+        self.assertEqual(SECURED_FRAME_MAX, len(secured))
+        relay = Station(B, latitude=449, longitude=900).receive_verified(
+            11, secured, plain_part(frame)
+        ).relay
+        self.assertEqual(secured[18:], relay[18:])
+        for message in (b"", bytes(SECURED_FRAME_MAX - 17)):
+            with self.assertRaises(BadArgument) as told:
+                seal(frame, message)
+            self.assertEqual("message", told.exception.name)
+
+    def test_faults_of_signed_packets(self):
+        a = Station(A, latitude=449, longitude=0)
+        frame = a.send_gbc(10, port=2002, payload=b"hi", area=CIRCLE, max_hops=5)
+        plain, secured = plain_part(frame), seal(frame, b"s")
+        more = secured[:17] + b"\x06" + secured[18:]
+        for octets, part, fault, text in [
+            (b"", plain, "L1", "a frame of fewer than 14 octets"),
+            (secured + bytes(3000), plain, "L3", "a frame that is too long"),
+            (frame, plain, "L5 G3 at 0", "no Common Header after the Basic Header, at octet 0"),
+            (secured[:18], plain, "L5 G1 at 4", "a truncated packet, at octet 4"),
+            (secured, b"", "L6 G1 at 4", "a truncated packet, at octet 4"),
+            (more, plain, "L6 G9 at 10", "more hops left than the maximum, at octet 10"),
+            (secured, plain + b"s", "L4", "octets after the packet"),
+        ]:
+            with self.assertRaises(BadFrame) as told:
+                a.receive_verified(10, octets, part)
+            self.assertEqual(("S3 " + fault, text), (told.exception.code, str(told.exception)))
+            self.assertEqual(told.exception.fault, errors.refused_by("S3 " + fault).fault)
+        for call in (plain_part, lambda octets: seal(octets, b"s")):
+            with self.assertRaises(BadFrame) as told:
+                call(secured)
+            self.assertEqual("L5 G3 at 0", told.exception.code)
+        with self.assertRaises(Refused) as told:
+            message_of(frame)
+        self.assertEqual(Status.BAD_FRAME, told.exception.status)
+        with self.assertRaises(Refused) as told:
+            a.receive_verified(9, b"", b"")
+        self.assertEqual("S1", told.exception.code)
+        for call in (
+            lambda: a.receive_verified(10, "00", plain),
+            lambda: a.receive_verified(10, secured, 7),
+            lambda: seal(frame, "00"),
+            lambda: message_of("00"),
+        ):
+            self.assertRaises(TypeError, call)
+
+    def test_signed_packets_by_lines(self):
+        a = Station(A, latitude=449, longitude=0)
+        frame = a.send_gbc(10, port=2002, payload=b"hi", area=CIRCLE)
+        told = b'{"do":"seal","frame":"%s","message":"03"}' % frame.hex().encode()
+        answer, secured = a.handle_json(10, told)
+        self.assertEqual(seal(frame, b"\x03"), secured)
+        wanted = b'{"at":10,"result":"sealed","frame":"%s"}' % secured.hex().encode()
+        self.assertEqual(wanted, answer)
 
     def test_lines_are_answered(self):
         with Station(A, latitude=449, longitude=0) as a, Station(

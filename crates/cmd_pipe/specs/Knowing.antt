@@ -1,6 +1,6 @@
 -- What is known of what a line asks.
 use Rattle.std.specs.Prelude.{◌≡◌, ◌≤◌, ◌<◌, ◌^◌, ◌↔◌, ◌⊎◌, ◌∷◌, [], ℕ, zero, suc, List, Option}
-use Rattle.std.specs.Prelude.{Some, None, IsTrue, IsSome}
+use Rattle.std.specs.Prelude.{Some, None, IsTrue, IsSome, length, ◌+◌}
 use Rattle.std.specs.Option.{option_map}
 use Rattle.its_gnvalue.specs.Values.{PositionVector}
 use Rattle.its_model.specs.Calls.{Own}
@@ -14,11 +14,14 @@ use Rattle.its_station.specs.declared.counts.Counts.{Counts}
 use Rattle.its_station.specs.declared.refused.Refused.{Refused}
 use Rattle.its_station.specs.declared.refused.Refused.TheVariants as refusals
 use Rattle.its_linkframe.specs.FrameFaults.{IsFrameFault}
-use Rattle.its_linkframe.specs.Frames.{IsFrame}
+use Rattle.its_linkframe.specs.Frames.{EncodesFrame, IsFrame}
+use Rattle.its_linkframe.specs.Secured.{EncodesSecured, sealed}
+use Rattle.its_model.specs.Packet.{Transmission}
 use Rattle.cmd_pipe.specs.declared.request.Query.{Query}
 use Rattle.cmd_pipe.specs.declared.request.Query.TheVariants as queries
 use Rattle.cmd_pipe.specs.declared.response.Known.{Known}
 use Rattle.cmd_pipe.specs.declared.response.Known.TheVariants as knowns
+use Rattle.cmd_pipe.specs.declared.response.SealFault.TheVariants as seal_faults
 
 -- a station, and what is counted of it
 pub record Counted : Type 0 where
@@ -98,6 +101,18 @@ TellsFrame octets (knowns.Frame frame) = (frame.items ≡ octets) × IsFrame oct
 TellsFrame octets (knowns.NoFrame fault) = (¬ IsFrame octets) × IsFrameFault octets fault
 TellsFrame octets answer = ⊥
 
+-- the secured frame of a frame with a message; none of octets that are no frame, of an empty message,
+-- or where it would have over 2310 octets
+abbrev pub TellsSealed : List ℕ → List ℕ → Known → Type 0
+TellsSealed octets message (knowns.Sealed w) =
+    (t : Transmission) × EncodesFrame t octets × EncodesSecured (sealed t message) w.items
+TellsSealed octets message (knowns.NoFrame fault) = (¬ IsFrame octets) × IsFrameFault octets fault
+TellsSealed octets message (knowns.NotSealed seal_faults.MessageEmpty) =
+    IsFrame octets × (message ≡ [])
+TellsSealed octets message (knowns.NotSealed seal_faults.TooLong) =
+    IsFrame octets × (2310 < 18 + length message)
+TellsSealed octets message answer = ⊥
+
 -- what is answered to what is asked
 abbrev pub TellsQuery : Counted → Option ℕ → Query → Known → Type 0
 TellsQuery s at (queries.NextBeacon jitter) answer = TellsBeacon s.station jitter answer
@@ -107,3 +122,4 @@ TellsQuery s at (queries.LookUp address) answer =
     TellsSource s.station (moment_of s.station at) address answer
 TellsQuery s at (queries.ReadFrame frame) answer = TellsFrame frame.items answer
 TellsQuery s at queries.Counts answer = answer ≡ knowns.Counts s.counts
+TellsQuery s at (queries.Seal frame message) answer = TellsSealed frame.items message.items answer

@@ -1,5 +1,5 @@
 -- What a line asks for.
-use Rattle.std.specs.Prelude.{◌≡◌, ◌<◌, ◌≤◌, ◌^◌, ℕ, ℤ, pos, List, codes, length, unsigned_abs}
+use Rattle.std.specs.Prelude.{◌≡◌, ◌≢◌, ◌<◌, ◌≤◌, ◌^◌, ℕ, ℤ, pos, List, codes, length, unsigned_abs}
 use Rattle.std.specs.Prelude.{Bool, IsTrue, IsFalse, ◌⊎◌, IsUtf8, Option, Some, None, IsSome, Ok}
 use Rattle.std.specs.Prelude.{is_some}
 use Rattle.std.specs.Option.{option_and_then}
@@ -21,6 +21,8 @@ use Rattle.its_station.specs.Runs.{IsCall}
 use Rattle.its_station.specs.declared.run.Call.{Call}
 use Rattle.its_station.specs.declared.run.Call.TheVariants as calls
 use Rattle.cmd_pipe.specs.Lines.{LineText, IsBlank}
+use Rattle.cmd_pipe.specs.declared.request.QueryKey.{QueryKey}
+use Rattle.cmd_pipe.specs.declared.request.QueryKey.TheVariants as query_keys
 use Rattle.cmd_pipe.specs.declared.request.Request.{Request}
 use Rattle.cmd_pipe.specs.declared.request.Request.TheVariants as asks
 use Rattle.cmd_pipe.specs.declared.request.Id.{Id}
@@ -28,6 +30,10 @@ use Rattle.cmd_pipe.specs.declared.request.Id.TheVariants as ids
 use Rattle.cmd_pipe.specs.declared.request.LineFault.TheVariants as faults
 use Rattle.cmd_pipe.specs.declared.request.Query.{Query}
 use Rattle.cmd_pipe.specs.declared.request.Query.TheVariants as queries
+use Rattle.cmd_pipe.specs.Words.{query_key}
+use Rattle.cmd_pipe.specs.declared.request.VerifiedOctets.{VerifiedOctets}
+use Rattle.cmd_pipe.specs.declared.reading.OctetsFault.{OctetsFault}
+use Rattle.cmd_pipe.specs.declared.reading.OctetsFault.TheVariants as octets_faults
 use Rattle.cmd_pipe.specs.declared.reading.ReadFault.{ReadFault}
 use Rattle.cmd_pipe.specs.declared.reading.ReadFault.TheVariants as read_faults
 
@@ -77,11 +83,34 @@ IsAskedAt None members None = get (codes "at") members ≡ None
 abbrev pub IsWord : Data → List ℕ → Type 0
 IsWord members word = text_at (codes "do") members ≡ Some word
 
--- the octets of the hexadecimal digits under `frame`
+-- the octets of the hexadecimal digits under a word
+abbrev pub IsOctetsText : List ℕ → Data → List ℕ → Type 0
+IsOctetsText word members octets =
+    (digits : List ℕ) × (text_at word members ≡ Some digits) × (decode_of digits ≡ Ok octets)
+
+-- so under `frame`
 abbrev pub IsFrameText : Data → List ℕ → Type 0
-IsFrameText members frame =
-    (digits : List ℕ) × (text_at (codes "frame") members ≡ Some digits)
-    × (decode_of digits ≡ Ok frame)
+IsFrameText members frame = IsOctetsText (codes "frame") members frame
+
+-- a frame came with a key for the plain part that a security entity verified
+abbrev pub ComesVerified : Data → Type 0
+ComesVerified members =
+    IsWord members (codes "receive") × IsSome (get (codes "plain") members)
+
+-- the object asks that this frame be received with this plain part
+abbrev pub AsksVerified : Data → VerifiedOctets → Type 0
+AsksVerified members octets =
+    ComesVerified members × IsFrameText members octets.frame.items
+    × IsOctetsText (codes "plain") members octets.plain.items
+
+-- the answer may have a secured frame: its room has to be that of the longest
+abbrev pub AsksSecuredIn : Data → Type 0
+AsksSecuredIn members = IsWord members (codes "seal") ⊎ ComesVerified members
+
+abbrev pub AsksSecured : LineText → Type 0
+AsksSecured line =
+    IsFalse line.longer × (¬ IsBlank line.octets) × (members : Data) × IsObject line.octets members
+    × AsksSecuredIn members
 
 -- the jitter under `jitter`
 abbrev pub IsJitter : Data → ℕ → Type 0
@@ -103,11 +132,12 @@ abbrev pub SaysCall : Data → Call → Type 0
 SaysCall members call =
     (own : OwnCall) × SaysWhat (values_in members) (Calls own) × IsCall call (Own own)
 
--- the object asks for this call: by `receive` for a frame that came, else by the keys of a
--- scenario's event
+-- the object asks for this call: by `receive` for a frame that came without a plain part, else by
+-- the keys of a scenario's event
 abbrev pub AsksCall : Data → Call → Type 0
 AsksCall members (calls.Receive frame) =
-    IsWord members (codes "receive") × IsFrameText members frame.items
+    IsWord members (codes "receive") × (¬ ComesVerified members)
+    × IsFrameText members frame.items
 AsksCall members call =
     (¬ IsWord members (codes "receive")) × (¬ IsWord members (codes "deliver"))
     × SaysCall members call
@@ -121,13 +151,16 @@ AsksQuery members (queries.LookUp address) = IsWord members (codes "look_up")
 AsksQuery members (queries.ReadFrame frame) =
     IsWord members (codes "read_frame") × IsFrameText members frame.items
 AsksQuery members queries.Counts = IsWord members (codes "counts")
+AsksQuery members (queries.Seal frame message) =
+    IsWord members (codes "seal") × IsFrameText members frame.items
+    × IsOctetsText (codes "message") members message.items
 
 -- the word asks for what the station knows
 abbrev pub IsQueryWord : Data → Type 0
 IsQueryWord members =
     IsWord members (codes "next_beacon") ⊎ IsWord members (codes "neighbours")
     ⊎ IsWord members (codes "look_up") ⊎ IsWord members (codes "read_frame")
-    ⊎ IsWord members (codes "counts")
+    ⊎ IsWord members (codes "counts") ⊎ IsWord members (codes "seal")
 
 -- the first bad key of a call is this one, where its moment is good: never that of the moment, and
 -- one under which nothing stands that it takes
@@ -146,14 +179,23 @@ pub record IsBadKey (now : Option ℕ) (members : Data) (key : Key) : Type 0 whe
   pub moment : ((moment : ℕ) → ¬ IsMomentOf now members moment) → key ≡ keys.At
   pub call : (moment : ℕ) → IsMomentOf now members moment → IsBadCallKey members key
 
+-- the first bad key of those that are no call's is this one
+abbrev pub IsBadAsked : Data → QueryKey → Type 0
+IsBadAsked members query_keys.Plain =
+    ComesVerified members × ((frame : List ℕ) × IsFrameText members frame)
+    × ((plain : List ℕ) → ¬ IsOctetsText (codes "plain") members plain)
+IsBadAsked members key = IsQueryWord members
+
 -- the members of an object ask for this: a call, what the station knows, or they have a bad key
 abbrev pub AsksIn : Option ℕ → Data → Request → Type 0
 AsksIn now members asks.Nothing = ⊥
 AsksIn now members (asks.Call moment call) = IsMomentOf now members moment × AsksCall members call
+AsksIn now members (asks.Verified moment octets) =
+    IsMomentOf now members moment × AsksVerified members octets
 AsksIn now members (asks.Query at query) = IsAskedAt now members at × AsksQuery members query
 AsksIn now members (asks.Bad (faults.Key key wrong)) = IsBadKey now members key
 AsksIn now members (asks.Bad (faults.Word meant)) = IsBadKey now members keys.Do
-AsksIn now members (asks.Bad (faults.Query key wrong)) = IsQueryWord members
+AsksIn now members (asks.Bad (faults.Query key wrong)) = IsBadAsked members key
 AsksIn now members (asks.Bad fault) = ⊥
 
 -- so, and they have this `id`: a bad one is told first
@@ -192,6 +234,34 @@ abbrev pub IsMomentFault : KeyFault → Type 0
 IsMomentFault (key_faults.Refused key wrong) = key ≡ keys.At
 IsMomentFault key_faults.OutOfMemory = ⊥
 
+-- the octets of no digits, unless an allocation failed
+abbrev pub IsNoOctets : List ℕ → Data → OctetsFault → Type 0
+IsNoOctets word members (octets_faults.Bad wrong) =
+    (octets : List ℕ) → ¬ IsOctetsText word members octets
+IsNoOctets word members octets_faults.OutOfMemory = Unit {0}
+
+-- the fault is that of this key, under which no digits stand, unless an allocation failed
+abbrev pub IsOfKey : QueryKey → Data → ReadFault → Type 0
+IsOfKey key members (read_faults.Bad (faults.Query other wrong)) =
+    (other ≡ key) × ((octets : List ℕ) → ¬ IsOctetsText (query_key key) members octets)
+IsOfKey key members (read_faults.Bad fault) = ⊥
+IsOfKey key members read_faults.OutOfMemory = Unit {0}
+
+-- the fault is that of the first bad key of a frame that came verified, unless an allocation failed
+abbrev pub IsVerifiedBad : Data → ReadFault → Type 0
+IsVerifiedBad members (read_faults.Bad (faults.Key key wrong)) =
+    (key ≡ keys.Frame) × ((frame : List ℕ) → ¬ IsFrameText members frame)
+IsVerifiedBad members (read_faults.Bad (faults.Query key wrong)) =
+    (key ≡ query_keys.Plain) × IsBadAsked members query_keys.Plain
+IsVerifiedBad members (read_faults.Bad fault) = ⊥
+IsVerifiedBad members read_faults.OutOfMemory = Unit {0}
+
+-- `seal` with this frame and message
+abbrev pub AsksSeal : Data → Query → Type 0
+AsksSeal members (queries.Seal frame message) =
+    IsFrameText members frame.items × IsOctetsText (codes "message") members message.items
+AsksSeal members query = ⊥
+
 -- the fault is that of the frame
 abbrev pub IsFrameKey : KeyFault → Type 0
 IsFrameKey (key_faults.Refused key wrong) = key ≡ keys.Frame
@@ -205,7 +275,7 @@ IsIdFault members read_faults.OutOfMemory = Unit {0}
 
 -- the fault is that of a key of what is asked
 abbrev pub IsOfQuery : ReadFault → Type 0
-IsOfQuery (read_faults.Bad (faults.Query key wrong)) = Unit {0}
+IsOfQuery (read_faults.Bad (faults.Query key wrong)) = key ≢ query_keys.Plain
 IsOfQuery (read_faults.Bad fault) = ⊥
 IsOfQuery read_faults.OutOfMemory = Unit {0}
 

@@ -1,11 +1,18 @@
 -- What is answered to the lines of the input, and the station afterwards.
 use Rattle.std.specs.Prelude.{◌≡◌, ◌++◌, ◌∷◌, ◌+◌, [], ℕ, List, Option, Some, None, Ok}
+use Rattle.std.specs.Prelude.{IsSomeAnd}
+use Rattle.std.specs.Option.{option_map}
 use Rattle.cmd_pipe.specs.declared.ended.Ended.{Ended}
 use Rattle.cmd_pipe.specs.declared.ended.Ended.TheVariants as ends
 use Rattle.its_model.specs.Calls as model
+use Rattle.its_model.specs.Packet.{Transmission}
 use Rattle.its_model.specs.Station.{new_station, station_step}
-use Rattle.its_station.specs.Counting.{counted_call, counted_reply, kind_sent, nothing}
-use Rattle.its_station.specs.Runs.{IsCall, TellsReply}
+use Rattle.its_station.specs.Counting.{counted_call, counted_reply, kind_sent, nothing, one_more}
+use Rattle.its_station.specs.Receiving.{Encoded, IsVerifiedCall, TellsAcceptedBy, VerifiedCall}
+use Rattle.its_station.specs.Receiving.{sealed_by, verified_step, why_of}
+use Rattle.its_station.specs.Runs.{IsCall, TellsReply, delivered}
+use Rattle.its_station.specs.Steps.{refusal_of}
+use Rattle.its_station.specs.declared.run.Reply.TheVariants as replies
 use Rattle.its_station.specs.declared.counts.Counts.{Counts}
 use Rattle.its_station.specs.declared.run.Call.{Call}
 use Rattle.its_station.specs.declared.run.Call.TheVariants as calls
@@ -14,6 +21,7 @@ use Rattle.its_station.specs.State.{StationState, RepresentsStation}
 use Rattle.cmd_pipe.specs.Knowing.{Counted, TellsQuery}
 use Rattle.cmd_pipe.specs.Lines.{LineText, AreLines}
 use Rattle.cmd_pipe.specs.Requests.{Asks}
+use Rattle.cmd_pipe.specs.declared.request.VerifiedOctets.{VerifiedOctets}
 use Rattle.cmd_pipe.specs.declared.request.Request.{Request}
 use Rattle.cmd_pipe.specs.declared.request.Request.TheVariants as asked_by
 use Rattle.cmd_pipe.specs.declared.request.Id.{Id}
@@ -37,11 +45,15 @@ done_by call = does.Other
 abbrev pub counts_after : Call → Reply → Counts → Counts
 counts_after call reply c = counted_reply (kind_sent call) (Ok reply) (counted_call call c)
 
--- the answer is this reply to this call, at this moment
+-- the answer is this reply to what does this, at this moment
+abbrev pub IsReplyAs : Option Id → ℕ → Done → Reply → Response → Type 0
+IsReplyAs id moment does reply (responses.Reply name at done source told) =
+    (name ≡ id) × (at ≡ moment) × (done ≡ does) × (told ≡ reply)
+IsReplyAs id moment does reply response = ⊥
+
+-- the same of a call
 abbrev pub IsReplyOf : Option Id → ℕ → Call → Reply → Response → Type 0
-IsReplyOf id moment call reply (responses.Reply name at done source told) =
-    (name ≡ id) × (at ≡ moment) × (done ≡ done_by call) × (told ≡ reply)
-IsReplyOf id moment call reply response = ⊥
+IsReplyOf id moment call reply response = IsReplyAs id moment (done_by call) reply response
 
 -- The call is made at the moment: what is answered is the answer of that very step of the model,
 -- the station is the one after it, and it is counted.
@@ -57,6 +69,35 @@ pub record TellsCall (s : Counted) (id : Option Id) (moment : ℕ) (call : Call)
   pub station_is : next.station ≡ (station_step s.station moment made).station
   pub counts_are : next.counts ≡ counts_after call reply s.counts
 
+-- the reply to a frame that came is this answer, and what goes on is encoded so
+abbrev pub TellsHeard : Encoded → Reply → model.Answer Transmission → Type 0
+TellsHeard Encodes (replies.Ignored why) answer = answer ≡ model.Answer.Ignored (why_of why)
+TellsHeard Encodes (replies.Accepted handed sent) answer =
+    TellsAcceptedBy Encodes (option_map delivered handed) sent answer
+TellsHeard Encodes (replies.Refused refused) answer =
+    IsSomeAnd (refusal_of refused) (λ refusal. answer ≡ model.Answer.Refused refusal)
+TellsHeard Encodes reply answer = ⊥
+
+-- the counts after the reply to a frame that came
+abbrev pub counts_heard : Reply → Counts → Counts
+counts_heard reply c =
+    counted_reply None (Ok reply) (record c { received = one_more c.received })
+
+-- A secured frame is received with its plain part at the moment: what is answered is the answer of
+-- that very step of the model, what goes on has the message that came, the station is the one after
+-- it, and it is counted as any frame that came.
+pub record TellsVerified (s : Counted) (id : Option Id) (moment : ℕ) (octets : VerifiedOctets)
+    (told : List Response) (next : Counted) : Type 0 where
+  pub came : VerifiedCall
+  pub is : IsVerifiedCall octets.frame.items octets.plain.items came
+  pub reply : Reply
+  pub tells : TellsHeard (sealed_by came) reply (verified_step s.station moment came).answer
+  pub response : Response
+  pub response_is : IsReplyAs id moment does.Other reply response
+  pub told_is : told ≡ response ∷ []
+  pub station_is : next.station ≡ (verified_step s.station moment came).station
+  pub counts_are : next.counts ≡ counts_heard reply s.counts
+
 -- What is asked is answered as the station knows it, and nothing changes.
 pub record TellsKnown (s : Counted) (id : Option Id) (at : Option ℕ) (query : Query)
     (told : List Response) (next : Counted) : Type 0 where
@@ -70,6 +111,8 @@ pub record TellsKnown (s : Counted) (id : Option Id) (at : Option ℕ) (query : 
 abbrev pub TellsAsked : Counted → ℕ → Option Id → Request → List Response → Counted → Type 0
 TellsAsked s n id asked_by.Nothing told next = (told ≡ []) × (next ≡ s)
 TellsAsked s n id (asked_by.Call moment call) told next = TellsCall s id moment call told next
+TellsAsked s n id (asked_by.Verified moment octets) told next =
+    TellsVerified s id moment octets told next
 TellsAsked s n id (asked_by.Query at query) told next = TellsKnown s id at query told next
 TellsAsked s n id (asked_by.Bad fault) told next =
     (told ≡ responses.Fault id n fault ∷ []) × (next ≡ s)

@@ -4,13 +4,14 @@ ghost use Rattle.std.specs.Prelude.{◌≡◌, ◌≤◌, ◌^◌, ◌∷◌, []
 ghost use Rattle.its_model.specs.Station.{StationModel};
 ghost use Rattle.its_station.specs.State.{RepresentsStation};
 ghost use Rattle.cmd_pipe.specs.Knowing.{Counted, IsKnownAt, IsRefusedAt, TellsBeacon, TellsFrame};
-ghost use Rattle.cmd_pipe.specs.Knowing.{TellsNeighbours, TellsQuery, TellsSource, moment_of};
+ghost use Rattle.cmd_pipe.specs.Knowing.{TellsNeighbours, TellsQuery, TellsSealed, TellsSource};
+ghost use Rattle.cmd_pipe.specs.Knowing.{moment_of};
 ghost use Rattle.cmd_pipe.specs.Serving.{RepresentsCounted};
 
 use crate::request::Query;
-use crate::response::Known;
-use its_gnvalue::{GnAddress, LongPv};
-use its_linkframe::read_frame;
+use crate::response::{Known, SealFault};
+use its_gnvalue::{GnAddress, LongPv, NoMemory};
+use its_linkframe::{read_frame, seal_frame};
 use its_loctable::{LocationStore, SortedTable};
 use its_station::{Counts, LAST_MOMENT, Refused, Station};
 use std::alloc::{AllocError, Global};
@@ -36,6 +37,23 @@ pub(crate) fn answer_query(
         Query::LookUp(address) => Ok(look_up(station, now, address)),
         Query::ReadFrame(frame) => Ok(known_frame(frame)),
         Query::Counts => Ok(Known::Counts(*counts)),
+        Query::Seal { frame, message } => seal(alloc, frame.as_slice(), message.as_slice()),
+    }
+}
+
+/// The secured frame of a frame, with this message in place of its plain part.
+fn seal(alloc: Global, frame: &[u8], message: &[u8]) -> Result<Known, AllocError>
+    ensures { IfOk result (TellsSealed frame.now message.now) }
+{
+    let view = match read_frame(frame) {
+        Ok(view) => view,
+        Err(fault) => return Ok(Known::NoFrame(fault)),
+    };
+    match seal_frame(alloc, &view, message) {
+        Ok(Some(sealed)) => Ok(Known::Sealed(sealed)),
+        Ok(None) if message.is_empty() => Ok(Known::NotSealed(SealFault::MessageEmpty)),
+        Ok(None) => Ok(Known::NotSealed(SealFault::TooLong)),
+        Err(NoMemory) => Err(AllocError),
     }
 }
 

@@ -15,6 +15,7 @@ mod reason;
 mod request;
 mod response;
 mod serving;
+mod verifying;
 mod word;
 
 pub use command::run_station;
@@ -22,6 +23,6 @@ pub use ended::Ended;
 pub use fault::PipeFault;
 pub use printing::{Printer, print_response};
 pub use request::{Id, LineFault, Query, QueryKey};
-pub use response::{Done, Known, Response, ResponseSink};
-pub use serving::{answer_line, serve};
+pub use response::{Done, Known, Response, ResponseSink, SealFault};
+pub use serving::{Unanswered, answer_line, serve};
 pub use word::LineWord;

@@ -4,9 +4,9 @@ ghost use Rattle.std.specs.Prelude.{IfOk};
 ghost use Rattle.cmd_text.specs.JsonLines.{IsLine};
 
 use crate::fault::PipeFault;
-use crate::reason::LineReason;
+use crate::reason::{LineReason, SealReason};
 use crate::request::{Id, LineFault};
-use crate::response::{Done, Known, Response, ResponseSink};
+use crate::response::{Done, Known, Response, ResponseSink, SealFault};
 use cmd_text::answers::{RefusedReason, delivery_keys, words};
 use cmd_text::frames::{FrameKeys, MessageKeys};
 use cmd_text::json_lines::{Digits, JsonFault, JsonLine, Octets, Printed};
@@ -203,6 +203,15 @@ fn print_known<'l>(
             LineHead::new(id, at, words::REFUSED),
             *fault,
         )),
+        Known::Sealed(frame) => line.of(&SealedLine {
+            head: LineHead::new(id, at, "sealed"),
+            frame: octets_of(frame),
+        }),
+        Known::NotSealed(fault) => line.of(&NotSealedLine {
+            head: LineHead::new(id, at, words::REFUSED),
+            code: Printed(*fault),
+            reason: Printed(SealReason(*fault)),
+        }),
         Known::Counts(counts) => line.of(&CountsLine {
             head: LineHead::new(id, at, "counts"),
             counts: CountKeys::of(counts),
@@ -280,6 +289,21 @@ impl<'a> NoFrameLine<'a> {
             reason: Printed(RefusedReason(Refused::Frame(fault))),
         }
     }
+}
+
+#[derive(Clone, Copy, Serialize)]
+struct SealedLine<'a> {
+    #[serde(flatten)]
+    head: LineHead<'a>,
+    frame: Octets<'a>,
+}
+
+#[derive(Clone, Copy, Serialize)]
+struct NotSealedLine<'a> {
+    #[serde(flatten)]
+    head: LineHead<'a>,
+    code: Printed<SealFault>,
+    reason: Printed<SealReason>,
 }
 
 #[derive(Clone, Copy, Serialize)]

@@ -1,7 +1,7 @@
 //! Reading what a line asks for.
 
 ghost use Rattle.std.specs.Prelude.{◌≡◌, ◌↔◌, ◌⊎◌, ℕ, List, IfOk, IfErr, IfSome, IsSome, IfNone};
-ghost use Rattle.std.specs.Prelude.{OnErr, None, Some};
+ghost use Rattle.std.specs.Prelude.{OnErr, None, Some, IsTrue, IsFalse};
 ghost use Rattle.std.specs.Prelude.{codes};
 ghost use Rattle.serde_json.specs.View.{view};
 ghost use Rattle.sim_settings.specs.Faults.{IsWhatFault};
@@ -12,12 +12,13 @@ ghost use Rattle.cmd_pipe.specs.Requests.{Asks, AsksCall, AsksIn, AsksOf, AsksQu
 ghost use Rattle.cmd_pipe.specs.Requests.{IsAskedAt, IsBadOf, IsBadCallKeyOf, IsFrameKey, IsFrameText, IsId};
 ghost use Rattle.cmd_pipe.specs.Requests.{IsIdFault, IsJitter, IsJsonObject, IsMomentFault, IsMomentOf, IsObject};
 ghost use Rattle.cmd_pipe.specs.Requests.{IsOfQuery, IsQueryFault, IsQueryWord, IsToldAs, IsWord, SaysCall, line_of};
-ghost use Rattle.cmd_pipe.specs.Requests.{values_in};
-ghost use Rattle.cmd_pipe.specs.Words.{line_word};
+ghost use Rattle.cmd_pipe.specs.Requests.{AsksSeal, AsksSecured, AsksSecuredIn, AsksVerified, ComesVerified};
+ghost use Rattle.cmd_pipe.specs.Requests.{IsNoOctets, IsOctetsText, IsOfKey, IsVerifiedBad, values_in};
+ghost use Rattle.cmd_pipe.specs.Words.{line_word, query_key};
 
 use crate::lines::is_blank;
 use crate::members::Members;
-use crate::request::{Id, LineFault, LineRequest, Query, QueryKey, Request};
+use crate::request::{Id, LineFault, LineRequest, Query, QueryKey, Request, VerifiedOctets};
 use crate::word::LineWord;
 use its_gnvalue::GnAddress;
 use its_station::Call;
@@ -36,6 +37,13 @@ const ID_BOUND: u64 = 1 << 53;
 #[derive(Clone, Copy)]
 pub(crate) enum ReadFault {
     Bad(LineFault),
+    OutOfMemory,
+}
+
+/// Why the octets of hexadecimal digits aren't read.
+#[derive(Clone, Copy)]
+pub(crate) enum OctetsFault {
+    Bad(Wrong),
     OutOfMemory,
 }
 
@@ -63,25 +71,33 @@ pub(crate) fn read_request(
 ) -> Result<LineRequest, AllocError>
     ensures asks { IfOk result (λ r. Asks now (line_of octets.now longer) r.id r.request) }
     ensures range { IfOk result (λ r. IsAskedIn IsInRange r.request) }
+    ensures secured { IfOk result (λ r.
+        IsTrue r.secured ↔ AsksSecured (line_of octets.now longer)) }
 {
     if longer {
-        return Ok(LineRequest {
-            id: None,
-            request: Request::Bad(LineFault::NotJson),
-        });
+        return Ok(LineRequest::of_none(Request::Bad(LineFault::NotJson)));
     }
     if is_blank(octets) {
-        return Ok(LineRequest {
-            id: None,
-            request: Request::Nothing,
-        });
+        return Ok(LineRequest::of_none(Request::Nothing));
     }
     match read_object(alloc, octets)? {
         Some(object) => read_members(alloc, &Members(&object), now),
-        None => Ok(LineRequest {
+        None => Ok(LineRequest::of_none(Request::Bad(LineFault::NotJson))),
+    }
+}
+
+impl LineRequest {
+    /// What a line asks for that is no object.
+    fn of_none(request: Request) -> LineRequest
+        ensures id { result.id ≡ None }
+        ensures request { result.request ≡ request }
+        ensures secured { IsFalse result.secured }
+    {
+        LineRequest {
             id: None,
-            request: Request::Bad(LineFault::NotJson),
-        }),
+            request,
+            secured: false,
+        }
     }
 }
 
@@ -107,21 +123,51 @@ fn read_members(
 ) -> Result<LineRequest, AllocError>
     ensures asks { IfOk result (λ r. AsksOf now (view members.now.0.now) r.id r.request) }
     ensures range { IfOk result (λ r. IsAskedIn IsInRange r.request) }
+    ensures secured { IfOk result (λ r.
+        IsTrue r.secured ↔ AsksSecuredIn (view members.now.0.now)) }
 {
+    let secured = asks_secured(members);
     match read_id(alloc, members) {
         Ok(id) => match read_call_or_query(alloc, members, now) {
-            Ok(request) => Ok(LineRequest { id, request }),
+            Ok(request) => Ok(LineRequest {
+                id,
+                request,
+                secured,
+            }),
             Err(ReadFault::Bad(fault)) => Ok(LineRequest {
                 id,
                 request: Request::Bad(fault),
+                secured,
             }),
             Err(ReadFault::OutOfMemory) => Err(AllocError),
         },
         Err(ReadFault::Bad(fault)) => Ok(LineRequest {
             id: None,
             request: Request::Bad(fault),
+            secured,
         }),
         Err(ReadFault::OutOfMemory) => Err(AllocError),
+    }
+}
+
+/// Whether the answer may have a secured frame.
+fn asks_secured(members: &Members<'_>) -> bool
+    ensures { IsTrue result ↔ AsksSecuredIn (view members.now.0.now) }
+{
+    match word_under(members) {
+        Some(LineWord::Seal) => true,
+        Some(LineWord::Receive) => members.has("plain"),
+        _ => false,
+    }
+}
+
+/// Whether a frame came with the plain part that a security entity verified.
+fn comes_verified(members: &Members<'_>) -> bool
+    ensures { IsTrue result ↔ ComesVerified (view members.now.0.now) }
+{
+    match word_under(members) {
+        Some(LineWord::Receive) => members.has("plain"),
+        _ => false,
     }
 }
 
@@ -164,12 +210,26 @@ fn read_call_or_query(
         return Ok(Request::Query(at, query));
     }
     match at {
+        Some(moment) if comes_verified(members) => {
+            Ok(Request::Verified(moment, read_verified(alloc, members)?))
+        }
         Some(moment) => match read_call(alloc, members) {
             Ok(call) => Ok(Request::Call(moment, call)),
             Err(fault) => Err(with_word_meant(alloc, members, fault)),
         },
         None => Err(ReadFault::Bad(LineFault::Key(Key::At, Wrong::Missing))),
     }
+}
+
+/// Reads a secured frame that came, and its plain part.
+fn read_verified(alloc: Global, members: &Members<'_>) -> Result<VerifiedOctets, ReadFault>
+    requires { ComesVerified (view members.now.0.now) }
+    ensures octets { IfOk result (AsksVerified (view members.now.0.now)) }
+    ensures fault { IfErr result (IsVerifiedBad (view members.now.0.now)) }
+{
+    let frame = read_frame(alloc, members)?;
+    let plain = read_octets(alloc, members, QueryKey::Plain)?;
+    Ok(VerifiedOctets { frame, plain })
 }
 
 /// The fault of a call. Where it is that of a word that is none of a line's, the word is told with
@@ -222,10 +282,24 @@ fn read_query(alloc: Global, members: &Members<'_>) -> Result<Option<Query>, Rea
         Some(LineWord::LookUp) => {
             Ok(Some(Query::LookUp(read_address(members, QueryKey::Address)?)))
         }
-        Some(LineWord::ReadFrame) => Ok(Some(Query::ReadFrame(read_octets(alloc, members)?))),
+        Some(LineWord::ReadFrame) => {
+            let frame = read_octets(alloc, members, QueryKey::Frame)?;
+            Ok(Some(Query::ReadFrame(frame)))
+        }
         Some(LineWord::Counts) => Ok(Some(Query::Counts)),
+        Some(LineWord::Seal) => Ok(Some(read_seal(alloc, members)?)),
         _ => Ok(None),
     }
+}
+
+/// Reads the frame and the message of `seal`.
+fn read_seal(alloc: Global, members: &Members<'_>) -> Result<Query, ReadFault>
+    ensures query { IfOk result (AsksSeal (view members.now.0.now)) }
+    ensures fault { IfErr result IsOfQuery }
+{
+    let frame = read_octets(alloc, members, QueryKey::Frame)?;
+    let message = read_octets(alloc, members, QueryKey::Message)?;
+    Ok(Query::Seal { frame, message })
 }
 
 /// The word under `do`, where it is one of a line's.
@@ -245,7 +319,7 @@ fn read_jitter(members: &Members<'_>) -> Result<u16, ReadFault>
     match members.integer("jitter") {
         Some(jitter) if 0 <= jitter && jitter <= 65535 => Ok(jitter as u16),
         Some(jitter) => Err(bad(QueryKey::Jitter, Wrong::Range(jitter))),
-        None => Err(unlike(members, "jitter", QueryKey::Jitter)),
+        None => Err(bad(QueryKey::Jitter, unlike(members, "jitter"))),
     }
 }
 
@@ -263,12 +337,8 @@ fn read_after(members: &Members<'_>) -> Result<Option<GnAddress>, ReadFault>
 fn read_address(members: &Members<'_>, key: QueryKey) -> Result<GnAddress, ReadFault>
     ensures fault { IfErr result IsOfQuery }
 {
-    let word = match key {
-        QueryKey::After => "after",
-        _ => "address",
-    };
-    let Some(digits) = members.text(word) else {
-        return Err(unlike(members, word, key));
+    let Some(digits) = members.text(key.word()) else {
+        return Err(bad(key, unlike(members, key.word())));
     };
     let mut octets = [0u8; 8];
     if hex::decode_to_slice(digits, &mut octets).is_err() {
@@ -280,41 +350,40 @@ fn read_address(members: &Members<'_>, key: QueryKey) -> Result<GnAddress, ReadF
     }
 }
 
-/// Reads the octets that are asked about.
-fn read_octets(alloc: Global, members: &Members<'_>) -> Result<Vec<u8>, ReadFault>
-    ensures frame { IfOk result (λ frame. IsFrameText (view members.now.0.now) frame.items) }
-    ensures fault { IfErr result IsOfQuery }
+/// Reads the octets under a key that isn't a call's.
+fn read_octets(alloc: Global, members: &Members<'_>, key: QueryKey) -> Result<Vec<u8>, ReadFault>
+    ensures octets { IfOk result (λ octets.
+        IsOctetsText (query_key key) (view members.now.0.now) octets.items) }
+    ensures fault { IfErr result (IsOfKey key (view members.now.0.now)) }
 {
-    match read_frame(alloc, members) {
+    match read_digits(alloc, members, key.word()) {
         Ok(octets) => Ok(octets),
-        Err(KeyFault::OutOfMemory) => Err(ReadFault::OutOfMemory),
-        Err(KeyFault::Refused(_, wrong)) => Err(bad(QueryKey::Frame, wrong)),
+        Err(OctetsFault::Bad(wrong)) => Err(bad(key, wrong)),
+        Err(OctetsFault::OutOfMemory) => Err(ReadFault::OutOfMemory),
     }
 }
 
 /// The fault of a key of what is asked.
 fn bad(key: QueryKey, wrong: Wrong) -> ReadFault
-    ensures { IsOfQuery result }
+    ensures { result ≡ ReadFault.Bad (LineFault.Query key wrong) }
 {
     ReadFault::Bad(LineFault::Query(key, wrong))
 }
 
-/// The fault of a key that has no value of the kind that it takes.
-fn unlike(members: &Members<'_>, word: &str, key: QueryKey) -> ReadFault
-    ensures { IsOfQuery result }
-{
-    let wrong = if members.has(word) {
+/// What is wrong under a word that has no value of the kind that it takes.
+fn unlike(members: &Members<'_>, word: &str) -> Wrong {
+    if members.has(word) {
         Wrong::Kind
     } else {
         Wrong::Missing
-    };
-    bad(key, wrong)
+    }
 }
 
 /// Reads the call of a line. It has the keys of a scenario's event but for `deliver`, and beside
-/// these a frame that came.
+/// these a frame that came without a plain part.
 #[tactic(auto, using(crate::proofs::Own::asks_own, crate::proofs::Own::bad_own_of))]
 fn read_call(alloc: Global, members: &Members<'_>) -> Result<Call, KeyFault>
+    requires { ¬ ComesVerified (view members.now.0.now) }
     ensures call { IfOk result (AsksCall (view members.now.0.now)) }
     ensures range { IfOk result IsInRange }
     ensures fault { IfErr result (IsBadCallKeyOf (view members.now.0.now)) }
@@ -349,17 +418,25 @@ fn read_frame(alloc: Global, members: &Members<'_>) -> Result<Vec<u8>, KeyFault>
         ⊎ (IsFrameKey fault × ((frame : List ℕ)
         → ¬ IsFrameText (view members.now.0.now) frame))) }
 {
-    let Some(digits) = members.text("frame") else {
-        let wrong = if members.has("frame") {
-            Wrong::Kind
-        } else {
-            Wrong::Missing
-        };
-        return Err(KeyFault::Refused(Key::Frame, wrong));
+    match read_digits(alloc, members, "frame") {
+        Ok(octets) => Ok(octets),
+        Err(OctetsFault::Bad(wrong)) => Err(KeyFault::Refused(Key::Frame, wrong)),
+        Err(OctetsFault::OutOfMemory) => Err(KeyFault::OutOfMemory),
+    }
+}
+
+/// Reads the octets of the hexadecimal digits under a word, in either letter case.
+fn read_digits(alloc: Global, members: &Members<'_>, word: &str) -> Result<Vec<u8>, OctetsFault>
+    ensures octets { IfOk result (λ octets.
+        IsOctetsText word.now (view members.now.0.now) octets.items) }
+    ensures fault { IfErr result (IsNoOctets word.now (view members.now.0.now)) }
+{
+    let Some(digits) = members.text(word) else {
+        return Err(OctetsFault::Bad(unlike(members, word)));
     };
     match hex::decode(alloc, digits) {
         Ok(octets) => Ok(octets),
-        Err(hex::FromHexError::OutOfMemory) => Err(KeyFault::OutOfMemory),
-        Err(_) => Err(KeyFault::Refused(Key::Frame, Wrong::Value)),
+        Err(hex::FromHexError::OutOfMemory) => Err(OctetsFault::OutOfMemory),
+        Err(_) => Err(OctetsFault::Bad(Wrong::Value)),
     }
 }

@@ -1,6 +1,7 @@
 //! Why a line can't be read, as a sentence for a person.
 
 use crate::request::{LineFault, QueryKey};
+use crate::response::SealFault;
 use sim_settings::keys::{Key, Wrong, WrongOf};
 use std::fmt;
 
@@ -25,10 +26,24 @@ impl fmt::Display for LineReason {
             LineFault::Id => f.write_str(
                 "not a text of at most 128 octets, nor a whole number between -2^53 and 2^53",
             ),
+            LineFault::Key(Key::Frame, wrong) => explain_query(f, QueryKey::Frame, wrong),
             LineFault::Key(key, wrong) => explain_key(f, key, wrong),
             LineFault::Word(meant) => write!(f, "did you mean '{meant}'?"),
             LineFault::Query(key, wrong) => explain_query(f, key, wrong),
         }
+    }
+}
+
+/// The sentence of a message that makes no secured frame.
+#[derive(Clone, Copy, Debug, PartialEq, Eq)]
+pub(crate) struct SealReason(pub(crate) SealFault);
+
+impl fmt::Display for SealReason {
+    fn fmt<W: fmt::Write>(&self, f: &mut fmt::Formatter<W>) -> fmt::Result {
+        f.write_str(match self.0 {
+            SealFault::MessageEmpty => "a message has at least one octet",
+            SealFault::TooLong => "a secured frame of more than 2310 octets",
+        })
     }
 }
 
@@ -51,8 +66,12 @@ fn explain_query<W: fmt::Write>(
         (_, Wrong::Missing) => f.write_str("missing"),
         (_, Wrong::Range(number)) => write!(f, "{number} is not in 0..=65535"),
         (QueryKey::Jitter, _) => f.write_str("not a whole number"),
-        (QueryKey::Frame, Wrong::Kind) => f.write_str("not a text"),
-        (QueryKey::Frame, _) => f.write_str("not an even number of hexadecimal digits"),
+        (QueryKey::Frame | QueryKey::Plain | QueryKey::Message, Wrong::Kind) => {
+            f.write_str("not a text")
+        }
+        (QueryKey::Frame | QueryKey::Plain | QueryKey::Message, _) => {
+            f.write_str("not an even number of hexadecimal digits")
+        }
         (QueryKey::After | QueryKey::Address, _) => {
             f.write_str("not a GN address: 16 hexadecimal digits, not a group address")
         }

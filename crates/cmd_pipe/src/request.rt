@@ -1,5 +1,8 @@
 //! What a line asks for.
 
+ghost use Rattle.std.specs.Prelude.{◌≡◌};
+ghost use Rattle.cmd_pipe.specs.Words.{query_key};
+
 use crate::word::LineWord;
 use its_gnvalue::GnAddress;
 use its_station::Call;
@@ -28,9 +31,16 @@ pub enum Query {
     ReadFrame(Vec<u8>),
     /// `counts`: what the station heard, sent and refused so far.
     Counts,
+    /// `seal`: the secured frame of a frame, with a message in place of its plain part.
+    Seal {
+        /// The octets of the frame.
+        frame: Vec<u8>,
+        /// The message that a security entity signed the plain part into.
+        message: Vec<u8>,
+    },
 }
 
-/// A key of what is asked. It prints as its word.
+/// A key of what is asked, or of a frame that came signed. It prints as its word.
 #[derive(Clone, Copy, Debug, PartialEq, Eq)]
 pub enum QueryKey {
     /// A jitter in milliseconds: 0 to 65535.
@@ -41,16 +51,31 @@ pub enum QueryKey {
     Address,
     /// The octets of a frame: an even number of hexadecimal digits.
     Frame,
+    /// The plain part that a security entity verified: as `Frame`.
+    Plain,
+    /// The message of a security entity: as `Frame`.
+    Message,
 }
 
-impl fmt::Display for QueryKey {
-    fn fmt<W: fmt::Write>(&self, f: &mut fmt::Formatter<W>) -> fmt::Result {
-        f.write_str(match self {
+impl QueryKey {
+    /// The word.
+    pub(crate) fn word(self) -> &'static str
+        ensures { result.now ≡ query_key self }
+    {
+        match self {
             QueryKey::Jitter => "jitter",
             QueryKey::After => "after",
             QueryKey::Address => "address",
             QueryKey::Frame => "frame",
-        })
+            QueryKey::Plain => "plain",
+            QueryKey::Message => "message",
+        }
+    }
+}
+
+impl fmt::Display for QueryKey {
+    fn fmt<W: fmt::Write>(&self, f: &mut fmt::Formatter<W>) -> fmt::Result {
+        f.write_str(self.word())
     }
 }
 
@@ -88,10 +113,19 @@ pub(crate) enum Request {
     Nothing,
     /// This call, at this moment.
     Call(u64, Call),
+    /// That the station receives this, at this moment.
+    Verified(u64, VerifiedOctets),
     /// This, of this moment, where one is given.
     Query(Option<u64>, Query),
     /// It can't be read.
     Bad(LineFault),
+}
+
+/// A secured frame that came, and the plain part that a security entity verified of its message.
+#[derive(Drop)]
+pub(crate) struct VerifiedOctets {
+    pub(crate) frame: Vec<u8>,
+    pub(crate) plain: Vec<u8>,
 }
 
 /// What a line asks for, and its `id`, where it has one that is none of the bad ones.
@@ -99,4 +133,7 @@ pub(crate) enum Request {
 pub(crate) struct LineRequest {
     pub(crate) id: Option<Id>,
     pub(crate) request: Request,
+    /// Whether its answer may have a secured frame: its word is `seal`, or `receive` and it has a
+    /// key `plain`.
+    pub(crate) secured: bool,
 }

@@ -8,6 +8,7 @@ use crate::request::{Id, LineFault};
 use its_gnvalue::{GnAddress, LongPv};
 use its_linkframe::FrameFault;
 use its_station::{Call, Counts, Refused, Reply};
+use std::fmt;
 
 /// What is answered to a line.
 #[derive(Debug, Drop, PartialEq, Eq)]
@@ -99,10 +100,32 @@ pub enum Known {
     Frame(Vec<u8>),
     /// These octets are none.
     NoFrame(FrameFault),
+    /// The secured frame that was asked for.
+    Sealed(Vec<u8>),
+    /// There is none with this message.
+    NotSealed(SealFault),
     /// What the station heard, sent and refused so far.
     Counts(Counts),
     /// It can't be asked so.
     Refused(Refused),
+}
+
+/// Why a message makes no secured frame of a frame. It prints as its code.
+#[derive(Clone, Copy, Debug, PartialEq, Eq)]
+pub enum SealFault {
+    /// It is empty.
+    MessageEmpty,
+    /// The frame would have over 2310 octets.
+    TooLong,
+}
+
+impl fmt::Display for SealFault {
+    fn fmt<W: fmt::Write>(&self, f: &mut fmt::Formatter<W>) -> fmt::Result {
+        f.write_str(match self {
+            SealFault::MessageEmpty => "message empty",
+            SealFault::TooLong => "too long",
+        })
+    }
 }
 
 /// What takes what is answered, line by line.

@@ -1,6 +1,7 @@
 //! The lines of the input, each answered before the next is read.
 
-ghost use Rattle.std.specs.Prelude.{◌≡◌, ◌++◌, ◌∷◌, [], ℕ, List, None, Some, IfOk, OnErr, OnOk};
+ghost use Rattle.std.specs.Prelude.{◌≡◌, ◌<◌, ◌++◌, ◌∷◌, [], ℕ, List, None, Some, IfOk, OnErr, OnOk};
+ghost use Rattle.std.specs.Prelude.{Err, IsErr};
 ghost use Rattle.its_model.specs.Station.{StationModel};
 ghost use Rattle.its_station.specs.Counting.{nothing};
 ghost use Rattle.its_station.specs.Runs.{IsInRange};
@@ -9,8 +10,9 @@ ghost use Rattle.cmd_pipe.specs.declared.response.Response.{Response as ToldLine
 ghost use Rattle.cmd_pipe.specs.Knowing.{Counted};
 ghost use Rattle.cmd_pipe.specs.Lines.{text_of};
 ghost use Rattle.cmd_pipe.specs.Lines.{whole_line};
-ghost use Rattle.cmd_pipe.specs.Requests.{line_of};
-ghost use Rattle.cmd_pipe.specs.Serving.{IsServed, IsServedLine, RepresentsCounted, TellsLine};
+ghost use Rattle.cmd_pipe.specs.Requests.{AsksSecured, IsAskedIn};
+ghost use Rattle.cmd_pipe.specs.Serving.{IsServed, IsServedLine, RepresentsCounted, TellsAsked};
+ghost use Rattle.cmd_pipe.specs.Serving.{TellsLine};
 ghost use Rattle.cmd_pipe.specs.Serving.{TellsCall, ended_of, then_ended, told_in};
 
 use crate::ended::Ended;
@@ -18,14 +20,15 @@ use crate::fault::PipeFault;
 use crate::knowing::answer_query;
 use crate::lines::LONGEST_LINE;
 use crate::reading::read_request;
-use crate::request::{Id, Request};
+use crate::request::{Id, LineRequest, Request};
 use crate::response::{Done, Response, ResponseSink};
+use crate::verifying::receive_verified;
 use cmd_text::lines::Line;
 use its_gnvalue::{GnAddress, NoMemory};
-use its_linkframe::read_frame;
+use its_linkframe::{LONGEST_SECURED_FRAME, read_frame};
 use its_loctable::SortedTable;
 use its_station::{Call, Counts, Reply, Station};
-use std::alloc::Global;
+use std::alloc::{AllocError, Global};
 use std::io::BufRead;
 
 /// Reads the lines of the reader to their end, makes the call for which each asks, or asks what the
@@ -79,8 +82,8 @@ fn serve_line<S: ResponseSink>(
         IsServedLine s number (text_of line.now) log station.new counts.new next
         (S.Took sink.new)) }
 {
-    let (octets, longer) = (line.start(), line.passed().any);
-    match respond(alloc, station, counts, number, octets, longer, None)? {
+    let asked = read_request(alloc, line.start(), line.passed().any, None)?;
+    match respond(alloc, station, counts, number, asked)? {
         Some(response) => hand_on(response, sink, ended),
         None => Ok(ended),
     }
@@ -101,30 +104,30 @@ fn hand_on<S: ResponseSink>(
     Ok(next)
 }
 
-/// Does what the line of this number asks for, and gives the answer: none to a blank line. `longer`
-/// says whether the line has more octets than these. Where `now` is given it is the moment of the
-/// line, and what stands under `at` isn't looked at. `NoMemory` where an allocation failed: the
-/// station stands as before.
+/// Does what the line of this number asks for, and gives the answer: none to a blank line.
+/// `NoMemory` where an allocation failed: the station stands as before.
 fn respond(
     alloc: Global,
     station: &mut Station<SortedTable>,
     counts: &mut Counts,
     number: u64,
-    octets: &[u8],
-    longer: bool,
-    now: Option<u64>,
+    line: LineRequest,
 ) -> Result<Option<Response>, NoMemory>
+    requires { IsAskedIn IsInRange line.request }
     ensures tells { (s : Counted) → RepresentsCounted station.old counts.old s →
         IfOk result (λ told. (next : Counted)
-        × TellsLine now s number (line_of octets.now longer) (told_in told) next
+        × TellsAsked s number line.id line.request (told_in told) next
         × RepresentsCounted station.new counts.new next) }
     ensures unchanged { OnErr result (station.new ≡ station.old) }
 {
-    let line = read_request(alloc, octets, longer, now)?;
     let id = line.id;
     match line.request {
         Request::Nothing => Ok(None),
         Request::Call(at, call) => Ok(Some(make_call(station, counts, id, at, &call)?)),
+        Request::Verified(at, octets) => {
+            let response = receive_verified(alloc, station, counts, id, at, &octets)?;
+            Ok(Some(response))
+        }
         Request::Query(at, query) => {
             let known = answer_query(alloc, station, counts, at, query)?;
             Ok(Some(Response::Known { id, at, known }))
@@ -139,8 +142,10 @@ fn respond(
 
 /// Does what one line asks for, at the moment `now`: what stands under `at`, if anything, isn't looked
 /// at. Of the line, which has no line feed, `number` is its number among the lines, from 1; one of
-/// more than 65536 octets can't be read. A blank line has no answer. `NoMemory` where an allocation
-/// failed: the station stands as before.
+/// more than 65536 octets can't be read. A blank line has no answer. `NoRoom` for a line whose answer
+/// may have a secured frame (`seal`, and `receive` with a key `plain`) where a frame may have `room`
+/// octets, under 2310: nothing is done. `NoMemory` where an allocation failed: the station stands as
+/// before.
 pub fn answer_line(
     alloc: Global,
     station: &mut Station<SortedTable>,
@@ -148,15 +153,52 @@ pub fn answer_line(
     now: u64,
     number: u64,
     line: &[u8],
-) -> Result<Option<Response>, NoMemory>
+    room: usize,
+) -> Result<Option<Response>, Unanswered>
     ensures tells { (s : Counted) → RepresentsCounted station.old counts.old s →
         IfOk result (λ told. (next : Counted)
         × TellsLine (Some now) s number (whole_line line.now) (told_in told) next
         × RepresentsCounted station.new counts.new next) }
+    ensures room { room < 2310 → AsksSecured (whole_line line.now) → IsErr result }
+    ensures no_room { result ≡ Err Unanswered.NoRoom → (room < 2310)
+        × AsksSecured (whole_line line.now) × (counts.new ≡ counts.old) }
     ensures unchanged { OnErr result (station.new ≡ station.old) }
 {
     let longer = line.len() > LONGEST_LINE;
-    respond(alloc, station, counts, number, line, longer, Some(now))
+    let asked = read_request(alloc, line, longer, Some(now))?;
+    if asked.secured && room < LONGEST_SECURED_FRAME {
+        return Err(Unanswered::NoRoom);
+    }
+    Ok(respond(alloc, station, counts, number, asked)?)
+}
+
+/// Why a line isn't answered. The station stands as before.
+#[derive(Clone, Copy, Debug, PartialEq, Eq)]
+pub enum Unanswered {
+    /// A secured frame might not fit: nothing was done.
+    NoRoom,
+    /// An allocation failed.
+    NoMemory,
+}
+
+impl From<AllocError> for Unanswered {
+    ghost use Rattle.cmd_pipe.specs.declared.serving.Unanswered.{Unanswered};
+
+    ghost from_gives = { λ error unanswered. unanswered ≡ Unanswered.NoMemory };
+
+    fn from(_: AllocError) -> Unanswered {
+        Unanswered::NoMemory
+    }
+}
+
+impl From<NoMemory> for Unanswered {
+    ghost use Rattle.cmd_pipe.specs.declared.serving.Unanswered.{Unanswered};
+
+    ghost from_gives = { λ error unanswered. unanswered ≡ Unanswered.NoMemory };
+
+    fn from(_: NoMemory) -> Unanswered {
+        Unanswered::NoMemory
+    }
 }
 
 /// Makes a call of the station at a moment, counts it, and gives what came of it. `NoMemory` where

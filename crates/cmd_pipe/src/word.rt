@@ -24,10 +24,12 @@ pub enum LineWord {
     ReadFrame,
     /// How often what came of the calls.
     Counts,
+    /// The secured frame of a frame, with a message of a security entity.
+    Seal,
 }
 
 /// All that a line takes: of those of a scenario no delivery, and nobody leaves.
-const WORDS: [LineWord; 14] = [
+const WORDS: [LineWord; 15] = [
     LineWord::Own(Verb::Move),
     LineWord::Own(Verb::Open),
     LineWord::Own(Verb::Close),
@@ -42,6 +44,7 @@ const WORDS: [LineWord; 14] = [
     LineWord::LookUp,
     LineWord::ReadFrame,
     LineWord::Counts,
+    LineWord::Seal,
 ];
 
 impl LineWord {
@@ -57,6 +60,7 @@ impl LineWord {
             "look_up" => Some(LineWord::LookUp),
             "read_frame" => Some(LineWord::ReadFrame),
             "counts" => Some(LineWord::Counts),
+            "seal" => Some(LineWord::Seal),
             _ => Verb::named(word).map(LineWord::Own),
         }
     }
@@ -73,6 +77,7 @@ impl LineWord {
             LineWord::LookUp => "look_up",
             LineWord::ReadFrame => "read_frame",
             LineWord::Counts => "counts",
+            LineWord::Seal => "seal",
         }
     }
 

@@ -8,6 +8,7 @@ use Rattle.its_station.specs.declared.run.Reply.TheVariants as replies
 use Rattle.cmd_pipe.specs.Knowing.{Counted}
 use Rattle.cmd_pipe.specs.Lines.{whole_line}
 use Rattle.cmd_pipe.specs.Serving.{TellsLine, told_in}
+use Rattle.cmd_pipe.specs.declared.response.Known.TheVariants as knowns
 use Rattle.cmd_pipe.specs.declared.response.Response.{Response}
 use Rattle.cmd_pipe.specs.declared.response.Response.TheVariants as responses
 use Rattle.its_c.specs.Counted.{counts_of}
@@ -19,6 +20,7 @@ abbrev pub frame_in : Option Response → Option (Vec ℕ Global)
 frame_in None = None
 frame_in (Some (responses.Reply id at done source (replies.Sent frame))) = Some frame
 frame_in (Some (responses.Reply id at done source (replies.Accepted handed sent))) = sent
+frame_in (Some (responses.Known id at (knowns.Sealed frame))) = Some frame
 frame_in (Some response) = None
 
 -- The buffer has an answer, a JSON value in compact form without a line feed; or none, where none

@@ -3,6 +3,9 @@
 ghost use Rattle.std.specs.Prelude.{◌≡◌, ◌≢◌, ◌≤◌, ◌<◌, ◌⊎◌, pos, length, Option};
 ghost use Rattle.its_model.specs.Station.{StationModel};
 ghost use Rattle.cmd_pipe.specs.declared.response.Response.{Response as ToldLine};
+ghost use Rattle.cmd_pipe.specs.Lines.{whole_line};
+ghost use Rattle.cmd_pipe.specs.Requests.{AsksSecured};
+ghost use Rattle.its_c.specs.Counted.{counts_of};
 ghost use Rattle.its_c.specs.Open.{HoldsModel};
 ghost use Rattle.its_c.specs.Served.{IsServedLine, ShowsAnswer, ShowsFitting, ShowsLine, frame_in};
 ghost use Rattle.its_c.specs.Told.{Holds};
@@ -11,7 +14,7 @@ use crate::counting::{counts_of, told_counts};
 use crate::handle::Geostation;
 use crate::status::{NO_MEMORY, NO_ROOM, OK};
 use crate::told::hand_out;
-use cmd_pipe::{Response, answer_line, print_response};
+use cmd_pipe::{Known, Response, Unanswered, answer_line, print_response};
 use cmd_text::json_lines::JsonLine;
 use its_linkframe::LONGEST_FRAME;
 use its_station::Reply;
@@ -24,7 +27,8 @@ const LONGEST_ANSWER: usize = 16384;
 /// as the command `station` does. What stands under `at` isn't looked at. Writes the answer, one
 /// JSON object without a line feed, or nothing to a blank line, and the frame that is to be sent, if
 /// any. `number` is the line's among all, for the answer to one that can't be read. Refused by
-/// `NO_ROOM` for an `answer` under 16384 octets or a `frame` under 1468, and for memory (S5); a
+/// `NO_ROOM` for an `answer` under 16384 octets, a `frame` under 1468, or under 2310 of a line whose
+/// answer may have a secured frame (`seal`, and `receive` with a key `plain`), and for memory (S5); a
 /// refusal of the station's is in the answer. The limits don't apply to what a line asks for.
 #[unsafe(no_mangle)]
 pub extern "C" fn geostation_handle_json(
@@ -40,6 +44,9 @@ pub extern "C" fn geostation_handle_json(
 ) -> i32
     ensures room { (length answer.old < 16384) ⊎ (length frame.old < 1468) →
         (result ≡ pos 21) × (s.new ≡ s.old) }
+    ensures secured_room { length frame.old < 2310 → AsksSecured (whole_line line.now) →
+        result ≢ pos 0 }
+    ensures no_room { result ≡ pos 21 → counts_of s.new.counts ≡ counts_of s.old.counts }
     ensures served { (m : StationModel) → HoldsModel s.old.held.station m → result ≡ pos 0 →
         (told : Option ToldLine) × IsServedLine now number line.now m s.old s.new told
         × ShowsAnswer answer_length.new answer.new told
@@ -60,11 +67,14 @@ pub extern "C" fn geostation_handle_json(
     };
     let mut station = s.held.take(alloc);
     let mut counts = counts_of(&s.counts);
-    let said = answer_line(alloc, &mut station, &mut counts, now, number, line);
+    let room = frame.len();
+    let said = answer_line(alloc, &mut station, &mut counts, now, number, line, room);
     s.held.put(station);
     s.counts = told_counts(&counts);
-    let Ok(told) = said else {
-        return NO_MEMORY;
+    let told = match said {
+        Ok(told) => told,
+        Err(Unanswered::NoRoom) => return NO_ROOM,
+        Err(Unanswered::NoMemory) => return NO_MEMORY,
     };
     *frame_length = write_frame(&told, frame);
     *answer_length = write_answer(&mut text, &told, answer);
@@ -85,6 +95,12 @@ fn write_frame(told: &Option<Response>, room: &mut [u8]) -> usize
             } => write_fitting(frame.as_slice(), room),
             _ => 0,
         },
+        Some(
+            Response::Known {
+                known: Known::Sealed(frame),
+                ..
+            },
+        ) => write_fitting(frame.as_slice(), room),
         _ => 0,
     }
 }

@@ -34,7 +34,8 @@ pub enum Error {
     JitterRange,
     /// An argument is out of its range. It has no code.
     BadArgument,
-    /// The buffer is shorter than [`FRAME_MAX`](crate::FRAME_MAX). It has no code.
+    /// The buffer is shorter than [`FRAME_MAX`](crate::FRAME_MAX), or
+    /// [`SECURED_FRAME_MAX`](crate::SECURED_FRAME_MAX) for a secured frame. It has no code.
     NoRoom,
     /// Own packets are over their rate (`own_rate` and `own_burst`). It has no code.
     OverRate,
@@ -43,12 +44,12 @@ pub enum Error {
 }
 
 impl Error {
-    /// Converts the status of any call except `receive`.
+    /// Converts the status of a call that reads no frame.
     pub(crate) fn check(status: i32) -> Result<(), Error> {
         Error::check_frame(status, Fault::default())
     }
 
-    /// Converts the status of `receive`, with the fault of a frame that is not valid.
+    /// Converts the status of a call that reads a frame, with the fault of a frame that is not valid.
     pub(crate) fn check_frame(status: i32, fault: Fault) -> Result<(), Error> {
         Err(match status {
             0 => return Ok(()),
@@ -120,11 +121,11 @@ impl std::error::Error for Error {}
 /// `Display` prints a message. [`Fault::code`] is a short code for logs.
 #[derive(Clone, Copy, Debug, Default, PartialEq, Eq, Hash)]
 pub struct Fault {
-    /// 1 to 5, for the codes L1 to L5.
+    /// 1 to 6, for the codes L1 to L6.
     pub layer: u32,
-    /// 1 to 12, for G1 to G12, if `layer` is 5; otherwise 0.
+    /// 1 to 12, for G1 to G12, if `layer` is 5 or 6; otherwise 0.
     pub kind: u32,
-    /// Offset of the faulty field in the packet, if `layer` is 5; otherwise 0.
+    /// Offset of the faulty field in the packet, if `layer` is 5 or 6; otherwise 0.
     pub at: usize,
 }
 
@@ -145,7 +146,7 @@ impl fmt::Display for Fault {
     fn fmt(&self, f: &mut fmt::Formatter<'_>) -> fmt::Result {
         f.write_str(&ffi::fault_text(self.layer, self.kind).to_string_lossy())?;
         match self.layer {
-            5 => write!(f, ", at octet {}", self.at),
+            5 | 6 => write!(f, ", at octet {}", self.at),
             _ => Ok(()),
         }
     }
@@ -159,14 +160,17 @@ impl std::error::Error for Fault {}
 pub enum Code {
     /// The code of a call that failed.
     OfCall(Error),
-    /// The code of a fault from [`read_frame`](crate::read_frame).
+    /// The code of a fault from [`read_frame`](crate::read_frame) or
+    /// [`plain_part`](crate::plain_part).
     OfFrame(Fault),
 }
 
 impl fmt::Display for Code {
     fn fmt(&self, f: &mut fmt::Formatter<'_>) -> fmt::Result {
         match self {
-            Code::OfFrame(Fault { layer: 5, kind, at }) => write!(f, "L5 G{kind} at {at}"),
+            Code::OfFrame(Fault { layer: layer @ (5 | 6), kind, at }) => {
+                write!(f, "L{layer} G{kind} at {at}")
+            }
             Code::OfFrame(fault) => write!(f, "L{}", fault.layer),
             Code::OfCall(Error::BadFrame(fault)) => write!(f, "S3 {}", fault.code()),
             Code::OfCall(Error::PortAlreadyOpen) => f.write_str("S8 B2"),

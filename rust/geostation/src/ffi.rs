@@ -266,6 +266,38 @@ extern "C" {
         relay: *mut u8,
         room: usize,
     ) -> c_int;
+    fn geostation_receive_verified(
+        s: *mut Opaque,
+        now: u64,
+        frame: *const u8,
+        length: usize,
+        plain: *const u8,
+        plain_length: usize,
+        out: *mut Reception,
+        relay: *mut u8,
+        room: usize,
+    ) -> c_int;
+    fn geostation_message(
+        frame: *const u8,
+        length: usize,
+        start: *mut usize,
+        message_length: *mut usize,
+    ) -> c_int;
+    fn geostation_plain_part(
+        frame: *const u8,
+        length: usize,
+        start: *mut usize,
+        plain_length: *mut usize,
+    ) -> c_int;
+    fn geostation_seal(
+        frame: *const u8,
+        length: usize,
+        message: *const u8,
+        message_length: usize,
+        out: *mut u8,
+        room: usize,
+        out_length: *mut usize,
+    ) -> c_int;
     fn geostation_handle_json(
         s: *mut Opaque,
         now: u64,
@@ -466,6 +498,36 @@ impl Handle {
         (status, out)
     }
 
+    pub(crate) fn receive_verified(
+        &mut self,
+        now: u64,
+        frame: &[u8],
+        plain: &[u8],
+        relay: &mut [u8],
+    ) -> (c_int, Reception) {
+        let (s, mut out) = (self.0.as_ptr(), Reception::default());
+        let (octets, length) = (frame.as_ptr(), frame.len());
+        let (part, part_length) = (plain.as_ptr(), plain.len());
+        let (written, room) = (relay.as_mut_ptr(), relay.len());
+        // SAFETY: the handle is valid, and in no other call; the three slices have the given
+        // lengths. `frame` and `plain` may overlap, and `relay` overlaps neither, as it is borrowed
+        // mutably.
+        let status = unsafe {
+            geostation_receive_verified(
+                s,
+                now,
+                octets,
+                length,
+                part,
+                part_length,
+                &mut out,
+                written,
+                room,
+            )
+        };
+        (status, out)
+    }
+
     /// Afterwards, `answer` holds exactly the answer.
     pub(crate) fn handle_json(
         &mut self,
@@ -553,6 +615,43 @@ pub(crate) fn usual_config() -> Config {
 pub(crate) fn frame_length(octets: &[u8]) -> usize {
     // SAFETY: the slice has the given length.
     unsafe { geostation_frame_length(octets.as_ptr(), octets.len()) }
+}
+
+/// A part of a frame: the status, its offset and its length.
+type Part = (c_int, usize, usize);
+
+/// Finds the message of a secured frame.
+pub(crate) fn message(frame: &[u8]) -> Part {
+    check_abi();
+    let (mut start, mut length) = (0, 0);
+    // SAFETY: the slice has the given length.
+    let status =
+        unsafe { geostation_message(frame.as_ptr(), frame.len(), &mut start, &mut length) };
+    (status, start, length)
+}
+
+/// Finds the plain part of an unsecured frame.
+pub(crate) fn plain_part(frame: &[u8]) -> Part {
+    check_abi();
+    let (mut start, mut length) = (0, 0);
+    // SAFETY: the slice has the given length.
+    let status =
+        unsafe { geostation_plain_part(frame.as_ptr(), frame.len(), &mut start, &mut length) };
+    (status, start, length)
+}
+
+/// Writes the secured frame of an unsecured one.
+pub(crate) fn seal(frame: &[u8], message: &[u8], out: &mut [u8]) -> Written {
+    check_abi();
+    let mut length = 0;
+    let (octets, count) = (frame.as_ptr(), frame.len());
+    let (signed, signed_count) = (message.as_ptr(), message.len());
+    let (sealed, room) = (out.as_mut_ptr(), out.len());
+    // SAFETY: the three slices have the given lengths, and `out` overlaps no other, as it is borrowed
+    // mutably.
+    let status =
+        unsafe { geostation_seal(octets, count, signed, signed_count, sealed, room, &mut length) };
+    (status, length)
 }
 
 /// Reads all fields of a frame, or its fault.

@@ -185,6 +185,11 @@ pub fn frame_length(octets: &[u8]) -> usize {
     ffi::frame_length(octets)
 }
 
+/// Returns the fault in what the library wrote of a frame.
+pub(crate) fn fault_in(p: &ffi::Packet) -> Fault {
+    Fault { layer: p.fault, kind: p.fault_kind, at: p.fault_at }
+}
+
 /// Reads all fields of a frame, without a station.
 ///
 /// All bytes have to belong to the frame: padding is an error here.
@@ -211,7 +216,7 @@ pub fn frame_length(octets: &[u8]) -> usize {
 pub fn read_frame(frame: &[u8]) -> Result<Packet<'_>, Fault> {
     let (status, p) = ffi::read_frame(frame);
     if status != 0 {
-        return Err(Fault { layer: p.fault, kind: p.fault_kind, at: p.fault_at });
+        return Err(fault_in(&p));
     }
     let start = p.message.payload_start;
     let message = Message {

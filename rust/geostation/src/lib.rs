@@ -9,6 +9,8 @@
 //! - A call that returns an [`Error`] leaves the station unchanged.
 //! - A call that writes a frame needs a [`Buffer`]: a `Vec<u8>` or an array.
 //! - [`read_frame`] reads the fields of a frame, without a station.
+//! - [`plain_part`], [`seal`], [`message_of`] and [`Station::receive_verified`] are for signed packets,
+//!   with a security entity of yours.
 //!
 //! ```
 //! use geostation::{Area, AreaRequest, Config, Shape, Station};
@@ -31,11 +33,13 @@ mod error;
 #[allow(unsafe_code)]
 mod ffi;
 mod frame;
+mod secured;
 mod station;
 
 pub use buffer::Buffer;
 pub use error::{Code, Error, Fault};
 pub use frame::{frame_length, read_frame, Area, Content, Message, Packet, Shape, Vector};
+pub use secured::{message_of, plain_part, seal};
 pub use station::{
     AreaRequest, Config, Counts, IgnoreReason, IgnoredCounts, Limits, Neighbours, Place, Received,
     RefusedCounts, SentCounts, ShbRequest, Station,
@@ -47,6 +51,8 @@ pub type Why = IgnoreReason;
 
 /// The longest frame, in bytes. A buffer that is not a `Vec` needs this size.
 pub const FRAME_MAX: usize = 1468;
+/// The longest secured frame, in bytes. A buffer for one that is not a `Vec` needs this size.
+pub const SECURED_FRAME_MAX: usize = 2310;
 /// The longest answer to a JSON request, in bytes.
 pub const ANSWER_MAX: usize = 16384;
 /// The longest payload that can be sent, in bytes.

@@ -4,6 +4,7 @@ use crate::buffer::{written, Buffer};
 use crate::error::{Error, Fault};
 use crate::ffi::{self, Handle};
 use crate::frame::{Area, Message, Vector};
+use crate::{FRAME_MAX, SECURED_FRAME_MAX};
 use std::fmt;
 use std::iter::FusedIterator;
 
@@ -198,13 +199,15 @@ impl fmt::Display for IgnoreReason {
     }
 }
 
-/// The result of [`Station::receive`]. It borrows the received frame, and the buffer of `relay`.
+/// The result of [`Station::receive`] and [`Station::receive_verified`]. It borrows the received
+/// frame or its plain part, and the buffer of `relay`.
 #[derive(Clone, Copy, Debug, PartialEq, Eq, Hash)]
 #[non_exhaustive]
 pub struct Received<'a> {
     /// Why the frame was ignored; `None` if its packet was accepted.
     pub ignored: Option<IgnoreReason>,
-    /// The payload that is delivered to an open port. It borrows the received frame.
+    /// The payload that is delivered to an open port. It borrows the received frame, or its plain
+    /// part.
     pub delivered: Option<Message<'a>>,
     /// The frame to forward. It borrows the buffer.
     pub relay: Option<&'a [u8]>,
@@ -216,6 +219,38 @@ pub struct Received<'a> {
     pub traffic_class: u8,
     /// Sequence number of a GBC or GAC.
     pub number: Option<u16>,
+}
+
+impl<'a> Received<'a> {
+    /// Converts the result of a call, or its error. The payload is a part of `whole`.
+    fn shown(
+        status: i32,
+        r: &ffi::Reception,
+        whole: &'a [u8],
+        relay: &'a [u8],
+    ) -> Result<Received<'a>, Error> {
+        let fault = Fault { layer: r.fault, kind: r.fault_kind, at: r.fault_at };
+        Error::check_frame(status, fault)?;
+        Ok(Received {
+            ignored: match r.ignored {
+                0 => None,
+                1 => Some(IgnoreReason::NotForMe),
+                2 => Some(IgnoreReason::OwnSource),
+                3 => Some(IgnoreReason::SenderMismatch),
+                _ => Some(IgnoreReason::Duplicate),
+            },
+            delivered: (r.delivered != 0).then(|| Message {
+                port: r.port,
+                info: r.info,
+                payload: &whole[r.payload_start..r.payload_start + r.payload_length],
+            }),
+            relay: (!relay.is_empty()).then_some(relay),
+            source: r.source,
+            hops_left: r.hops_left,
+            traffic_class: r.traffic_class,
+            number: (r.kind == GBC || r.kind == GAC).then_some(r.number),
+        })
+    }
 }
 
 /// Number of ignored frames, by [`IgnoreReason`].
@@ -451,7 +486,7 @@ impl Station {
         jitter: u16,
         buffer: &'a mut B,
     ) -> Result<Option<&'a [u8]>, Error> {
-        let told = self.handle.tick(now, jitter, buffer.room());
+        let told = self.handle.tick(now, jitter, buffer.room(FRAME_MAX));
         written(buffer, told).map(|frame| (!frame.is_empty()).then_some(frame))
     }
 
@@ -476,7 +511,7 @@ impl Station {
     ) -> Result<&'a [u8], Error> {
         let ShbRequest { port, info, traffic_class } = *request;
         let request = ffi::ShbRequest { port, info, traffic_class };
-        let told = self.handle.send_shb(now, &request, payload, buffer.room());
+        let told = self.handle.send_shb(now, &request, payload, buffer.room(FRAME_MAX));
         written(buffer, told)
     }
 
@@ -497,7 +532,8 @@ impl Station {
         let ShbRequest { port, info, traffic_class } = *request;
         let request = ffi::ShbRequest { port, info, traffic_class };
         let handle = &mut self.handle;
-        let told = handle.send_shb_with_lifetime(now, &request, lifetime, payload, buffer.room());
+        let told =
+            handle.send_shb_with_lifetime(now, &request, lifetime, payload, buffer.room(FRAME_MAX));
         written(buffer, told)
     }
 
@@ -554,7 +590,7 @@ impl Station {
         payload: &[u8],
         buffer: &'a mut B,
     ) -> Result<&'a [u8], Error> {
-        let told = self.handle.send_gbc(now, &request.numbers(), payload, buffer.room());
+        let told = self.handle.send_gbc(now, &request.numbers(), payload, buffer.room(FRAME_MAX));
         written(buffer, told)
     }
 
@@ -570,7 +606,7 @@ impl Station {
         payload: &[u8],
         buffer: &'a mut B,
     ) -> Result<&'a [u8], Error> {
-        let told = self.handle.send_gac(now, &request.numbers(), payload, buffer.room());
+        let told = self.handle.send_gac(now, &request.numbers(), payload, buffer.room(FRAME_MAX));
         written(buffer, told)
     }
 
@@ -619,29 +655,60 @@ impl Station {
         frame: &'a [u8],
         buffer: &'a mut B,
     ) -> Result<Received<'a>, Error> {
-        let (status, r) = self.handle.receive(now, frame, buffer.room());
-        let relay = buffer.keep(r.relay_length);
-        let fault = Fault { layer: r.fault, kind: r.fault_kind, at: r.fault_at };
-        Error::check_frame(status, fault)?;
-        Ok(Received {
-            ignored: match r.ignored {
-                0 => None,
-                1 => Some(IgnoreReason::NotForMe),
-                2 => Some(IgnoreReason::OwnSource),
-                3 => Some(IgnoreReason::SenderMismatch),
-                _ => Some(IgnoreReason::Duplicate),
-            },
-            delivered: (r.delivered != 0).then(|| Message {
-                port: r.port,
-                info: r.info,
-                payload: &frame[r.payload_start..r.payload_start + r.payload_length],
-            }),
-            relay: (!relay.is_empty()).then_some(relay),
-            source: r.source,
-            hops_left: r.hops_left,
-            traffic_class: r.traffic_class,
-            number: (r.kind == GBC || r.kind == GAC).then_some(r.number),
-        })
+        let (status, r) = self.handle.receive(now, frame, buffer.room(FRAME_MAX));
+        Received::shown(status, &r, frame, buffer.keep(r.relay_length))
+    }
+
+    /// Processes a secured frame whose message was verified: what [`Station::receive`] does with
+    /// the same packet in an unsecured frame. If the packet is to be forwarded, the secured frame
+    /// to send is written to the buffer: the received one with new link addresses and one hop less.
+    ///
+    /// `plain` is the plain part that your security entity returned for the frame's message. The
+    /// station does not compare the two, and does not judge when the message was signed. The
+    /// lifetime, the remaining hop limit and the link addresses are not signed.
+    ///
+    /// # Errors
+    ///
+    /// - [`Error::MomentEarlier`] if `now` is earlier than in an earlier call,
+    ///   [`Error::MomentTooLate`] if it is over [`LAST_MOMENT`](crate::LAST_MOMENT).
+    /// - [`Error::BadFrame`] if the bytes are not a secured frame, or are not a valid packet with
+    ///   the plain part (`layer` 6 of the [`Fault`]).
+    /// - [`Error::TableFull`] if the source is new and the location table is full.
+    /// - [`Error::NoMemory`] if an allocation fails.
+    /// - [`Error::NoRoom`] if the buffer is shorter than
+    ///   [`SECURED_FRAME_MAX`](crate::SECURED_FRAME_MAX).
+    ///
+    /// ```
+    /// # use geostation::{message_of, plain_part, seal, Area, AreaRequest, Config, Shape, Station};
+    /// # fn main() -> Result<(), geostation::Error> {
+    /// # let mut car = Station::new(&Config::new(0x1400_0200_0000_0001, 0, 0))?;
+    /// # let mut truck = Station::new(&Config::new(0x1400_0200_0000_0002, 449, 0))?;
+    /// # truck.open_port(0, 2002)?;
+    /// # let circle = Area { latitude: 0, longitude: 0, shape: Shape::Circle { radius: 100 } };
+    /// # let sign = |plain: &[u8]| plain.to_vec();
+    /// # let verify = |message: &[u8]| message.to_vec();
+    /// let (mut sent, mut sealed, mut relay) = (Vec::new(), Vec::new(), Vec::new());
+    /// let frame = car.send_gbc(1000, &AreaRequest::new(2002, circle), b"ice", &mut sent)?;
+    /// let message = sign(plain_part(frame).unwrap()); // `sign` and `verify` are yours
+    /// let secured = seal(frame, &message, &mut sealed)?;
+    ///
+    /// let plain = verify(message_of(secured).unwrap());
+    /// let received = truck.receive_verified(1001, secured, &plain, &mut relay)?;
+    /// assert_eq!(b"ice", received.delivered.unwrap().payload);
+    /// assert_eq!(Some(&message[..]), message_of(received.relay.unwrap()));
+    /// # Ok(())
+    /// # }
+    /// ```
+    pub fn receive_verified<'a, B: Buffer + ?Sized>(
+        &mut self,
+        now: u64,
+        frame: &[u8],
+        plain: &'a [u8],
+        buffer: &'a mut B,
+    ) -> Result<Received<'a>, Error> {
+        let room = buffer.room(SECURED_FRAME_MAX);
+        let (status, r) = self.handle.receive_verified(now, frame, plain, room);
+        Received::shown(status, &r, plain, buffer.keep(r.relay_length))
     }
 
     /// Returns the earliest time at which [`Station::tick`] with this jitter returns a beacon, in
@@ -671,7 +738,8 @@ impl Station {
     /// # Errors
     ///
     /// - [`Error::NoMemory`] if an allocation fails.
-    /// - [`Error::NoRoom`] if the buffer is too short.
+    /// - [`Error::NoRoom`] if the buffer is too short. A line whose command is `seal`, or `receive`
+    ///   with a key `plain`, needs [`SECURED_FRAME_MAX`](crate::SECURED_FRAME_MAX).
     ///
     /// ```
     /// # use geostation::{Config, Station};
@@ -691,7 +759,8 @@ impl Station {
         answer: &mut Vec<u8>,
         buffer: &'b mut B,
     ) -> Result<&'b [u8], Error> {
-        let done = self.handle.handle_json(now, number, line, answer, buffer.room());
+        let room = buffer.room(SECURED_FRAME_MAX);
+        let done = self.handle.handle_json(now, number, line, answer, room);
         written(buffer, done)
     }
 

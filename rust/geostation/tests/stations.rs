@@ -2,8 +2,9 @@
 //! moments of beacons are those of EN 302 636-4-1, clause 10.3.6 (3 s after the last packet).
 
 use geostation::{
-    frame_length, read_frame, Area, AreaRequest, Config, Content, Error, Fault, IgnoreReason,
-    Limits, Place, Shape, ShbRequest, Station, FRAME_MAX, LAST_MOMENT, PAYLOAD_MAX,
+    frame_length, message_of, plain_part, read_frame, seal, Area, AreaRequest, Config, Content,
+    Error, Fault, IgnoreReason, Limits, Place, Shape, ShbRequest, Station, FRAME_MAX, LAST_MOMENT,
+    PAYLOAD_MAX, SECURED_FRAME_MAX,
 };
 
 const A: u64 = 0x1400_0200_0000_0001;
@@ -76,6 +77,71 @@ fn fields_of_frames() {
     assert!(matches!(read_frame(frame).unwrap().content, Content::SingleHop { media, .. }
         if media == [0; 4]));
     assert_eq!(9, read_frame(frame).unwrap().message().unwrap().port);
+}
+
+#[test]
+fn signed_packets_are_those_of_their_plain_parts() {
+    let (mut a, mut b) = pair();
+    let (mut sent, mut sealed, mut relay) = (Vec::new(), Vec::new(), [0; SECURED_FRAME_MAX]);
+    let frame = a.send_gbc(10, &warning(), b"hi", &mut sent).unwrap();
+    let plain = plain_part(frame).unwrap();
+    assert_eq!(&frame[18..], plain);
+    let secured = seal(frame, b"signed", &mut sealed).unwrap();
+    // The link addresses, 12 in place of 11, lifetime and hop limit, and the message.
+    assert_eq!(
+        (&frame[..14], 0x12, &frame[15..18]),
+        (&secured[..14], secured[14], &secured[15..18])
+    );
+    assert_eq!(Some(&b"signed"[..]), message_of(secured));
+    let got = b.receive_verified(11, secured, plain, &mut relay).unwrap();
+    let message = got.delivered.unwrap();
+    assert_eq!((2002, 7, &b"hi"[..]), (message.port, message.info, message.payload));
+    assert_eq!((A, 5, Some(0)), (got.source, got.hops_left, got.number));
+    let forwarded = got.relay.unwrap();
+    assert_eq!([2, 0, 0, 0, 0, 2], forwarded[6..12]);
+    assert_eq!((&secured[12..17], 4), (&forwarded[12..17], forwarded[17]));
+    assert_eq!(&secured[18..], &forwarded[18..]);
+    let again = b.receive(12, frame, &mut Vec::new()).map(|got| got.ignored);
+    assert_eq!(Ok(Some(IgnoreReason::Duplicate)), again);
+    let counts = b.counts();
+    assert_eq!((2, 1, 1, 1), (counts.received, counts.accepted, counts.delivered, counts.relayed));
+}
+
+#[test]
+fn faults_of_signed_packets() {
+    let (mut a, mut b) = pair();
+    let (mut sent, mut sealed, mut relay) = (Vec::new(), Vec::new(), Vec::new());
+    let frame = a.send_gbc(10, &warning(), b"hi", &mut sent).unwrap();
+    let plain = plain_part(frame).unwrap();
+    let secured = seal(frame, b"signed", &mut sealed).unwrap().to_vec();
+    let mut more = secured.clone();
+    more[17] = 6;
+    let longer = [plain, b"s"].concat();
+    for (octets, part, code) in [
+        (&b""[..], plain, "S3 L1"),
+        (frame, plain, "S3 L5 G3 at 0"),
+        (&secured[..18], plain, "S3 L5 G1 at 4"),
+        (&secured[..], &b""[..], "S3 L6 G1 at 4"),
+        (&more[..], plain, "S3 L6 G9 at 10"),
+        (&secured[..], &longer[..], "S3 L4"),
+    ] {
+        let error = b.receive_verified(11, octets, part, &mut relay).unwrap_err();
+        assert_eq!(code, error.code().to_string());
+        assert!(relay.is_empty());
+    }
+    let error = b.receive_verified(11, &more, plain, &mut relay).unwrap_err();
+    assert_eq!("more hops left than the maximum, at octet 10", error.to_string());
+    let room = &mut [0; SECURED_FRAME_MAX - 1];
+    assert_eq!(Err(Error::NoRoom), b.receive_verified(11, &secured, plain, room));
+    assert_eq!(Err(Error::NoRoom), seal(frame, b"s", room));
+    assert_eq!(Err(Error::BadArgument), seal(frame, b"", &mut relay));
+    assert_eq!(Err(Error::BadArgument), seal(frame, &[0; SECURED_FRAME_MAX - 17], &mut relay));
+    let longest = seal(frame, &[0; SECURED_FRAME_MAX - 18], &mut relay).map(<[u8]>::len);
+    assert_eq!(Ok(SECURED_FRAME_MAX), longest);
+    let fault = Fault { layer: 5, kind: 3, at: 0 };
+    assert_eq!(Err(Error::BadFrame(fault)), seal(&secured, b"s", &mut relay));
+    assert_eq!(Err(fault), plain_part(&secured));
+    assert_eq!((None, None), (message_of(frame), message_of(b"")));
 }
 
 #[test]
