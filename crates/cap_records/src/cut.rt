@@ -38,7 +38,7 @@ const ADDRESS_END: usize = 20;
 const PORT: usize = 2;
 
 /// The record was cut before its source's address ends.
-const CUT: RecordFault = RecordFault::Record(cap_pcap::RecordFault::CutFrame);
+pub(crate) const CUT: RecordFault = RecordFault::Record(cap_pcap::RecordFault::CutFrame);
 
 /// A frame of which the last octets are missing.
 #[derive(Debug, Drop)]

@@ -38,7 +38,7 @@ pub fn frame_of<'a>(
 }
 
 /// The frame in octets that came from this link layer.
-fn read_on(layer: LinkLayer, octets: &[u8]) -> Result<FrameView<'_>, RecordFault>
+pub(crate) fn read_on(layer: LinkLayer, octets: &[u8]) -> Result<FrameView<'_>, RecordFault>
     ensures frame { IfOk result (λ v. (text : List ℕ) × IsReadAs layer octets.now text
         × EncodesFrame (transmission_of v) text) }
     ensures fault { IfErr result (λ f. (text : List ℕ) × IsReadAs layer octets.now text
@@ -69,7 +69,7 @@ fn read_filled_up(octets: &[u8]) -> Result<FrameView<'_>, RecordFault>
 }
 
 /// The frame that the octets are.
-fn read(octets: &[u8]) -> Result<FrameView<'_>, RecordFault>
+pub(crate) fn read(octets: &[u8]) -> Result<FrameView<'_>, RecordFault>
     ensures frame { IfOk result (λ v. EncodesFrame (transmission_of v) octets.now) }
     ensures fault { IfErr result (IsNoFrame octets.now) }
 {

@@ -6,12 +6,13 @@ ghost use Rattle.cap_records.specs.FileFaults.{EndsCommand, IsToldInLine};
 ghost use Rattle.cap_records.specs.RecordFrames.{IsTold, is_other};
 ghost use Rattle.cap_records.specs.declared.refusal.RecordFault.TheVariants as faults;
 
+use crate::signed::MessageFault;
 use cap_pcap::{Format, LinkFault, SourceFault};
 use cmd_reporting::Fault;
-use cmd_text::frames::FrameReason;
+use cmd_text::frames::{FrameReason, SecuredReason};
 use cmd_text::lines::{GZIP, GzipFile};
 use its_faults::FaultKind;
-use its_linkframe::{CaptureFault, FrameFault};
+use its_linkframe::{CaptureFault, FrameFault, SecuredFault};
 use std::alloc::AllocError;
 use std::fmt;
 
@@ -24,8 +25,13 @@ pub enum RecordFault {
     Link(LinkFault),
     /// Its octets are no frame.
     Frame(FrameFault),
-    /// The same of a frame whose packet is a secured one: the fault is that of its next header.
+    /// Its octets are no unsecured frame, but seem to be a secured one: the fault is that of the
+    /// length, or of the next header.
     Secured(FrameFault),
+    /// Its octets begin as a secured frame and are none, or its plain part is no packet.
+    Signed(SecuredFault),
+    /// The message of its secured frame can't be read.
+    Message(MessageFault),
 }
 
 /// Where a packet begins in a frame.
@@ -34,18 +40,22 @@ const PACKET: usize = 14;
 /// What follows the Basic Header of a secured packet, in the lower half of an octet.
 const SECURED: u8 = 2;
 
+/// The first octet of a secured packet: version 1, and that next header.
+const SECURED_PACKET: u8 = 0x12;
+
+/// How a secured packet is read, after the reason why it is refused.
+pub const SIGNED_HINT: &str = "; --signed reads its plain part and doesn't verify it";
+
+/// What may make a secured frame too long.
+const LENGTH_HINT: &str = "; padding, and a check sequence without a flag, count as its message";
+
 impl RecordFault {
     /// Why these octets are no frame, with this fault.
     pub fn of(fault: FrameFault, frame: &[u8]) -> RecordFault
         ensures { IsTold fault frame.now result }
     {
-        if let FrameFault::Packet(packet) = fault
-            && packet.kind == FaultKind::BasicNext
-        {
-            let next = frame.get(PACKET.saturating_add(packet.at));
-            if next.is_some_and(|octet| octet % 16 == SECURED) {
-                return RecordFault::Secured(fault);
-            }
+        if seems_secured(fault, frame) {
+            return RecordFault::Secured(fault);
         }
         RecordFault::Frame(fault)
     }
@@ -71,11 +81,39 @@ impl RecordFault {
     }
 }
 
+/// Whether octets that are no unsecured frame, with this fault, seem to be a secured one.
+fn seems_secured(fault: FrameFault, frame: &[u8]) -> bool {
+    match fault {
+        FrameFault::TooLong => frame.get(PACKET) == Some(&SECURED_PACKET),
+        FrameFault::Packet(packet) if packet.kind == FaultKind::BasicNext => {
+            let next = frame.get(PACKET.saturating_add(packet.at));
+            next.is_some_and(|octet| octet % 16 == SECURED)
+        }
+        _ => false,
+    }
+}
+
 impl From<LinkFault> for RecordFault {
     ghost from_gives = { λ fault r. r ≡ faults.Link fault };
 
     fn from(fault: LinkFault) -> RecordFault {
         RecordFault::Link(fault)
+    }
+}
+
+impl From<SecuredFault> for RecordFault {
+    ghost from_gives = { λ fault r. r ≡ faults.Signed fault };
+
+    fn from(fault: SecuredFault) -> RecordFault {
+        RecordFault::Signed(fault)
+    }
+}
+
+impl From<MessageFault> for RecordFault {
+    ghost from_gives = { λ fault r. r ≡ faults.Message fault };
+
+    fn from(fault: MessageFault) -> RecordFault {
+        RecordFault::Message(fault)
     }
 }
 
@@ -86,8 +124,13 @@ impl fmt::Display for RecordFault {
             RecordFault::Link(fault) => write!(f, "{fault}"),
             RecordFault::Frame(fault) => write!(f, "{}", FrameReason(*fault)),
             RecordFault::Secured(fault) => {
-                write!(f, "a secured packet: {}", FrameReason(*fault))
+                write!(f, "a secured packet: {}{SIGNED_HINT}", FrameReason(*fault))
             }
+            RecordFault::Signed(SecuredFault::TooLong) => {
+                write!(f, "{}{LENGTH_HINT}", SecuredFault::TooLong)
+            }
+            RecordFault::Signed(fault) => write!(f, "{}", SecuredReason(*fault)),
+            RecordFault::Message(fault) => write!(f, "{fault}"),
         }
     }
 }
@@ -104,6 +147,8 @@ impl fmt::Display for RecordCode {
             RecordFault::Frame(fault) | RecordFault::Secured(fault) => {
                 write!(f, "{}", fault.code())
             }
+            RecordFault::Signed(fault) => write!(f, "{}", fault.code()),
+            RecordFault::Message(fault) => write!(f, "{}", fault.code()),
         }
     }
 }

@@ -9,9 +9,10 @@ ghost use Rattle.cap_records.specs.Walks.{walk_status, Chooses};
 ghost use Rattle.cmd_reporting.specs.declared.fault.Fault.TheVariants.{CannotRead};
 
 use crate::choosing::Choice;
-use crate::cut::{CutFrame, cut_frame_of};
+use crate::cut::{CUT, CutFrame, cut_frame_of};
 use crate::frame::{frame_of, traits_of};
 use crate::refusal::{FileFault, RecordFault};
+use crate::signed::{SecuredFacts, SignedFrame, signed_frame_of};
 use cap_linklayers::LinkFacts;
 use cap_pcap::{AnySource, Format, LONGEST_RECORD, RecordHeader, RecordSource, SourceFault, Step};
 use cmd_reporting::{Fault, Status, is_standard};
@@ -31,6 +32,8 @@ pub struct Selection {
     pub count: Option<u64>,
     /// Whether records that were cut are read as far as they go.
     pub partial: bool,
+    /// Whether secured frames are read by their plain part, which isn't verified.
+    pub signed: bool,
 }
 
 impl Selection {
@@ -43,6 +46,7 @@ impl Selection {
             choice: Choice::all(),
             count: None,
             partial: false,
+            signed: false,
         }
     }
 
@@ -66,6 +70,26 @@ impl Selection {
         room.extend_from_slice(&octets[..octets.len().min(LONGEST_RECORD)])?;
         let frame = frame_of(head, room, linked);
         Ok(self.has(moment, &frame))
+    }
+
+    /// The same, where secured frames are read by their plain part.
+    pub fn has_signed_record(
+        &self,
+        head: &RecordHeader,
+        octets: &[u8],
+        linked: bool,
+        room: &mut Vec<u8>,
+    ) -> Result<bool, AllocError> {
+        let moment = head.moment;
+        if self.has_any(moment) {
+            return Ok(true);
+        }
+        room.clear();
+        room.extend_from_slice(&octets[..octets.len().min(LONGEST_RECORD)])?;
+        match signed_frame_of(head, room, linked) {
+            Ok(signed) => Ok(self.has(moment, &Ok(signed.frame))),
+            Err(fault) => Ok(self.has(moment, &Err(fault))),
+        }
     }
 
     /// Whether a record of this moment is chosen, whatever its frame is.
@@ -126,6 +150,8 @@ pub struct Place {
     pub link: LinkFacts,
     /// How many octets of its frame there are, if the record was cut and is read as far as it goes.
     pub known: Option<usize>,
+    /// What is known of its secured frame, if it has one and that is read by its plain part.
+    pub secured: Option<SecuredFacts>,
 }
 
 impl Place {
@@ -150,6 +176,7 @@ impl Place {
             length: head.captured,
             link: link_facts(head, octets, linked),
             known: None,
+            secured: None,
         }
     }
 }
@@ -310,6 +337,8 @@ fn walk<'a, S: RecordSource, V: RecordVisitor, W: Write>(
                 walked.read += 1;
                 let visited = if selection.partial && linked && is_cut(&head) {
                     visit_cut(selection, place, &head, octets, &mut room, visitor, out)?
+                } else if selection.signed {
+                    visit_signed(selection, place, &head, octets, linked, visitor, out)?
                 } else {
                     visit(selection, place, &head, octets, linked, visitor, out)?
                 };
@@ -341,7 +370,37 @@ fn visit<'a, V: RecordVisitor, W: Write>(
     out: &mut W,
 ) -> Result<Visited, Fault<'a>> {
     let frame = frame_of(head, octets, linked);
-    if !selection.has(head.moment, &frame) {
+    visit_frame(selection, place, frame, visitor, out)
+}
+
+/// The same, where secured frames are read by their plain part.
+fn visit_signed<'a, V: RecordVisitor, W: Write>(
+    selection: &Selection,
+    place: Place,
+    head: &RecordHeader,
+    octets: &mut Vec<u8>,
+    linked: bool,
+    visitor: &mut V,
+    out: &mut W,
+) -> Result<Visited, Fault<'a>> {
+    match signed_frame_of(head, octets, linked) {
+        Ok(SignedFrame { frame, secured }) => {
+            let place = Place { secured, ..place };
+            visit_frame(selection, place, Ok(frame), visitor, out)
+        }
+        Err(fault) => visit_frame(selection, place, Err(fault), visitor, out),
+    }
+}
+
+/// Visits a record of which this was read, if it is chosen.
+fn visit_frame<'a, V: RecordVisitor, W: Write>(
+    selection: &Selection,
+    place: Place,
+    frame: Result<FrameView<'_>, RecordFault>,
+    visitor: &mut V,
+    out: &mut W,
+) -> Result<Visited, Fault<'a>> {
+    if !selection.has(place.moment, &frame) {
         return Ok(Visited::Passed);
     }
     let visited = match &frame {
@@ -357,6 +416,20 @@ fn is_cut(head: &RecordHeader) -> bool {
     head.fault() == Some(cap_pcap::RecordFault::CutFrame)
 }
 
+/// Reads the frame of a record that was cut as far as it goes. Where secured frames are read by their
+/// plain part, one that was cut isn't read.
+fn known_frame_of<'a>(
+    selection: &Selection,
+    head: &RecordHeader,
+    octets: &mut Vec<u8>,
+    room: &'a mut [u8; LONGEST_FRAME],
+) -> Result<CutFrame<'a>, RecordFault> {
+    match cut_frame_of(head, octets, room) {
+        Err(RecordFault::Secured(_)) if selection.signed => Err(CUT),
+        read => read,
+    }
+}
+
 /// Visits a record that was cut, if it is chosen, as far as its frame goes.
 fn visit_cut<'a, V: RecordVisitor, W: Write>(
     selection: &Selection,
@@ -367,7 +440,7 @@ fn visit_cut<'a, V: RecordVisitor, W: Write>(
     visitor: &mut V,
     out: &mut W,
 ) -> Result<Visited, Fault<'a>> {
-    let read = cut_frame_of(head, octets, room);
+    let read = known_frame_of(selection, head, octets, room);
     if !selection.has_cut(head.moment, &read) {
         return Ok(Visited::Passed);
     }

@@ -156,3 +156,4 @@ pub record IsSelection (matches : ArgMatches) (file : Option Format) (selection 
   pub choice : IsChoice matches selection.choice
   pub count : IsGiven IsCount (value_in matches (codes "count")) selection.count
   pub format : selection.format ≡ file
+  pub signed : IsFlagged matches (codes "signed") → selection.signed ≡ true

@@ -201,6 +201,7 @@ pub fn selection_to_any_port<'a>(
         choice: choice_of(matches)?,
         count: count_of(matches, "count")?,
         partial: matches.get_flag("partial"),
+        signed: matches.get_flag("signed"),
     })
 }
 
@@ -305,7 +306,7 @@ pub fn time_of(matches: &ArgMatches<'_>) -> Time
 }
 
 /// The keys whose values are shown, if `--fields` lists them, separated by commas. Refused if one is
-/// no key.
+/// no key, or one of secured frames without `--signed`.
 pub fn fields_of<'a>(matches: &ArgMatches<'a>) -> Result<Option<&'a str>, BadArgument<'a>>
     ensures names { IfOk result (λ names.
         option_map (λ names. names.now) names ≡ value_in matches.now (codes "fields")) }
@@ -316,6 +317,12 @@ pub fn fields_of<'a>(matches: &ArgMatches<'a>) -> Result<Option<&'a str>, BadArg
     };
     if names.split(',').any(|name| Field::named(name).is_none()) {
         let wanted = "a list of the keys that show --help lists";
+        return Err(BadArgument::Value("fields", names, wanted));
+    }
+    let is_signed = matches.get_flag("signed");
+    let is_missing = |name| Field::named(name).is_some_and(Field::is_of_secured);
+    if !is_signed && names.split(',').any(is_missing) {
+        let wanted = "a list of keys that are there without --signed";
         return Err(BadArgument::Value("fields", names, wanted));
     }
     Ok(Some(names))

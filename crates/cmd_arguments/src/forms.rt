@@ -130,6 +130,11 @@ const PARTIAL: Argument = Argument::Flag(
     "Read frames that a snap length cut off, as far as they go",
 );
 
+const SIGNED: Argument = Argument::Flag(
+    "signed",
+    "Read secured frames by their plain part, without verifying them",
+);
+
 const COUNT: Argument = Argument::Value("count", "N", "Stop after this many selected records");
 
 const TIME: Argument = Argument::Choice(
@@ -265,13 +270,13 @@ static READERS: [Form; 3] = [
         name: "show",
         about: "Print a line for each record of a capture",
         arguments: &[
-            CAPTURE, FORMAT, JSON, EXPLAIN, NO_EXPLAIN, COLOR, TIME, FIELDS, PARTIAL,
+            CAPTURE, FORMAT, JSON, EXPLAIN, NO_EXPLAIN, COLOR, TIME, FIELDS, PARTIAL, SIGNED,
         ],
         choosing: CHOOSING,
         example: "\
 Keys of --fields: moment, from, to, kind, address, tst, lat, lon, pai, speed, heading, lt, tc,
 mobile, hops, max_hops, number, shape, alat, alon, a, b, angle, port, info, payload, refused,
-record, interface, length, vlan, rssi, rate, cut
+record, interface, length, vlan, rssi, rate, cut; with --signed psid, generated, secured
 
 Example:
   geostation show first.cap",
@@ -279,7 +284,7 @@ Example:
     Form {
         name: "check",
         about: "Print a line for each refused record of a capture, and a count",
-        arguments: &[CAPTURE, FORMAT, JSON, EXPLAIN, NO_EXPLAIN],
+        arguments: &[CAPTURE, FORMAT, JSON, EXPLAIN, NO_EXPLAIN, SIGNED],
         choosing: CHOOSING,
         example: "\
 Example:
@@ -299,6 +304,7 @@ Example:
                 "N",
                 "Print this many sources, those with the most frames",
             ),
+            SIGNED,
         ],
         choosing: CHOOSING,
         example: "\
@@ -323,6 +329,7 @@ static MAKERS: [Form; 2] = [
             FORMAT,
             TO,
             FRAMES_ONLY,
+            SIGNED,
             EXPLAIN,
             NO_EXPLAIN,
             QUIET,
@@ -477,6 +484,7 @@ static STATIONS: [Form; 2] = [
             FRAMES,
             TO,
             FORMAT,
+            SIGNED,
             JSON,
             EXPLAIN,
             NO_EXPLAIN,

@@ -228,6 +228,9 @@ met_appends choice linked said w (Ok (steps.Record h)) (mets.Record copies.Writt
 met_appends choice linked said w (Ok (steps.Record h)) (mets.Record (copies.LeftOut f)) t added next
     p =
     none_added t next added p.2 (contents_of t next p.3)
+met_appends choice linked said w (Ok (steps.Record h)) (mets.Record (copies.Unread f)) t added next
+    p =
+    absurd p
 met_appends choice linked said w (Ok (steps.Record h)) mets.NoRecord t added next p = absurd p
 met_appends choice linked said w (Ok (steps.Record h)) (mets.End None) t added next p = absurd p
 met_appends choice linked said w (Ok (steps.Record h)) (mets.End (Some f)) t added next p = absurd p
@@ -405,6 +408,8 @@ chosen_grow p (mets.Record copies.Passed) after n is le =
 chosen_grow p (mets.Record copies.Written) after n is le =
     omega (arith, ap (λ (x : Progress). x.chosen) is, le)
 chosen_grow p (mets.Record (copies.LeftOut f)) after n is le =
+    omega (arith, ap (λ (x : Progress). x.chosen) is, le)
+chosen_grow p (mets.Record (copies.Unread f)) after n is le =
     omega (arith, ap (λ (x : Progress). x.chosen) is, le)
 chosen_grow p mets.NoRecord after n is le = omega (arith, ap (λ (x : Progress). x.chosen) is, le)
 chosen_grow p (mets.End fault) after n is le = omega (arith, ap (λ (x : Progress). x.chosen) is, le)

@@ -214,6 +214,7 @@ Copies choice linked h w t added next copies.Written =
     × HasText t.frames_only t.layer linked h w l text × IsAdded l h text added t next
 Copies choice linked h w t added next (copies.LeftOut fault) =
     Chooses choice linked h (kept w) true × IsLeftOut t linked h w fault × (added ≡ []) × (next ≡ t)
+Copies choice linked h w t added next (copies.Unread fault) = ⊥
 
 -- ---- all records of a file
 
@@ -255,6 +256,7 @@ WritesSteps {S} gives said choice linked file t (went ∷ more) added left end =
 -- whether a step was told on standard error: a record was left out, or the file has a fault
 abbrev pub is_told : Met → Bool
 is_told (mets.Record (copies.LeftOut fault)) = true
+is_told (mets.Record (copies.Unread fault)) = true
 is_told (mets.Record copied) = false
 is_told mets.NoRecord = false
 is_told (mets.End (Some fault)) = true
@@ -271,6 +273,7 @@ abbrev pub chosen_of : Met → ℕ
 chosen_of (mets.Record copies.Passed) = 0
 chosen_of (mets.Record copies.Written) = 1
 chosen_of (mets.Record (copies.LeftOut fault)) = 1
+chosen_of (mets.Record (copies.Unread fault)) = 1
 chosen_of mets.NoRecord = 0
 chosen_of (mets.End fault) = 0
 

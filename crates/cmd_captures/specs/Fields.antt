@@ -1,5 +1,5 @@
 -- The names of the keys of a record, as columns.
-use Rattle.std.specs.Prelude.{ℕ, List, codes}
+use Rattle.std.specs.Prelude.{ℕ, List, codes, Bool, true, false}
 use Rattle.cmd_captures.specs.declared.field.Field.{Field}
 use Rattle.cmd_captures.specs.declared.field.Field.TheVariants as fields
 
@@ -39,3 +39,13 @@ field_word fields.Vlan = codes "vlan"
 field_word fields.Rssi = codes "rssi"
 field_word fields.Rate = codes "rate"
 field_word fields.Cut = codes "cut"
+field_word fields.Psid = codes "psid"
+field_word fields.Generated = codes "generated"
+field_word fields.Secured = codes "secured"
+
+-- whether its value is there only if secured frames are read by their plain part
+abbrev pub is_of_secured : Field → Bool
+is_of_secured fields.Psid = true
+is_of_secured fields.Generated = true
+is_of_secured fields.Secured = true
+is_of_secured field = false

@@ -6,11 +6,12 @@ ghost use Rattle.cmd_reporting.specs.Statuses.{IsCommandStatus};
 ghost use Rattle.cmd_captures.specs.Conversions.{Copies, IsCopied, IsStep, after_met, has_links};
 ghost use Rattle.cmd_captures.specs.Conversions.{is_end, told_status, said_by};
 
-use crate::written::Written;
+use crate::told::UnreadRecord;
+use crate::written::{SignedFault, Written};
 use cap_pcap::{
     AnySource, Format, LONGEST_CAPTURED, RecordHeader, RecordSource, SinkFault, SourceFault, Step,
 };
-use cap_records::{FileFault, RefusedCapture, Selection};
+use cap_records::{FileFault, RecordFault, RefusedCapture, Selection};
 use cmd_reporting::{Fault, Io, LeftOut, OutputFormat, Status, Target};
 use its_linkframe::{Counted, Source};
 use std::alloc::Global;
@@ -89,6 +90,9 @@ pub(crate) fn convert_records<'a, R: Read + Drop, W: Write + Drop, E: Write>(
     };
     let keep = LONGEST_CAPTURED as usize;
     let ended = match AnySource::open(alloc, Counted::new(reader), selection.format, keep) {
+        Ok(mut source) if selection.signed => {
+            copy_signed(alloc, telling, selection, &mut source, &mut written, err)
+        }
         Ok(mut source) => copy(alloc, telling, selection, &mut source, &mut written, err),
         Err(fault) => telling.end_file(fault, 0, err),
     };
@@ -146,6 +150,36 @@ fn copy<'a, S: Source + Drop, W: Write + Drop, E: Write>(
     Ok(progress.status())
 }
 
+/// The same, where secured frames are read by their plain part.
+fn copy_signed<'a, S: Source + Drop, W: Write + Drop, E: Write>(
+    alloc: Global,
+    telling: Telling<'a>,
+    selection: &Selection,
+    source: &mut AnySource<S>,
+    written: &mut Written<W>,
+    err: &mut E,
+) -> Result<Status, Fault<'a>>
+    ensures { IfOk result IsCommandStatus }
+{
+    let mut octets = Vec::new(alloc);
+    let mut room = Vec::new(alloc);
+    let mut progress = Progress::begin();
+    // The range is there so that the copying ends on any source. No file reaches its end.
+    for step in 0..u64::MAX {
+        if selection.count == Some(progress.chosen) {
+            return Ok(progress.status());
+        }
+        let target = telling.target;
+        let met = go_on_signed(selection, target, source, &mut octets, &mut room, written)?;
+        telling.tell(met, progress.records, err)?;
+        progress = progress.after(met);
+        if met.is_end() {
+            return Ok(progress.status());
+        }
+    }
+    Ok(progress.status())
+}
+
 /// Whether the records of a file of this format have the header of their link layer.
 fn is_linked(format: Format) -> bool
     ensures { result ≡ has_links format }
@@ -162,6 +196,8 @@ enum Copied {
     Written,
     /// It has no place in the file.
     LeftOut(SinkFault),
+    /// Its secured frame can't be read, so the inner frame isn't written.
+    Unread(RecordFault),
 }
 
 /// What a step of the source met.
@@ -219,7 +255,7 @@ impl Progress {
         let (records, chosen, told) = match met {
             Met::Record(Copied::Passed) => (1, 0, false),
             Met::Record(Copied::Written) => (1, 1, false),
-            Met::Record(Copied::LeftOut(_)) => (1, 1, true),
+            Met::Record(Copied::LeftOut(_) | Copied::Unread(_)) => (1, 1, true),
             Met::NoRecord => (0, 0, false),
             Met::End(fault) => (0, 0, fault.is_some()),
         };
@@ -271,6 +307,56 @@ fn go_on<'a, S: Source + Drop, W: Write + Drop>(
     }
 }
 
+/// The same, where secured frames are read by their plain part.
+fn go_on_signed<'a, S: Source + Drop, W: Write + Drop>(
+    selection: &Selection,
+    target: &'a str,
+    source: &mut AnySource<S>,
+    octets: &mut Vec<u8>,
+    room: &mut Vec<u8>,
+    written: &mut Written<W>,
+) -> Result<Met, Fault<'a>> {
+    let linked = is_linked(source.format());
+    match source.next_into(octets) {
+        Ok(Step::Record(head)) => {
+            let copied = copy_inner(selection, target, &head, octets, linked, room, written)?;
+            Ok(Met::Record(copied))
+        }
+        Ok(Step::Interface) => match written.meet(source.layer(), source.newest()) {
+            Ok(()) => Ok(Met::NoRecord),
+            Err(_) => Err(Fault::of_target(target)),
+        },
+        Ok(Step::Passed) => Ok(Met::NoRecord),
+        Ok(Step::End) => Ok(Met::End(None)),
+        Err(fault) => Ok(Met::End(Some(fault))),
+    }
+}
+
+/// Writes a record, if it is chosen by the packet inside where its frame is a secured one.
+fn copy_inner<'a, W: Write + Drop>(
+    selection: &Selection,
+    target: &'a str,
+    head: &RecordHeader,
+    octets: &mut Vec<u8>,
+    linked: bool,
+    room: &mut Vec<u8>,
+    written: &mut Written<W>,
+) -> Result<Copied, Fault<'a>> {
+    if !selection.has_signed_record(head, octets.as_slice(), linked, room)? {
+        return Ok(Copied::Passed);
+    }
+    match written.put_signed(head, octets, linked) {
+        Ok(()) => Ok(Copied::Written),
+        Err(SignedFault::Unread(fault)) => Ok(Copied::Unread(fault)),
+        Err(SignedFault::Sink(fault)) => {
+            if fault.word().is_none() {
+                return Err(Fault::of_target(target));
+            }
+            Ok(Copied::LeftOut(fault))
+        }
+    }
+}
+
 /// Writes a record, if it is chosen.
 fn copy_record<'a, W: Write + Drop>(
     selection: &Selection,
@@ -319,6 +405,10 @@ impl<'a> Telling<'a> {
             Met::Record(Copied::LeftOut(fault)) => {
                 let left_out = LeftOut::new("record", records, fault, self.format);
                 let _ = writeln!(err, "{left_out}");
+            }
+            Met::Record(Copied::Unread(fault)) => {
+                let unread = UnreadRecord::new(records, fault, self.format.explain);
+                let _ = writeln!(err, "{unread}");
             }
             Met::End(Some(fault)) => {
                 self.end_file(fault, records, err)?;

@@ -1,7 +1,7 @@
 //! Keys of what `show` prints of a record, as columns or as keys of an object.
 
 ghost use Rattle.std.specs.Prelude.{◌≡◌, IfSome};
-ghost use Rattle.cmd_captures.specs.Fields.{field_word};
+ghost use Rattle.cmd_captures.specs.Fields.{field_word, is_of_secured};
 
 use its_headers::Kind;
 
@@ -79,11 +79,17 @@ pub enum Field {
     Rate,
     /// Whether the record was cut and is read as far as it goes.
     Cut,
+    /// The PSID of a signed packet.
+    Psid,
+    /// The generation time of a signed packet, in microseconds of TAI since 2004-01-01.
+    Generated,
+    /// Whether the frame is a secured one.
+    Secured,
 }
 
 /// All keys, in the order in which the object of a record has them; then that of a refusal, and those
 /// that an object has only if they are asked for.
-pub const FIELDS: [Field; 34] = [
+pub const FIELDS: [Field; 37] = [
     Field::Moment,
     Field::From,
     Field::To,
@@ -118,6 +124,9 @@ pub const FIELDS: [Field; 34] = [
     Field::Rssi,
     Field::Rate,
     Field::Cut,
+    Field::Psid,
+    Field::Generated,
+    Field::Secured,
 ];
 
 /// How many of these the object of a frame has, which come first.
@@ -163,7 +172,17 @@ impl Field {
             Field::Rssi => "rssi",
             Field::Rate => "rate",
             Field::Cut => "cut",
+            Field::Psid => "psid",
+            Field::Generated => "generated",
+            Field::Secured => "secured",
         }
+    }
+
+    /// Whether its value is there only if secured frames are read by their plain part.
+    pub fn is_of_secured(self) -> bool
+        ensures { result ≡ is_of_secured self }
+    {
+        matches!(self, Field::Psid | Field::Generated | Field::Secured)
     }
 
     /// Whether its value is a text, which has quotation marks in an object.

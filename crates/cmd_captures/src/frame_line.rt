@@ -2,7 +2,9 @@
 
 use crate::field::Field;
 use crate::moment::Moment;
+use crate::secured_keys::SecuredKeys;
 use crate::text::Text;
+use cap_records::Place;
 use cmd_text::frames::{FrameKeys, MessageKeys, TargetKeys};
 use cmd_text::json_lines::Octets;
 use its_headers::Kind;
@@ -17,6 +19,8 @@ pub(crate) struct FrameLine<'a> {
     moment: Moment,
     #[serde(flatten)]
     keys: FrameKeys<'a>,
+    #[serde(flatten)]
+    secured: Option<SecuredKeys>,
     #[serde(skip)]
     kind: Kind,
     /// How many octets of the frame there are, if it was cut.
@@ -25,9 +29,10 @@ pub(crate) struct FrameLine<'a> {
 }
 
 impl<'a> FrameLine<'a> {
-    /// What is printed of a frame, of which so many octets are there if it was cut.
-    pub(crate) fn of(moment: Moment, frame: &FrameView<'a>, known: Option<usize>) -> FrameLine<'a> {
+    /// What is printed of the frame of a record.
+    pub(crate) fn of(moment: Moment, frame: &FrameView<'a>, place: &Place) -> FrameLine<'a> {
         let kind = frame.packet.kind();
+        let known = place.known;
         let keys = FrameKeys::of(frame);
         FrameLine {
             moment,
@@ -37,6 +42,7 @@ impl<'a> FrameLine<'a> {
                     .map(|message| message_within(message, kind, known)),
                 ..keys
             },
+            secured: place.secured.map(|facts| SecuredKeys::of(&facts)),
             kind,
             known,
         }
@@ -72,6 +78,9 @@ impl<'a> FrameLine<'a> {
         self.add_vector(text)?;
         add_header(keys, text)?;
         self.add_body(text)?;
+        if let Some(secured) = &self.secured {
+            secured.add_to(text)?;
+        }
         text.word(if self.is_cut() { " cut\n" } else { "\n" })
     }
 
@@ -143,6 +152,10 @@ impl<'a> FrameLine<'a> {
             Field::Hops => text.number("", keys.hops),
             Field::MaxHops => text.number("", keys.max_hops),
             Field::Cut if self.is_cut() => text.word("true"),
+            Field::Psid | Field::Generated | Field::Secured => match &self.secured {
+                Some(secured) => secured.add_value_to(field, text),
+                None => Ok(()),
+            },
             _ => self.add_part_to(field, text),
         }
     }

@@ -14,6 +14,7 @@ mod moment;
 mod output;
 mod prompt;
 mod rows;
+mod secured_keys;
 mod showing;
 mod text;
 mod told;

@@ -145,7 +145,7 @@ impl Rows {
             place,
             moment,
             frame: match &frame {
-                Ok(frame) => Ok(FrameLine::of(moment, frame, place.known)),
+                Ok(frame) => Ok(FrameLine::of(moment, frame, &place)),
                 Err(fault) => Err(*fault),
             },
         };

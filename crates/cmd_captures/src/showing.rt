@@ -112,7 +112,7 @@ impl RecordVisitor for AllRecords {
         }
         let output = &mut self.output;
         match frame {
-            Ok(frame) => output.frame(&FrameLine::of(moment, &frame, place.known), out),
+            Ok(frame) => output.frame(&FrameLine::of(moment, &frame, &place), out),
             Err(fault) => {
                 let told = RefusedAt::new(moment, fault, output.explain);
                 output.refused(&told, out)

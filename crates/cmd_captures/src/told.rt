@@ -70,6 +70,37 @@ impl fmt::Display for RefusedRecord {
     }
 }
 
+/// What `convert` prints of a record that is left out because its secured frame can't be read: its line
+/// on standard error.
+#[derive(Clone, Copy)]
+pub(crate) struct UnreadRecord {
+    record: u64,
+    fault: RecordFault,
+    explain: bool,
+}
+
+impl UnreadRecord {
+    pub(crate) fn new(record: u64, fault: RecordFault, explain: bool) -> UnreadRecord {
+        UnreadRecord {
+            record,
+            fault,
+            explain,
+        }
+    }
+}
+
+impl fmt::Display for UnreadRecord {
+    fn fmt<W: fmt::Write>(&self, f: &mut fmt::Formatter<W>) -> fmt::Result {
+        let (code, reason) = (self.fault.code(), self.explain.then_some(self.fault));
+        write!(
+            f,
+            "geostation: record {}: {code}{}",
+            self.record,
+            Explanation(reason)
+        )
+    }
+}
+
 /// What `check` counted.
 #[derive(Clone, Copy, Serialize)]
 pub(crate) struct Count {

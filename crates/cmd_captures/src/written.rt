@@ -14,6 +14,7 @@ use cap_pcap::{
     AnySink, Format, InterfaceHead, InterfaceInfo, InterfaceName, LinkFault, LinkLayer, PutFault,
     RecordHeader, RecordSink, SinkFault, Unit, frame_start, has_place, layer_for,
 };
+use cap_records::{RecordFault, bring_inner, find_plain, is_secured};
 use its_linkframe::Counted;
 use std::io::Write;
 use std::marker::Model;
@@ -141,6 +142,29 @@ impl<W: Write + Drop> Written<W> {
         self.write(LinkLayer::Ethernet, head, &octets.as_slice()[start..])
     }
 
+    /// The same, where secured frames are read by their plain part: in place of a secured frame the
+    /// inner frame is written, which isn't judged. `Unread` if its message can't be read. Records with
+    /// the header of their link layer are written as ever.
+    pub(crate) fn put_signed(
+        &mut self,
+        head: &RecordHeader,
+        octets: &mut Vec<u8>,
+        linked: bool,
+    ) -> Result<(), SignedFault> {
+        if !self.frames_only {
+            return Ok(self.put(head, octets, linked)?);
+        }
+        let layer = layer_for(head, None)?;
+        let start = text_start(layer, octets, linked)?;
+        if !is_secured(&octets.as_slice()[start..]) {
+            return Ok(self.write(LinkLayer::Ethernet, head, &octets.as_slice()[start..])?);
+        }
+        let plain = find_plain(&octets.as_slice()[start..])?;
+        let place = bring_inner(octets.as_mut_slice(), start, &plain);
+        let inner = &octets.as_slice()[place.start..place.end];
+        Ok(self.write(LinkLayer::Ethernet, head, inner)?)
+    }
+
     /// Writes a record of these octets, behind the headers where it is the first.
     fn write(
         &mut self,
@@ -199,6 +223,61 @@ impl<W: Write + Drop> Written<W> {
     /// The writer, with what it has.
     pub(crate) fn into_writer(self) -> W {
         self.sink.into_inner().into_inner()
+    }
+}
+
+/// Why a record isn't written whose secured frame is read by its plain part.
+#[derive(Clone, Copy)]
+pub(crate) enum SignedFault {
+    /// As any record.
+    Sink(SinkFault),
+    /// Its secured frame can't be read.
+    Unread(RecordFault),
+}
+
+impl From<SinkFault> for SignedFault {
+    ghost use Rattle.std.specs.Prelude.{◌≡◌};
+    ghost use Rattle.cmd_captures.specs.declared.written.SignedFault.TheVariants as signed_faults;
+
+    ghost from_gives = { λ fault e. e ≡ signed_faults.Sink fault };
+
+    fn from(fault: SinkFault) -> SignedFault {
+        SignedFault::Sink(fault)
+    }
+}
+
+impl From<cap_pcap::RecordFault> for SignedFault {
+    ghost use Rattle.std.specs.Prelude.{◌≡◌};
+    ghost use Rattle.cmd_captures.specs.declared.written.SignedFault.TheVariants as signed_faults;
+    ghost use Rattle.cap_pcap.specs.declared.sink.SinkFault.TheVariants as sink_faults;
+
+    ghost from_gives = { λ fault e. e ≡ signed_faults.Sink (sink_faults.Record fault) };
+
+    fn from(fault: cap_pcap::RecordFault) -> SignedFault {
+        SignedFault::Sink(SinkFault::Record(fault))
+    }
+}
+
+impl From<LinkFault> for SignedFault {
+    ghost use Rattle.std.specs.Prelude.{◌≡◌};
+    ghost use Rattle.cmd_captures.specs.declared.written.SignedFault.TheVariants as signed_faults;
+    ghost use Rattle.cap_pcap.specs.declared.sink.SinkFault.TheVariants as sink_faults;
+
+    ghost from_gives = { λ fault e. e ≡ signed_faults.Sink (sink_faults.Link fault) };
+
+    fn from(fault: LinkFault) -> SignedFault {
+        SignedFault::Sink(SinkFault::Link(fault))
+    }
+}
+
+impl From<RecordFault> for SignedFault {
+    ghost use Rattle.std.specs.Prelude.{◌≡◌};
+    ghost use Rattle.cmd_captures.specs.declared.written.SignedFault.TheVariants as signed_faults;
+
+    ghost from_gives = { λ fault e. e ≡ signed_faults.Unread fault };
+
+    fn from(fault: RecordFault) -> SignedFault {
+        SignedFault::Unread(fault)
     }
 }
 

@@ -51,11 +51,13 @@ pub record HasNewInterface (old new : RunFile) : Type 0 where
   pub failed : new.failed ≡ old.failed
 
 -- what a file remembers of a frame that was put so, and whether the run may go on: a frame whose
--- moment has no place is left out, and all other faults are the file's
+-- moment or length has no place is left out, and all other faults are the file's
 abbrev pub Remembers : Result (Unit {0}) PutFault → RunFile → RunFile → Bool → Type 0
 Remembers (Ok _) old new ok =
     (ok ≡ true) × (new.left_out ≡ old.left_out) × (new.failed ≡ old.failed)
 Remembers (Err puts.Moment) old new ok =
+    (ok ≡ true) × (new.left_out ≡ true) × (new.failed ≡ old.failed)
+Remembers (Err puts.Length) old new ok =
     (ok ≡ true) × (new.left_out ≡ true) × (new.failed ≡ old.failed)
 Remembers (Err fault) old new ok =
     (ok ≡ false) × (new.left_out ≡ old.left_out) × (new.failed ≡ true)

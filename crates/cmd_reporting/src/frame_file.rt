@@ -97,8 +97,8 @@ impl<'a, W: Write + Drop> FrameFile<'a, W> {
     }
 
     /// Writes the next frame, which a station gave at this moment, as one of that station's
-    /// interface. A frame whose moment has no place in the format is left out, with a line
-    /// on standard error.
+    /// interface. A frame whose moment or length has no place in the format is left out, with a
+    /// line on standard error.
     ///
     /// An error says that the file failed, which `end` tells then.
     pub fn put<E: Write>(
@@ -120,9 +120,9 @@ impl<'a, W: Write + Drop> FrameFile<'a, W> {
         let stamp = Stamp::of_millis(moment);
         match self.sink.put_frame(interface, stamp, frame) {
             Ok(()) => Ok(()),
-            Err(PutFault::Moment) => {
+            Err(fault @ (PutFault::Moment | PutFault::Length)) => {
                 self.left_out = true;
-                let fault = SinkFault::Put(PutFault::Moment);
+                let fault = SinkFault::Put(fault);
                 let _ = writeln!(err, "{}", LeftOut::new("frame", number, fault, lines));
                 Ok(())
             }

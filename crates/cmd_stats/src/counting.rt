@@ -6,6 +6,7 @@ ghost use Rattle.cmd_reporting.specs.Statuses.{IsCommandStatus};
 use crate::kinds::Kinds;
 use crate::ports::Ports;
 use crate::printing::{Counted, print_object, print_tables};
+use crate::psids::Psids;
 use crate::seconds::Seconds;
 use crate::sources::Sources;
 use cap_records::{
@@ -25,6 +26,7 @@ pub(crate) struct Counts {
     pub(crate) kinds: Kinds,
     pub(crate) sources: Sources,
     pub(crate) ports: Ports,
+    pub(crate) psids: Psids,
     pub(crate) seconds: Seconds,
 }
 
@@ -35,22 +37,39 @@ impl Counts {
             kinds: Kinds::new(),
             sources: Sources::new(alloc),
             ports: Ports::new(alloc),
+            psids: Psids::new(alloc),
             seconds: Seconds::new(alloc),
         }
     }
 
-    /// Counts a frame at a moment.
-    fn add(&mut self, moment: u64, frame: &FrameView<'_>) -> Result<(), AllocError> {
-        let length = frame.packet.octets().len().saturating_add(LINK_HEADER);
-        // No frame has more than 1468 octets.
+    /// Counts the frame of a record.
+    fn add(&mut self, place: &Place, frame: &FrameView<'_>) -> Result<(), AllocError> {
+        let length = length_of(place, frame);
+        // No frame has more than 2310 octets.
         let octets = u32::try_from(length).unwrap_or(u32::MAX);
         self.kinds.add_frame(frame.packet.kind());
-        self.sources.add(moment, u64::from(octets), frame)?;
+        self.sources.add(place.moment, u64::from(octets), frame)?;
         if let Some(port) = traits_of(frame).port {
             self.ports.add(port, u64::from(octets))?;
         }
-        self.seconds.add(moment, octets)
+        if let Some(psid) = psid_of(place) {
+            self.psids.add(psid, u64::from(octets))?;
+        }
+        self.seconds.add(place.moment, octets)
     }
+}
+
+/// How many octets the frame of a record has: of a secured one the whole frame.
+fn length_of(place: &Place, frame: &FrameView<'_>) -> usize {
+    match place.secured {
+        Some(secured) => secured.length,
+        None => frame.packet.octets().len().saturating_add(LINK_HEADER),
+    }
+}
+
+/// The PSID of a record, if its frame is a signed one.
+fn psid_of(place: &Place) -> Option<u64> {
+    Some(place.secured?.info?.psid)
 }
 
 impl RecordVisitor for Counts {
@@ -61,7 +80,7 @@ impl RecordVisitor for Counts {
         _out: &mut W,
     ) -> Result<(), Fault<'f>> {
         match frame {
-            Ok(frame) => self.add(place.moment, &frame)?,
+            Ok(frame) => self.add(&place, &frame)?,
             Err(fault) => self.kinds.add_refused(fault),
         }
         Ok(())
@@ -112,6 +131,7 @@ pub(crate) fn count<'a, R: Read + Drop, W: Write, E>(
         counts: &counts,
         walked: &walked,
         top,
+        signed: selection.signed,
     };
     if io.format.json {
         print_object(alloc, counted, &mut io.out)?;

@@ -4,26 +4,33 @@ ghost use Rattle.std.specs.Prelude.{◌<◌};
 
 use crate::table::Table;
 use cap_pcap::LinkFault;
-use cap_records::RecordFault;
+use cap_records::signed::{MessageFault, SHORT_MESSAGE, UNREAD_MESSAGE};
+use cap_records::{RecordFault, SIGNED_HINT};
 use cmd_text::frames::Explanation;
-use its_faults::{FaultKind, FrameFault};
+use its_faults::{FaultKind, FrameFault, SecuredFault};
 use its_headers::{KINDS, Kind};
 use serde::{Case, Described, Serialize, Serializer};
 use std::alloc::{AllocError, Global};
 use std::fmt;
 
 /// How many rows there are.
-const ROWS: usize = 22;
+const ROWS: usize = 36;
 
 /// The names of those behind the kinds of packet, in the order in which they are printed.
-const CODES: [&str; 18] = [
+const CODES: [&str; 32] = [
     "P3", "P4", "L1", "L2", "L3", "L4", "L5 G1", "L5 G2", "L5 G3", "L5 G4", "L5 G5", "L5 G6",
-    "L5 G7", "L5 G8", "L5 G9", "L5 G10", "L5 G11", "L5 G12",
+    "L5 G7", "L5 G8", "L5 G9", "L5 G10", "L5 G11", "L5 G12", "L6 G1", "L6 G2", "L6 G3", "L6 G4",
+    "L6 G5", "L6 G6", "L6 G7", "L6 G8", "L6 G9", "L6 G10", "L6 G11", "L6 G12", "E1", "E2",
 ];
+
+/// The rows of the first codes of a packet, and of one in a plain part.
+const PACKET_ROW: usize = 10;
+
+const INNER_ROW: usize = 22;
 
 /// The name of a row.
 fn name_of(row: usize) -> &'static str
-    requires { row < 22 }
+    requires { row < 36 }
 {
     if row < KINDS.len() {
         KINDS[row].word()
@@ -53,7 +60,7 @@ impl fmt::Display for RowName {
     }
 }
 
-/// A fault, of a packet without its place.
+/// A fault, of a packet or a message without its place.
 #[derive(Clone, Copy)]
 struct Reason(RecordFault);
 
@@ -61,7 +68,14 @@ impl fmt::Display for Reason {
     fn fmt<W: fmt::Write>(&self, f: &mut fmt::Formatter<W>) -> fmt::Result {
         match self.0 {
             RecordFault::Frame(FrameFault::Packet(fault))
-            | RecordFault::Secured(FrameFault::Packet(fault)) => write!(f, "{}", fault.kind),
+            | RecordFault::Signed(SecuredFault::Packet(fault) | SecuredFault::Inner(fault)) => {
+                write!(f, "{}", fault.kind)
+            }
+            RecordFault::Secured(FrameFault::Packet(fault)) => {
+                write!(f, "{}{SIGNED_HINT}", fault.kind)
+            }
+            RecordFault::Message(MessageFault::Octet(_)) => write!(f, "{UNREAD_MESSAGE}"),
+            RecordFault::Message(MessageFault::Short(_)) => write!(f, "{SHORT_MESSAGE}"),
             fault => write!(f, "{fault}"),
         }
     }
@@ -90,7 +104,7 @@ impl Kinds {
 
     /// Counts a record of a row. No file has 2^64 records.
     fn add(&mut self, row: usize)
-        requires { row < 22 }
+        requires { row < 36 }
     {
         self.counts[row] = self.counts[row].saturating_add(1);
     }
@@ -129,7 +143,7 @@ impl Serialize for Kinds {
 
 /// The row of a kind of packet.
 fn row_of_kind(kind: Kind) -> usize
-    ensures { result < 22 }
+    ensures { result < 36 }
 {
     match kind {
         Kind::Beacon => 0,
@@ -141,7 +155,7 @@ fn row_of_kind(kind: Kind) -> usize
 
 /// The row of why a record is refused.
 fn row_of_fault(fault: RecordFault) -> usize
-    ensures { result < 22 }
+    ensures { result < 36 }
 {
     match fault {
         RecordFault::Record(cap_pcap::RecordFault::LinkType) => 4,
@@ -149,38 +163,55 @@ fn row_of_fault(fault: RecordFault) -> usize
         RecordFault::Link(LinkFault::Short) => 6,
         RecordFault::Link(LinkFault::Kind) => 7,
         RecordFault::Frame(fault) | RecordFault::Secured(fault) => row_of_frame(fault),
+        RecordFault::Signed(fault) => row_of_secured(fault),
+        RecordFault::Message(MessageFault::Octet(_)) => 34,
+        RecordFault::Message(MessageFault::Short(_)) => 35,
+    }
+}
+
+/// The row of why octets are no secured frame, or its plain part no packet.
+fn row_of_secured(fault: SecuredFault) -> usize
+    ensures { result < 36 }
+{
+    match fault {
+        SecuredFault::Short => 6,
+        SecuredFault::EtherType => 7,
+        SecuredFault::TooLong => 8,
+        SecuredFault::Trailing => 9,
+        SecuredFault::Packet(fault) => PACKET_ROW + place_of_packet(fault.kind),
+        SecuredFault::Inner(fault) => INNER_ROW + place_of_packet(fault.kind),
     }
 }
 
 /// The row of why octets are no frame.
 fn row_of_frame(fault: FrameFault) -> usize
-    ensures { result < 22 }
+    ensures { result < 36 }
 {
     match fault {
         FrameFault::Short => 6,
         FrameFault::EtherType => 7,
         FrameFault::TooLong => 8,
         FrameFault::Trailing => 9,
-        FrameFault::Packet(fault) => row_of_packet(fault.kind),
+        FrameFault::Packet(fault) => PACKET_ROW + place_of_packet(fault.kind),
     }
 }
 
-/// The row of why octets are no packet.
-fn row_of_packet(kind: FaultKind) -> usize
-    ensures { result < 22 }
+/// The place, among the codes of packets, of why octets are no packet.
+fn place_of_packet(kind: FaultKind) -> usize
+    ensures { result < 12 }
 {
     match kind {
-        FaultKind::Truncated => 10,
-        FaultKind::Version => 11,
-        FaultKind::BasicNext => 12,
-        FaultKind::Reserved => 13,
-        FaultKind::HopZero => 14,
-        FaultKind::CommonNext => 15,
-        FaultKind::HeaderType => 16,
-        FaultKind::SubType => 17,
-        FaultKind::HopAboveMax => 18,
-        FaultKind::PayloadLength => 19,
-        FaultKind::Position => 20,
-        FaultKind::Area => 21,
+        FaultKind::Truncated => 0,
+        FaultKind::Version => 1,
+        FaultKind::BasicNext => 2,
+        FaultKind::Reserved => 3,
+        FaultKind::HopZero => 4,
+        FaultKind::CommonNext => 5,
+        FaultKind::HeaderType => 6,
+        FaultKind::SubType => 7,
+        FaultKind::HopAboveMax => 8,
+        FaultKind::PayloadLength => 9,
+        FaultKind::Position => 10,
+        FaultKind::Area => 11,
     }
 }

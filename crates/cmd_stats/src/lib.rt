@@ -8,6 +8,7 @@ mod kinds;
 mod numbers;
 mod ports;
 mod printing;
+mod psids;
 pub mod replay;
 mod seconds;
 mod sources;

@@ -3,6 +3,7 @@
 use crate::counting::Counts;
 use crate::kinds::Kinds;
 use crate::ports::{PortRow, port_table};
+use crate::psids::{PsidRow, psid_table};
 use crate::seconds::{SecondRow, second_table};
 use crate::sources::{SourceRow, source_table};
 use cap_records::{RefusedCapture, Walked};
@@ -20,9 +21,11 @@ pub(crate) struct Counted<'c> {
     pub(crate) walked: &'c Walked,
     /// How many sources are told at most.
     pub(crate) top: Option<u64>,
+    /// Whether PSIDs are printed.
+    pub(crate) signed: bool,
 }
 
-/// Prints the four tables, an empty line between them, and why the file was refused, with `explain`
+/// Prints the four tables, and that of PSIDs if it is wanted, an empty line between them, and why the file was refused, with `explain`
 /// as a sentence too.
 pub(crate) fn print_tables<'f, W: Write>(
     alloc: Global,
@@ -40,6 +43,10 @@ pub(crate) fn print_tables<'f, W: Write>(
     port_table(alloc, ports.as_slice())?.write(out)?;
     writeln!(out)?;
     second_table(alloc, counts.seconds.busiest())?.write(out)?;
+    if counted.signed {
+        writeln!(out)?;
+        psid_table(alloc, counts.psids.rows()?.as_slice())?.write(out)?;
+    }
     if let Some(fault) = walked.fault {
         let told = RefusedCapture::new(walked.read, fault, explain);
         writeln!(out, "{told}")?;
@@ -70,6 +77,8 @@ struct Everything<'a> {
     sources: Rows<'a, SourceRow>,
     ports: Rows<'a, PortRow>,
     load: Option<SecondRow>,
+    #[serde(skip_serializing_if = "Option::is_none")]
+    psids: Option<Rows<'a, PsidRow>>,
     #[serde(flatten)]
     fault: Option<RefusedCapture>,
 }
@@ -83,6 +92,7 @@ pub(crate) fn print_object<'f, W: Write>(
     let (counts, walked) = (counted.counts, counted.walked);
     let sources = counts.sources.rows(counted.top)?;
     let ports = counts.ports.rows()?;
+    let psids = counts.psids.rows()?;
     let fault = walked
         .fault
         .map(|fault| RefusedCapture::new(walked.read, fault, false));
@@ -91,6 +101,7 @@ pub(crate) fn print_object<'f, W: Write>(
         sources: Rows(sources.as_slice()),
         ports: Rows(ports.as_slice()),
         load: counts.seconds.busiest(),
+        psids: counted.signed.then_some(Rows(psids.as_slice())),
         fault,
     };
     let mut line = JsonLine::new(alloc)?;

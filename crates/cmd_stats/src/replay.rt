@@ -7,6 +7,7 @@ mod lines;
 mod on_air;
 mod printing;
 mod replaying;
+mod signed;
 mod unit;
 
 pub use command::{ReplayOptions, replay};

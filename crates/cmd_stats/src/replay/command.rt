@@ -6,6 +6,7 @@ ghost use Rattle.cmd_stats.specs.Units.{IsUnit};
 
 use crate::replay::printing::Printer;
 use crate::replay::replaying::replay_records;
+use crate::replay::signed::replay_signed;
 use crate::replay::unit::Unit;
 use cap_pcap::Format;
 use cap_records::{FileFault, RefusedCapture, Selection, open_records};
@@ -101,7 +102,11 @@ fn replay_lines<'a, R: Read + Drop, F: Write + Drop, W: Write, E: Write>(
     let mut source = open_records(alloc, file, selection.format, reader)?;
     let linked = source.format() != Format::Capture;
     let mut station = replay.unit.begin(alloc)?;
-    let replayed = replay_records(alloc, &mut station, selection, &mut source, linked, printer)?;
+    let replayed = if selection.signed {
+        replay_signed(alloc, &mut station, selection, &mut source, linked, printer)?
+    } else {
+        replay_records(alloc, &mut station, selection, &mut source, linked, printer)?
+    };
     let Some(fault) = replayed.fault else {
         return Ok(Status::Done);
     };

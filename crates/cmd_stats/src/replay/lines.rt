@@ -56,7 +56,11 @@ impl<'a> ReplayLine<'a> {
     /// a refusal go on with its sentence.
     pub(crate) fn of(heard: &'a Heard, number: u64, explain: bool) -> ReplayLine<'a> {
         let (moment, answer) = match heard {
-            Heard::Received { moment, reply, .. } => (*moment, reply_keys(reply, number)),
+            Heard::Received {
+                moment,
+                frame,
+                reply,
+            } => (*moment, reply_keys(reply, frame.as_slice(), number)),
             Heard::Nothing { moment, fault } => {
                 let code = Code::Record(fault.code());
                 (*moment, AnswerKeys::refused(code, Reason::Record(*fault)))
@@ -70,18 +74,27 @@ impl<'a> ReplayLine<'a> {
     }
 }
 
-/// What is told of a reply.
-fn reply_keys(reply: &Reply, number: u64) -> PrintedAnswer<'_, Code, Reason> {
+/// What is told of a reply to these octets.
+fn reply_keys<'a>(reply: &'a Reply, frame: &[u8], number: u64) -> PrintedAnswer<'a, Code, Reason> {
     match reply {
         Reply::Ignored(why) => AnswerKeys::ignored(*why),
         Reply::Accepted { handed, sent } => {
             AnswerKeys::accepted(handed, sent.as_ref().map(|_| number))
         }
         Reply::Refused(refused) => {
-            AnswerKeys::refused(Code::Station(refused.code()), Reason::Station(*refused))
+            AnswerKeys::refused(Code::Station(refused.code()), reason_of(*refused, frame))
         }
         // No frame is answered so.
         Reply::Done | Reply::Quiet | Reply::Sent(_) => AnswerKeys::word("done"),
+    }
+}
+
+/// Why the station refused these octets.
+fn reason_of(refused: Refused, frame: &[u8]) -> Reason {
+    match refused {
+        Refused::Frame(fault) => Reason::Record(RecordFault::of(fault, frame)),
+        Refused::Secured(fault) => Reason::Record(RecordFault::Signed(fault)),
+        _ => Reason::Station(refused),
     }
 }
 

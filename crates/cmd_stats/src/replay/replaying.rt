@@ -31,7 +31,7 @@ pub struct Replayed {
 
 impl Replayed {
     /// Nothing yet.
-    fn begin() -> Replayed
+    pub(crate) fn begin() -> Replayed
         ensures { result ≡ record { read = 0; chosen = 0; fault = None } }
     {
         Replayed {
@@ -42,7 +42,7 @@ impl Replayed {
     }
 
     /// The same after one more step.
-    fn after(self, met: Gone) -> Replayed
+    pub(crate) fn after(self, met: Gone) -> Replayed
         requires read { self.read < 2 ^ 64 - 1 }
         requires chosen { self.chosen < 2 ^ 64 - 1 }
         ensures { result ≡ counts_after self met }
@@ -65,7 +65,7 @@ impl Replayed {
 
 /// What a step over the file met.
 #[derive(Clone, Copy, Debug, PartialEq, Eq)]
-enum Gone {
+pub(crate) enum Gone {
     /// A record that is chosen.
     Chosen,
     /// A record that isn't.
@@ -78,7 +78,7 @@ enum Gone {
 
 impl Gone {
     /// Whether there is no further step.
-    fn is_end(self) -> bool
+    pub(crate) fn is_end(self) -> bool
         ensures { result ≡ is_end self }
     {
         matches!(self, Gone::End(_))
@@ -172,7 +172,7 @@ fn hear<'f, K: HeardSink>(
 
 /// Gives what was on the air to the station at a moment. `NoMemory` where an allocation failed: the
 /// station stands as before.
-fn receive(
+pub(crate) fn receive(
     station: &mut Station<SortedTable>,
     moment: u64,
     on_air: OnAir,
