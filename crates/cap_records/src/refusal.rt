@@ -6,7 +6,7 @@ ghost use Rattle.cap_records.specs.FileFaults.{EndsCommand, IsToldInLine};
 ghost use Rattle.cap_records.specs.RecordFrames.{IsTold, is_other};
 ghost use Rattle.cap_records.specs.declared.refusal.RecordFault.TheVariants as faults;
 
-use crate::signed::MessageFault;
+use crate::messages::MessageFault;
 use cap_pcap::{Format, LinkFault, SourceFault};
 use cmd_reporting::Fault;
 use cmd_text::frames::{FrameReason, SecuredReason};
