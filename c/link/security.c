@@ -159,16 +159,14 @@ static bool is_unsecured(const struct received *r) {
 /* Would the station not process the frame, whatever its message says? */
 static bool needs_no_entity(const struct security *x, const struct received *r) {
     static const uint8_t broadcast[6] = { 0xff, 0xff, 0xff, 0xff, 0xff, 0xff };
+    uint8_t own[6];
     size_t start, n;
     if (geostation_message(r->octets, r->length, &start, &n) != GEOSTATION_OK) {
         return true;
     }
-    uint64_t to = 0;
-    for (int k = 0; k < 6; k++) {
-        to = to << 8 | r->octets[k];
-    }
-    bool for_me = to == (x->station->address & ((UINT64_C(1) << 48) - 1));
-    return !for_me && memcmp(r->octets, broadcast, sizeof broadcast) != 0;
+    link_address(x->station->address, own);
+    return memcmp(r->octets, own, sizeof own) != 0
+        && memcmp(r->octets, broadcast, sizeof broadcast) != 0;
 }
 
 static void verify(struct security *x, const struct received *got) {

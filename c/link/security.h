@@ -8,6 +8,7 @@
 #include <stddef.h>
 #include <stdint.h>
 #include <sys/types.h>
+#include <sys/un.h>
 
 struct options;
 struct received;
@@ -29,6 +30,7 @@ enum {
 /* entity.c: the connection to the security entity. */
 struct entity {
     const char *path;
+    struct sockaddr_un at;
     bool has_user; /* another user than root and the program's own may run the entity */
     uid_t user;
     int fd;          /* or -1 */
