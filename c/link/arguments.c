@@ -91,12 +91,12 @@ static _Noreturn void print_and_end(bool help) {
     exit(fflush(stdout) == 0 ? 0 : FAILED);
 }
 
-static bool take_option(struct options *o, int option, const struct setting *s, struct fault *f) {
+static bool take_option(struct options *o, int option, struct setting *s, struct fault *f) {
     switch (option) {
     case CONFIG: return read_config(o, s->value, f);
     case CHECK_CONFIG: o->check = true; return true;
     case VERSION: case HELP: print_and_end(option == HELP);
-    default: return s->row->take(o, s, f);
+    default: s->row = &settings[option]; return s->row->take(o, s, f);
     }
 }
 
@@ -140,7 +140,7 @@ static bool take_words(struct options *o, int argc, char **argv, struct fault *f
         }
         int k = found - FIRST_OPTION;
         const char *value = value_of(&table[k], argc, argv);
-        struct setting s = { NULL, 0, table[k].name, value, k < SETTINGS ? &settings[k] : NULL };
+        struct setting s = { NULL, 0, table[k].name, value, NULL };
         if (!take_option(o, k, &s, f)) {
             return false;
         }

@@ -140,7 +140,7 @@ bool station_may_send(const struct station *s) {
 
 static void send_beacon(struct station *s, size_t n) {
     if (s->security != NULL) {
-        (void)security_sign(s->security, s->frame, n, NULL);
+        (void)requests_sign(s->security, s->frame, n, NULL);
     } else {
         (void)link_send(s->link, s->frame, n);
     }
