@@ -67,8 +67,8 @@ ssize_t rattle_arg(size_t i, uint8_t *buffer, size_t size) {
 }
 
 /* Copies the value of an environment variable to the start of the buffer and returns its length.
- * Returns -1 if there is no such variable. Returns -2 if the value does not fit, and then the buffer
- * is full. The name ends with a NUL: the caller's part of the contract. */
+ * Returns -1 if there is no such variable. Returns -2 if the value does not fit, and then the
+ * buffer is full. The name ends with a NUL: the caller's part of the contract. */
 ssize_t rattle_env(const uint8_t *name, uint8_t *buffer, size_t size) {
     return copy_text(getenv((const char *)name), buffer, size);
 }
