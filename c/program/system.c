@@ -16,7 +16,6 @@ extern char **environ;
 
 int32_t rattle_errno(void);
 void rattle_set_errno(int32_t error);
-size_t rattle_arg_count(void);
 ssize_t rattle_arg(size_t i, uint8_t *buffer, size_t size);
 ssize_t rattle_env(const uint8_t *name, uint8_t *buffer, size_t size);
 ssize_t rattle_env_at(size_t i, uint8_t *buffer, size_t size);
@@ -55,13 +54,9 @@ void rattle_set_errno(int32_t error) {
     errno = error;
 }
 
-/* Returns the number of arguments. The program's own name is one of them. */
-size_t rattle_arg_count(void) {
-    return argument_count;
-}
-
-/* Copies argument `i` to the start of the buffer and returns its length. Returns -1 if there is no
- * such argument. Returns -2 if it does not fit, and then the buffer is full. */
+/* Copies argument `i` to the start of the buffer and returns its length. Argument 0 is the name of
+ * the program. Returns -1 if there is no such argument. Returns -2 if it does not fit, and then the
+ * buffer is full. */
 ssize_t rattle_arg(size_t i, uint8_t *buffer, size_t size) {
     return copy_text(i < argument_count ? arguments[i] : NULL, buffer, size);
 }

@@ -14,7 +14,6 @@ extern char **environ;
 
 int32_t rattle_errno(void);
 void rattle_set_errno(int32_t error);
-size_t rattle_arg_count(void);
 ssize_t rattle_arg(size_t i, uint8_t *buffer, size_t size);
 ssize_t rattle_env(const uint8_t *name, uint8_t *buffer, size_t size);
 ssize_t rattle_env_at(size_t i, uint8_t *buffer, size_t size);
@@ -62,7 +61,6 @@ static void check_sizes(enum source from, size_t i, const char *name, const char
 }
 
 static void check_arguments(int count, char **words) {
-    CHECK(rattle_arg_count() == (size_t)count);
     for (int k = 0; k < count; k++) {
         check_sizes(ARGUMENT, (size_t)k, NULL, words[k]);
     }
