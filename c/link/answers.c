@@ -193,7 +193,8 @@ static void do_line(struct station *s, uint64_t now, uint64_t number, const uint
     }
     if (frame_length != 0 && sent) {
         send_own(s, now, frame_length, h);
-    } else if (frame_length != 0 && s->security == NULL) {
+    } else if (frame_length != 0 && s->security == NULL
+               && has_result(h->answer, h->length, "accepted")) {
         forwards_put(s->forwards, s->frame, frame_length);
     } else if (has_result(h->answer, h->length, "moved")) {
         follow_move(s, now, line, n);

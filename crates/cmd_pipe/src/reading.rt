@@ -1,6 +1,6 @@
 //! Reading what a line asks for.
 
-ghost use Rattle.std.specs.Prelude.{◌≡◌, ◌↔◌, ◌⊎◌, ℕ, List, IfOk, IfErr, IfSome, IsSome, IfNone};
+ghost use Rattle.std.specs.Prelude.{◌≡◌, ◌≢◌, ◌↔◌, ◌⊎◌, ℕ, List, IfOk, IfErr, IfSome, IsSome, IfNone};
 ghost use Rattle.std.specs.Prelude.{OnErr, None, Some, IsTrue, IsFalse};
 ghost use Rattle.std.specs.Prelude.{codes};
 ghost use Rattle.serde_json.specs.View.{view};
@@ -195,7 +195,7 @@ fn read_id(alloc: Global, members: &Members<'_>) -> Result<Option<Id>, ReadFault
 
 /// Reads the moment, `do` and the keys of the word. What is asked of what the station knows needs
 /// no moment.
-#[tactic(auto, using(crate::proofs::Read::bad_told))]
+#[tactic(auto, using(crate::proofs::Read::bad_told, crate::proofs::Secured::bad_verified))]
 fn read_call_or_query(
     alloc: Global,
     members: &Members<'_>,
@@ -335,6 +335,7 @@ fn read_after(members: &Members<'_>) -> Result<Option<GnAddress>, ReadFault>
 
 /// Reads an address of 16 hexadecimal digits, whose MID is no group.
 fn read_address(members: &Members<'_>, key: QueryKey) -> Result<GnAddress, ReadFault>
+    requires { key ≢ QueryKey.Plain }
     ensures fault { IfErr result IsOfQuery }
 {
     let Some(digits) = members.text(key.word()) else {

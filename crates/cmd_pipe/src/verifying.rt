@@ -1,6 +1,6 @@
 //! Secured frames that came with the plain part that a security entity verified.
 
-ghost use Rattle.std.specs.Prelude.{◌≡◌, ◌≤◌, ◌∷◌, [], IfOk, OnErr, Err, length, vec_len};
+ghost use Rattle.std.specs.Prelude.{◌≡◌, ◌≢◌, ◌≤◌, ◌∷◌, [], IfOk, OnErr, Err, length, vec_len};
 ghost use Rattle.std.specs.Prelude.{vec_capacity};
 ghost use Rattle.std.specs.Option.{option_map};
 ghost use Rattle.its_model.specs.Station.{Step};
@@ -66,8 +66,8 @@ fn source_of(frame: &[u8], plain: &[u8]) -> Option<GnAddress> {
     }
 }
 
-/// What became of a frame as a reply that owns its octets: a payload takes the room that was made
-/// for it. `NoMemory` where an allocation failed.
+/// The outcome of a frame, as a reply that owns its octets: a payload takes the room that was made for
+/// it. `NoMemory` where an allocation failed.
 fn owned_reply(answer: Result<Outcome<'_>, Refused>, room: Vec<u8>) -> Result<Reply, NoMemory>
     requires empty { room.items ≡ [] }
     requires size { vec_len room ≡ 0 }
@@ -78,6 +78,7 @@ fn owned_reply(answer: Result<Outcome<'_>, Refused>, room: Vec<u8>) -> Result<Re
     ensures counts { (c : Counts) → IfOk result (λ reply.
         counted answer.entry c ≡ counts_heard reply c) }
     ensures memory { OnErr result (answer.entry ≡ Err Refused.NoMemory) }
+    ensures done { IfOk result (λ _. answer.entry ≢ Err Refused.NoMemory) }
 {
     match answer {
         Ok(Outcome::Ignored(why)) => Ok(Reply::Ignored(why)),
@@ -103,7 +104,7 @@ fn deliver(handed: Option<Handed<'_>>, room: Vec<u8>) -> Option<Delivery>
     }
 }
 
-/// The same of a payload that was delivered.
+/// A message that was delivered, with its payload copied into the room.
 fn own(handed: Handed<'_>, room: Vec<u8>) -> Delivery
     requires empty { room.items ≡ [] }
     requires size { vec_len room ≡ 0 }
