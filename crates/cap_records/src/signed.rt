@@ -1,5 +1,8 @@
 //! Secured frames of records, read by their plain part. No signature is verified.
 
+ghost use Rattle.std.specs.Prelude.{◌≡◌, ◌≤◌, ◌+◌, ◌-◌, IfOk, IfErr, length, take, drop};
+ghost use Rattle.cap_records.specs.SignedFrames.{HasPlain, IsUnread, inner_frame};
+
 use crate::choosing::Traits;
 use crate::frame::{read, read_on};
 use crate::messages::{HeaderInfo, read_message};
@@ -58,7 +61,12 @@ pub fn is_secured(frame: &[u8]) -> bool {
 ///
 /// `Signed` with L1, L2, L3 or L5 if the octets aren't a secured frame, and `Message` with E1 or E2
 /// if its message can't be read.
-pub fn find_plain(frame: &[u8]) -> Result<PlainPart, RecordFault> {
+pub fn find_plain(frame: &[u8]) -> Result<PlainPart, RecordFault>
+    ensures found { IfOk result (HasPlain frame.now) }
+    ensures behind { IfOk result (λ part. 18 ≤ part.start) }
+    ensures inside { IfOk result (λ part. part.start + part.length ≤ length frame.now) }
+    ensures fault { IfErr result (IsUnread frame.now) }
+{
     let secured = read_secured_frame(frame)?;
     let message = read_message(secured.message())?;
     Ok(PlainPart {
@@ -79,7 +87,14 @@ pub struct FramePlace {
 
 /// Puts the inner frame of a secured one, which begins at this octet, together in front of its plain
 /// part: link addresses, type, Basic Header with next header 1, plain part.
-pub fn bring_inner(octets: &mut [u8], start: usize, plain: &PlainPart) -> FramePlace {
+pub fn bring_inner(octets: &mut [u8], start: usize, plain: &PlainPart) -> FramePlace
+    requires behind { 18 ≤ plain.now.start }
+    requires inside { start + plain.now.start + plain.now.length ≤ length octets.old }
+    ensures order { result.start ≤ result.end }
+    ensures inside { result.end ≤ length octets.new }
+    ensures inner { take (result.end - result.start) (drop result.start octets.new)
+        ≡ inner_frame (drop start octets.old) plain.now }
+{
     let begin = start + plain.start - MESSAGE;
     octets.copy_within(start..start + MESSAGE, begin);
     octets[begin + PACKET] = UNSECURED;
@@ -121,7 +136,9 @@ pub(crate) fn signed_frame_of<'a>(
 }
 
 /// Where the frame begins in octets that have the header of this link layer, or none.
-fn start_in(layer: Option<LinkLayer>, octets: &mut Vec<u8>) -> Result<usize, RecordFault> {
+fn start_in(layer: Option<LinkLayer>, octets: &mut Vec<u8>) -> Result<usize, RecordFault>
+    ensures inside { IfOk result (λ at. at ≤ length octets.new.items) }
+{
     match layer {
         Some(layer) => Ok(frame_start(layer, octets)?),
         None => Ok(0),
@@ -137,7 +154,10 @@ fn read_in(layer: Option<LinkLayer>, octets: &[u8]) -> Result<FrameView<'_>, Rec
 }
 
 /// Finds the plain part of a secured frame, which has to be a packet.
-fn judge(frame: &[u8]) -> Result<PlainPart, RecordFault> {
+fn judge(frame: &[u8]) -> Result<PlainPart, RecordFault>
+    ensures behind { IfOk result (λ part. 18 ≤ part.start) }
+    ensures inside { IfOk result (λ part. part.start + part.length ≤ length frame.now) }
+{
     let found = find_plain(frame)?;
     let plain = &frame[found.start..found.start + found.length];
     VerifiedFrame::read(frame, plain)?;
