@@ -67,7 +67,7 @@ static const char usage[] =
 enum { CONFIG = SETTINGS, CHECK_CONFIG, VERSION, HELP, OPTIONS };
 enum { FIRST_OPTION = 256 /* getopt_long returns characters for what it rejects */ };
 
-/* The table for getopt_long: first the settings, at their own places. */
+/* Fills the table for getopt_long. The settings come first, at their own indices. */
 static void list_options(struct option table[OPTIONS + 1]) {
     for (size_t k = 0; k < SETTINGS; k++) {
         table[k] = (struct option){ settings[k].name, settings[k].argument, NULL, 0 };
@@ -124,7 +124,7 @@ static bool judge(const struct options *o, struct fault *f) {
     return true;
 }
 
-/* A value that may be left out may be the next word. */
+/* An optional value may be the next word. */
 static const char *value_of(const struct option *o, int argc, char **argv) {
     bool left_out = o->has_arg == optional_argument && optarg == NULL;
     return left_out && optind < argc && argv[optind][0] != '-' ? argv[optind++] : optarg;
