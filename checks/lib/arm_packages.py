@@ -57,6 +57,26 @@ def make_packages(prefix, room, notes):
     return paths
 
 
+def check_dist(prefix, room):
+    """The tarball has the library and the programs that were built, and is the same twice."""
+    environment = {**os.environ, "GEOSTATION_PREFIX": str(prefix)}
+    made = []
+    for number in range(2):
+        words = ("--dist", "--target", TARGET, room / f"dist{number}")
+        path = Path(install.run(install.WRAPPER, *words, env=environment).strip())
+        made.append(path.read_bytes())
+    if made[0] != made[1]:
+        install.fail("--dist --target makes other bytes the second time")
+    if not path.name.endswith("-aarch64-linux.tar.xz"):
+        install.fail(f"--dist --target makes {path.name}")
+    names = install.run("tar", "-tf", path).splitlines()
+    programs = {Path(name).name for name in names if Path(name).parent.name == "bin"}
+    if programs != {file.name for file in prefix.glob("bin/*")}:
+        install.fail(f"the programs of the tarball: {programs}")
+    if not any(name.endswith(f"/lib/{SHARED}") for name in names):
+        install.fail("the tarball has no library")
+
+
 def check_wheel(prefix, room):
     """A wheel with the library in it has the processor in its name. Without it, it has none."""
     copy = room / "python"
@@ -109,6 +129,7 @@ def main():
     with tempfile.TemporaryDirectory(prefix="arm.") as name:
         room = Path(name).resolve()
         paths = make_packages(prefix, room, notes)
+        check_dist(prefix, room)
         check_wheel(prefix, room)
         with install.copy_of_debian(arm_debian.DEBIAN, room) as root:
             inside = (sys.executable, LIB / "arm_debian.py", root)
