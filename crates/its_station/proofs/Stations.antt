@@ -10,7 +10,8 @@ use Rattle.its_model.specs.Station.{StationModel, Step, first, moment_refusal, o
 use Rattle.its_model.specs.Station.{own_step, own_step_by, performed}
 use Rattle.its_loctable.specs.Content.{Entry, Represents}
 use Rattle.its_station.specs.declared.refused.Refused.{Refused}
-use Rattle.its_station.specs.State.{StationState, IsPast, RepresentsStation, model_of}
+use Rattle.its_station.specs.State.{StationState, HasPast, IsPast, RepresentsStation}
+use Rattle.its_station.specs.State.{model_of}
 use Rattle.its_station.specs.Steps.{IsStepOf, refusal_of}
 
 -- what holds of the model station with each past holds of each one that is represented
@@ -29,6 +30,14 @@ pub Represents-later : (remember : ℕ) (content : List Entry) (history : List R
     → Represents remember content history to
 Represents-later remember content history from to le rep =
     record { live = λ t source at. rep.live t source (omega arith) }
+
+-- a station that has a past has it later too
+pub later : (remember : ℕ) (content : List Entry) (from to : ℕ) → from ≤ to
+    → HasPast remember content from → HasPast remember content to
+later remember content from to le past = record {
+  history = past.history;
+  table = Represents-later remember content past.history from to le past.table;
+}
 
 pub own_refused : (s : StationModel) (t : ℕ) (call : OwnCall) (r : Refusal)
     → first (moment_refusal s t) (own_refusal s call) ≡ Some r
