@@ -25,6 +25,9 @@ use Rattle.its_loctable.specs.Content.{Represents}
 use Rattle.its_loctable.specs.Heard as table
 use Rattle.its_loctable.specs.Heard.{verdict_at}
 use Rattle.its_loctable.specs.SourceReport.{SourceReport}
+use Rattle.its_loctable.specs.Found.{verdict_of as answer_of, HasIndex}
+use Rattle.its_loctable.specs.declared.found.Found.{Found}
+use Rattle.its_loctable.specs.declared.found.Found.TheVariants as found
 use Rattle.its_loctable.proofs.VerdictLemmas.{verdict_at-by}
 use Rattle.its_loctable.specs.declared.store.Verdict.{Verdict as StoreVerdict}
 use Rattle.its_loctable.specs.declared.store.Verdict.TheVariants as verdicts
@@ -36,17 +39,19 @@ use Rattle.its_station.specs.declared.outcome.Outcome.{Outcome}
 use Rattle.its_station.specs.declared.outcome.Outcome.TheVariants as outcomes
 use Rattle.its_station.specs.declared.outcome.Why.{Why}
 use Rattle.its_station.specs.declared.outcome.Why.TheVariants as why
-use Rattle.its_station.specs.State.{StationState, IsPast, RepresentsStation, SamePorts, model_of}
+use Rattle.its_station.specs.State.{StationState, HasPast, IsPast, RepresentsStation}
+use Rattle.its_station.specs.State.{SamePorts, model_of}
 use Rattle.its_station.specs.Steps.{IsStepOf, IsRefusedStep}
 use Rattle.its_station.specs.Receiving.{Encoded, IsSentFrame, Tells, TellsBy, IsRelayBy}
 use Rattle.its_station.specs.Receiving.{report_of, copy_of, said_by}
 use Rattle.its_station.specs.Receiving.{why_of, why_found, why_unasked, accept_step}
-use Rattle.its_station.specs.Receiving.{secured_step_by}
+use Rattle.its_station.specs.Receiving.{secured_step_by, IsAdmitted}
 use Rattle.its_station.specs.declared.refused.Refused.TheVariants as refused
 use Rattle.its_faults.specs.declared.frame.FrameFault.{FrameFault}
 use Rattle.its_faults.specs.declared.secured.SecuredFault.{SecuredFault}
 use Rattle.its_station.specs.Steps.{refusal_of}
 use Rattle.its_station.proofs.Stations.{represents, Represents-later, own_refused, at_model}
+use Rattle.its_station.proofs.Stations.{later}
 
 -- ---- the frame that goes on
 
@@ -223,7 +228,7 @@ why_before s now t reason e =
     (is_repeated s.remember (number_in t.pdu.body) t.pdu.vector.address now s.history) reason e
 
 -- the verdict that the table owes, by its two questions
-owed_by : (d f : Bool) → Result StoreVerdict StoreRefused
+abbrev owed_by : (d f : Bool) → Result StoreVerdict StoreRefused
 owed_by d f =
     cond d (Ok verdicts.Duplicate) (cond f (Err refusals.Full) (Ok verdicts.Accepted))
 
@@ -242,17 +247,35 @@ was_new true f e = cc
 was_new false true e = cc
 was_new false false e = (refl, refl)
 
+-- a packet that is found to be new has a history that admits it
+pub admitted : (st : StationState) (now : ℕ) (h : SourceReport) (r : Found)
+    → HasPast st.remember st.content st.clock → st.clock ≤ now
+    → ((history : List Reception) → Represents st.remember st.content history now
+    → answer_of r ≡ verdict_at st.remember st.capacity now h history)
+    → HasIndex st.content h.vector.address r → IsAdmitted st now h r
+admitted st now h found.Duplicate past le owed index = tt
+admitted st now h found.Full past le owed index = tt
+admitted st now h (found.New i) past le owed index =
+    let then = later st.remember st.content st.clock now le past in (
+      record {
+        history = then.history;
+        represented = then.table;
+        accepted = sym (owed then.history then.table);
+      },
+      index,
+    )
+
 -- what the table found of the packet, as the judgement of the frame
 module _ (s : StationModel) (now : ℕ) (t : Transmission) (first : None ≡ why_unasked s t) where
-  repeated : Bool
+  abbrev repeated : Bool
   repeated =
       is_repeated s.remember (number_in t.pdu.body) t.pdu.vector.address now s.history
 
-  full : Bool
+  abbrev full : Bool
   full = is_full s.capacity t.pdu.vector.address (stations_at s.remember now s.history)
 
-  owed : verdict_at s.remember s.capacity now (report_of t.pdu) s.history ≡ owed_by repeated full
-  owed = verdict_at-by s.remember s.capacity now (report_of t.pdu) s.history repeated full refl refl
+  table_owes : verdict_at s.remember s.capacity now (report_of t.pdu) s.history ≡ owed_by repeated full
+  table_owes = verdict_at-by s.remember s.capacity now (report_of t.pdu) s.history repeated full refl refl
 
   by_repeated : (d : Bool) → repeated ≡ d → cond d (Some why.Duplicate) None ≡ why_found s now t
   by_repeated d e = (λ i. cond (sym e i) (Some why.Duplicate) None)
@@ -262,19 +285,19 @@ module _ (s : StationModel) (now : ℕ) (t : Transmission) (first : None ≡ why
   pub found_duplicate : Ok verdicts.Duplicate
       ≡ verdict_at s.remember s.capacity now (report_of t.pdu) s.history
       → Some why.Duplicate ≡ why_found s now t
-  found_duplicate e = by_repeated true (was_duplicate repeated full (e ∙ owed))
+  found_duplicate e = by_repeated true (was_duplicate repeated full (e ∙ table_owes))
 
   pub found_full : Err refusals.Full
       ≡ verdict_at s.remember s.capacity now (report_of t.pdu) s.history
       → (None ≡ why_found s now t) × (true ≡ full)
   found_full e =
-      let was = was_full repeated full (e ∙ owed) in (by_repeated false was.0, was.1)
+      let was = was_full repeated full (e ∙ table_owes) in (by_repeated false was.0, was.1)
 
   pub found_new : Ok verdicts.Accepted
       ≡ verdict_at s.remember s.capacity now (report_of t.pdu) s.history
       → (None ≡ why_found s now t) × (false ≡ full)
   found_new e =
-      let was = was_new repeated full (e ∙ owed) in (by_repeated false was.0, was.1)
+      let was = was_new repeated full (e ∙ table_owes) in (by_repeated false was.0, was.1)
 
 -- ---- the step of a frame
 

@@ -1,7 +1,6 @@
-use Rattle.std.proofs.Common.{◌∙◌, ◌≡◌, ap, refl, sym, subst, None}
+use Rattle.std.proofs.Common.{◌∙◌, ap, sym}
 use Rattle.its_loctable.specs.Heard.{verdict_at}
 use Rattle.its_station.specs.State.{model_of}
-use Rattle.its_station.specs.Receiving.{report_of, why_unasked}
 use Rattle.its_station.proofs.Stations.{Represents-later}
 use Rattle.its_station.proofs.Hearing.{ignored, is_full_step, accept_is, verdict_is, verdict_of}
 use Rattle.its_station.proofs.Hearing.{why_before, found_duplicate, found_full, found_new}
