@@ -1,8 +1,8 @@
 //! The records of a file, where secured frames are received by their plain part. No signature is
 //! verified.
 
-ghost use Rattle.std.specs.Prelude.{◌≤◌, ◌+◌, length, IfOk};
-ghost use Rattle.cmd_stats.specs.SecuredOctets.{HoldsPlain};
+ghost use Rattle.std.specs.Prelude.{◌≤◌, ◌+◌, IfOk, length};
+ghost use Rattle.cmd_stats.specs.Secured.{HasPlainInside};
 
 use crate::replay::heard::{Heard, HeardSink};
 use crate::replay::on_air::OnAir;
@@ -63,7 +63,7 @@ fn go_on<'f, S: RecordSource, K: HeardSink>(
     }
 }
 
-/// Gives a record to the station, if it is chosen, and what came of it to the sink.
+/// Passes a record to the station, if it is selected, and the result to the sink.
 fn hear<'f, K: HeardSink>(
     alloc: Global,
     station: &mut Station<SortedTable>,
@@ -103,7 +103,7 @@ struct SecuredOctets {
 impl SecuredOctets {
     /// What was on the air, if that is read as a secured frame; otherwise all is given back.
     fn of(on_air: OnAir) -> Result<SecuredOctets, OnAir>
-        ensures { IfOk result HoldsPlain }
+        ensures { IfOk result HasPlainInside }
     {
         match on_air {
             OnAir::Octets(frame) => {
@@ -119,12 +119,16 @@ impl SecuredOctets {
 
     /// What it is chosen by: the packet inside, if there is one.
     fn traits(&self) -> Option<Traits>
-        requires { HoldsPlain self.now }
+        requires { HasPlainInside self.now }
     {
         let frame = self.frame.as_slice();
-        let plain = plain_in(frame, self.plain.ok()?);
-        let verified = VerifiedFrame::read(frame, plain).ok()?;
-        Some(traits_inside(&verified))
+        let Ok(plain) = self.plain else {
+            return None;
+        };
+        match VerifiedFrame::read(frame, plain_in(frame, plain)) {
+            Ok(verified) => Some(traits_inside(&verified)),
+            Err(_) => None,
+        }
     }
 
     /// Gives it to the station at a moment. A frame that is no secured one is the station's to
@@ -136,7 +140,7 @@ impl SecuredOctets {
         station: &mut Station<SortedTable>,
         moment: u64,
     ) -> Result<Heard, NoMemory>
-        requires { HoldsPlain self }
+        requires { HasPlainInside self }
     {
         let frame = self.frame;
         let plain = match self.plain {
