@@ -4,10 +4,19 @@ use Rattle.std.proofs.Common.{arith, length-drop, slice_set}
 use Rattle.std.proofs.lemmas.List.{length-set, length-take-le, drop-set-add, set-append_left, drop_at}
 use Rattle.std.proofs.lemmas.List.{append_assoc, drop-drop}
 use Rattle.std.proofs.Math.Seq.{take-append-add}
+use Rattle.std.proofs.Common.{Bool, true, false, None, Result, Ok, Err, IfOk, IfErr, rules, subst}
 use lib.Seq.{paste}
-use Rattle.its_linkframe.specs.Frames.{link_header}
-use Rattle.its_linkframe.specs.Secured.{Secured, secured_octets, EncodesSecured}
-use Rattle.cap_records.specs.SignedFrames.{inner_frame}
+use Rattle.cap_pcap.specs.Records.{fault_of}
+use Rattle.cap_pcap.specs.declared.record.RecordHeader.{RecordHeader}
+use Rattle.cap_records.specs.SignedFrames.{begins_secured, layer_in, IsCarried, IsSignedIn}
+use Rattle.cap_records.specs.SignedFrames.{IsSignedFaultIn, IsSignedFault, HasSignedFrame}
+use Rattle.cap_records.specs.SignedFrames.{HasNoSignedFrame}
+use Rattle.cap_records.specs.declared.refusal.RecordFault.{RecordFault}
+use Rattle.cap_records.specs.declared.refusal.RecordFault.TheVariants as faults
+use Rattle.cap_records.specs.declared.signed.SignedFrame.{SignedFrame}
+use Rattle.its_linkframe.specs.Frames.{EncodesFrame, link_header, transmission_of}
+use Rattle.its_linkframe.specs.Secured.{Secured, secured_octets, EncodesSecured, Verified, EncodesVerified}
+use Rattle.cap_records.specs.SignedFrames.{inner_frame, plain_octets}
 use Rattle.cap_records.specs.declared.signed.PlainPart.{PlainPart}
 
 -- 18 octets come before the message
@@ -58,3 +67,65 @@ inner_of o start part new behind inside is =
     ∙ front_and_rest (take 18 s) (drop (b + 18) o) len (length-take-le 18 s long)
     ∙ ap (λ (v : List ℕ). slice_set (take 18 s) 14 17 ++ take len v)
     (ap (λ (n : ℕ). drop n o) end ∙ sym (drop-drop part.start start o))
+
+-- the inner frame of a secured one whose plain part is a packet is that packet's
+pub inner_encodes : (v : Verified) (w : List ℕ) (part : PlainPart)
+    → EncodesVerified v w (plain_octets w part) → EncodesFrame v.frame (inner_frame w part)
+unfolding link_header
+inner_encodes v w part enc =
+    record {
+      fields = record {
+        target = enc.secured.fields.target;
+        source = enc.secured.fields.source;
+        packet = enc.packet.fields;
+      };
+      octets = ap (λ (x : List ℕ). slice_set (take 18 x) 14 17 ++ plain_octets w part)
+          enc.secured.octets
+          ∙ ap (λ (x : List ℕ). link_header v.frame.link_target v.frame.link_source ++ x)
+          enc.packet.octets;
+    }
+
+-- what a record has, by what its link layer carries
+pub signed_has : (h : RecordHeader) (linked : Bool) (w carried : List ℕ)
+    (read : Result SignedFrame RecordFault) → fault_of h ≡ None
+    → IsCarried (layer_in linked h.layer) w carried
+    → IfOk read (λ f. IsSignedIn (layer_in linked h.layer) carried (begins_secured carried)
+    (transmission_of f.frame) f.secured)
+    → IfOk read (λ f. HasSignedFrame h linked w (transmission_of f.frame) f.secured)
+signed_has h linked w carried (Ok f) whole carries has =
+    record { whole = whole; carried = carried; carries = carries; has = has }
+signed_has h linked w carried (Err fault) whole carries has = search rules
+
+-- a fault of what is carried is one of the record
+no_frame : (h : RecordHeader) (linked : Bool) (w carried : List ℕ) (is_secured : Bool)
+    (fault : RecordFault) → fault_of h ≡ None → IsCarried (layer_in linked h.layer) w carried
+    → begins_secured carried ≡ is_secured
+    → IsSignedFaultIn (layer_in linked h.layer) carried is_secured fault
+    → HasNoSignedFrame h linked w fault
+no_frame h linked w carried b fault whole carries is none = record {
+  whole = whole;
+  carried = carried;
+  carries = carries;
+  has_none = subst (λ (x : Bool). IsSignedFaultIn (layer_in linked h.layer) carried x fault)
+      (sym is) none;
+}
+
+-- why it has none
+pub signed_none : (h : RecordHeader) (linked : Bool) (w carried : List ℕ) (is_secured : Bool)
+    (read : Result SignedFrame RecordFault) → fault_of h ≡ None
+    → IsCarried (layer_in linked h.layer) w carried → begins_secured carried ≡ is_secured
+    → IfErr read (IsSignedFaultIn (layer_in linked h.layer) carried is_secured)
+    → IfErr read (IsSignedFault h linked w)
+signed_none h linked w carried b (Ok f) whole carries is fault = search rules
+signed_none h linked w carried true (Err (faults.Record f)) whole carries is fault = absurd fault
+signed_none h linked w carried false (Err (faults.Record f)) whole carries is fault = absurd fault.2
+signed_none h linked w carried true (Err (faults.Link f)) whole carries is fault = absurd fault
+signed_none h linked w carried false (Err (faults.Link f)) whole carries is fault = absurd fault.2
+signed_none h linked w carried b (Err (faults.Frame f)) whole carries is fault =
+    no_frame h linked w carried b (faults.Frame f) whole carries is fault
+signed_none h linked w carried b (Err (faults.Secured f)) whole carries is fault =
+    no_frame h linked w carried b (faults.Secured f) whole carries is fault
+signed_none h linked w carried b (Err (faults.Signed f)) whole carries is fault =
+    no_frame h linked w carried b (faults.Signed f) whole carries is fault
+signed_none h linked w carried b (Err (faults.Message f)) whole carries is fault =
+    no_frame h linked w carried b (faults.Message f) whole carries is fault

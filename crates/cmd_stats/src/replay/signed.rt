@@ -1,7 +1,7 @@
 //! The records of a file, where secured frames are received by their plain part. No signature is
 //! verified.
 
-ghost use Rattle.std.specs.Prelude.{◌≤◌, ◌+◌, IfOk, length};
+ghost use Rattle.std.specs.Prelude.{IfOk};
 ghost use Rattle.cmd_stats.specs.Secured.{HasPlainInside};
 
 use crate::replay::heard::{Heard, HeardSink};
@@ -125,7 +125,7 @@ impl SecuredOctets {
         let Ok(plain) = self.plain else {
             return None;
         };
-        match VerifiedFrame::read(frame, plain_in(frame, plain)) {
+        match VerifiedFrame::read(frame, plain.octets(frame)) {
             Ok(verified) => Some(traits_inside(&verified)),
             Err(_) => None,
         }
@@ -144,7 +144,7 @@ impl SecuredOctets {
     {
         let frame = self.frame;
         let plain = match self.plain {
-            Ok(plain) => plain_in(frame.as_slice(), plain),
+            Ok(plain) => plain.octets(frame.as_slice()),
             Err(RecordFault::Signed(_)) => &[],
             Err(fault) => return Ok(Heard::Nothing { moment, fault }),
         };
@@ -159,13 +159,6 @@ impl SecuredOctets {
             reply,
         })
     }
-}
-
-/// The plain part of a frame, which is there.
-fn plain_in(frame: &[u8], plain: PlainPart) -> &[u8]
-    requires { plain.start + plain.length ≤ length frame.now }
-{
-    &frame[plain.start..plain.start + plain.length]
 }
 
 /// What a station does with a frame, as a reply that owns what is delivered.
