@@ -1,6 +1,7 @@
 /* Compares calls from C with the same calls in Rust: the loops of loops.rt.txt and the same loops
  * over geostation.h, alternately. Prints the least processor time per call, in nanoseconds, and the
- * ratio. A beacon is due in one of a thousand calls of `tick`. */
+ * ratio. A beacon is due in one of a thousand calls of `tick`. Rows of verified packets
+ * compare secured frames, with their plain part as an argument, with the same packets unsecured. */
 #define _POSIX_C_SOURCE 200809L
 #include "geostation.h"
 #include <inttypes.h>
@@ -13,6 +14,10 @@
 #define OTHER UINT64_C(0x1400020000000002)
 #define MANY 1000
 #define TURNS 40
+/* What a message has before and behind its plain part, with a digest as signer. */
+#define BEFORE 12
+#define BEHIND 96
+#define PLAIN_AT 18
 
 struct noted {
     uint32_t ignored, delivered;
@@ -37,6 +42,8 @@ uint64_t bench_send(uint64_t address, uint8_t kind, const struct asked *asked, s
 
 static uint8_t frames[MANY * 100], relay[GEOSTATION_FRAME_MAX], payload[20];
 static size_t frames_length, stride;
+static uint8_t secured_frames[MANY * 210], secured_relay[GEOSTATION_SECURED_FRAME_MAX];
+static size_t secured_stride;
 
 /* The same requests for the loops in C and in Rust, each for a circle around another position. */
 static struct geostation_shb_request shbs[MANY];
@@ -95,6 +102,25 @@ static uint64_t receive_in_rust(uint32_t rounds) {
                          sizeof relay);
 }
 
+static uint64_t receive_verified(uint32_t rounds) {
+    struct geostation *s = station(OTHER, 900);
+    struct geostation_reception r;
+    const size_t plain_length = stride - PLAIN_AT, before = secured_stride - stride;
+    uint64_t sum = 0;
+    for (uint32_t k = 0; k < rounds; k++) {
+        for (size_t i = 0; i < MANY; i++) {
+            if (geostation_receive_verified(s, 5, secured_frames + i * secured_stride,
+                                            secured_stride, frames + i * stride + PLAIN_AT,
+                                            plain_length, &r, secured_relay, sizeof secured_relay)
+                == GEOSTATION_OK) {
+                sum += r.payload_length + r.relay_length - (r.relay_length == 0 ? 0 : before);
+            }
+        }
+    }
+    geostation_free(s);
+    return sum;
+}
+
 static int send_once(struct geostation *s, int kind, uint32_t round, size_t k, size_t *n) {
     switch (kind) {
     case GEOSTATION_BEACON:
@@ -145,7 +171,8 @@ static double once(uint64_t (*loop)(uint32_t), uint32_t rounds, uint64_t *sum) {
     return (processor_ns() - from) / rounds / MANY;
 }
 
-static void row(const char *what, uint64_t (*c)(uint32_t), uint64_t (*rust)(uint32_t)) {
+static void compare(const char *what, uint64_t (*c)(uint32_t), uint64_t (*rust)(uint32_t),
+                    const char *first, const char *second) {
     double least_c = 1e9, least_rust = 1e9;
     uint64_t sum_c, sum_rust;
     for (int turn = 0; turn < TURNS; turn++) {
@@ -153,12 +180,17 @@ static void row(const char *what, uint64_t (*c)(uint32_t), uint64_t (*rust)(uint
         least_c = took_c < least_c ? took_c : least_c;
         least_rust = took_rust < least_rust ? took_rust : least_rust;
         if (sum_c != sum_rust) {
-            fprintf(stderr, "%s: %" PRIu64 " from C, %" PRIu64 " in Rust\n", what, sum_c, sum_rust);
+            fprintf(stderr, "%s: %" PRIu64 " %s, %" PRIu64 " %s\n", what, sum_c, first, sum_rust,
+                    second);
             exit(1);
         }
     }
-    printf("%-34s %6.1f ns from C %6.1f ns in Rust  %.2f\n", what, least_c, least_rust,
+    printf("%-34s %6.1f ns %s %6.1f ns %s  %.2f\n", what, least_c, first, least_rust, second,
            least_c / least_rust);
+}
+
+static void row(const char *what, uint64_t (*c)(uint32_t), uint64_t (*rust)(uint32_t)) {
+    compare(what, c, rust, "from C", "in Rust");
 }
 
 /* Writes a number of frames of this kind, one after the other. */
@@ -175,6 +207,27 @@ static void fill(int kind) {
     geostation_free(s);
 }
 
+/* Seals each frame into one whose message has the plain part among other octets. */
+static void seal(void) {
+    static uint8_t message[BEFORE + sizeof frames / MANY + BEHIND];
+    size_t n = 0;
+    secured_stride = stride + BEFORE + BEHIND;
+    for (size_t i = 0; i < MANY; i++) {
+        const uint8_t *frame = frames + i * stride;
+        memcpy(message + BEFORE, frame + PLAIN_AT, stride - PLAIN_AT);
+        if (geostation_seal(frame, stride, message, secured_stride - PLAIN_AT, secured_relay,
+                            sizeof secured_relay, &n) != GEOSTATION_OK || n != secured_stride) {
+            exit(1);
+        }
+        memcpy(secured_frames + i * secured_stride, secured_relay, n);
+    }
+}
+
+static void row_of_verified(const char *what) {
+    seal();
+    compare(what, receive_verified, receive_from_c, "verified", "unsecured");
+}
+
 static void row_of_sends(const char *what, int kind) {
     sent_kind = kind;
     row(what, send_from_c, send_in_rust);
@@ -184,14 +237,18 @@ int main(void) {
     make_requests();
     stride = 50, fill(GEOSTATION_BEACON);
     row("receive a BEACON", receive_from_c, receive_in_rust);
+    row_of_verified("receive a verified BEACON");
     stride = 78, fill(GEOSTATION_SHB);
     row("receive an SHB, delivered", receive_from_c, receive_in_rust);
+    row_of_verified("receive a verified SHB, delivered");
     stride = 94, fill(GEOSTATION_GBC);
     row("receive a GBC, delivered, relayed", receive_from_c, receive_in_rust);
+    row_of_verified("receive a verified GBC, relayed");
     for (size_t at = stride; at < frames_length; at += stride) {
         memcpy(frames + at, frames, stride);
     }
     row("receive a duplicate", receive_from_c, receive_in_rust);
+    row_of_verified("receive a verified duplicate");
     memset(frames, 0, frames_length);
     row("receive junk", receive_from_c, receive_in_rust);
     row_of_sends("tick, no beacon due", GEOSTATION_BEACON);

@@ -3,9 +3,9 @@
 use Rattle.std.specs.Prelude.{◌≡◌, ℕ, ◌+◌, ◌-◌, ◌/◌, ◌%◌, ◌==◌, ◌&&◌, List, length, drop, take, Bool}
 use Rattle.std.specs.Prelude.{◌≤◌, Option, Some, None, Result, Ok, Err, nat_lt, if◌then◌else◌}
 use Rattle.byteorder.specs.Endian.{big_number}
-use Rattle.cap_records.specs.declared.signed.fault.MessageFault.{MessageFault}
-use Rattle.cap_records.specs.declared.signed.fault.MessageFault.TheVariants.{Octet, Short}
-use Rattle.cap_records.specs.declared.signed.message.HeaderInfo.{HeaderInfo}
+use Rattle.cap_records.specs.declared.messages.fault.MessageFault.{MessageFault}
+use Rattle.cap_records.specs.declared.messages.fault.MessageFault.TheVariants.{Octet, Short}
+use Rattle.cap_records.specs.declared.messages.message.HeaderInfo.{HeaderInfo}
 
 -- what is read of a message: where the plain part begins in it, the plain part, and the header info
 -- of signed data

@@ -5,9 +5,9 @@
 pub mod choosing;
 mod cut;
 mod frame;
+pub mod messages;
 mod refusal;
 mod signed;
-pub mod signed;
 mod told;
 mod walk;
 

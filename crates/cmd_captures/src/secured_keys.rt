@@ -3,7 +3,7 @@
 use crate::field::Field;
 use crate::text::Text;
 use cap_records::SecuredFacts;
-use cap_records::signed::HeaderInfo;
+use cap_records::messages::HeaderInfo;
 use serde::Serialize;
 use std::alloc::AllocError;
 

@@ -4,7 +4,7 @@ ghost use Rattle.std.specs.Prelude.{◌<◌};
 
 use crate::table::Table;
 use cap_pcap::LinkFault;
-use cap_records::signed::{MessageFault, SHORT_MESSAGE, UNREAD_MESSAGE};
+use cap_records::messages::{MessageFault, SHORT_MESSAGE, UNREAD_MESSAGE};
 use cap_records::{RecordFault, SIGNED_HINT};
 use cmd_text::frames::Explanation;
 use its_faults::{FaultKind, FrameFault, SecuredFault};

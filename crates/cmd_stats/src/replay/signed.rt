@@ -1,7 +1,8 @@
 //! The records of a file, where secured frames are received by their plain part. No signature is
 //! verified.
 
-ghost use Rattle.std.specs.Prelude.{◌≤◌, ◌+◌, length};
+ghost use Rattle.std.specs.Prelude.{◌≤◌, ◌+◌, length, IfOk};
+ghost use Rattle.cmd_stats.specs.SecuredOctets.{HoldsPlain};
 
 use crate::replay::heard::{Heard, HeardSink};
 use crate::replay::on_air::OnAir;
@@ -101,7 +102,9 @@ struct SecuredOctets {
 
 impl SecuredOctets {
     /// What was on the air, if that is read as a secured frame; otherwise all is given back.
-    fn of(on_air: OnAir) -> Result<SecuredOctets, OnAir> {
+    fn of(on_air: OnAir) -> Result<SecuredOctets, OnAir>
+        ensures { IfOk result HoldsPlain }
+    {
         match on_air {
             OnAir::Octets(frame) => {
                 if !is_secured(frame.as_slice()) {
@@ -115,7 +118,9 @@ impl SecuredOctets {
     }
 
     /// What it is chosen by: the packet inside, if there is one.
-    fn traits(&self) -> Option<Traits> {
+    fn traits(&self) -> Option<Traits>
+        requires { HoldsPlain self.now }
+    {
         let frame = self.frame.as_slice();
         let plain = plain_in(frame, self.plain.ok()?);
         let verified = VerifiedFrame::read(frame, plain).ok()?;
@@ -130,7 +135,9 @@ impl SecuredOctets {
         alloc: Global,
         station: &mut Station<SortedTable>,
         moment: u64,
-    ) -> Result<Heard, NoMemory> {
+    ) -> Result<Heard, NoMemory>
+        requires { HoldsPlain self }
+    {
         let frame = self.frame;
         let plain = match self.plain {
             Ok(plain) => plain_in(frame.as_slice(), plain),

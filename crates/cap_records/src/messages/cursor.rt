@@ -1,11 +1,11 @@
 //! The parts of a message: octets, numbers and lengths at their places.
 
 ghost use Rattle.std.specs.Prelude.{◌≡◌, ◌≤◌, ◌+◌, ◌<◌, ◌^◌, ◌==◌, IfOk, length, nat_lt};
-ghost use Rattle.cap_records.specs.declared.signed.fault.MessageFault.TheVariants.{Octet, Short};
+ghost use Rattle.cap_records.specs.declared.messages.fault.MessageFault.TheVariants.{Octet, Short};
 ghost use Rattle.cap_records.specs.Messages.{number_at as number_read, length_at as length_read};
 ghost use Rattle.cap_records.specs.Messages.{octet_that, octets_at as octets_read};
 
-use crate::signed::fault::MessageFault;
+use crate::messages::fault::MessageFault;
 use byteorder::{BigEndian, ByteOrder};
 
 /// Where the message begins in a packet: after its Basic Header.

@@ -5,8 +5,8 @@ ghost use Rattle.cap_records.specs.Messages.{data_start as data_begins, info_at 
 ghost use Rattle.cap_records.specs.Messages.{message_in, psid_at as psid_read, signed_in, time_at as time_read};
 ghost use Rattle.cap_records.specs.Messages.{unsecured_in, LiesIn};
 
-use crate::signed::cursor::{number_at, octets_at, take_below, take_octet, unread};
-use crate::signed::fault::MessageFault;
+use crate::messages::cursor::{number_at, octets_at, take_below, take_octet, unread};
+use crate::messages::fault::MessageFault;
 use std::marker::Model;
 
 /// The protocol version that is read.

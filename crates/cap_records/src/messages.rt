@@ -1,0 +1,9 @@
+//! Messages of secured packets (IEEE 1609.2), read as far as the header info: the plain part, and what
+//! is said of it. No signature is verified.
+
+mod cursor;
+mod fault;
+mod message;
+
+pub use fault::{MessageCode, MessageFault, SHORT_MESSAGE, UNREAD_MESSAGE};
+pub use message::{HeaderInfo, Message, read_message};
