@@ -1,6 +1,7 @@
 -- Secured frames read by their plain part.
 use Rattle.std.specs.Prelude.{◌≡◌, ◌⊎◌, ℕ, ◌+◌, ◌++◌, ◌==◌, ◌&&◌, List, length, take, drop, slice_set, nat_lt}
 use Rattle.std.specs.Prelude.{slice_index, Bool, true, false, Option, Some, None, Ok, Err}
+use Rattle.cap_records.specs.declared.choosing.Traits.{Traits}
 use Rattle.its_linkframe.specs.Frames.{EncodesFrame}
 use Rattle.its_linkframe.specs.Secured.{Secured, EncodesSecured, IsSecuredFault, IsVerifiedFault}
 use Rattle.cap_linklayers.specs.LinkLayers.{IsFrameIn, IsLinkFault}
@@ -8,7 +9,7 @@ use Rattle.cap_linklayers.specs.declared.link.LinkLayer.{LinkLayer}
 use Rattle.its_model.specs.Packet.{Transmission}
 use Rattle.cap_pcap.specs.Records.{fault_of}
 use Rattle.cap_pcap.specs.declared.record.RecordHeader.{RecordHeader}
-use Rattle.cap_records.specs.RecordFrames.{IsNoFrame, IsReadAs, IsRecordFault}
+use Rattle.cap_records.specs.RecordFrames.{IsNoFrame, IsReadAs, is_other, traits_in}
 use Rattle.cap_records.specs.declared.refusal.RecordFault.{RecordFault}
 use Rattle.cap_records.specs.declared.refusal.RecordFault.TheVariants as faults
 use Rattle.cap_records.specs.declared.signed.PlainPart.{PlainPart}
@@ -134,3 +135,12 @@ IsSignedFault h linked w (faults.Record f) = fault_of h ≡ Some f
 IsSignedFault h linked w (faults.Link f) =
     (fault_of h ≡ None) × IsStartFault (layer_in linked h.layer) w (faults.Link f)
 IsSignedFault h linked w fault = HasNoSignedFrame h linked w fault
+
+-- What a record is chosen by: its frame, which may be inside a secured one; or that it has none, and
+-- whether it is of another protocol.
+abbrev pub AreSignedTraits : RecordHeader → Bool → List ℕ → Option Traits → Bool → Type 0
+AreSignedTraits h linked w (Some traits) other =
+    (t : Transmission) × (facts : Option SecuredFacts) × HasSignedFrame h linked w t facts
+    × (traits ≡ traits_in t) × (other ≡ false)
+AreSignedTraits h linked w None other =
+    (fault : RecordFault) × IsSignedFault h linked w fault × (other ≡ is_other fault)

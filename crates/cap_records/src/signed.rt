@@ -4,6 +4,7 @@ ghost use Rattle.std.specs.Prelude.{◌≡◌, ◌≤◌, ◌+◌, ◌-◌, ℕ,
 ghost use Rattle.its_model.specs.Packet.{Transmission};
 ghost use Rattle.its_linkframe.specs.Frames.{EncodesFrame, transmission_of};
 ghost use Rattle.its_linkframe.specs.Secured.{EncodesVerified, Verified};
+ghost use Rattle.cap_records.specs.RecordFrames.{traits_in};
 ghost use Rattle.cap_records.specs.SignedFrames.{begins_secured, HasPlain, IsUnread, inner_frame};
 ghost use Rattle.cap_records.specs.SignedFrames.{HasSignedFrame, IsSignedFault, IsCarried};
 ghost use Rattle.cap_records.specs.SignedFrames.{IsInnerOf, IsInnerFault, IsStartFault, plain_octets};
@@ -264,7 +265,9 @@ fn judge(frame: &[u8]) -> Result<PlainPart, RecordFault>
 }
 
 /// What a secured frame is chosen by: the packet in its plain part.
-pub fn traits_inside(frame: &VerifiedFrame<'_, '_>) -> Traits {
+pub fn traits_inside(frame: &VerifiedFrame<'_, '_>) -> Traits
+    ensures { result ≡ traits_in frame.now.frame }
+{
     let packet = frame.packet();
     let port = match split(packet.payload()) {
         Ok((port, _, _)) => Some(port),
