@@ -11,8 +11,7 @@ use Rattle.sim_settings.specs.declared.keys.key.Key.TheVariants as keys
 use Rattle.sim_settings.specs.declared.keys.key.Key.{Key}
 use Rattle.sim_settings.specs.declared.keys.wrong.Wrong.{Wrong}
 use Rattle.cmd_pipe.specs.Lines.{IsBlank, LineText}
-use Rattle.cmd_pipe.specs.Requests.{AsksSecured, AsksSecuredIn, ComesVerified, IsBadAsked, IsBadOf}
-use Rattle.cmd_pipe.specs.Requests.{text_at}
+use Rattle.cmd_pipe.specs.Requests.{AsksSecured, AsksSecuredIn, ComesVerified, IsBadAsked, IsBadOf, text_at}
 use Rattle.cmd_pipe.specs.Requests.{IsMomentOf, IsNoOctets, IsObject, IsOctetsText, IsOfKey}
 use Rattle.cmd_pipe.specs.Requests.{IsQueryWord, IsVerifiedBad, IsWord}
 use Rattle.cmd_pipe.specs.Words.{query_key}
@@ -91,6 +90,5 @@ bad_verified now members moment (read_faults.Bad (faults.Query key wrong)) calls
     subst (IsBadAsked members) (sym bad.0) bad.1
 bad_verified now members moment (read_faults.Bad faults.NotJson) calls is comes bad = absurd bad
 bad_verified now members moment (read_faults.Bad faults.Id) calls is comes bad = absurd bad
-bad_verified now members moment (read_faults.Bad (faults.Word meant)) calls is comes bad =
-    absurd bad
+bad_verified now members moment (read_faults.Bad (faults.Word meant)) calls is comes bad = absurd bad
 bad_verified now members moment read_faults.OutOfMemory calls is comes bad = tt

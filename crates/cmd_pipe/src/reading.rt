@@ -1,7 +1,7 @@
 //! Reading what a line asks for.
 
-ghost use Rattle.std.specs.Prelude.{◌≡◌, ◌≢◌, ◌↔◌, ◌⊎◌, ℕ, List, IfOk, IfErr, IfSome, IsSome};
-ghost use Rattle.std.specs.Prelude.{IfNone, OnErr, None, Some, IsTrue, IsFalse};
+ghost use Rattle.std.specs.Prelude.{◌≡◌, ◌≢◌, ◌↔◌, ◌⊎◌, ℕ, List, IfOk, IfErr, IfSome, IsSome, IfNone};
+ghost use Rattle.std.specs.Prelude.{OnErr, None, Some, IsTrue, IsFalse};
 ghost use Rattle.std.specs.Prelude.{codes};
 ghost use Rattle.serde_json.specs.View.{view};
 ghost use Rattle.sim_settings.specs.Faults.{IsWhatFault};
@@ -12,9 +12,8 @@ ghost use Rattle.cmd_pipe.specs.Requests.{Asks, AsksCall, AsksIn, AsksOf, AsksQu
 ghost use Rattle.cmd_pipe.specs.Requests.{IsAskedAt, IsBadOf, IsBadCallKeyOf, IsFrameKey, IsFrameText, IsId};
 ghost use Rattle.cmd_pipe.specs.Requests.{IsIdFault, IsJitter, IsJsonObject, IsMomentFault, IsMomentOf, IsObject};
 ghost use Rattle.cmd_pipe.specs.Requests.{IsOfQuery, IsQueryFault, IsQueryWord, IsToldAs, IsWord, SaysCall, line_of};
-ghost use Rattle.cmd_pipe.specs.Requests.{AsksSeal, AsksSecured, AsksSecuredIn, AsksVerified};
-ghost use Rattle.cmd_pipe.specs.Requests.{ComesVerified, IsNoOctets, IsOctetsText, IsOfKey};
-ghost use Rattle.cmd_pipe.specs.Requests.{IsVerifiedBad, values_in};
+ghost use Rattle.cmd_pipe.specs.Requests.{AsksSeal, AsksSecured, AsksSecuredIn, AsksVerified, ComesVerified};
+ghost use Rattle.cmd_pipe.specs.Requests.{IsNoOctets, IsOctetsText, IsOfKey, IsVerifiedBad, values_in};
 ghost use Rattle.cmd_pipe.specs.Words.{line_word, query_key};
 
 use crate::lines::is_blank;

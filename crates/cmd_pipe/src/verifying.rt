@@ -10,8 +10,7 @@ ghost use Rattle.its_station.specs.Runs.{Fits, HandingFits, delivered};
 ghost use Rattle.its_station.specs.State.{RepresentsStation, StationState};
 ghost use Rattle.its_station.specs.Steps.{IsStepOf};
 ghost use Rattle.cmd_pipe.specs.Knowing.{Counted};
-ghost use Rattle.cmd_pipe.specs.Serving.{RepresentsCounted, TellsHeard, TellsVerified};
-ghost use Rattle.cmd_pipe.specs.Serving.{counts_heard};
+ghost use Rattle.cmd_pipe.specs.Serving.{RepresentsCounted, TellsHeard, TellsVerified, counts_heard};
 
 use crate::request::{Id, VerifiedOctets};
 use crate::response::{Done, Response};
@@ -67,8 +66,8 @@ fn source_of(frame: &[u8], plain: &[u8]) -> Option<GnAddress> {
     }
 }
 
-/// The outcome of a frame, as a reply that owns its octets: a payload takes the room that was made
-/// for it. `NoMemory` where an allocation failed.
+/// The outcome of a frame, as a reply that owns its octets: a payload takes the room that was made for
+/// it. `NoMemory` where an allocation failed.
 fn owned_reply(answer: Result<Outcome<'_>, Refused>, room: Vec<u8>) -> Result<Reply, NoMemory>
     requires empty { room.items ≡ [] }
     requires size { vec_len room ≡ 0 }

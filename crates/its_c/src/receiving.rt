@@ -102,9 +102,9 @@ pub extern "C" fn geostation_receive(
     told_outcome(said, heard, frame, reception, relay)
 }
 
-/// Processes a secured frame with the plain part that a security entity verified of its message,
-/// and writes the result, as `geostation_receive` does for the packet that they are. A payload lies
-/// in the plain part. The secured frame in which the packet goes on is written
+/// Processes a secured frame with the plain part that a security entity verified of its message, and
+/// writes the result, as `geostation_receive` does for the packet that they are. A payload lies in the
+/// plain part. The secured frame in which the packet goes on is written
 /// into `relay`, if the limits let it pass. Refused by `NO_ROOM` for a buffer under 2310 octets, for
 /// its moment (S1, S2), for octets that are no secured frame or with the plain part no packet (S3),
 /// whose fault the reception has, for a table that is full (S4), and for memory (S5).

@@ -1,5 +1,5 @@
-//! The calls around a security entity: they find the message of a secured frame and the plain part
-//! of a frame, and write the secured frame of one with its message.
+//! The calls around a security entity: they find the message of a secured frame and the plain part of
+//! a frame, and write the secured frame of one with its message.
 
 ghost use Rattle.std.specs.Prelude.{◌≡◌, ◌≢◌, ◌≤◌, ◌<◌, ◌+◌, ◌⊎◌, [], ℕ, List, pos, length, drop};
 ghost use Rattle.its_faults.specs.declared.frame.FrameFault.{FrameFault};

@@ -14,17 +14,16 @@ returns-in-Some g c = λ s log rep took was.
     let line : line_of c.start.result.now c.passed.result.any ≡ text_of c.args.line.now =
     ap (λ o. line_of o c.passed.result.any) c.start.ensures.octets
     ∙ ap (λ (p : Passed). line_of (text_of c.args.line.now).octets p.any) c.passed.ensures in
-    let sink = g.S.ResponseSink.Took c.hand_on.new.sink in
     let told = subst (λ (o : Option Response). (next : Counted)
     × TellsAsked s c.args.number c.in_ok-asked.asked.id c.in_ok-asked.asked.request (told_in o) next
     × RepresentsCounted c.respond.new.station c.respond.new.counts next) c.in-Some.is
     (c.in_ok-response.ensures.tells s rep) in
     line_told c.hand_on.result s c.args.number (text_of c.args.line.now) log c.in-Some.response
-    c.respond.new.station c.respond.new.counts c.args.ended sink (
+    c.respond.new.station c.respond.new.counts c.args.ended (g.S.ResponseSink.Took c.hand_on.new.sink) (
       told.0,
       line_tells None s c.args.number (line_of c.start.result.now c.passed.result.any)
-          (text_of c.args.line.now) c.in_ok-asked.asked (told_in (Some c.in-Some.response)) told.0
-          line c.in_ok-asked.ensures.asks told.1,
+          (text_of c.args.line.now) c.in_ok-asked.asked (told_in (Some c.in-Some.response)) told.0 line
+          c.in_ok-asked.ensures.asks told.1,
       told.2,
     ) was (c.hand_on.ensures.took log took)
     c.hand_on.ensures.ended

@@ -58,8 +58,8 @@ returns-clause-step c = λ long.
                 let put : c.put.new.self.value ≡ Some c.hear_verified-said.new.governor =
                 search rules in
                 put
-                ∙ ap (λ (x : Governor). Some x)
-                (ok_fact said _ (ok_of_status said (sym code ∙ zero)) done.1)
+                ∙ ap (λ (x : Governor). Some x) (ok_fact said _ (ok_of_status said (sym code ∙ zero))
+                done.1)
                 ∙ ap (λ (x : Governor). Some (after_call x c.args.now false (verified_frame call)
                 step.answer)) same,
           ),
