@@ -94,8 +94,11 @@ pub(crate) fn fault_of_air<'a>(fault: AirFault, moves: Option<&'a str>) -> RunFa
         AirFault::OutOfMemory(error) => RunFault::Stopped(Fault::OutOfMemory(error)),
         AirFault::Output => RunFault::Stopped(Fault::no_output()),
         AirFault::Moves(fault) => fault_of_moves(fault, moves.unwrap_or("")),
-        // No memory has the counts of so many.
-        AirFault::TooManyEvents => RunFault::Stopped(Fault::OutOfMemory(AllocError)),
+        // A scenario is read for moves only with a file of them, and no memory has the counts of so
+        // many events.
+        AirFault::NoRows | AirFault::TooManyEvents => RunFault::Stopped(Fault::OutOfMemory(
+            AllocError,
+        )),
     }
 }
 

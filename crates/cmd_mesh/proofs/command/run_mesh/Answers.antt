@@ -3,13 +3,14 @@ use Rattle.its_model.specs.World.{opening}
 use Rattle.its_world.specs.State.{RepresentStations}
 use Rattle.its_world.specs.declared.config.Config.{Config}
 use Rattle.its_world.specs.Events.{config_of, event_of}
+use Rattle.sim_scenario.specs.Scenarios.{plain_events}
 use Rattle.cmd_mesh.proofs.Runs.{run_ends}
 use Rattle.cmd_mesh.proofs.command.run_mesh.Goals as goal
 
 pub returns-clause-run : goal.returns-clause-run
 returns-clause-run g c =
     let configs = map config_of c.args.scenario.stations.items in
-    let events = map event_of c.args.scenario.events.items in
+    let events = map event_of (plain_events c.args.scenario.timeline) in
     let mesh = c.in_ok-mesh.mesh in
     let represent = subst (λ (l : List Config). RepresentStations mesh.stations.items
     (opening (map config_of l)).stations) c.as_slice-stations.ensures.value
