@@ -47,7 +47,7 @@
  * - Pointers must not be NULL unless the function says so. An input buffer (payload, frame, line)
  *   may be NULL if its length is 0.
  * - Buffers and structs that you pass to one call must not overlap. `frame` and `relay` are two
- *   buffers.
+ *   buffers. Only `plain` of geostation_receive_verified() may lie inside `frame`.
  * - A buffer must be as long as you say, and at most `PTRDIFF_MAX` bytes. What a function writes to
  *   must be aligned as its type requires.
  * - A handle comes from geostation_new() or geostation_new_from_config(). Do not use it

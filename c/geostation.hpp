@@ -311,8 +311,8 @@ class Station {
     }
 
     /// Processes a secured frame whose message was verified into `plain`:
-    /// geostation_receive_verified(). If the packet is to be forwarded, the secured frame to send is
-    /// written to `relay`.
+    /// geostation_receive_verified(). If the packet is to be forwarded, the secured frame to send
+    /// is written to `relay`.
     /// @return status Ok, MomentEarlier, MomentTooLate, BadFrame, TableFull or NoMemory
     Received receive_verified(std::uint64_t now, Octets frame, Octets plain,
                               SecuredFrame &relay) noexcept {

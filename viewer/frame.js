@@ -197,7 +197,11 @@
   function read(octets) {
     if (octets.length < HEADER) return {fault: 'L1'};
     if (octets[12] !== 0x89 || octets[13] !== 0x47) return {fault: 'L2'};
-    if (octets.length > LONGEST) return {fault: 'L3'};
+    return octets.length > LONGEST ? {fault: 'L3'} : readOfAnyLength(octets);
+  }
+
+  /** Reads a frame of this type, whatever its length is. @param {Uint8Array} octets */
+  function readOfAnyLength(octets) {
     try {
       const {packet, end} = readPacket(new Octets(octets.subarray(HEADER)));
       if (HEADER + end < octets.length) return {fault: 'L4'};
@@ -233,5 +237,5 @@
     return words.join(' ');
   }
 
-  geostation.frame = {read, decode, line, lifetimeMillis, toHex, fromHex};
+  geostation.frame = {read, readOfAnyLength, decode, line, lifetimeMillis, toHex, fromHex};
 })(globalThis.geostation ??= {});

@@ -84,8 +84,10 @@
 
   /** The rows of a frame's fields, none if it is no valid packet. */
   function rowsOf(run, number) {
-    const {packet, fault} = geostation.frame.read(run.frames.octets(number));
-    return {rows: packet ? fields(packet) : [], fault};
+    const {packet, security, fault} = geostation.secured.read(run.frames.octets(number));
+    const rows = packet ? fields(packet) : [];
+    if (security) rows.push(['security', geostation.secured.words(security)]);
+    return {rows, fault};
   }
 
   /**

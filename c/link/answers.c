@@ -137,7 +137,7 @@ static void send_own(struct station *s, uint64_t now, size_t frame_length, struc
     } else if (s->security == NULL) {
         h->length = judge_sending(link_send(s->link, s->frame, frame_length), h->answer, h->length);
     } else {
-        h->waits = security_sign(s->security, s->frame, frame_length, h);
+        h->waits = requests_sign(s->security, s->frame, frame_length, h);
         h->length = h->waits ? h->length : refuse(h->answer, h->length, "not signed",
                                                   "too many packets wait for a signature");
     }
@@ -193,7 +193,8 @@ static void do_line(struct station *s, uint64_t now, uint64_t number, const uint
     }
     if (frame_length != 0 && sent) {
         send_own(s, now, frame_length, h);
-    } else if (frame_length != 0 && s->security == NULL) {
+    } else if (frame_length != 0 && s->security == NULL
+               && has_result(h->answer, h->length, "accepted")) {
         forwards_put(s->forwards, s->frame, frame_length);
     } else if (has_result(h->answer, h->length, "moved")) {
         follow_move(s, now, line, n);

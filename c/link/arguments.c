@@ -1,10 +1,9 @@
-/* The options of the command line. */
+/* The command line: settings, and the options that have no place in a configuration file. */
 #define _GNU_SOURCE
 #include "parts.h"
 #include <getopt.h>
 #include <stdio.h>
 #include <stdlib.h>
-#include <string.h>
 
 static const char usage[] =
     "geostation-link: one ITS station on a network interface, or on UDP\n"
@@ -65,150 +64,21 @@ static const char usage[] =
     "SIGHUP reads the file of --config again, for ports and the position. SIGUSR1 prints counts.\n"
     "Exit status: 0 ended, 2 bad arguments, 3 a system call failed.\n";
 
-static const struct option table[] = {
-    { "interface", required_argument, NULL, 'i' },
-    { "wait-interface", no_argument, NULL, 'w' },
-    { "udp", required_argument, NULL, 'u' },
-    { "to", required_argument, NULL, 't' },
-    { "forward-spread", required_argument, NULL, 'f' },
-    { "forward-rate", required_argument, NULL, 'R' },
-    { "forward-burst", required_argument, NULL, 'B' },
-    { "source-rate", required_argument, NULL, 'x' },
-    { "source-burst", required_argument, NULL, 'X' },
-    { "own-rate", required_argument, NULL, 'n' },
-    { "own-burst", required_argument, NULL, 'N' },
-    { "hop-cap", required_argument, NULL, 'H' },
-    { "deliver-once", required_argument, NULL, 'd' },
-    { "position", required_argument, NULL, 'p' },
-    { "gpsd", optional_argument, NULL, 'g' },
-    { "gps-timeout", required_argument, NULL, 'G' },
-    { "address", required_argument, NULL, 'a' },
-    { "station-type", required_argument, NULL, 's' },
-    { "stationary", no_argument, NULL, 'S' },
-    { "capacity", required_argument, NULL, 'c' },
-    { "remember", required_argument, NULL, 'r' },
-    { "port", required_argument, NULL, 'o' },
-    { "security", required_argument, NULL, 'e' },
-    { "security-user", required_argument, NULL, 'U' },
-    { "security-timeout", required_argument, NULL, 'M' },
-    { "listen", required_argument, NULL, 'l' },
-    { "client-timeout", required_argument, NULL, 'T' },
-    { "metrics", required_argument, NULL, 'm' },
-    { "config", required_argument, NULL, 'C' },
-    { "check-config", no_argument, NULL, 'k' },
-    { "version", no_argument, NULL, 'v' },
-    { "help", no_argument, NULL, 'h' },
-    { NULL, 0, NULL, 0 },
-};
+enum { CONFIG = SETTINGS, CHECK_CONFIG, VERSION, HELP, OPTIONS };
+enum { FIRST_OPTION = 256 /* getopt_long returns characters for what it rejects */ };
 
-int option_named(const char *name, int *argument) {
-    for (size_t k = 0; table[k].name != NULL; k++) {
-        if (strcmp(table[k].name, name) == 0) {
-            *argument = table[k].has_arg;
-            return table[k].val;
-        }
+/* Fills the table for getopt_long. The settings come first, at their own indices. */
+static void list_options(struct option table[OPTIONS + 1]) {
+    for (size_t k = 0; k < SETTINGS; k++) {
+        table[k] = (struct option){ settings[k].name, settings[k].argument, NULL, 0 };
     }
-    return -1;
-}
-
-static const char *name_of(int option) {
-    size_t k = 0;
-    while (table[k].name != NULL && table[k].val != option) {
-        k++;
-    }
-    return table[k].name;
-}
-
-static bool take_peer(struct options *o, const struct setting *s, struct fault *f) {
-    if (o->peer_count == PEERS) {
-        return refuse_value(s, "more than 16 peers", f);
-    }
-    o->to[o->peer_count++] = s->value;
-    return host_port_of(s, f);
-}
-
-static bool take_port(struct options *o, const struct setting *s, struct fault *f) {
-    uint64_t number;
-    if (o->port_count == PORTS) {
-        return refuse_value(s, "more than 64 ports", f);
-    }
-    if (!number_of(s, 0, 65535, &number, f)) {
-        return false;
-    }
-    for (size_t k = 0; k < o->port_count; k++) {
-        if (o->ports[k] == number) {
-            return refuse_value(s, "the port is already listed", f);
-        }
-    }
-    o->ports[o->port_count++] = (uint16_t)number;
-    return true;
-}
-
-static bool take_gpsd(struct options *o, const struct setting *s, struct fault *f) {
-    o->gpsd = s->value != NULL ? s->value : "127.0.0.1:2947";
-    return s->value == NULL || host_port_of(s, f);
-}
-
-static bool take_small(const struct setting *s, uint16_t most, uint16_t *out, struct fault *f) {
-    uint64_t number;
-    bool good = number_of(s, 1, most, &number, f);
-    *out = good ? (uint16_t)number : *out;
-    return good;
-}
-
-/* A time, which is stored in a smaller unit. */
-static bool take_time(const struct setting *s, uint64_t least, uint64_t most, uint32_t parts,
-                      uint32_t *out, struct fault *f) {
-    uint64_t number;
-    bool good = number_of(s, least, most, &number, f);
-    *out = good ? (uint32_t)number * parts : *out;
-    return good;
-}
-
-static bool take_number(const struct setting *s, uint16_t most, uint16_t *out, struct fault *f) {
-    uint64_t number;
-    bool good = number_of(s, 0, most, &number, f);
-    *out = good ? (uint16_t)number : *out;
-    return good;
-}
-
-static bool take_rate(const struct setting *s, uint32_t *out, struct fault *f) {
-    return take_time(s, 0, GEOSTATION_RATE_MAX, 1, out, f);
-}
-
-bool take_setting(struct options *o, int option, const struct setting *s, struct fault *f) {
-    switch (option) {
-    case 'i': o->interface = s->value; return true;
-    case 'w': o->wait_interface = true; return true;
-    case 'u': o->udp = s->value; return host_port_of(s, f);
-    case 't': return take_peer(o, s, f);
-    case 'f': return take_time(s, 0, 1000, 1000, &o->forward_spread, f);
-    case 'R': return take_rate(s, &o->forward_rate, f);
-    case 'B': return take_rate(s, &o->forward_burst, f);
-    case 'x': return take_rate(s, &o->source_rate, f);
-    case 'X': return take_rate(s, &o->source_burst, f);
-    case 'n': return take_rate(s, &o->own_rate, f);
-    case 'N': return take_rate(s, &o->own_burst, f);
-    case 'H': return take_number(s, 255, &o->hop_cap, f);
-    case 'd': return take_number(s, 1, &o->deliver_once, f);
-    case 'p': return position_of(s, o, f);
-    case 'g': return take_gpsd(o, s, f);
-    case 'G': return take_time(s, 1, 3600, 1000, &o->gps_timeout, f);
-    case 'a': o->addressed = true; return address_of(s, &o->address, f);
-    case 's': o->typed = true; return number_of(s, 0, 31, &o->station_type, f);
-    case 'S': o->stationary = true; return true;
-    case 'c': return take_small(s, 4096, &o->capacity, f);
-    case 'r': return take_small(s, 64, &o->remember, f);
-    case 'o': return take_port(o, s, f);
-    case 'e': o->security = s->value; return true;
-    case 'U': o->security_user = s->value; return true;
-    case 'M': o->timed_security = true;
-              return take_time(s, 1, 10000, 1, &o->security_timeout, f);
-    case 'l': o->listen = s->value; return true;
-    case 'T': return take_time(s, 0, 86400, 1000, &o->client_timeout, f);
-    case 'm': o->metrics = s->value; return true;
-    case 'C': return read_config(o, s->value, f);
-    default: o->check = true; return true; /* --check-config */
+    table[CONFIG] = (struct option){ "config", required_argument, NULL, 0 };
+    table[CHECK_CONFIG] = (struct option){ "check-config", no_argument, NULL, 0 };
+    table[VERSION] = (struct option){ "version", no_argument, NULL, 0 };
+    table[HELP] = (struct option){ "help", no_argument, NULL, 0 };
+    table[OPTIONS] = (struct option){ NULL, 0, NULL, 0 };
+    for (int k = 0; k < OPTIONS; k++) {
+        table[k].val = FIRST_OPTION + k;
     }
 }
 
@@ -219,6 +89,15 @@ static _Noreturn void print_and_end(bool help) {
         printf("geostation-link %s\n", geostation_version());
     }
     exit(fflush(stdout) == 0 ? 0 : FAILED);
+}
+
+static bool take_option(struct options *o, int option, struct setting *s, struct fault *f) {
+    switch (option) {
+    case CONFIG: return read_config(o, s->value, f);
+    case CHECK_CONFIG: o->check = true; return true;
+    case VERSION: case HELP: print_and_end(option == HELP);
+    default: s->row = &settings[option]; return s->row->take(o, s, f);
+    }
 }
 
 /* Which options are required, and which exclude each other. */
@@ -245,41 +124,41 @@ static bool judge(const struct options *o, struct fault *f) {
     return true;
 }
 
-/* The value of --gpsd may be the next word. */
-static const char *value_of(int option, int argc, char **argv) {
-    if (option == 'g' && optarg == NULL && optind < argc && argv[optind][0] != '-') {
-        return argv[optind++];
-    }
-    return optarg;
+/* An optional value may be the next word. */
+static const char *value_of(const struct option *o, int argc, char **argv) {
+    bool left_out = o->has_arg == optional_argument && optarg == NULL;
+    return left_out && optind < argc && argv[optind][0] != '-' ? argv[optind++] : optarg;
 }
 
-bool read_arguments(struct options *o, int argc, char **argv, struct fault *f) {
-    struct geostation_config usual;
-    geostation_config_init(&usual);
-    *o = (struct options){
-        .station_type = 15, .capacity = 4096, .remember = 64, .forward_spread = 2000,
-        .client_timeout = 60000, .gps_timeout = 60000, .security_timeout = 100,
-        .forward_rate = usual.forward_rate, .forward_burst = usual.forward_burst,
-        .source_rate = usual.source_rate, .source_burst = usual.source_burst,
-        .own_rate = usual.own_rate, .own_burst = usual.own_burst,
-        .hop_cap = (uint16_t)usual.hop_cap, .deliver_once = (uint16_t)usual.deliver_once,
-    };
+static bool take_words(struct options *o, int argc, char **argv, struct fault *f) {
+    struct option table[OPTIONS + 1];
+    list_options(table);
     optind = 0; /* this may be called again */
-    for (int option; (option = getopt_long(argc, argv, "", table, NULL)) != -1;) {
-        struct setting s = { NULL, 0, name_of(option), value_of(option, argc, argv) };
-        if (option == 'v' || option == 'h') {
-            print_and_end(option == 'h');
-        }
-        if (option == '?') {
+    for (int found; (found = getopt_long(argc, argv, "", table, NULL)) != -1;) {
+        if (found < FIRST_OPTION) {
             return set_fault(f, BAD_ARGUMENTS, "--help lists the options");
         }
-        if (!take_setting(o, option, &s, f)) {
+        int k = found - FIRST_OPTION;
+        const char *value = value_of(&table[k], argc, argv);
+        struct setting s = { NULL, 0, table[k].name, value, NULL };
+        if (!take_option(o, k, &s, f)) {
             return false;
         }
     }
-    if (optind < argc) {
-        return set_fault(f, BAD_ARGUMENTS, "unexpected argument '%s'; --help lists the options",
-                         argv[optind]);
-    }
-    return judge(o, f);
+    return optind >= argc
+        || set_fault(f, BAD_ARGUMENTS, "unexpected argument '%s'; --help lists the options",
+                     argv[optind]);
+}
+
+bool read_arguments(struct options *o, int argc, char **argv, struct fault *f) {
+    *o = (struct options){
+        .station_type = 15, .forward_spread = 2000, .client_timeout = 60000, .gps_timeout = 60000,
+        .security_timeout = 100,
+    };
+    geostation_config_init(&o->station);
+    o->station.capacity = 4096;
+    o->station.remember = 64;
+    bool good = take_words(o, argc, argv, f) && judge(o, f);
+    o->station.mobile = !o->stationary;
+    return good;
 }

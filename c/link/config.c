@@ -1,4 +1,4 @@
-/* A configuration file: options of the command line, one per line, as NAME = VALUE. */
+/* A configuration file: settings, one per line, as NAME = VALUE. */
 #define _GNU_SOURCE
 #include "parts.h"
 #include <errno.h>
@@ -22,29 +22,28 @@ static char *trimmed(char *text) {
 
 static bool take_line(struct options *o, char *line, struct setting *s, struct fault *f) {
     char *equals = strchr(line, '=');
-    int argument = no_argument;
     if (equals != NULL) {
         *equals = 0;
     }
     s->name = trimmed(line);
     s->value = equals != NULL ? trimmed(equals + 1) : NULL;
-    int option = option_named(s->name, &argument);
-    if (option < 0 || strchr("Ckvh", option) != NULL) {
+    s->row = setting_named(s->name);
+    if (s->row == NULL) {
         s->value = NULL;
         return refuse_value(s, "no such option in a configuration file", f);
     }
-    if (argument == required_argument && s->value == NULL) {
+    if (s->row->argument == required_argument && s->value == NULL) {
         return refuse_value(s, "the value is missing: NAME = VALUE", f);
     }
-    if (argument == no_argument && s->value != NULL) {
+    if (s->row->argument == no_argument && s->value != NULL) {
         return refuse_value(s, "this option has no value", f);
     }
-    return take_setting(o, option, s, f);
+    return s->row->take(o, s, f);
 }
 
 /* Lines that are empty or begin with # are skipped. */
 static bool take_lines(struct options *o, const char *path, struct fault *f) {
-    struct setting s = { path, 0, NULL, NULL };
+    struct setting s = { path, 0, NULL, NULL, NULL };
     for (char *line = o->config, *next; line != NULL; line = next) {
         next = strchr(line, '\n');
         if (next != NULL) {

@@ -4,42 +4,7 @@
 #include <stdarg.h>
 #include <stdio.h>
 
-/* The counts of signed packets, each after a comma. */
-static size_t print_security(const struct security_counts *c, char *out, size_t room) {
-    int n = snprintf(out, room,
-                     ",\"verified\":%" PRIu64 ",\"rejected\":%" PRIu64 ",\"unanswered\":%" PRIu64
-                     ",\"overrun\":%" PRIu64 ",\"dropped_early\":%" PRIu64
-                     ",\"unsecured\":%" PRIu64 ",\"signed\":%" PRIu64 ",\"unsigned\":%" PRIu64
-                     ",\"strays\":%" PRIu64,
-                     c->verified, c->rejected, c->unanswered, c->overrun, c->dropped_early,
-                     c->unsecured, c->signed_packets, c->unsigned_packets, c->strays);
-    return n > 0 && (size_t)n < room ? (size_t)n : 0;
-}
-
-/* What follows the last key of an answer: a comma, the key `link`, and the end of the answer. */
-size_t counts_print_link(const struct station *s, char *out, size_t room) {
-    struct link *l = s->link;
-    struct geostation_counts station, own;
-    geostation_counts(s->handle, &station);
-    geostation_counts(s->own, &own);
-    int n = snprintf(out, room,
-                     ",\"link\":{\"frames\":%" PRIu64 ",\"padded\":%" PRIu64 ",\"tagged\":%" PRIu64
-                     ",\"dropped\":%" PRIu64 ",\"kernel_dropped\":%" PRIu64
-                     ",\"forward_dropped\":%" PRIu64 ",\"suppressed\":%" PRIu64
-                     ",\"repeated\":%" PRIu64 ",\"over_rate\":%" PRIu64
-                     ",\"events_lost\":%" PRIu64,
-                     l->frames, l->padded, l->tagged, l->dropped, link_kernel_dropped(l),
-                     s->forwards->dropped, station.suppressed, station.repeated, own.over_rate,
-                     s->clients->events_lost);
-    size_t length = n > 0 && (size_t)n < room - 3 ? (size_t)n : 0;
-    if (s->security != NULL) {
-        length += print_security(&s->security->counts, out + length, room - 3 - length);
-    }
-    out[length++] = '}';
-    out[length++] = '}';
-    return length;
-}
-
+/* Text that grows in a buffer. What does not fit is left out. */
 struct page {
     char *out;
     size_t room, length;
@@ -54,6 +19,51 @@ __attribute__((format(printf, 2, 3))) static void put(struct page *p, const char
         p->length += (size_t)n;
     }
 }
+
+/* ---- for an answer */
+
+/* A key and its value, after a comma. */
+static void member(struct page *p, const char *key, uint64_t value) {
+    put(p, ",\"%s\":%" PRIu64, key, value);
+}
+
+static void members_of_security(struct page *p, const struct security_counts *c) {
+    member(p, "verified", c->verified);
+    member(p, "rejected", c->rejected);
+    member(p, "unanswered", c->unanswered);
+    member(p, "overrun", c->overrun);
+    member(p, "dropped_early", c->dropped_early);
+    member(p, "unsecured", c->unsecured);
+    member(p, "signed", c->signed_packets);
+    member(p, "unsigned", c->unsigned_packets);
+    member(p, "strays", c->strays);
+}
+
+/* What follows the last key of an answer: a comma, the key `link`, and the end of the answer. */
+size_t counts_print_link(const struct station *s, char *out, size_t room) {
+    struct page p = { out, room, 0 };
+    struct link *l = s->link;
+    struct geostation_counts station, own;
+    geostation_counts(s->handle, &station);
+    geostation_counts(s->own, &own);
+    put(&p, ",\"link\":{\"frames\":%" PRIu64, l->frames);
+    member(&p, "padded", l->padded);
+    member(&p, "tagged", l->tagged);
+    member(&p, "dropped", l->dropped);
+    member(&p, "kernel_dropped", link_kernel_dropped(l));
+    member(&p, "forward_dropped", s->forwards->dropped);
+    member(&p, "suppressed", station.suppressed);
+    member(&p, "repeated", station.repeated);
+    member(&p, "over_rate", own.over_rate);
+    member(&p, "events_lost", s->clients->events_lost);
+    if (s->security != NULL) {
+        members_of_security(&p, &s->security->counts);
+    }
+    put(&p, "}}");
+    return p.length;
+}
+
+/* ---- for Prometheus */
 
 static void head(struct page *p, const char *name, const char *type, const char *help) {
     put(p, "# HELP geostation_%s %s\n# TYPE geostation_%s %s\n", name, help, name, type);

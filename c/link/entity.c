@@ -5,18 +5,14 @@
 #include <errno.h>
 #include <pwd.h>
 #include <string.h>
-#include <sys/un.h>
 #include <unistd.h>
 
 enum { TRY_EACH = 1000 /* ms */, WRONG_USER = -1 };
 
 void entity_start(struct entity *e, const struct options *o) {
     e->path = o->security;
+    e->at = unix_address("security", e->path);
     e->fd = -1;
-    if (strlen(e->path) >= sizeof((struct sockaddr_un *)0)->sun_path) {
-        fail(BAD_ARGUMENTS, "--security %s: longer than %zu bytes", e->path,
-             sizeof((struct sockaddr_un *)0)->sun_path - 1);
-    }
     if (o->security_user != NULL) {
         const struct passwd *user = getpwnam(o->security_user);
         if (user == NULL) {
@@ -27,11 +23,9 @@ void entity_start(struct entity *e, const struct options *o) {
     }
 }
 
-static int connect_to(const char *path) {
-    struct sockaddr_un at = { .sun_family = AF_UNIX };
-    strcpy(at.sun_path, path);
+static int connect_to(const struct sockaddr_un *at) {
     int fd = socket(AF_UNIX, SOCK_SEQPACKET | SOCK_NONBLOCK | SOCK_CLOEXEC, 0);
-    if (fd >= 0 && connect(fd, (struct sockaddr *)&at, sizeof at) != 0) {
+    if (fd >= 0 && connect(fd, (const struct sockaddr *)at, sizeof *at) != 0) {
         int why = errno;
         close(fd);
         errno = why;
@@ -74,7 +68,7 @@ static void report(struct entity *e, int why, uid_t user) {
 bool entity_try(struct entity *e, uint64_t now) {
     uid_t user = 0;
     e->try_at = now + TRY_EACH;
-    int fd = connect_to(e->path);
+    int fd = connect_to(&e->at);
     if (fd < 0) {
         report(e, errno, user);
         return false;

@@ -35,11 +35,17 @@ void link_enlarge_buffer(int fd) {
     }
 }
 
+void link_address(uint64_t address, uint8_t mac[6]) {
+    for (int k = 0; k < 6; k++) {
+        mac[k] = (uint8_t)(address >> (40 - 8 * k));
+    }
+}
+
 /* Without --address, the address consists of the station type and the interface's MAC. */
 static void make_address(struct options *o, const uint8_t mac[6]) {
-    o->address = o->station_type << 58;
+    o->station.address = (uint64_t)o->station_type << 58;
     for (int k = 0; k < 6; k++) {
-        o->address |= (uint64_t)mac[k] << (40 - 8 * k);
+        o->station.address |= (uint64_t)mac[k] << (40 - 8 * k);
     }
     o->addressed = true;
 }
@@ -54,7 +60,7 @@ void link_open(struct link *l, struct options *o) {
         link_enlarge_buffer(l->fd);
         return;
     }
-    l->address = o->addressed ? o->address : 0;
+    l->address = o->addressed ? o->station.address : 0;
     if (o->wait_interface) {
         packet_wait(l);
     }
@@ -64,7 +70,7 @@ void link_open(struct link *l, struct options *o) {
     if (!o->addressed) {
         make_address(o, l->mac);
     }
-    l->address = o->address;
+    l->address = o->station.address;
 }
 
 static enum sending result_of(int error) {

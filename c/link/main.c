@@ -13,8 +13,8 @@ static struct program program;
 static void start_place(struct place *p, const struct options *o) {
     p->known = p->fixed = o->placed;
     p->accurate = 1;
-    p->latitude = o->latitude;
-    p->longitude = o->longitude;
+    p->latitude = o->station.latitude;
+    p->longitude = o->station.longitude;
     p->timestamp = (uint32_t)clock_now();
     p->fix_at = clock_now();
     p->fix_timeout = o->gps_timeout;

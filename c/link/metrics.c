@@ -58,22 +58,33 @@ static bool write_whole(int fd, size_t length) {
     return true;
 }
 
-/* The new file has a temporary name until it is complete. */
-static bool replace(const char *path, size_t length) {
+/* Returns 0, or the errno of what failed: then the file is removed again. */
+static int write_file(const char *path, size_t length) {
+    int fd = open(path, O_WRONLY | O_CREAT | O_TRUNC | O_CLOEXEC | O_NOFOLLOW, 0644);
+    if (fd < 0) {
+        return errno;
+    }
+    errno = EIO; /* of a write that writes nothing */
+    int why = write_whole(fd, length) ? 0 : errno;
+    if (close(fd) != 0 && why == 0) {
+        why = errno;
+    }
+    if (why != 0) {
+        unlink(path);
+    }
+    return why;
+}
+
+/* The new file has a temporary name until it is complete. Returns 0, or an errno. */
+static int replace(const char *path, size_t length) {
     char new_path[PATH_MAX];
     snprintf(new_path, sizeof new_path, "%s.new", path);
-    int fd = open(new_path, O_WRONLY | O_CREAT | O_TRUNC | O_CLOEXEC | O_NOFOLLOW, 0644);
-    if (fd < 0) {
-        return false;
-    }
-    bool whole = write_whole(fd, length);
-    int why = errno;
-    whole = close(fd) == 0 && whole && rename(new_path, path) == 0;
-    errno = whole ? 0 : why != 0 ? why : errno;
-    if (!whole) {
+    int why = write_file(new_path, length);
+    if (why == 0 && rename(new_path, path) != 0) {
+        why = errno;
         unlink(new_path);
     }
-    return whole;
+    return why;
 }
 
 void metrics_write(struct metrics *m, const struct station *s, uint64_t now) {
@@ -81,12 +92,11 @@ void metrics_write(struct metrics *m, const struct station *s, uint64_t now) {
         return;
     }
     m->write_at = now + WRITE_EACH;
-    bool written = replace(m->path, counts_print_metrics(s, now, text, sizeof text));
-    if (!written && !m->failed) {
-        note("--metrics %s: %s: trying again each %d s", m->path, strerror(errno),
-             WRITE_EACH / 1000);
+    int why = replace(m->path, counts_print_metrics(s, now, text, sizeof text));
+    if (why != 0 && !m->failed) {
+        note("--metrics %s: %s: trying again each %d s", m->path, strerror(why), WRITE_EACH / 1000);
     }
-    m->failed = !written;
+    m->failed = why != 0;
 }
 
 void metrics_end(const struct metrics *m) {

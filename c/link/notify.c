@@ -4,7 +4,6 @@
 #include "parts.h"
 #include <stdlib.h>
 #include <string.h>
-#include <sys/un.h>
 #include <unistd.h>
 
 static int fd = -1;

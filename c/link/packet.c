@@ -50,14 +50,14 @@ void packet_wait(struct link *l) {
 }
 
 /* Makes the interface receive frames to the station's MID too, if that isn't its MAC. */
-static bool take_address(const struct link *l) {
+static void take_address(const struct link *l) {
     struct packet_mreq more = { .mr_ifindex = (int)l->index, .mr_type = PACKET_MR_UNICAST,
                                 .mr_alen = 6 };
-    for (int k = 0; k < 6; k++) {
-        more.mr_address[k] = (unsigned char)(l->address >> (40 - 8 * k));
+    link_address(l->address, more.mr_address);
+    if (l->address != 0 && memcmp(more.mr_address, l->mac, 6) != 0
+        && setsockopt(l->fd, SOL_PACKET, PACKET_ADD_MEMBERSHIP, &more, sizeof more) != 0) {
+        note("%s: cannot add a MAC address: frames to this station alone may be lost", l->name);
     }
-    return l->address == 0 || memcmp(more.mr_address, l->mac, 6) == 0
-        || setsockopt(l->fd, SOL_PACKET, PACKET_ADD_MEMBERSHIP, &more, sizeof more) == 0;
 }
 
 static void read_mac(struct link *l) {
@@ -112,9 +112,7 @@ bool packet_open(struct link *l) {
     }
     read_mac(l);
     read_state(l);
-    if (!take_address(l)) {
-        note("%s: cannot add a MAC address: frames to this station alone may be lost", l->name);
-    }
+    take_address(l);
     return true;
 }
 
@@ -152,8 +150,8 @@ unsigned packet_look(struct link *l) {
     read_state(l);
     read_mac(l);
     bool changed = memcmp(old, l->mac, sizeof old) != 0;
-    if (changed && !take_address(l)) {
-        note("%s: cannot add a MAC address: frames to this station alone may be lost", l->name);
+    if (changed) {
+        take_address(l);
     }
     return (l->up != was ? NEWS_UP : NO_NEWS) | (changed ? NEWS_MAC : NO_NEWS);
 }

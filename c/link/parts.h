@@ -10,10 +10,12 @@
 #include <stddef.h>
 #include <sys/socket.h>
 #include <sys/types.h>
+#include <sys/un.h>
 
 enum {
     BAD_ARGUMENTS = 2,
     FAILED = 3, /* the system refused something */
+    SETTINGS = 28,
     PEERS = 16,
     PORTS = 64,
     CLIENTS = 17,             /* the first one is standard input and output */
@@ -43,41 +45,49 @@ __attribute__((format(printf, 3, 4))) bool set_fault(struct fault *f, int status
 uint16_t draw(void);
 uint32_t draw_below(uint32_t bound); /* 0 to bound - 1; 0 if bound is 0 */
 
-/* arguments.c and config.c: options of the command line and of the configuration file. */
+/* settings.c: options that a configuration file may have too. */
 struct address {
     struct sockaddr_storage at;
     socklen_t length;
 };
 struct options {
+    struct geostation_config station;
     const char *interface, *listen, *metrics, *udp, *gpsd, *to[PEERS], *security, *security_user;
     bool placed, addressed, typed, stationary, wait_interface, check, timed_security;
     struct address local, peers[PEERS], gpsd_at; /* filled by resolve_addresses */
     size_t peer_count, port_count;
-    uint64_t address, station_type;
-    int32_t latitude, longitude; /* 0.1 microdegree */
-    uint16_t capacity, remember, ports[PORTS];
-    uint32_t forward_spread;              /* microseconds */
-    uint32_t forward_rate, forward_burst; /* limits: frames per second, frames at once; 0: none */
-    uint32_t source_rate, source_burst, own_rate, own_burst;
-    uint16_t hop_cap, deliver_once;       /* 0: none */
+    uint16_t ports[PORTS];
+    uint32_t station_type;
+    uint32_t forward_spread; /* microseconds */
     uint32_t client_timeout, gps_timeout, security_timeout; /* milliseconds */
-    char config[CONFIG_ROOM];             /* the text of the file, to which the pointers lead */
+    char config[CONFIG_ROOM]; /* the text of the file, to which the pointers lead */
 };
 struct setting { /* an option, and where it is written */
     const char *file; /* NULL: on the command line */
     int line;
     const char *name, *value; /* value: NULL if it is missing */
+    const struct row *row;    /* NULL: the option has no row */
 };
+struct row {
+    const char *name;
+    int argument; /* whether it has a value, as getopt_long has it */
+    bool (*take)(struct options *o, const struct setting *s, struct fault *f);
+    size_t field;               /* its offset in struct options */
+    uint32_t least, most, unit; /* of a number, which is stored times the unit */
+};
+extern const struct row *const settings; /* the first of SETTINGS */
+const struct row *setting_named(const char *name); /* or NULL */
+bool has_port(const struct options *o, uint16_t port);
+
+/* arguments.c and config.c: the command line and the configuration file. */
 bool read_arguments(struct options *o, int argc, char **argv, struct fault *f);
-bool take_setting(struct options *o, int option, const struct setting *s, struct fault *f);
 bool read_config(struct options *o, const char *path, struct fault *f);
-int option_named(const char *name, int *argument); /* its letter, or -1 */
 
 /* values.c: reads values. Each function sets the fault and returns false for a wrong one. */
 bool number_of(const struct setting *s, uint64_t least, uint64_t most, uint64_t *out,
                struct fault *f);
 bool address_of(const struct setting *s, uint64_t *out, struct fault *f);
-bool position_of(const struct setting *s, struct options *o, struct fault *f);
+bool position_of(const struct setting *s, int32_t *latitude, int32_t *longitude, struct fault *f);
 bool host_port_of(const struct setting *s, struct fault *f);
 bool refuse_value(const struct setting *s, const char *why, struct fault *f);
 void resolve_addresses(struct options *o);
@@ -115,6 +125,7 @@ struct received {
 enum sending { SENT, LINK_DOWN, QUEUE_FULL, FRAME_TOO_LONG };
 enum news { NO_NEWS = 0, NEWS_UP = 1, NEWS_MAC = 2 };
 void link_open(struct link *l, struct options *o);
+void link_address(uint64_t address, uint8_t mac[6]); /* that of a station with this GN address */
 enum sending link_send(struct link *l, const uint8_t *frame, size_t length);
 enum waiting { NONE_WAITS, SKIPPED, RECEIVED };
 enum waiting link_receive(struct link *l, const struct instant *now, struct received **r);
@@ -334,7 +345,9 @@ void metrics_serve(const struct metrics *m, const struct station *s, uint64_t no
 void metrics_write(struct metrics *m, const struct station *s, uint64_t now);
 void metrics_end(const struct metrics *m);
 
-/* socket.c: a UNIX socket at a path. It replaces a socket at which no one listens any more. */
+/* socket.c: UNIX sockets at a path. The option is the one that names the path. */
+struct sockaddr_un unix_address(const char *option, const char *path);
+/* It replaces a socket at which no one listens any more. */
 int listen_at(const char *option, const char *path, int waiting);
 
 /* notify.c: reports to a service manager, if there is one. */

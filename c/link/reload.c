@@ -1,15 +1,17 @@
 /* Reads the options again while the program runs. */
 #include "parts.h"
+#include <string.h>
 
 static void take_position(struct program *p, const struct options *new) {
     const struct options *old = &p->options;
     if (!new->placed || !old->placed
-        || (new->latitude == old->latitude && new->longitude == old->longitude)) {
+        || (new->station.latitude == old->station.latitude
+            && new->station.longitude == old->station.longitude)) {
         return;
     }
     uint64_t now = clock_now();
-    p->place.latitude = new->latitude;
-    p->place.longitude = new->longitude;
+    p->place.latitude = new->station.latitude;
+    p->place.longitude = new->station.longitude;
     p->place.timestamp = (uint32_t)now;
     p->station.last = now;
     place_tell(&p->place, p->station.handle, now);
@@ -26,11 +28,9 @@ void reload(struct program *p) {
         station_change_ports(&p->station, &p->options, &new);
         take_position(p, &new);
         p->options.port_count = new.port_count;
-        for (size_t k = 0; k < new.port_count; k++) {
-            p->options.ports[k] = new.ports[k];
-        }
-        p->options.latitude = new.latitude;
-        p->options.longitude = new.longitude;
+        memcpy(p->options.ports, new.ports, sizeof new.ports);
+        p->options.station.latitude = new.station.latitude;
+        p->options.station.longitude = new.station.longitude;
         note("ports and position were read again");
     }
     notify("READY=1");

@@ -8,6 +8,7 @@
 #include <stddef.h>
 #include <stdint.h>
 #include <sys/types.h>
+#include <sys/un.h>
 
 struct options;
 struct received;
@@ -29,6 +30,7 @@ enum {
 /* entity.c: the connection to the security entity. */
 struct entity {
     const char *path;
+    struct sockaddr_un at;
     bool has_user; /* another user than root and the program's own may run the entity */
     uid_t user;
     int fd;          /* or -1 */
@@ -74,7 +76,7 @@ void kept_put(struct kept *all, size_t *next, const uint8_t *message, size_t n,
 const struct answer *kept_find(const struct kept *all, const uint8_t *message, size_t n,
                                uint64_t now);
 
-/* security.c: the requests that wait, and those that are with the entity. */
+/* requests.c: the requests that wait, and those that are with the entity. */
 struct request {
     bool signs;
     uint64_t id, until; /* once it is with the entity; until: when it times out */
@@ -103,10 +105,20 @@ struct security {
     struct kept *kept;
     struct security_counts counts;
 };
+void requests_start(struct security *x);
+bool requests_sign(struct security *x, const uint8_t *frame, size_t length, struct held *h);
+void requests_verify(struct security *x, const struct received *got);
+void requests_ask(struct security *x); /* as many as the entity may have at a time */
+void requests_take_answer(struct security *x, struct answer *a);
+void requests_expire(struct security *x, uint64_t now);
+uint64_t requests_due(const struct security *x); /* UINT64_MAX: none is with the entity */
+void requests_end_all(struct security *x);       /* without answers */
+void requests_free(struct security *x);
+
+/* security.c: what the program has of them. */
 void security_start(struct security *x, struct station *s, const struct options *o);
 bool security_is_up(const struct security *x);
 void security_hear(struct security *x, const struct received *r);
-bool security_sign(struct security *x, const uint8_t *frame, size_t length, struct held *h);
 void security_turn(struct security *x, bool ready);
 uint64_t security_due(const struct security *x);
 int security_fd(const struct security *x); /* -1 if there is no entity, or if x is NULL */

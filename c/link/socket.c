@@ -1,20 +1,25 @@
-/* A UNIX socket at a path, with access for a group. */
+/* UNIX sockets at a path. One that listens gives access to its group. */
 #define _GNU_SOURCE
 #include "parts.h"
 #include <errno.h>
 #include <string.h>
 #include <sys/stat.h>
-#include <sys/un.h>
 #include <unistd.h>
 
-int listen_at(const char *option, const char *path, int waiting) {
+struct sockaddr_un unix_address(const char *option, const char *path) {
     struct sockaddr_un at = { .sun_family = AF_UNIX };
-    struct stat old;
-    if (strlen(path) >= sizeof at.sun_path) {
+    size_t length = strlen(path);
+    if (length >= sizeof at.sun_path) {
         fail(BAD_ARGUMENTS, "--%s %s: longer than %zu bytes", option, path,
              sizeof at.sun_path - 1);
     }
-    strcpy(at.sun_path, path);
+    memcpy(at.sun_path, path, length);
+    return at;
+}
+
+int listen_at(const char *option, const char *path, int waiting) {
+    struct sockaddr_un at = unix_address(option, path);
+    struct stat old;
     int fd = socket(AF_UNIX, SOCK_STREAM | SOCK_NONBLOCK | SOCK_CLOEXEC, 0);
     if (fd >= 0 && connect(fd, (struct sockaddr *)&at, sizeof at) == 0) {
         fail(FAILED, "%s: another program listens there", path);

@@ -12,47 +12,36 @@ void station_plan_beacon(struct station *s) {
     s->beacon_at = geostation_beacon_at(s->handle, s->jitter);
 }
 
-/* What a handle limits: the library limits no line, so own packets have a handle of their own. */
-enum limited { NOTHING, FORWARDS_AND_DELIVERIES, OWN_PACKETS };
-
-static geostation_handle *make(const struct options *o, uint16_t capacity, uint16_t remember,
-                               enum limited limited) {
-    const bool forwards = limited == FORWARDS_AND_DELIVERIES;
-    struct geostation_config config;
+static geostation_handle *make(const struct geostation_config *c) {
     geostation_handle *handle;
-    geostation_config_init(&config);
-    config.address = o->address;
-    config.latitude = o->latitude;
-    config.longitude = o->longitude;
-    config.capacity = capacity;
-    config.remember = remember;
-    config.mobile = !o->stationary;
-    config.forward_rate = forwards ? o->forward_rate : 0;
-    config.forward_burst = o->forward_burst;
-    config.source_rate = forwards ? o->source_rate : 0;
-    config.source_burst = o->source_burst;
-    config.own_rate = limited == OWN_PACKETS ? o->own_rate : 0;
-    config.own_burst = o->own_burst;
-    config.hop_cap = forwards ? o->hop_cap : 0;
-    config.deliver_once = forwards ? o->deliver_once : 0;
-    int status = geostation_new_from_config(&handle, &config);
+    int status = geostation_new_from_config(&handle, c);
     if (status == GEOSTATION_BAD_ARGUMENT) {
-        fail(BAD_ARGUMENTS, "--address %016" PRIx64 ": %s", o->address,
+        fail(BAD_ARGUMENTS, "--address %016" PRIx64 ": %s", c->address,
              geostation_status_text(status));
     }
     if (status != GEOSTATION_OK) {
         fail(FAILED, "out of memory: --capacity %u and --remember %u need %u kB of the limit "
-             "(ulimit -v, MemoryMax=)", o->capacity, o->remember,
-             (31384 + o->capacity * (58 + 2u * o->remember)) / 1000 + 1);
+             "(ulimit -v, MemoryMax=)", c->capacity, c->remember,
+             (31384 + c->capacity * (58 + 2u * c->remember)) / 1000 + 1);
     }
     return handle;
 }
 
+/* The library limits no line, so own packets have a handle of their own. */
+static void make_handles(struct station *s, const struct geostation_config *wanted) {
+    struct geostation_config c = *wanted;
+    c.own_rate = 0;
+    s->handle = make(&c);
+    c.capacity = c.remember = 1;
+    c.forward_rate = c.source_rate = c.hop_cap = c.deliver_once = 0;
+    s->probe = make(&c);
+    c.own_rate = wanted->own_rate;
+    s->own = make(&c);
+}
+
 void station_open(struct station *s, const struct options *o, uint64_t now) {
-    s->handle = make(o, o->capacity, o->remember, FORWARDS_AND_DELIVERIES);
-    s->probe = make(o, 1, 1, NOTHING);
-    s->own = make(o, 1, 1, OWN_PACKETS);
-    s->address = o->address;
+    make_handles(s, &o->station);
+    s->address = o->station.address;
     s->last = now;
     /* The first sequence number is random: others would ignore numbers that they remember. */
     (void)geostation_restart(s->handle, now, draw());
@@ -67,14 +56,6 @@ void station_open(struct station *s, const struct options *o, uint64_t now) {
     }
     s->jitter = draw_jitter();
     station_plan_beacon(s);
-}
-
-static bool has_port(const struct options *o, uint16_t port) {
-    size_t k = 0;
-    while (k < o->port_count && o->ports[k] != port) {
-        k++;
-    }
-    return k < o->port_count;
 }
 
 /* Ports that applications opened or closed meanwhile stay as they are. */
@@ -159,7 +140,7 @@ bool station_may_send(const struct station *s) {
 
 static void send_beacon(struct station *s, size_t n) {
     if (s->security != NULL) {
-        (void)security_sign(s->security, s->frame, n, NULL);
+        (void)requests_sign(s->security, s->frame, n, NULL);
     } else {
         (void)link_send(s->link, s->frame, n);
     }

@@ -59,14 +59,12 @@ static bool degrees(const char **text, int64_t most, int32_t *out) {
     return value <= most * 10000000;
 }
 
-bool position_of(const struct setting *s, struct options *o, struct fault *f) {
+/* Reads LAT,LON in degrees. */
+bool position_of(const struct setting *s, int32_t *latitude, int32_t *longitude, struct fault *f) {
     const char *at = s->value;
-    bool good = degrees(&at, 90, &o->latitude) && *at++ == ',' && degrees(&at, 180, &o->longitude);
-    if (!good || *at != 0) {
-        return refuse_value(s, "not LAT,LON in degrees with up to 7 decimals", f);
-    }
-    o->placed = true;
-    return true;
+    bool good = degrees(&at, 90, latitude) && *at++ == ',' && degrees(&at, 180, longitude);
+    return (good && *at == 0)
+        || refuse_value(s, "not LAT,LON in degrees with up to 7 decimals", f);
 }
 
 /* Splits HOST:PORT or [HOST]:PORT; `host` has space for 256 octets. */
@@ -95,7 +93,7 @@ bool host_port_of(const struct setting *s, struct fault *f) {
     if (!split(s->value, host, &port)) {
         return refuse_value(s, "not HOST:PORT; an IPv6 address is written [ADDRESS]:PORT", f);
     }
-    struct setting of_port = { s->file, s->line, s->name, port };
+    struct setting of_port = { s->file, s->line, s->name, port, NULL };
     return number_of(&of_port, 0, 65535, &number, f);
 }
 

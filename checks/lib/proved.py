@@ -33,8 +33,9 @@ tested. [BY_CRATE.md]({proof}/BY_CRATE.md) has a row per crate, and what is trus
 
 # Each public function of these crates has a contract.
 STACK = (
-    "its_gnvalue its_geometry its_faults its_model its_headers its_linkframe cap_linklayers cap_pcap"
-    " its_duplicates its_loctable its_forwarding its_btp its_station its_governor its_world its_c"
+    "its_gnvalue its_geometry its_faults its_model its_headers its_linkframe cap_linklayers cap_records::messages"
+    " cap_pcap its_duplicates its_loctable its_forwarding its_btp its_station its_governor its_world"
+    " its_c"
 ).split()
 # The top of an impl or trait, and the type that a row is named for.
 OWNER = re.compile(r"^(?:pub )?(?:impl|trait)\b(?:<.*?>)? ?(?:(\S.*) for )?([A-Za-z]\w*).* \{$")

@@ -104,6 +104,10 @@ RUNS = [
     Run("check data/refused.cap", status=1),
     Run("stats data/captured.pcapng"),
     Run("stats --json data/gbc.cap"),
+    Run("show --signed data/signed.pcap", DATA / "signed.show", 1),
+    Run("show --signed --json --count 3 data/signed.pcap"),
+    Run("stats --signed --json data/signed.pcap", DATA / "signed.stats.json"),
+    Run("convert --signed --frames-only --count 3 data/signed.pcap made.pcap", "", makes="made.pcap"),
     Run("convert data/captured.pcapng made.cap", "", makes="made.cap"),
     Run("convert data/gbc.cap made.pcapng", "", makes="made.pcapng"),
     Run("import empty made.cap", "", makes="made.cap"),
@@ -123,6 +127,7 @@ RUNS = [
     Run("mesh data/warning.toml"),
     Run(f"replay data/gbc.cap {SECOND} --port 2002"),
     Run(f"replay hi.cap {SECOND} --port 2002 --frames made.cap", REPLAYED, makes="made.cap"),
+    Run(f"replay --signed --count 2 data/signed.pcap {SECOND} --port 2002"),
     Run(f"station {SECOND} --capacity 1 --remember 1", ANSWERS, 1, typed=TYPED),
 ]
 

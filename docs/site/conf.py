@@ -40,10 +40,14 @@ autodoc_typehints = "signature"
 autodoc_class_signature = "mixed"
 
 
+# Structs of the header that have the name of a function.
+BOTH = ("geostation_counts'", "geostation_message'")
+
+
 def is_news(record):
-    """Drops one warning: in Sphinx's C domain a struct and a function cannot have the same name."""
-    same = "Duplicate C declaration", "geostation_counts'"
-    return not all(part in record.getMessage() for part in same)
+    """Drops warnings: in Sphinx's C domain a struct and a function cannot have the same name."""
+    said = record.getMessage()
+    return not ("Duplicate C declaration" in said and any(name in said for name in BOTH))
 
 
 logging.getLogger("sphinx.sphinx.domains.c").addFilter(is_news)

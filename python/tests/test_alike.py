@@ -114,7 +114,8 @@ class Traffic:
         now = draws.choice([self.now] * 20 + [max(self.now - 1, 0), (1 << 62) + 1])
         word = draws.choice(
             ["move", "open_port", "close_port", "tick", "send_shb", "send_gbc", "send_gac"]
-            + ["next_beacon", "look_up", "neighbours", "counts"] + ["receive"] * 7 + ["receive_verified"] * 4 + ["restart"] * (draws.randrange(10) == 0) + ["bad"]
+            + ["next_beacon", "look_up", "neighbours", "counts"] + ["receive"] * 7
+            + ["receive_verified"] * 4 + ["restart"] * (draws.randrange(10) == 0) + ["bad"]
         )
         if word == "receive":
             frame = self.frame()

@@ -319,7 +319,9 @@ class Misuse(unittest.TestCase):
             Station.__new__(Station).__init__(A, latitude=0, longitude=0, capacity=0)
 
     def test_a_call_within_a_call(self):
-        a, told, found = Station(A, latitude=0, longitude=0), [], set()
+        # A slow machine spends all its time in the handler if the timer is faster. It also makes more
+        # calls than a station sends at once.
+        a, told, found = Station(A, latitude=0, longitude=0, limits=NO_LIMITS), [], set()
 
         def use(*_):
             try:
@@ -328,7 +330,7 @@ class Misuse(unittest.TestCase):
                 told.append(str(error))
 
         before = signal.signal(signal.SIGALRM, use)
-        signal.setitimer(signal.ITIMER_REAL, 0.0001, 0.0001)
+        signal.setitimer(signal.ITIMER_REAL, 0.01, 0.01)
         try:
             limit = time.monotonic() + 20
             while not any("within another" in t for t in told if isinstance(t, str)):

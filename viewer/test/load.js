@@ -8,7 +8,7 @@ const path = require('node:path');
 const vm = require('node:vm');
 
 const TOP = path.join(__dirname, '..');
-const NAMES = ['dom', 'geo', 'columns', 'events', 'frame', 'peek', 'scan', 'line', 'hearing',
+const NAMES = ['dom', 'geo', 'columns', 'events', 'frame', 'secured', 'peek', 'scan', 'line', 'hearing',
   'presence', 'entries', 'run', 'reading', 'words', 'way', 'why', 'reason', 'clock', 'filter',
   'tables', 'load', 'shape', 'streets', 'names', 'drawn', 'canvas', 'ground', 'map', 'saving', 'scene',
   'split', 'files', 'open'];

@@ -41,3 +41,7 @@ fault_of_carried h layer linked w carried (Err (faults.Record f)) whole is has f
     absurd fault.2
 fault_of_carried h layer linked w carried (Err (faults.Link f)) whole is has frame fault =
     absurd fault.2
+fault_of_carried h layer linked w carried (Err (faults.Signed f)) whole is has frame fault =
+    absurd fault.2
+fault_of_carried h layer linked w carried (Err (faults.Message f)) whole is has frame fault =
+    absurd fault.2

@@ -1,3 +1,4 @@
 pub mod Chosen
 pub mod Faults
 pub mod Padded
+pub mod Inner

@@ -48,11 +48,12 @@ HasFrame h linked w t =
 -- ---- why a record has none
 
 -- Octets are no frame because what follows the Basic Header is no Common Header, but, by its number,
--- a secured packet.
+-- a secured packet; or because they are too many, and their packet begins as a secured one.
 abbrev pub IsSecured : List ℕ → FrameFault → Type 0
 IsSecured text (frames.Packet f) =
     (f.kind ≡ BasicNext) × (octet : ℕ) × (slice_get text (14 + f.at) ≡ Some octet)
     × (octet % 16 ≡ 2)
+IsSecured text frames.TooLong = slice_get text 14 ≡ Some 18
 IsSecured text fault = ⊥
 
 -- how it is told that these octets are no frame, with this fault
@@ -61,6 +62,8 @@ IsTold fault text (faults.Frame f) = (f ≡ fault) × ¬ IsSecured text fault
 IsTold fault text (faults.Secured f) = (f ≡ fault) × IsSecured text fault
 IsTold fault text (faults.Record f) = ⊥
 IsTold fault text (faults.Link f) = ⊥
+IsTold fault text (faults.Signed f) = ⊥
+IsTold fault text (faults.Message f) = ⊥
 
 -- why octets are no frame
 abbrev pub IsNoFrame : List ℕ → RecordFault → Type 0
@@ -68,6 +71,8 @@ IsNoFrame text (faults.Frame f) = IsFrameFault text f × ¬ IsSecured text f
 IsNoFrame text (faults.Secured f) = IsFrameFault text f × IsSecured text f
 IsNoFrame text (faults.Record f) = ⊥
 IsNoFrame text (faults.Link f) = ⊥
+IsNoFrame text (faults.Signed f) = ⊥
+IsNoFrame text (faults.Message f) = ⊥
 
 -- The first fault of a record: its link layer or its being cut, its link layer's header, its octets.
 abbrev pub IsRecordFault : RecordHeader → Bool → List ℕ → RecordFault → Type 0
@@ -81,6 +86,8 @@ IsRecordFault h linked w (faults.Frame f) =
 IsRecordFault h linked w (faults.Secured f) =
     (fault_of h ≡ None) × (text : List ℕ) × IsText linked h.layer w text
     × IsNoFrame text (faults.Secured f)
+IsRecordFault h linked w (faults.Signed f) = ⊥
+IsRecordFault h linked w (faults.Message f) = ⊥
 
 -- ---- what it is chosen by
 
@@ -111,6 +118,8 @@ is_other (faults.Link links.Short) = false
 is_other (faults.Frame frames.EtherType) = true
 is_other (faults.Frame fault) = false
 is_other (faults.Secured fault) = false
+is_other (faults.Signed fault) = false
+is_other (faults.Message fault) = false
 
 -- what a record is chosen by: its frame; or that it has none, and whether it is of another protocol
 abbrev pub AreTraits : RecordHeader → Bool → List ℕ → Option Traits → Bool → Type 0

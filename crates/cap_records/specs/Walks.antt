@@ -8,6 +8,7 @@ use Rattle.cap_pcap.specs.declared.record.RecordHeader.{RecordHeader}
 use Rattle.cmd_reporting.specs.declared.status.Status.{Status}
 use Rattle.cmd_reporting.specs.declared.status.Status.TheVariants.{Done, Refused}
 use Rattle.cap_records.specs.RecordFrames.{AreTraits}
+use Rattle.cap_records.specs.SignedFrames.{AreSignedTraits}
 use Rattle.cap_records.specs.declared.walk.Walked.{Walked}
 
 -- the status of a walk over a capture: done where the capture and each chosen record is good
@@ -20,6 +21,14 @@ walk_status walked =
 abbrev pub Chooses : Choice → Bool → RecordHeader → List ℕ → Bool → Type 0
 Chooses choice linked h w chosen =
     ((traits : Option Traits) × (other : Bool) × AreTraits h linked w traits other
+    × (chosen ≡ selects choice h.moment traits other))
+    ⊎ ((chosen ≡ true)
+    × ((traits : Option Traits) (other : Bool) → selects choice h.moment traits other ≡ true))
+
+-- the same where secured frames are read by their plain part
+abbrev pub ChoosesSigned : Choice → Bool → RecordHeader → List ℕ → Bool → Type 0
+ChoosesSigned choice linked h w chosen =
+    ((traits : Option Traits) × (other : Bool) × AreSignedTraits h linked w traits other
     × (chosen ≡ selects choice h.moment traits other))
     ⊎ ((chosen ≡ true)
     × ((traits : Option Traits) (other : Bool) → selects choice h.moment traits other ≡ true))

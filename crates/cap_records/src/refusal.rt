@@ -1,9 +1,9 @@
 //! Why a record or a capture is refused: a code, and a sentence for a person.
 
-ghost use Rattle.std.specs.Prelude.{◌≡◌, IfOk, IfErr};
+ghost use Rattle.std.specs.Prelude.{◌≡◌, IfOk, IfErr, IsTrue, IsFalse};
 ghost use Rattle.cap_pcap.specs.Codes.{code_of};
 ghost use Rattle.cap_records.specs.FileFaults.{EndsCommand, IsToldInLine};
-ghost use Rattle.cap_records.specs.RecordFrames.{IsTold, is_other};
+ghost use Rattle.cap_records.specs.RecordFrames.{IsSecured, IsTold, is_other};
 ghost use Rattle.cap_records.specs.declared.refusal.RecordFault.TheVariants as faults;
 
 use crate::messages::MessageFault;
@@ -82,7 +82,10 @@ impl RecordFault {
 }
 
 /// Whether octets that are no unsecured frame, with this fault, seem to be a secured one.
-fn seems_secured(fault: FrameFault, frame: &[u8]) -> bool {
+fn seems_secured(fault: FrameFault, frame: &[u8]) -> bool
+    ensures yes { IsTrue result → IsSecured frame.now fault }
+    ensures no { IsFalse result → ¬ IsSecured frame.now fault }
+{
     match fault {
         FrameFault::TooLong => frame.get(PACKET) == Some(&SECURED_PACKET),
         FrameFault::Packet(packet) if packet.kind == FaultKind::BasicNext => {

@@ -1,12 +1,22 @@
 //! Secured frames of records, read by their plain part. No signature is verified.
 
+ghost use Rattle.std.specs.Prelude.{◌≡◌, ◌≤◌, ◌+◌, ◌-◌, ℕ, List, IfOk, IfErr, length, take, drop};
+ghost use Rattle.its_model.specs.Packet.{Transmission};
+ghost use Rattle.its_linkframe.specs.Frames.{EncodesFrame, transmission_of};
+ghost use Rattle.its_linkframe.specs.Secured.{EncodesVerified, Verified};
+ghost use Rattle.cap_records.specs.RecordFrames.{traits_in};
+ghost use Rattle.cap_records.specs.SignedFrames.{begins_secured, HasPlain, IsUnread, inner_frame};
+ghost use Rattle.cap_records.specs.SignedFrames.{HasSignedFrame, IsSignedFault, IsCarried};
+ghost use Rattle.cap_records.specs.SignedFrames.{IsInnerOf, IsInnerFault, IsStartFault, plain_octets};
+ghost use Rattle.cap_records.specs.SignedFrames.{IsUnsecuredIn, IsUnsecuredFault, IsReadIn, layer_in};
+
 use crate::choosing::Traits;
 use crate::frame::{read, read_on};
 use crate::messages::{HeaderInfo, read_message};
 use crate::refusal::RecordFault;
 use cap_pcap::{LinkLayer, RecordHeader, frame_start};
 use its_btp::split;
-use its_linkframe::{FrameView, VerifiedFrame, read_secured_frame};
+use its_linkframe::{FrameView, VerifiedFrame, read_frame, read_secured_frame};
 
 /// Octets of a frame: where its type is, where its packet begins, and where the message of a secured
 /// one does.
@@ -16,8 +26,13 @@ const PACKET: usize = 14;
 
 const MESSAGE: usize = 18;
 
-/// The type of GeoNetworking, and the first octet of a secured packet: version 1, next header 2.
-const SECURED: [u8; 3] = [0x89, 0x47, 0x12];
+/// The type of GeoNetworking.
+const TYPE_HIGH: u8 = 0x89;
+
+const TYPE_LOW: u8 = 0x47;
+
+/// The first octet of a secured packet: version 1, next header 2.
+const SECURED: u8 = 0x12;
 
 /// The first octet of an unsecured packet: version 1, next header 1.
 const UNSECURED: u8 = 0x11;
@@ -31,6 +46,16 @@ pub struct PlainPart {
     pub length: usize,
     /// What the header info says. Unsecured data has none.
     pub info: Option<HeaderInfo>,
+}
+
+impl PlainPart {
+    /// The octets of the plain part, in the frame that it was found in.
+    pub fn octets(self, frame: &[u8]) -> &[u8]
+        requires { self.start + self.length ≤ length frame.now }
+        ensures { result.now ≡ plain_octets frame.now self }
+    {
+        &frame[self.start..self.start + self.length]
+    }
 }
 
 /// What is known of a secured frame beside the packet inside.
@@ -50,15 +75,25 @@ pub(crate) struct SignedFrame<'a> {
 }
 
 /// Whether a frame is read as a secured one: its octets 12 to 14 are 89 47 12.
-pub fn is_secured(frame: &[u8]) -> bool {
-    frame.get(TYPE..TYPE + SECURED.len()) == Some(&SECURED)
+pub fn is_secured(frame: &[u8]) -> bool
+    ensures { result ≡ begins_secured frame.now }
+{
+    frame.len() > PACKET
+        && frame[TYPE] == TYPE_HIGH
+        && frame[TYPE + 1] == TYPE_LOW
+        && frame[PACKET] == SECURED
 }
 
 /// Finds the plain part of a secured frame.
 ///
 /// `Signed` with L1, L2, L3 or L5 if the octets aren't a secured frame, and `Message` with E1 or E2
 /// if its message can't be read.
-pub fn find_plain(frame: &[u8]) -> Result<PlainPart, RecordFault> {
+pub fn find_plain(frame: &[u8]) -> Result<PlainPart, RecordFault>
+    ensures found { IfOk result (HasPlain frame.now) }
+    ensures behind { IfOk result (λ part. 18 ≤ part.start) }
+    ensures inside { IfOk result (λ part. part.start + part.length ≤ length frame.now) }
+    ensures fault { IfErr result (IsUnread frame.now) }
+{
     let secured = read_secured_frame(frame)?;
     let message = read_message(secured.message())?;
     Ok(PlainPart {
@@ -77,9 +112,27 @@ pub struct FramePlace {
     pub end: usize,
 }
 
+impl FramePlace {
+    /// The octets of the frame.
+    pub fn octets(self, octets: &[u8]) -> &[u8]
+        requires order { self.start ≤ self.end }
+        requires inside { self.end ≤ length octets.now }
+        ensures { result.now ≡ take (self.end - self.start) (drop self.start octets.now) }
+    {
+        &octets[self.start..self.end]
+    }
+}
+
 /// Puts the inner frame of a secured one, which begins at this octet, together in front of its plain
 /// part: link addresses, type, Basic Header with next header 1, plain part.
-pub fn bring_inner(octets: &mut [u8], start: usize, plain: &PlainPart) -> FramePlace {
+pub fn bring_inner(octets: &mut Vec<u8>, start: usize, plain: &PlainPart) -> FramePlace
+    requires behind { 18 ≤ plain.now.start }
+    requires inside { start + plain.now.start + plain.now.length ≤ length octets.old.items }
+    ensures order { result.start ≤ result.end }
+    ensures inside { result.end ≤ length octets.new.items }
+    ensures inner { take (result.end - result.start) (drop result.start octets.new.items)
+        ≡ inner_frame (drop start octets.old.items) plain.now }
+{
     let begin = start + plain.start - MESSAGE;
     octets.copy_within(start..start + MESSAGE, begin);
     octets[begin + PACKET] = UNSECURED;
@@ -87,6 +140,21 @@ pub fn bring_inner(octets: &mut [u8], start: usize, plain: &PlainPart) -> FrameP
         start: begin,
         end: begin + MESSAGE + plain.length,
     }
+}
+
+/// The octets from a place on.
+fn rest(octets: &Vec<u8>, start: usize) -> &[u8]
+    requires { start ≤ length octets.now.items }
+    ensures { result.now ≡ drop start octets.now.items }
+{
+    &octets.as_slice()[start..]
+}
+
+/// The link layer whose header the octets of a record have, if they have one.
+fn layer_of(head: &RecordHeader, linked: bool) -> Option<LinkLayer>
+    ensures { result ≡ layer_in linked head.now.layer }
+{
+    if linked { head.layer } else { None }
 }
 
 /// The frame of a record, as `frame_of`; of a secured one the inner frame, which is put together
@@ -98,30 +166,57 @@ pub(crate) fn signed_frame_of<'a>(
     head: &RecordHeader,
     octets: &'a mut Vec<u8>,
     linked: bool,
-) -> Result<SignedFrame<'a>, RecordFault> {
+) -> Result<SignedFrame<'a>, RecordFault>
+    ensures frame { IfOk result (λ f. HasSignedFrame head.now linked octets.old.items
+        (transmission_of f.frame) f.secured) }
+    ensures fault { IfErr result (IsSignedFault head.now linked octets.old.items) }
+{
     if let Some(fault) = head.fault() {
         return Err(RecordFault::Record(fault));
     }
-    let layer = head.layer.filter(|_| linked);
+    let layer = layer_of(head, linked);
     let start = start_in(layer, octets)?;
-    if !is_secured(&octets.as_slice()[start..]) {
-        let frame = read_in(layer, &octets.as_slice()[start..])?;
-        return Ok(SignedFrame {
-            frame,
-            secured: None,
-        });
+    if is_secured(rest(octets, start)) {
+        read_secured(octets, start)
+    } else {
+        read_unsecured(layer, rest(octets, start))
     }
-    let length = octets.len() - start;
-    let plain = judge(&octets.as_slice()[start..])?;
-    let place = bring_inner(octets.as_mut_slice(), start, &plain);
-    let frame = read(&octets.as_slice()[place.start..place.end])?;
+}
+
+/// The inner frame of the secured one that begins at this octet, put together among the octets.
+fn read_secured<'a>(octets: &'a mut Vec<u8>, start: usize) -> Result<SignedFrame<'a>, RecordFault>
+    requires { start ≤ length octets.old.items }
+    ensures frame { IfOk result (λ f. IsInnerOf (drop start octets.old.items)
+        (transmission_of f.frame) f.secured) }
+    ensures fault { IfErr result (IsInnerFault (drop start octets.old.items)) }
+{
+    let length = rest(octets, start).len();
+    let plain = judge(rest(octets, start))?;
+    let place = bring_inner(octets, start, &plain);
+    let frame = frame_inside(place.octets(octets.as_slice()));
     let info = plain.info;
     let secured = Some(SecuredFacts { length, info });
     Ok(SignedFrame { frame, secured })
 }
 
+/// The frame that these octets are.
+fn frame_inside(octets: &[u8]) -> FrameView<'_>
+    requires { (t : Transmission) × EncodesFrame t octets.now }
+    ensures { EncodesFrame (transmission_of result) octets.now }
+{
+    match read_frame(octets) {
+        Ok(frame) => frame,
+        Err(_) => unreachable!(),
+    }
+}
+
 /// Where the frame begins in octets that have the header of this link layer, or none.
-fn start_in(layer: Option<LinkLayer>, octets: &mut Vec<u8>) -> Result<usize, RecordFault> {
+fn start_in(layer: Option<LinkLayer>, octets: &mut Vec<u8>) -> Result<usize, RecordFault>
+    ensures frame { IfOk result
+        (λ at. IsCarried layer octets.old.items (drop at octets.new.items)) }
+    ensures inside { IfOk result (λ at. at ≤ length octets.new.items) }
+    ensures fault { IfErr result (IsStartFault layer octets.old.items) }
+{
     match layer {
         Some(layer) => Ok(frame_start(layer, octets)?),
         None => Ok(0),
@@ -129,7 +224,24 @@ fn start_in(layer: Option<LinkLayer>, octets: &mut Vec<u8>) -> Result<usize, Rec
 }
 
 /// The unsecured frame in octets that came from this link layer, or stand by themselves.
-fn read_in(layer: Option<LinkLayer>, octets: &[u8]) -> Result<FrameView<'_>, RecordFault> {
+fn read_unsecured(layer: Option<LinkLayer>, octets: &[u8]) -> Result<SignedFrame<'_>, RecordFault>
+    ensures frame { IfOk result (λ f. IsUnsecuredIn layer octets.now
+        (transmission_of f.frame) f.secured) }
+    ensures fault { IfErr result (IsUnsecuredFault layer octets.now) }
+{
+    let frame = read_in(layer, octets)?;
+    Ok(SignedFrame {
+        frame,
+        secured: None,
+    })
+}
+
+/// The same, as the frame alone.
+fn read_in(layer: Option<LinkLayer>, octets: &[u8]) -> Result<FrameView<'_>, RecordFault>
+    ensures frame { IfOk result (λ v. (text : List ℕ) × IsReadIn layer octets.now text
+        × EncodesFrame (transmission_of v) text) }
+    ensures fault { IfErr result (IsUnsecuredFault layer octets.now) }
+{
     match layer {
         Some(layer) => read_on(layer, octets),
         None => read(octets),
@@ -137,15 +249,25 @@ fn read_in(layer: Option<LinkLayer>, octets: &[u8]) -> Result<FrameView<'_>, Rec
 }
 
 /// Finds the plain part of a secured frame, which has to be a packet.
-fn judge(frame: &[u8]) -> Result<PlainPart, RecordFault> {
+fn judge(frame: &[u8]) -> Result<PlainPart, RecordFault>
+    ensures found { IfOk result (HasPlain frame.now) }
+    ensures behind { IfOk result (λ part. 18 ≤ part.start) }
+    ensures inside { IfOk result (λ part. part.start + part.length ≤ length frame.now) }
+    ensures packet { IfOk result (λ part. (v : Verified)
+        × EncodesVerified v frame.now (plain_octets frame.now part)) }
+    ensures fault { IfErr result (IsInnerFault frame.now) }
+{
     let found = find_plain(frame)?;
-    let plain = &frame[found.start..found.start + found.length];
-    VerifiedFrame::read(frame, plain)?;
-    Ok(found)
+    match VerifiedFrame::read(frame, found.octets(frame)) {
+        Ok(_) => Ok(found),
+        Err(fault) => Err(RecordFault::Signed(fault)),
+    }
 }
 
 /// What a secured frame is chosen by: the packet in its plain part.
-pub fn traits_inside(frame: &VerifiedFrame<'_, '_>) -> Traits {
+pub fn traits_inside(frame: &VerifiedFrame<'_, '_>) -> Traits
+    ensures { result ≡ traits_in frame.now.frame }
+{
     let packet = frame.packet();
     let port = match split(packet.payload()) {
         Ok((port, _, _)) => Some(port),

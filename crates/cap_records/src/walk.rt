@@ -5,7 +5,7 @@ ghost use Rattle.cap_records.specs.Choosing.{selects};
 ghost use Rattle.cap_records.specs.declared.choosing.Traits.{Traits};
 ghost use Rattle.cap_linklayers.specs.declared.link.TheConstants.{LONGEST_RECORD};
 ghost use Rattle.cap_records.specs.RecordFrames.{traits_read, other_read};
-ghost use Rattle.cap_records.specs.Walks.{walk_status, Chooses};
+ghost use Rattle.cap_records.specs.Walks.{walk_status, Chooses, ChoosesSigned};
 ghost use Rattle.cmd_reporting.specs.declared.fault.Fault.TheVariants.{CannotRead};
 
 use crate::choosing::Choice;
@@ -79,7 +79,10 @@ impl Selection {
         octets: &[u8],
         linked: bool,
         room: &mut Vec<u8>,
-    ) -> Result<bool, AllocError> {
+    ) -> Result<bool, AllocError>
+        ensures { IfOk result
+            (ChoosesSigned self.now.choice linked head.now (take LONGEST_RECORD octets.now)) }
+    {
         let moment = head.moment;
         if self.has_any(moment) {
             return Ok(true);

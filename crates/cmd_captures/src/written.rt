@@ -160,8 +160,8 @@ impl<W: Write + Drop> Written<W> {
             return Ok(self.write(LinkLayer::Ethernet, head, &octets.as_slice()[start..])?);
         }
         let plain = find_plain(&octets.as_slice()[start..])?;
-        let place = bring_inner(octets.as_mut_slice(), start, &plain);
-        let inner = &octets.as_slice()[place.start..place.end];
+        let place = bring_inner(octets, start, &plain);
+        let inner = place.octets(octets.as_slice());
         Ok(self.write(LinkLayer::Ethernet, head, inner)?)
     }
 

@@ -4,3 +4,6 @@ pub mod Neighbours
 pub mod Read
 pub mod Served
 pub mod Own
+pub mod Secured
+pub mod Verified
+pub mod LineAnswers

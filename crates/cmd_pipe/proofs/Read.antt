@@ -19,12 +19,14 @@ use Rattle.cmd_pipe.specs.declared.request.Id.{Id}
 use Rattle.cmd_pipe.specs.declared.request.LineFault.{LineFault}
 use Rattle.cmd_pipe.specs.declared.request.LineFault.TheVariants as faults
 use Rattle.cmd_pipe.specs.declared.request.LineRequest.{LineRequest}
+use Rattle.cmd_pipe.specs.declared.request.QueryKey.TheVariants as query_keys
 
 -- what is asked for, beside an `id` that is read
 pub asks_of : (now : Option ℕ) (members : Data) (id : Option Id) (asked : Request)
     → IsId members id → AsksIn now members asked → AsksOf now members id asked
 asks_of now members id asked_by.Nothing is asks = absurd asks
 asks_of now members id (asked_by.Call moment call) is asks = (is, asks)
+asks_of now members id (asked_by.Verified moment octets) is asks = (is, asks)
 asks_of now members id (asked_by.Query at query) is asks = (is, asks)
 asks_of now members id (asked_by.Bad faults.NotJson) is asks = absurd asks
 asks_of now members id (asked_by.Bad faults.Id) is asks = absurd asks
@@ -47,6 +49,8 @@ asks_whole : (now : Option ℕ) (line : LineText) (members : Data) (id : Option 
     → IsObject line.octets members → Asks now line id asked
 asks_whole now line members id asked_by.Nothing asks short some is = absurd asks.1
 asks_whole now line members id (asked_by.Call moment call) asks short some is =
+    (short, some, members, is, asks)
+asks_whole now line members id (asked_by.Verified moment octets) asks short some is =
     (short, some, members, is, asks)
 asks_whole now line members id (asked_by.Query at query) asks short some is =
     (short, some, members, is, asks)
@@ -81,14 +85,18 @@ bad_moment now members none =
 pub not_query : (members : Data) → (¬ IsWord members (codes "next_beacon"))
     → (¬ IsWord members (codes "neighbours")) → (¬ IsWord members (codes "look_up"))
     → (¬ IsWord members (codes "read_frame")) → (¬ IsWord members (codes "counts"))
-    → IsQueryWord members → ⊥
-not_query members next_beacon neighbours look_up read_frame counts (inl is) = next_beacon is
-not_query members next_beacon neighbours look_up read_frame counts (inr (inl is)) = neighbours is
-not_query members next_beacon neighbours look_up read_frame counts (inr (inr (inl is))) = look_up is
-not_query members next_beacon neighbours look_up read_frame counts (inr (inr (inr (inl is)))) =
-    read_frame is
-not_query members next_beacon neighbours look_up read_frame counts (inr (inr (inr (inr is)))) =
-    counts is
+    → (¬ IsWord members (codes "seal")) → IsQueryWord members → ⊥
+not_query members next_beacon neighbours look_up read_frame counts seal (inl is) = next_beacon is
+not_query members next_beacon neighbours look_up read_frame counts seal (inr (inl is)) =
+    neighbours is
+not_query members next_beacon neighbours look_up read_frame counts seal (inr (inr (inl is))) =
+    look_up is
+not_query members next_beacon neighbours look_up read_frame counts seal
+    (inr (inr (inr (inl is)))) = read_frame is
+not_query members next_beacon neighbours look_up read_frame counts seal
+    (inr (inr (inr (inr (inl is))))) = counts is
+not_query members next_beacon neighbours look_up read_frame counts seal
+    (inr (inr (inr (inr (inr is))))) = seal is
 
 -- where there is one, it is that of the call
 pub bad_call : (now : Option ℕ) (members : Data) (moment : ℕ) (key : Key)
@@ -128,5 +136,11 @@ bad_query now members (read_faults.Bad faults.NotJson) is = absurd is.0
 bad_query now members (read_faults.Bad faults.Id) is = absurd is.0
 bad_query now members (read_faults.Bad (faults.Key key wrong)) is = absurd is.0
 bad_query now members (read_faults.Bad (faults.Word meant)) is = absurd is.0
-bad_query now members (read_faults.Bad (faults.Query key wrong)) is = is.1
+bad_query now members (read_faults.Bad (faults.Query query_keys.Plain wrong)) is =
+    absurd (is.0 refl)
+bad_query now members (read_faults.Bad (faults.Query query_keys.Jitter wrong)) is = is.1
+bad_query now members (read_faults.Bad (faults.Query query_keys.After wrong)) is = is.1
+bad_query now members (read_faults.Bad (faults.Query query_keys.Address wrong)) is = is.1
+bad_query now members (read_faults.Bad (faults.Query query_keys.Frame wrong)) is = is.1
+bad_query now members (read_faults.Bad (faults.Query query_keys.Message wrong)) is = is.1
 bad_query now members read_faults.OutOfMemory is = tt

@@ -101,8 +101,8 @@ TellsFrame octets (knowns.Frame frame) = (frame.items ≡ octets) × IsFrame oct
 TellsFrame octets (knowns.NoFrame fault) = (¬ IsFrame octets) × IsFrameFault octets fault
 TellsFrame octets answer = ⊥
 
--- the secured frame of a frame with a message; none of octets that are no frame, of an empty message,
--- or where it would have over 2310 octets
+-- the secured frame of a frame with a message; none of octets that are no frame, of an empty
+-- message, or where it would have over 2310 octets
 abbrev pub TellsSealed : List ℕ → List ℕ → Known → Type 0
 TellsSealed octets message (knowns.Sealed w) =
     (t : Transmission) × EncodesFrame t octets × EncodesSecured (sealed t message) w.items

@@ -1,7 +1,7 @@
 //! Reading what a line asks for.
 
-ghost use Rattle.std.specs.Prelude.{◌≡◌, ◌↔◌, ◌⊎◌, ℕ, List, IfOk, IfErr, IfSome, IsSome, IfNone};
-ghost use Rattle.std.specs.Prelude.{OnErr, None, Some, IsTrue, IsFalse};
+ghost use Rattle.std.specs.Prelude.{◌≡◌, ◌≢◌, ◌↔◌, ◌⊎◌, ℕ, List, IfOk, IfErr, IfSome, IsSome};
+ghost use Rattle.std.specs.Prelude.{IfNone, OnErr, None, Some, IsTrue, IsFalse};
 ghost use Rattle.std.specs.Prelude.{codes};
 ghost use Rattle.serde_json.specs.View.{view};
 ghost use Rattle.sim_settings.specs.Faults.{IsWhatFault};
@@ -12,8 +12,9 @@ ghost use Rattle.cmd_pipe.specs.Requests.{Asks, AsksCall, AsksIn, AsksOf, AsksQu
 ghost use Rattle.cmd_pipe.specs.Requests.{IsAskedAt, IsBadOf, IsBadCallKeyOf, IsFrameKey, IsFrameText, IsId};
 ghost use Rattle.cmd_pipe.specs.Requests.{IsIdFault, IsJitter, IsJsonObject, IsMomentFault, IsMomentOf, IsObject};
 ghost use Rattle.cmd_pipe.specs.Requests.{IsOfQuery, IsQueryFault, IsQueryWord, IsToldAs, IsWord, SaysCall, line_of};
-ghost use Rattle.cmd_pipe.specs.Requests.{AsksSeal, AsksSecured, AsksSecuredIn, AsksVerified, ComesVerified};
-ghost use Rattle.cmd_pipe.specs.Requests.{IsNoOctets, IsOctetsText, IsOfKey, IsVerifiedBad, values_in};
+ghost use Rattle.cmd_pipe.specs.Requests.{AsksSeal, AsksSecured, AsksSecuredIn, AsksVerified};
+ghost use Rattle.cmd_pipe.specs.Requests.{ComesVerified, IsNoOctets, IsOctetsText, IsOfKey};
+ghost use Rattle.cmd_pipe.specs.Requests.{IsVerifiedBad, values_in};
 ghost use Rattle.cmd_pipe.specs.Words.{line_word, query_key};
 
 use crate::lines::is_blank;
@@ -195,7 +196,7 @@ fn read_id(alloc: Global, members: &Members<'_>) -> Result<Option<Id>, ReadFault
 
 /// Reads the moment, `do` and the keys of the word. What is asked of what the station knows needs
 /// no moment.
-#[tactic(auto, using(crate::proofs::Read::bad_told))]
+#[tactic(auto, using(crate::proofs::Read::bad_told, crate::proofs::Secured::bad_verified))]
 fn read_call_or_query(
     alloc: Global,
     members: &Members<'_>,
@@ -335,6 +336,7 @@ fn read_after(members: &Members<'_>) -> Result<Option<GnAddress>, ReadFault>
 
 /// Reads an address of 16 hexadecimal digits, whose MID is no group.
 fn read_address(members: &Members<'_>, key: QueryKey) -> Result<GnAddress, ReadFault>
+    requires { key ≢ QueryKey.Plain }
     ensures fault { IfErr result IsOfQuery }
 {
     let Some(digits) = members.text(key.word()) else {

@@ -102,7 +102,7 @@ pub enum Known {
     NoFrame(FrameFault),
     /// The secured frame that was asked for.
     Sealed(Vec<u8>),
-    /// There is none with this message.
+    /// No secured frame can have this message.
     NotSealed(SealFault),
     /// What the station heard, sent and refused so far.
     Counts(Counts),

@@ -1,7 +1,7 @@
 //! The lines of the input, each answered before the next is read.
 
-ghost use Rattle.std.specs.Prelude.{◌≡◌, ◌<◌, ◌++◌, ◌∷◌, [], ℕ, List, None, Some, IfOk, OnErr, OnOk};
-ghost use Rattle.std.specs.Prelude.{Err, IsErr};
+ghost use Rattle.std.specs.Prelude.{◌≡◌, ◌<◌, ◌++◌, ◌∷◌, [], ℕ, List, None, Some, IfOk, OnErr};
+ghost use Rattle.std.specs.Prelude.{OnOk, Err, IsErr};
 ghost use Rattle.its_model.specs.Station.{StationModel};
 ghost use Rattle.its_station.specs.Counting.{nothing};
 ghost use Rattle.its_station.specs.Runs.{IsInRange};
@@ -140,12 +140,12 @@ fn respond(
     }
 }
 
-/// Does what one line asks for, at the moment `now`: what stands under `at`, if anything, isn't looked
-/// at. Of the line, which has no line feed, `number` is its number among the lines, from 1; one of
-/// more than 65536 octets can't be read. A blank line has no answer. `NoRoom` for a line whose answer
-/// may have a secured frame (`seal`, and `receive` with a key `plain`) where a frame may have `room`
-/// octets, under 2310: nothing is done. `NoMemory` where an allocation failed: the station stands as
-/// before.
+/// Does what one line asks for, at the moment `now`: what stands under `at`, if anything, isn't
+/// looked at. Of the line, which has no line feed, `number` is its number among the lines, from 1;
+/// one of more than 65536 octets can't be read. A blank line has no answer. `NoRoom` for a line
+/// whose answer may have a secured frame (`seal`, and `receive` with a key `plain`) where a frame
+/// may have `room` octets, under 2310: nothing is done. `NoMemory` where an allocation failed: the
+/// station stands as before.
 pub fn answer_line(
     alloc: Global,
     station: &mut Station<SortedTable>,

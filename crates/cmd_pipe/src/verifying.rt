@@ -1,6 +1,6 @@
 //! Secured frames that came with the plain part that a security entity verified.
 
-ghost use Rattle.std.specs.Prelude.{◌≡◌, ◌≤◌, ◌∷◌, [], IfOk, OnErr, Err, length, vec_len};
+ghost use Rattle.std.specs.Prelude.{◌≡◌, ◌≢◌, ◌≤◌, ◌∷◌, [], IfOk, OnErr, Err, length, vec_len};
 ghost use Rattle.std.specs.Prelude.{vec_capacity};
 ghost use Rattle.std.specs.Option.{option_map};
 ghost use Rattle.its_model.specs.Station.{Step};
@@ -10,7 +10,8 @@ ghost use Rattle.its_station.specs.Runs.{Fits, HandingFits, delivered};
 ghost use Rattle.its_station.specs.State.{RepresentsStation, StationState};
 ghost use Rattle.its_station.specs.Steps.{IsStepOf};
 ghost use Rattle.cmd_pipe.specs.Knowing.{Counted};
-ghost use Rattle.cmd_pipe.specs.Serving.{RepresentsCounted, TellsHeard, TellsVerified, counts_heard};
+ghost use Rattle.cmd_pipe.specs.Serving.{RepresentsCounted, TellsHeard, TellsVerified};
+ghost use Rattle.cmd_pipe.specs.Serving.{counts_heard};
 
 use crate::request::{Id, VerifiedOctets};
 use crate::response::{Done, Response};
@@ -66,7 +67,7 @@ fn source_of(frame: &[u8], plain: &[u8]) -> Option<GnAddress> {
     }
 }
 
-/// What became of a frame as a reply that owns its octets: a payload takes the room that was made
+/// The outcome of a frame, as a reply that owns its octets: a payload takes the room that was made
 /// for it. `NoMemory` where an allocation failed.
 fn owned_reply(answer: Result<Outcome<'_>, Refused>, room: Vec<u8>) -> Result<Reply, NoMemory>
     requires empty { room.items ≡ [] }
@@ -78,6 +79,7 @@ fn owned_reply(answer: Result<Outcome<'_>, Refused>, room: Vec<u8>) -> Result<Re
     ensures counts { (c : Counts) → IfOk result (λ reply.
         counted answer.entry c ≡ counts_heard reply c) }
     ensures memory { OnErr result (answer.entry ≡ Err Refused.NoMemory) }
+    ensures done { IfOk result (λ _. answer.entry ≢ Err Refused.NoMemory) }
 {
     match answer {
         Ok(Outcome::Ignored(why)) => Ok(Reply::Ignored(why)),
@@ -103,7 +105,7 @@ fn deliver(handed: Option<Handed<'_>>, room: Vec<u8>) -> Option<Delivery>
     }
 }
 
-/// The same of a payload that was delivered.
+/// A message that was delivered, with its payload copied into the room.
 fn own(handed: Handed<'_>, room: Vec<u8>) -> Delivery
     requires empty { room.items ≡ [] }
     requires size { vec_len room ≡ 0 }

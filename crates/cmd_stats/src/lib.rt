@@ -13,6 +13,7 @@ pub mod replay;
 mod seconds;
 mod sources;
 mod table;
+mod traffic;
 
 pub use counting::stats;
 pub use files::stats_file;

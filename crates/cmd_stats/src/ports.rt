@@ -1,16 +1,10 @@
 //! The traffic to each port.
 
 use crate::table::Table;
+use crate::traffic::Traffic;
 use serde::Serialize;
 use std::alloc::{AllocError, Global};
 use std::collections::BTreeMap;
-
-/// What is counted of the frames to a port.
-#[derive(Clone, Copy, Drop)]
-struct Traffic {
-    frames: u64,
-    octets: u64,
-}
 
 /// What is told of a port: its keys in this order.
 #[derive(Clone, Copy, Drop, Serialize)]
@@ -38,13 +32,8 @@ impl Ports {
 
     /// Counts a frame of so many octets to a port.
     pub(crate) fn add(&mut self, port: u16, octets: u64) -> Result<(), AllocError> {
-        let none = Traffic {
-            frames: 0,
-            octets: 0,
-        };
-        let traffic = self.ports.entry(port)?.or_insert(none);
-        traffic.frames = traffic.frames.saturating_add(1);
-        traffic.octets = traffic.octets.saturating_add(octets);
+        let traffic = self.ports.entry(port)?.or_insert(Traffic::none());
+        traffic.add(octets);
         Ok(())
     }
 

@@ -25,8 +25,8 @@ pub(crate) struct Counted<'c> {
     pub(crate) signed: bool,
 }
 
-/// Prints the four tables, and that of PSIDs if it is wanted, an empty line between them, and why the file was refused, with `explain`
-/// as a sentence too.
+/// Prints the four tables, and that of PSIDs if it is wanted, an empty line between them, and why
+/// the file was refused, with `explain` as a sentence too.
 pub(crate) fn print_tables<'f, W: Write>(
     alloc: Global,
     counted: Counted<'_>,

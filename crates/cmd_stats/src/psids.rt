@@ -1,16 +1,10 @@
 //! The traffic of each PSID.
 
 use crate::table::Table;
+use crate::traffic::Traffic;
 use serde::Serialize;
 use std::alloc::{AllocError, Global};
 use std::collections::BTreeMap;
-
-/// What is counted of the signed frames with a PSID.
-#[derive(Clone, Copy, Drop)]
-struct Traffic {
-    frames: u64,
-    octets: u64,
-}
 
 /// What is printed of a PSID: its keys in this order.
 #[derive(Clone, Copy, Drop, Serialize)]
@@ -38,13 +32,8 @@ impl Psids {
 
     /// Counts a frame of so many octets with a PSID.
     pub(crate) fn add(&mut self, psid: u64, octets: u64) -> Result<(), AllocError> {
-        let none = Traffic {
-            frames: 0,
-            octets: 0,
-        };
-        let traffic = self.psids.entry(psid)?.or_insert(none);
-        traffic.frames = traffic.frames.saturating_add(1);
-        traffic.octets = traffic.octets.saturating_add(octets);
+        let traffic = self.psids.entry(psid)?.or_insert(Traffic::none());
+        traffic.add(octets);
         Ok(())
     }
 

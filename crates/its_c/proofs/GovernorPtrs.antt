@@ -1,6 +1,5 @@
 -- The machine values of pointers to governors, and how a pointer and what it owns come apart.
 use Rattle.std.proofs.Common.{◌≡◌, List, [], ◌∷◌, ◌++◌, refl, subst}
-use lib.Dec.{T, lit<}
 use seplogic.Ra.Ura.{Ura}
 use mir.Syntax.{impl, tnil, dnil}
 use mir.Val.{Val, vstruct, of_list}

@@ -7,3 +7,4 @@ pub mod Lookups
 pub mod Messages
 pub mod Unlimited
 pub mod Limits
+pub mod Sealed

@@ -13,7 +13,7 @@ use Rattle.its_model.specs.Station.{StationModel}
 use Rattle.its_station.specs.State.{StationState}
 use Rattle.its_governor.specs.declared.bucket.Bucket.{Bucket}
 use Rattle.its_governor.specs.declared.governor.Governor.{Governor}
-use Rattle.its_governor.specs.Governing.{is_over_rate, room_in, after_refusal}
+use Rattle.its_governor.specs.Governing.{is_over_rate, room_in}
 use Rattle.its_c.specs.Open.{HoldsModel}
 use Rattle.its_c.proofs.Opens.{held_model}
 

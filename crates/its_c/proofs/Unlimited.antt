@@ -1,13 +1,12 @@
 -- Without limits what passes of an answer is the answer.
 use Rattle.std.proofs.Common.{◌≡◌, ℕ, ◌≤◌, Bool, true, false, ◌&&◌, not, leb, Option, Some, None}
-use Rattle.std.proofs.Common.{List, refl, ap, ◌∙◌, subst, is_some, arith}
+use Rattle.std.proofs.Common.{List, refl, ap, ◌∙◌, is_some, arith}
 use Rattle.std.proofs.lemmas.Bool.{le-leb}
-use Rattle.std.specs.Prelude.{IsSome}
 use Rattle.its_faults.specs.declared.frame.FrameFault.{FrameFault}
 use Rattle.its_model.specs.Packet.{Message, Transmission, number_in}
 use Rattle.its_model.specs.Calls as model
 use Rattle.its_model.specs.Calls.{Answer, Call, Refusal}
-use Rattle.its_model.specs.Station.{StationModel, Step, station_step, moment_refusal}
+use Rattle.its_model.specs.Station.{StationModel, station_step, moment_refusal}
 use Rattle.its_model.specs.Station.{junk_step_by}
 use Rattle.its_station.specs.Receiving.{IsFrameCall}
 use Rattle.its_governor.specs.declared.bucket.Bucket.{Bucket}

@@ -102,9 +102,9 @@ pub extern "C" fn geostation_receive(
     told_outcome(said, heard, frame, reception, relay)
 }
 
-/// Takes a secured frame that came, and the plain part that a security entity verified of its
-/// message, and writes what became of them, as `geostation_receive` does of the packet that they
-/// are; a payload lies in the plain part. The secured frame in which the packet goes on is written
+/// Processes a secured frame with the plain part that a security entity verified of its message,
+/// and writes the result, as `geostation_receive` does for the packet that they are. A payload lies
+/// in the plain part. The secured frame in which the packet goes on is written
 /// into `relay`, if the limits let it pass. Refused by `NO_ROOM` for a buffer under 2310 octets, for
 /// its moment (S1, S2), for octets that are no secured frame or with the plain part no packet (S3),
 /// whose fault the reception has, for a table that is full (S4), and for memory (S5).
@@ -149,8 +149,8 @@ pub extern "C" fn geostation_receive_verified(
     told_outcome(said, heard, plain, reception, relay)
 }
 
-/// Passes the station a secured frame with its plain part, by its governor, and writes what is told
-/// of each packet.
+/// Passes the station a secured frame with its plain part, by its governor, and writes what a
+/// reception says of each packet.
 fn hear_verified<'a>(
     station: &mut Station<SortedTable>,
     governor: &mut Governor,
@@ -187,7 +187,7 @@ fn hear_verified<'a>(
     }
 }
 
-/// What is told of each verified packet that isn't refused.
+/// What a reception says of each verified packet that isn't refused.
 fn reception_of_packet(packet: &InnerPacketView<'_>) -> Reception
     ensures { (t : Transmission) → packet.now ≡ seen_on_air t → result ≡ reception_of t }
 {

@@ -1,7 +1,7 @@
-//! The calls around a security entity: where the message of a secured frame stands, where the plain
-//! part of a frame, and the secured frame of one with its message.
+//! The calls around a security entity: they find the message of a secured frame and the plain part
+//! of a frame, and write the secured frame of one with its message.
 
-ghost use Rattle.std.specs.Prelude.{◌≡◌, ◌≢◌, ◌≤◌, ◌<◌, ◌+◌, ℕ, List, pos, length, drop};
+ghost use Rattle.std.specs.Prelude.{◌≡◌, ◌≢◌, ◌≤◌, ◌<◌, ◌+◌, ◌⊎◌, [], ℕ, List, pos, length, drop};
 ghost use Rattle.its_faults.specs.declared.frame.FrameFault.{FrameFault};
 ghost use Rattle.its_faults.specs.declared.secured.SecuredFault.{SecuredFault};
 ghost use Rattle.its_model.specs.Packet.{Transmission};
@@ -81,6 +81,14 @@ pub extern "C" fn geostation_seal(
     out_length: &mut usize,
 ) -> i32
     ensures room { length out.old < 2310 → result ≡ pos 21 }
+    ensures no_room { result ≡ pos 21 → length out.old < 2310 }
+    ensures fault { result ≡ pos 3 → (fault : FrameFault) × IsFrameFault frame.now fault }
+    ensures argument { result ≡ pos 20 → ((t : Transmission) × EncodesFrame t frame.now)
+        × ((message.now ≡ []) ⊎ (2310 < 18 + length message.now)) }
+    ensures memory { result ≡ pos 5 →
+        (0 < length message.now) × (18 + length message.now ≤ 2310) }
+    ensures only { (result ≡ pos 0) ⊎ (result ≡ pos 3) ⊎ (result ≡ pos 5) ⊎ (result ≡ pos 20)
+        ⊎ (result ≡ pos 21) }
     ensures sealed { result ≡ pos 0 → (t : Transmission) × EncodesFrame t frame.now
         × (w : List ℕ) × EncodesSecured (sealed t message.now) w
         × Holds out_length.new out.new w }

@@ -27,9 +27,9 @@ const LONGEST_ANSWER: usize = 16384;
 /// as the command `station` does. What stands under `at` isn't looked at. Writes the answer, one
 /// JSON object without a line feed, or nothing to a blank line, and the frame that is to be sent, if
 /// any. `number` is the line's among all, for the answer to one that can't be read. Refused by
-/// `NO_ROOM` for an `answer` under 16384 octets, a `frame` under 1468, or under 2310 of a line whose
-/// answer may have a secured frame (`seal`, and `receive` with a key `plain`), and for memory (S5); a
-/// refusal of the station's is in the answer. The limits don't apply to what a line asks for.
+/// `NO_ROOM` for an `answer` under 16384 octets, a `frame` under 1468, or under 2310 of a line
+/// whose answer may have a secured frame (`seal`, and `receive` with a key `plain`), and for memory
+/// (S5); a refusal of the station's is in the answer. The limits don't apply to what a line asks for.
 #[unsafe(no_mangle)]
 pub extern "C" fn geostation_handle_json(
     alloc: Global,

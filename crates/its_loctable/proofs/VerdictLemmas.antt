@@ -12,6 +12,7 @@ use Rattle.its_model.proofs.Renewal.{is_some-known}
 use Rattle.its_loctable.specs.Content.{Entry, entry_at, Represents}
 use Rattle.its_loctable.specs.Heard.{has_number, is_noted, is_repeated, verdict_at}
 use Rattle.its_loctable.specs.Eager.{eager_verdict}
+use Rattle.its_loctable.specs.Found.{Admits}
 use Rattle.its_loctable.proofs.ContentLemmas.{AreApart, room-is_full, live-is_full}
 
 take_nothing : (k : ℕ) → take {A = ℕ} k [] ≡ []
@@ -125,3 +126,21 @@ module _ (capacity : ℕ) (es : List Entry) (now : ℕ) (heard : SourceReport) w
           ∙ sym (verdict-room remember es history now capacity heard small rep apart p q r)
       by false None false p q r = eager_verdict-by false false p (λ i. is_some (q i) || r i)
           ∙ sym (verdict-full remember es history now capacity heard small rep apart p q r)
+
+-- a packet that a history admits is accepted by the entries too
+pub admitted : (remember capacity : ℕ) (es : List Entry) (now : ℕ) (heard : SourceReport)
+    → now ≤ 2 ^ 62 → AreApart es → Admits remember capacity es now heard
+    → eager_verdict capacity es now heard ≡ Ok Accepted
+admitted remember capacity es now heard small apart admits =
+    eager_verdict-verdict capacity es now heard remember admits.history small admits.represented
+    apart ∙ admits.accepted
+
+-- the answer that is owed, by what the history says
+pub verdict_at-by : (remember capacity now : ℕ) (heard : SourceReport) (history : List Reception)
+    (d f : Bool) → is_repeated remember heard.number heard.vector.address now history ≡ d
+    → is_full capacity heard.vector.address (stations_at remember now history) ≡ f
+    → verdict_at remember capacity now heard history
+    ≡ cond d (Ok Duplicate) (cond f (Err Full) (Ok Accepted))
+unfolding verdict_at
+verdict_at-by remember capacity now heard history d f p q =
+    λ i. cond (p i) (Ok Duplicate) (cond (q i) (Err Full) (Ok Accepted))

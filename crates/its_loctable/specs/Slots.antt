@@ -1,5 +1,5 @@
 -- What is kept of a source, as what is known of it.
-use Rattle.std.specs.Prelude.{ℕ, nat_lt, if◌then◌else◌, reverse, Option, Some, None}
+use Rattle.std.specs.Prelude.{reverse}
 use Rattle.its_loctable.specs.declared.slot.Slot.{Slot}
 use Rattle.its_model.specs.History.{Known}
 

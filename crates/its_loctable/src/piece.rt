@@ -94,56 +94,45 @@ impl Piece {
     }
 
     /// Holds the first live neighbours among slots from a place on, and nothing else: 32, or as
-    /// many as there are. Returns where the last of them stands, and `start` where there is none.
-    pub(crate) fn fill(&mut self, slots: &[SortedSlot], now: u64, start: usize) -> usize
+    /// many as there are.
+    pub(crate) fn fill(&mut self, slots: &[SortedSlot], now: u64, start: usize)
         ensures { self.new
             ≡ first_piece (map bare_known
             (filter (λ s. nat_lt now s.until && s.neighbour) (drop start slots.now))) }
     {
-        let filled = gather(&mut self.addresses, &mut self.places, slots, now, start);
-        self.count = filled.count;
-        filled.last
+        self.count = gather(&mut self.addresses, &mut self.places, slots, now, start);
     }
 }
 
-/// How many neighbours were found, and where the last of them stands.
-#[derive(Clone, Copy)]
-struct Filled {
-    count: usize,
-    last: usize,
-}
-
-/// Writes the first live neighbours among slots from a place on into both columns. `count` is a
-/// local variable and no field, so that it stays in a register.
+/// Writes the first live neighbours among slots from a place on into both columns. Returns how
+/// many they are. `count` is a local variable and no field, so that it stays in a register.
 fn gather(
     addresses: &mut [GnAddress; 32],
     places: &mut [Place; 32],
     slots: &[SortedSlot],
     now: u64,
     start: usize,
-) -> Filled
+) -> usize
     ensures addresses { let found = filter (λ s. nat_lt now s.until && s.neighbour)
         (drop start slots.now) in
-        take result.count addresses.new ≡ (first_piece (map bare_known found)).addresses }
+        take result addresses.new ≡ (first_piece (map bare_known found)).addresses }
     ensures places { let found = filter (λ s. nat_lt now s.until && s.neighbour)
         (drop start slots.now) in
-        take result.count places.new ≡ (first_piece (map bare_known found)).places }
-    ensures few { result.count ≤ 32 }
+        take result places.new ≡ (first_piece (map bare_known found)).places }
+    ensures few { result ≤ 32 }
     ensures sizes { length addresses.new ≡ length places.new }
 {
     let mut count = 0;
-    let mut last = start;
     for place in start..slots.len() {
         if count >= 32 {
-            return Filled { count, last };
+            return count;
         }
         let slot = &slots[place];
         if now < slot.until && slot.neighbour {
             addresses[count] = slot.address();
             places[count] = slot.vector.place();
             count += 1;
-            last = place;
         }
     }
-    Filled { count, last }
+    count
 }

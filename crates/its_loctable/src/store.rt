@@ -2,13 +2,16 @@
 
 ghost use Rattle.std.specs.Prelude.{◌≡◌, ◌≢◌, ◌^◌, ◌≤◌, ◌∷◌};
 ghost use Rattle.std.specs.Prelude.{ℕ, List, [], All, not, length, IfOk, IfSome, IsTrue, IsFalse};
+ghost use Rattle.std.specs.Prelude.{OnOk, OnErr};
 ghost use Rattle.std.specs.Option.{option_map};
 ghost use Rattle.its_model.specs.History.{Reception, is_live, is_remembered, known};
 ghost use Rattle.its_model.specs.Stations.{stations_at, is_full, is_above, next_neighbour, by_mid};
 ghost use Rattle.its_loctable.specs.Content.{Entry, Represents};
 ghost use Rattle.its_loctable.specs.Heard.{reception, shown, verdict_at};
+ghost use Rattle.its_loctable.specs.Found.{verdict_of, HasIndex, IsIndexOf, Admits};
 ghost use Rattle.its_loctable.specs.Pieces.{first_piece, neighbours_above, AreAllAbove};
 
+use crate::found::{EntryIndex, Found};
 use crate::heard::{Heard, Known};
 use crate::piece::Piece;
 use crate::refused::StoreRefused;
@@ -113,6 +116,55 @@ pub trait LocationStore: Sized + Drop {
         ensures unchanged { result ≢ Ok Verdict.Accepted → content self.new ≡ content self.old }
         ensures limit { limit self.new ≡ limit self.old }
         ensures remember { remember self.new ≡ remember self.old };
+
+    /// Looks a packet's source up, once: whether the packet is a duplicate, whether there is room
+    /// for its source, and where the source's entry is. It finds what `accept` would answer. A
+    /// store that can do better than `remembers` and then `has_room` has a body of its own.
+    fn find(&self, now: u64, h: &Heard) -> Found
+        requires { now ≤ 2 ^ 62 }
+        ensures verdict { (history : List Reception) →
+            Represents (remember self.now) (content self.now) history now →
+            verdict_of result ≡ verdict_at (remember self.now) (limit self.now) now h.now history }
+        ensures index { HasIndex (content self.now) h.now.vector.address result }
+    {
+        let address = h.address();
+        if let Some(number) = h.number() {
+            if self.remembers(now, address, number) {
+                return Found::Duplicate;
+            }
+        }
+        if self.has_room(now, address) {
+            Found::New(EntryIndex::Unknown)
+        } else {
+            Found::Full
+        }
+    }
+
+    /// Takes in a packet that `find` found to be new, with the index that it returned, and without
+    /// a second look-up if the store can. The store must not have changed since. Out of memory is
+    /// the one failure: it changes nothing, and never comes for a live source.
+    fn accept_at(&mut self, now: u64, h: &Heard, index: EntryIndex) -> Result<(), NoMemory>
+        requires moment { now ≤ 2 ^ 62 }
+        requires new { Admits (remember self.old) (limit self.old) (content self.old) now h.now }
+        requires index { IsIndexOf (content self.old) h.now.vector.address index }
+        ensures accepted { (history : List Reception) →
+            Represents (remember self.old) (content self.old) history now →
+            OnOk result (Represents (remember self.new) (content self.new)
+            (reception now h.now ∷ history) now) }
+        ensures memory { (history : List Reception) →
+            Represents (remember self.old) (content self.old) history now →
+            OnErr result (IsFalse (is_live h.now.vector.address now history)) }
+        ensures unchanged { OnErr result (content self.new ≡ content self.old) }
+        ensures limit { limit self.new ≡ limit self.old }
+        ensures remember { remember self.new ≡ remember self.old }
+    {
+        let _ = index;
+        match self.accept(now, h) {
+            Ok(Verdict::Accepted) => Ok(()),
+            Err(StoreRefused::NoMemory) => Err(NoMemory),
+            Ok(Verdict::Duplicate) | Err(StoreRefused::Full) => unreachable!(),
+        }
+    }
 
     /// The vector of the live neighbour of least address above one, or of least address.
     fn next_neighbour(&self, now: u64, after: Option<GnAddress>) -> Option<LongPv>

@@ -25,6 +25,10 @@ use Rattle.its_loctable.specs.Content.{Represents}
 use Rattle.its_loctable.specs.Heard as table
 use Rattle.its_loctable.specs.Heard.{verdict_at}
 use Rattle.its_loctable.specs.SourceReport.{SourceReport}
+use Rattle.its_loctable.specs.Found.{verdict_of as answer_of, HasIndex}
+use Rattle.its_loctable.specs.declared.found.Found.{Found}
+use Rattle.its_loctable.specs.declared.found.Found.TheVariants as found
+use Rattle.its_loctable.proofs.VerdictLemmas.{verdict_at-by}
 use Rattle.its_loctable.specs.declared.store.Verdict.{Verdict as StoreVerdict}
 use Rattle.its_loctable.specs.declared.store.Verdict.TheVariants as verdicts
 use Rattle.its_loctable.specs.declared.refused.StoreRefused.{StoreRefused}
@@ -35,35 +39,19 @@ use Rattle.its_station.specs.declared.outcome.Outcome.{Outcome}
 use Rattle.its_station.specs.declared.outcome.Outcome.TheVariants as outcomes
 use Rattle.its_station.specs.declared.outcome.Why.{Why}
 use Rattle.its_station.specs.declared.outcome.Why.TheVariants as why
-use Rattle.its_station.specs.State.{StationState, IsPast, RepresentsStation, SamePorts, model_of}
+use Rattle.its_station.specs.State.{StationState, HasPast, IsPast, RepresentsStation}
+use Rattle.its_station.specs.State.{SamePorts, model_of}
 use Rattle.its_station.specs.Steps.{IsStepOf, IsRefusedStep}
 use Rattle.its_station.specs.Receiving.{Encoded, IsSentFrame, Tells, TellsBy, IsRelayBy}
 use Rattle.its_station.specs.Receiving.{report_of, copy_of, said_by}
-use Rattle.its_station.specs.Receiving.{why_of, why_found, accept_step, secured_step_by}
+use Rattle.its_station.specs.Receiving.{why_of, why_found, why_unasked, accept_step}
+use Rattle.its_station.specs.Receiving.{secured_step_by, IsAdmitted}
 use Rattle.its_station.specs.declared.refused.Refused.TheVariants as refused
 use Rattle.its_faults.specs.declared.frame.FrameFault.{FrameFault}
 use Rattle.its_faults.specs.declared.secured.SecuredFault.{SecuredFault}
 use Rattle.its_station.specs.Steps.{refusal_of}
 use Rattle.its_station.proofs.Stations.{represents, Represents-later, own_refused, at_model}
-
--- ---- the table's answer
-
-pub verdict_accepted : (remember capacity now : ℕ) (h : SourceReport) (history : List Reception)
-    → is_repeated remember h.number h.vector.address now history ≡ false
-    → is_full capacity h.vector.address (stations_at remember now history) ≡ false
-    → verdict_at remember capacity now h history ≡ Ok verdicts.Accepted
-unfolding verdict_at
-verdict_accepted remember capacity now h history new room =
-    λ i. cond (new i) (Ok verdicts.Duplicate)
-    (cond (room i) (Err refusals.Full) (Ok verdicts.Accepted))
-
--- an answer that isn't the one owed is want of memory
-pub memory_only : (r : Result StoreVerdict StoreRefused) (P : Type 0)
-    → ((r ≡ Err refusals.NoMemory → ⊥) → r ≡ Ok verdicts.Accepted) → (r ≡ Err refusals.NoMemory → P)
-    → (r ≡ Ok verdicts.Accepted → ⊥) → P
-memory_only (Ok v) P owed memory ne = absurd (ne (owed (λ e. cc)))
-memory_only (Err refusals.NoMemory) P owed memory ne = memory refl
-memory_only (Err refusals.Full) P owed memory ne = absurd (ne (owed (λ e. cc)))
+use Rattle.its_station.proofs.Stations.{later}
 
 -- ---- the frame that goes on
 
@@ -210,21 +198,106 @@ unfolding receive_step
 step_is s now t from to o full p q =
     ap (receive_step_by s now t) (verdict_is s now t from to ∙ (λ i. verdict_of (p i) (q i)))
 
-last : (a b c d : Bool)
-    → cond a (Some why.NotForMe)
+unasked : (a b c d : Bool) (reason : Why)
+    → Some reason ≡ cond a (Some why.NotForMe)
+    (cond b (Some why.OwnSource) (cond c (Some why.SenderMismatch) None))
+    → Some reason ≡ cond a (Some why.NotForMe)
     (cond b (Some why.OwnSource)
-    (cond c (Some why.SenderMismatch) (cond d (Some why.Duplicate) None))) ≡ None → d ≡ false
-last true b c d e = absurd (true≢false (ap is_some e))
-last false true c d e = absurd (true≢false (ap is_some e))
-last false false true d e = absurd (true≢false (ap is_some e))
-last false false false true e = absurd (true≢false (ap is_some e))
-last false false false false e = refl
+    (cond c (Some why.SenderMismatch) (cond d (Some why.Duplicate) None)))
+unasked true b c d reason e = e
+unasked false true c d reason e = e
+unasked false false true d reason e = e
+unasked false false false d reason e = absurd (true≢false (ap is_some e))
 
-pub not_repeated : (s : StationModel) (now : ℕ) (t : Transmission) → why_found s now t ≡ None
-    → is_repeated s.remember (number_in t.pdu.body) t.pdu.vector.address now s.history ≡ false
-not_repeated s now t e =
-    last (not (is_for s t)) (eqb t.pdu.vector.address s.address) (is_sender_wrong t t.pdu.body)
-    (is_repeated s.remember (number_in t.pdu.body) t.pdu.vector.address now s.history) e
+asked : (a b c d : Bool)
+    → None ≡ cond a (Some why.NotForMe)
+    (cond b (Some why.OwnSource) (cond c (Some why.SenderMismatch) None))
+    → cond d (Some why.Duplicate) None ≡ cond a (Some why.NotForMe)
+    (cond b (Some why.OwnSource)
+    (cond c (Some why.SenderMismatch) (cond d (Some why.Duplicate) None)))
+asked true b c d e = absurd (true≢false (sym (ap is_some e)))
+asked false true c d e = absurd (true≢false (sym (ap is_some e)))
+asked false false true d e = absurd (true≢false (sym (ap is_some e)))
+asked false false false d e = refl
+
+-- a reason that is found before the table is asked is the first
+pub why_before : (s : StationModel) (now : ℕ) (t : Transmission) (reason : Why)
+    → Some reason ≡ why_unasked s t → Some reason ≡ why_found s now t
+why_before s now t reason e =
+    unasked (not (is_for s t)) (eqb t.pdu.vector.address s.address) (is_sender_wrong t t.pdu.body)
+    (is_repeated s.remember (number_in t.pdu.body) t.pdu.vector.address now s.history) reason e
+
+-- the verdict that the table owes, by its two questions
+abbrev owed_by : (d f : Bool) → Result StoreVerdict StoreRefused
+owed_by d f =
+    cond d (Ok verdicts.Duplicate) (cond f (Err refusals.Full) (Ok verdicts.Accepted))
+
+was_duplicate : (d f : Bool) → Ok verdicts.Duplicate ≡ owed_by d f → d ≡ true
+was_duplicate true f e = refl
+was_duplicate false true e = cc
+was_duplicate false false e = cc
+
+was_full : (d f : Bool) → Err refusals.Full ≡ owed_by d f → (d ≡ false) × (true ≡ f)
+was_full true f e = cc
+was_full false true e = (refl, refl)
+was_full false false e = cc
+
+was_new : (d f : Bool) → Ok verdicts.Accepted ≡ owed_by d f → (d ≡ false) × (false ≡ f)
+was_new true f e = cc
+was_new false true e = cc
+was_new false false e = (refl, refl)
+
+-- a packet that is found to be new has a history that admits it
+pub admitted : (st : StationState) (now : ℕ) (h : SourceReport) (r : Found)
+    → HasPast st.remember st.content st.clock → st.clock ≤ now
+    → ((history : List Reception) → Represents st.remember st.content history now
+    → answer_of r ≡ verdict_at st.remember st.capacity now h history)
+    → HasIndex st.content h.vector.address r → IsAdmitted st now h r
+admitted st now h found.Duplicate past le owed index = tt
+admitted st now h found.Full past le owed index = tt
+admitted st now h (found.New i) past le owed index =
+    let then = later st.remember st.content st.clock now le past in (
+      record {
+        history = then.history;
+        represented = then.table;
+        accepted = sym (owed then.history then.table);
+      },
+      index,
+    )
+
+-- what the table found of the packet, as the judgement of the frame
+module _ (s : StationModel) (now : ℕ) (t : Transmission) (first : None ≡ why_unasked s t) where
+  abbrev repeated : Bool
+  repeated =
+      is_repeated s.remember (number_in t.pdu.body) t.pdu.vector.address now s.history
+
+  abbrev full : Bool
+  full = is_full s.capacity t.pdu.vector.address (stations_at s.remember now s.history)
+
+  table_owes : verdict_at s.remember s.capacity now (report_of t.pdu) s.history ≡ owed_by repeated full
+  table_owes = verdict_at-by s.remember s.capacity now (report_of t.pdu) s.history repeated full refl refl
+
+  by_repeated : (d : Bool) → repeated ≡ d → cond d (Some why.Duplicate) None ≡ why_found s now t
+  by_repeated d e = (λ i. cond (sym e i) (Some why.Duplicate) None)
+      ∙ asked (not (is_for s t)) (eqb t.pdu.vector.address s.address)
+      (is_sender_wrong t t.pdu.body) repeated first
+
+  pub found_duplicate : Ok verdicts.Duplicate
+      ≡ verdict_at s.remember s.capacity now (report_of t.pdu) s.history
+      → Some why.Duplicate ≡ why_found s now t
+  found_duplicate e = by_repeated true (was_duplicate repeated full (e ∙ table_owes))
+
+  pub found_full : Err refusals.Full
+      ≡ verdict_at s.remember s.capacity now (report_of t.pdu) s.history
+      → (None ≡ why_found s now t) × (true ≡ full)
+  found_full e =
+      let was = was_full repeated full (e ∙ table_owes) in (by_repeated false was.0, was.1)
+
+  pub found_new : Ok verdicts.Accepted
+      ≡ verdict_at s.remember s.capacity now (report_of t.pdu) s.history
+      → (None ≡ why_found s now t) × (false ≡ full)
+  found_new e =
+      let was = was_new repeated full (e ∙ table_owes) in (by_repeated false was.0, was.1)
 
 -- ---- the step of a frame
 

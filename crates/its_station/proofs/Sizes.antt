@@ -1,6 +1,6 @@
 -- How long frames are.
 use Rattle.std.proofs.Common.{◌≤◌, length}
-use Rattle.std.specs.Prelude.{ℕ, Vec, Result, Ok, Err, IfOk, Option, Some, None}
+use Rattle.std.specs.Prelude.{ℕ, Vec, Result, Ok, Err, IfOk}
 use Rattle.std.specs.declared.alloc.Global.{Global}
 use Rattle.its_model.specs.Packet.{Transmission}
 use Rattle.its_gnvalue.specs.declared.fault.NoMemory.{NoMemory}

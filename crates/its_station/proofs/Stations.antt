@@ -1,5 +1,5 @@
 -- A station and the stations of the model that it represents.
-use Rattle.std.proofs.Common.{◌≡◌, ℕ, ◌≤◌, List, Option, Some, None, refl, sym, ap, subst, ◌∙◌}
+use Rattle.std.proofs.Common.{◌≡◌, ℕ, ◌≤◌, List, ◌∷◌, Option, Some, None, refl, sym, ap, subst, ◌∙◌}
 use Rattle.std.proofs.Common.{arith}
 use Rattle.std.specs.Prelude.{Ok, Err, IfSome}
 use Rattle.its_model.specs.Packet.{Transmission}
@@ -10,7 +10,8 @@ use Rattle.its_model.specs.Station.{StationModel, Step, first, moment_refusal, o
 use Rattle.its_model.specs.Station.{own_step, own_step_by, performed}
 use Rattle.its_loctable.specs.Content.{Entry, Represents}
 use Rattle.its_station.specs.declared.refused.Refused.{Refused}
-use Rattle.its_station.specs.State.{StationState, IsPast, RepresentsStation, model_of}
+use Rattle.its_station.specs.State.{StationState, HasPast, IsPast, RepresentsStation}
+use Rattle.its_station.specs.State.{model_of}
 use Rattle.its_station.specs.Steps.{IsStepOf, refusal_of}
 
 -- what holds of the model station with each past holds of each one that is represented
@@ -29,6 +30,29 @@ pub Represents-later : (remember : ℕ) (content : List Entry) (history : List R
     → Represents remember content history to
 Represents-later remember content history from to le rep =
     record { live = λ t source at. rep.live t source (omega arith) }
+
+-- a station that has a past has it later too
+pub later : (remember : ℕ) (content : List Entry) (from to : ℕ) → from ≤ to
+    → HasPast remember content from → HasPast remember content to
+later remember content from to le past = record {
+  history = past.history;
+  table = Represents-later remember content past.history from to le past.table;
+}
+
+-- with the same table
+pub same_past : (n m : ℕ) (old new : List Entry) (clock : ℕ) → m ≡ n → new ≡ old
+    → HasPast n old clock → HasPast m new clock
+same_past n m old new clock e f past =
+    subst (λ r. HasPast r new clock) (sym e) (subst (λ c. HasPast n c clock) (sym f) past)
+
+-- and with a table that represents each history with one more reception
+pub past_with : (n m : ℕ) (old new : List Entry) (from to : ℕ) (r : Reception) → from ≤ to
+    → ((history : List Reception) → Represents n old history to
+    → Represents m new (r ∷ history) to)
+    → HasPast n old from → HasPast m new to
+past_with n m old new from to r le hears past =
+    let now = later n old from to le past in
+    record { history = r ∷ now.history; table = hears now.history now.table }
 
 pub own_refused : (s : StationModel) (t : ℕ) (call : OwnCall) (r : Refusal)
     → first (moment_refusal s t) (own_refusal s call) ≡ Some r

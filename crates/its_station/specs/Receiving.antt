@@ -20,6 +20,10 @@ use Rattle.its_linkframe.specs.Secured.{EncodesSecured, Verified, EncodesVerifie
 use Rattle.its_linkframe.specs.Secured.{IsVerifiedFault}
 use Rattle.its_faults.specs.declared.secured.SecuredFault.{SecuredFault}
 use Rattle.its_loctable.specs.SourceReport.{SourceReport}
+use Rattle.its_loctable.specs.Found.{Admits, IsIndexOf}
+use Rattle.its_loctable.specs.declared.found.Found.{Found}
+use Rattle.its_loctable.specs.declared.found.Found.TheVariants as found
+use Rattle.its_station.specs.State.{StationState}
 use Rattle.its_station.specs.declared.outcome.Handed.{Handed}
 use Rattle.its_station.specs.declared.outcome.Outcome.{Outcome}
 use Rattle.its_station.specs.declared.outcome.Outcome.TheVariants as outcomes
@@ -154,6 +158,22 @@ why_found s moment t =
     else if is_repeated s.remember (number_in t.pdu.body) t.pdu.vector.address moment s.history
     then Some why.Duplicate
     else None
+
+-- why a frame is ignored before the location table is asked, if it is
+abbrev pub why_unasked : StationModel → Transmission → Option Why
+why_unasked s t =
+    if not (is_for s t) then Some why.NotForMe
+    else if t.pdu.vector.address == s.address then Some why.OwnSource
+    else if is_sender_wrong t t.pdu.body then Some why.SenderMismatch
+    else None
+
+-- A packet that is new has a history that admits it, and the index of its source's entry.
+abbrev pub IsAdmitted : StationState → ℕ → SourceReport → Found → Type 0
+IsAdmitted st now heard found.Duplicate = Unit {0}
+IsAdmitted st now heard found.Full = Unit {0}
+IsAdmitted st now heard (found.New index) =
+    Admits st.remember st.capacity st.content now heard
+    × IsIndexOf st.content heard.vector.address index
 
 -- the step where a frame is accepted
 abbrev pub accept_step : StationModel → ℕ → Transmission → Step

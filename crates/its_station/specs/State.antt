@@ -50,3 +50,8 @@ pub record IsPast (st : StationState) (opened : List ℕ) (history : List Recept
 pub record RepresentsStation (st : StationState) (s : StationModel) : Type 0 where
   pub fields : s ≡ model_of st s.ports s.history
   pub past : IsPast st s.ports s.history
+
+-- some history that the table represents from the clock on: each station has one
+pub record HasPast (remember : ℕ) (content : List Entry) (clock : ℕ) : Type 0 where
+  pub history : List Reception
+  pub table : Represents remember content history clock

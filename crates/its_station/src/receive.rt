@@ -4,25 +4,25 @@ ghost use Rattle.std.specs.Prelude.{◌≡◌, ◌≢◌, ◌≤◌, ◌^◌, �
 ghost use Rattle.std.specs.Prelude.{Err, IfOk, IfSome, OnErr, OnOk, IsTrue, IsFalse, length};
 ghost use Rattle.its_gnvalue.specs.Values.{Position};
 ghost use Rattle.std.specs.Option.{option_map};
-ghost use Rattle.its_model.specs.Packet.{Transmission, number_in};
+ghost use Rattle.its_model.specs.Packet.{Transmission};
 ghost use Rattle.its_model.specs.Calls.{Call};
 ghost use Rattle.its_model.specs.Calls.Call.{Receive};
 ghost use Rattle.its_model.specs.History.{Reception, is_live};
-ghost use Rattle.its_model.specs.Stations.{stations_at, is_full};
 ghost use Rattle.its_model.specs.Station as station;
 ghost use Rattle.its_model.specs.Station.{StationModel, station_step, verdict, receive_step};
 ghost use Rattle.its_model.specs.Station.{moment_refusal};
-ghost use Rattle.its_model.specs.Station.{is_repeated, handing, relayed};
+ghost use Rattle.its_model.specs.Station.{handing, relayed};
 ghost use Rattle.its_headers.specs.Encoding.{payload_of};
 ghost use Rattle.its_linkframe.specs.Frames.{EncodesFrame, IsFrame, transmission_of};
 ghost use Rattle.its_linkframe.specs.Secured.{Verified, EncodesVerified};
 ghost use Rattle.its_loctable.specs.Content.{Represents};
-ghost use Rattle.its_loctable.specs.Heard.{reception};
+ghost use Rattle.its_loctable.specs.Found.{Admits, IsIndexOf, verdict_of};
+ghost use Rattle.its_loctable.specs.Heard.{reception, verdict_at};
 ghost use Rattle.its_station.specs.State.{model_of, IsPast, RepresentsStation, SamePorts};
 ghost use Rattle.its_station.specs.Steps.{IsStepOf, IsRefusedStep};
-ghost use Rattle.its_station.specs.Receiving.{IsFrameCall, Tells, TellsBy, why_found, said_by};
+ghost use Rattle.its_station.specs.Receiving.{IsFrameCall, Tells, TellsBy, why_unasked, said_by};
 ghost use Rattle.its_station.specs.Receiving.{IsRelayBy, TakesMemory, copy_of, goes_on, is_inside, report_of};
-ghost use Rattle.its_station.specs.Receiving.{accept_step, DeliversEndOf, HandsOutEndOf};
+ghost use Rattle.its_station.specs.Receiving.{accept_step, DeliversEndOf, HandsOutEndOf, IsAdmitted};
 ghost use Rattle.its_station.specs.Receiving.{SendsAtMost, VerifiedCall, IsVerifiedCall};
 ghost use Rattle.its_station.specs.Receiving.{EncodesSealed, verified_step, sealed_by, secured_step_by};
 ghost use Rattle.its_station.specs.Runs.{Fits, HandingFits};
@@ -37,7 +37,7 @@ use its_geometry::contains;
 use its_gnvalue::{Mac, NoMemory};
 use its_headers::Kind;
 use its_linkframe::{FrameView, SecuredFault, VerifiedFrame, read_frame};
-use its_loctable::{Heard, LocationStore, Verdict};
+use its_loctable::{EntryIndex, Found, Heard, LocationStore};
 
 impl<S: LocationStore> Station<S> {
     /// Takes the octets that came. They are refused for their moment (S1, S2), by `Frame` (S3)
@@ -184,33 +184,38 @@ impl<S: LocationStore> Station<S> {
         ensures short { IfOk result (Fits 1394) }
         ensures short_frame { IfOk result (SendsAtMost (F.most frame.now)) }
     {
-        if let Some(why) = self.reason_to_ignore(now, frame) {
-            self.clock = now;
+        if let Some(why) = self.reason_to_ignore(frame) {
+            self.set_clock(now);
             return Ok(Outcome::Ignored(why));
         }
-        if self.lacks_room(now, frame) {
-            return Err(Refused::TableFull);
+        let heard = heard_of(frame);
+        match self.find(now, &heard) {
+            Found::Duplicate => {
+                self.set_clock(now);
+                Ok(Outcome::Ignored(Why::Duplicate))
+            }
+            Found::Full => Err(Refused::TableFull),
+            Found::New(index) => self.accept(now, frame, &heard, index),
         }
-        self.accept(now, frame)
     }
 
-    /// Whether there is no room for a packet's source.
-    fn lacks_room<'a, F: ReceivedFrame<'a>>(&self, now: u64, frame: &F) -> bool
-        requires { now ≤ 2 ^ 62 }
-        ensures { (history : List Reception) →
+    /// What the location table finds of a packet's source: the one look-up of a reception.
+    fn find(&self, now: u64, heard: &Heard) -> Found
+        requires from { self.now.clock ≤ now }
+        requires to { now ≤ 2 ^ 62 }
+        ensures verdict { (history : List Reception) →
             Represents self.now.remember self.now.content history now →
-            result ≡ is_full self.now.capacity (F.frame frame.now).pdu.vector.address
-            (stations_at self.now.remember now history) }
+            verdict_of result
+            ≡ verdict_at self.now.remember self.now.capacity now heard.now history }
+        ensures new { IsAdmitted self.now now heard.now result }
     {
-        !self.store.has_room(now, frame.vector().address())
+        self.store.find(now, heard)
     }
 
-    /// Why a frame is ignored, if it is.
-    fn reason_to_ignore<'a, F: ReceivedFrame<'a>>(&self, now: u64, frame: &F) -> Option<Why>
-        requires { now ≤ 2 ^ 62 }
+    /// Why a frame is ignored before the location table is asked, if it is.
+    fn reason_to_ignore<'a, F: ReceivedFrame<'a>>(&self, frame: &F) -> Option<Why>
         ensures { (ports : List ℕ) (history : List Reception) →
-            Represents self.now.remember self.now.content history now →
-            result ≡ why_found (model_of self.now ports history) now (F.frame frame.now) }
+            result ≡ why_unasked (model_of self.now ports history) (F.frame frame.now) }
     {
         let vector = frame.vector();
         if frame.target() != self.mac() && frame.target() != Mac::BROADCAST {
@@ -222,12 +227,7 @@ impl<S: LocationStore> Station<S> {
         if frame.number().is_none() && vector.address().mid() != frame.sender() {
             return Some(Why::SenderMismatch);
         }
-        match frame.number() {
-            Some(number) if self.store.remembers(now, vector.address(), number) => {
-                Some(Why::Duplicate)
-            }
-            Some(_) | None => None,
-        }
+        None
     }
 
     /// Takes in a packet that is no duplicate and for whose source there is room.
@@ -235,17 +235,14 @@ impl<S: LocationStore> Station<S> {
         &mut self,
         now: u64,
         frame: &F,
+        heard: &Heard,
+        index: EntryIndex,
     ) -> Result<Outcome<'a>, Refused>
         requires from { self.old.clock ≤ now }
         requires to { now ≤ 2 ^ 62 }
-        requires new { (history : List Reception) →
-            Represents self.old.remember self.old.content history now →
-            IsFalse (is_repeated self.old.remember (number_in (F.frame frame.now).pdu.body)
-            (F.frame frame.now).pdu.vector.address now history) }
-        requires room { (history : List Reception) →
-            Represents self.old.remember self.old.content history now →
-            IsFalse (is_full self.old.capacity (F.frame frame.now).pdu.vector.address
-            (stations_at self.old.remember now history)) }
+        requires heard { heard.now ≡ report_of (F.frame frame.now).pdu }
+        requires new { Admits self.old.remember self.old.capacity self.old.content now heard.now }
+        requires index { IsIndexOf self.old.content heard.now.vector.address index }
         ensures step { (ports : List ℕ) (history : List Reception) → IsPast self.old ports history →
             IsStepOf (TellsBy (F.Encodes frame.now)) result self.new
             (accept_step (model_of self.old ports history) now (F.frame frame.now)) }
@@ -261,24 +258,17 @@ impl<S: LocationStore> Station<S> {
         let inside = self.is_inside(frame);
         let copy = self.copy_for_relay(frame, inside)?;
         let handed = self.handing(frame, inside);
-        let heard = heard_of(frame);
-        self.take_in(now, &heard)?;
+        self.take_in(now, heard, index)?;
         let sent = self.direct(now, frame, copy);
         Ok(Outcome::Accepted { handed, sent })
     }
 
-    /// Puts a packet into the table.
-    fn take_in(&mut self, now: u64, heard: &Heard) -> Result<(), NoMemory>
+    /// Puts a packet into the table, at the index that `find` returned.
+    fn take_in(&mut self, now: u64, heard: &Heard, index: EntryIndex) -> Result<(), NoMemory>
         requires from { self.old.clock ≤ now }
         requires to { now ≤ 2 ^ 62 }
-        requires new { (history : List Reception) →
-            Represents self.old.remember self.old.content history now →
-            IsFalse (is_repeated self.old.remember heard.now.number heard.now.vector.address
-            now history) }
-        requires room { (history : List Reception) →
-            Represents self.old.remember self.old.content history now →
-            IsFalse (is_full self.old.capacity heard.now.vector.address
-            (stations_at self.old.remember now history)) }
+        requires new { Admits self.old.remember self.old.capacity self.old.content now heard.now }
+        requires index { IsIndexOf self.old.content heard.now.vector.address index }
         ensures table { (history : List Reception) →
             Represents self.old.remember self.old.content history now →
             OnOk result (Represents self.new.remember self.new.content
@@ -290,15 +280,9 @@ impl<S: LocationStore> Station<S> {
             Represents self.old.remember self.old.content history now →
             OnErr result (IsFalse (is_live heard.now.vector.address now history)) }
     {
-        match self.store.accept(now, heard) {
-            Ok(Verdict::Accepted) => {
-                self.clock = now;
-                Ok(())
-            }
-            // A duplicate and a full table are excluded by each history that the table represents;
-            // no history is at hand here by which they would be unreachable.
-            Ok(Verdict::Duplicate) | Err(_) => Err(NoMemory),
-        }
+        self.store.accept_at(now, heard, index)?;
+        self.clock = now;
+        Ok(())
     }
 
     /// What is delivered of a packet, inside or outside of its area.

@@ -201,7 +201,8 @@ impl<S: LocationStore> Station<S> {
     }
 
     fn mark_sent(&mut self, now: u64)
-        requires { now ≤ 2 ^ 62 }
+        requires from { self.old.clock ≤ now }
+        requires to { now ≤ 2 ^ 62 }
         ensures { self.new ≡ record self.old { clock = now; beacon_from = now + 3000 } }
     {
         self.clock = now;
@@ -209,7 +210,8 @@ impl<S: LocationStore> Station<S> {
     }
 
     fn mark_area_sent(&mut self, now: u64)
-        requires { now ≤ 2 ^ 62 }
+        requires from { self.old.clock ≤ now }
+        requires to { now ≤ 2 ^ 62 }
         ensures { self.new ≡ record self.old {
           clock = now;
           beacon_from = now + 3000;

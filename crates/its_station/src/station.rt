@@ -40,7 +40,7 @@ pub struct Station<S: LocationStore> {
 
 impl<S: LocationStore> Model for Station<S> {
     ghost use Rattle.std.specs.Prelude.{◌≤◌, ◌^◌, ◌+◌};
-    ghost use Rattle.its_station.specs.State.{StationState};
+    ghost use Rattle.its_station.specs.State.{StationState, HasPast};
 
     ghost Value = { StationState };
 
@@ -56,7 +56,8 @@ impl<S: LocationStore> Model for Station<S> {
       content = S.content s.store;
     } };
 
-    ghost invariant = { λ s. (s.clock ≤ 2 ^ 62) × (s.beacon_from ≤ 2 ^ 62 + 3000) };
+    ghost invariant = { λ s. (s.clock ≤ 2 ^ 62) × (s.beacon_from ≤ 2 ^ 62 + 3000)
+        × HasPast (S.remember s.store) (S.content s.store) s.clock };
 }
 
 /// The location table is left out: it may hold thousands of sources.
@@ -188,7 +189,8 @@ impl<S: LocationStore> Station<S> {
     }
 
     pub(crate) fn set_clock(&mut self, now: u64)
-        requires { now ≤ 2 ^ 62 }
+        requires from { self.old.clock ≤ now }
+        requires to { now ≤ 2 ^ 62 }
         ensures { self.new ≡ record self.old { clock = now } }
     {
         self.clock = now;
@@ -203,7 +205,8 @@ impl<S: LocationStore> Station<S> {
         speed: i16,
         heading: u16,
     )
-        requires time { now ≤ 2 ^ 62 }
+        requires from { self.old.clock ≤ now }
+        requires to { now ≤ 2 ^ 62 }
         requires speed { IsSpeed speed }
         ensures { self.new ≡ record self.old {
           clock = now;

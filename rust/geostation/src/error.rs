@@ -49,7 +49,7 @@ impl Error {
         Error::check_frame(status, Fault::default())
     }
 
-    /// Converts the status of a call that reads a frame, with the fault of a frame that is not valid.
+    /// Converts the status of a call that reads a frame, with the fault of one that is not valid.
     pub(crate) fn check_frame(status: i32, fault: Fault) -> Result<(), Error> {
         Err(match status {
             0 => return Ok(()),

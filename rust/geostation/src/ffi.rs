@@ -647,8 +647,8 @@ pub(crate) fn seal(frame: &[u8], message: &[u8], out: &mut [u8]) -> Written {
     let (octets, count) = (frame.as_ptr(), frame.len());
     let (signed, signed_count) = (message.as_ptr(), message.len());
     let (sealed, room) = (out.as_mut_ptr(), out.len());
-    // SAFETY: the three slices have the given lengths, and `out` overlaps no other, as it is borrowed
-    // mutably.
+    // SAFETY: the three slices have the given lengths, and `out` overlaps no other, as it is
+    // borrowed mutably.
     let status =
         unsafe { geostation_seal(octets, count, signed, signed_count, sealed, room, &mut length) };
     (status, length)

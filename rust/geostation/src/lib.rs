@@ -9,8 +9,8 @@
 //! - A call that returns an [`Error`] leaves the station unchanged.
 //! - A call that writes a frame needs a [`Buffer`]: a `Vec<u8>` or an array.
 //! - [`read_frame`] reads the fields of a frame, without a station.
-//! - [`plain_part`], [`seal`], [`message_of`] and [`Station::receive_verified`] are for signed packets,
-//!   with a security entity of yours.
+//! - [`plain_part`], [`seal`], [`message_of`] and [`Station::receive_verified`] are for signed
+//!   packets, with a security entity of yours.
 //!
 //! ```
 //! use geostation::{Area, AreaRequest, Config, Shape, Station};

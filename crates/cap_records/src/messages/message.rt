@@ -2,8 +2,8 @@
 
 ghost use Rattle.std.specs.Prelude.{◌≡◌, ◌≤◌, IfOk};
 ghost use Rattle.cap_records.specs.Messages.{data_start as data_begins, info_at as info_read};
-ghost use Rattle.cap_records.specs.Messages.{message_in, psid_at as psid_read, signed_in, time_at as time_read};
-ghost use Rattle.cap_records.specs.Messages.{unsecured_in, LiesIn};
+ghost use Rattle.cap_records.specs.Messages.{message_in, psid_at as psid_read, signed_in};
+ghost use Rattle.cap_records.specs.Messages.{time_at as time_read, unsecured_in, LiesIn};
 
 use crate::messages::cursor::{number_at, octets_at, take_below, take_octet, unread};
 use crate::messages::fault::MessageFault;

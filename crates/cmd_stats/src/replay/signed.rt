@@ -1,7 +1,8 @@
 //! The records of a file, where secured frames are received by their plain part. No signature is
 //! verified.
 
-ghost use Rattle.std.specs.Prelude.{◌≤◌, ◌+◌, length};
+ghost use Rattle.std.specs.Prelude.{IfOk};
+ghost use Rattle.cmd_stats.specs.Secured.{HasPlainInside};
 
 use crate::replay::heard::{Heard, HeardSink};
 use crate::replay::on_air::OnAir;
@@ -62,7 +63,7 @@ fn go_on<'f, S: RecordSource, K: HeardSink>(
     }
 }
 
-/// Gives a record to the station, if it is chosen, and what came of it to the sink.
+/// Passes a record to the station, if it is selected, and the result to the sink.
 fn hear<'f, K: HeardSink>(
     alloc: Global,
     station: &mut Station<SortedTable>,
@@ -101,7 +102,9 @@ struct SecuredOctets {
 
 impl SecuredOctets {
     /// What was on the air, if that is read as a secured frame; otherwise all is given back.
-    fn of(on_air: OnAir) -> Result<SecuredOctets, OnAir> {
+    fn of(on_air: OnAir) -> Result<SecuredOctets, OnAir>
+        ensures { IfOk result HasPlainInside }
+    {
         match on_air {
             OnAir::Octets(frame) => {
                 if !is_secured(frame.as_slice()) {
@@ -115,11 +118,17 @@ impl SecuredOctets {
     }
 
     /// What it is chosen by: the packet inside, if there is one.
-    fn traits(&self) -> Option<Traits> {
+    fn traits(&self) -> Option<Traits>
+        requires { HasPlainInside self.now }
+    {
         let frame = self.frame.as_slice();
-        let plain = plain_in(frame, self.plain.ok()?);
-        let verified = VerifiedFrame::read(frame, plain).ok()?;
-        Some(traits_inside(&verified))
+        let Ok(plain) = self.plain else {
+            return None;
+        };
+        match VerifiedFrame::read(frame, plain.octets(frame)) {
+            Ok(verified) => Some(traits_inside(&verified)),
+            Err(_) => None,
+        }
     }
 
     /// Gives it to the station at a moment. A frame that is no secured one is the station's to
@@ -130,10 +139,12 @@ impl SecuredOctets {
         alloc: Global,
         station: &mut Station<SortedTable>,
         moment: u64,
-    ) -> Result<Heard, NoMemory> {
+    ) -> Result<Heard, NoMemory>
+        requires { HasPlainInside self }
+    {
         let frame = self.frame;
         let plain = match self.plain {
-            Ok(plain) => plain_in(frame.as_slice(), plain),
+            Ok(plain) => plain.octets(frame.as_slice()),
             Err(RecordFault::Signed(_)) => &[],
             Err(fault) => return Ok(Heard::Nothing { moment, fault }),
         };
@@ -148,13 +159,6 @@ impl SecuredOctets {
             reply,
         })
     }
-}
-
-/// The plain part of a frame, which is there.
-fn plain_in(frame: &[u8], plain: PlainPart) -> &[u8]
-    requires { plain.start + plain.length ≤ length frame.now }
-{
-    &frame[plain.start..plain.start + plain.length]
 }
 
 /// What a station does with a frame, as a reply that owns what is delivered.

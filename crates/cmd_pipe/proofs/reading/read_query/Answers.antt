@@ -23,4 +23,7 @@ returns-in_default-clause-none c =
     let counts : ¬ IsWord (view c.args.members.now.0.now) (codes "counts") =
     not_word (view c.args.members.now.0.now) c.word_under.result line_words.Counts
     c.word_under.ensures.none (λ some. search rules) in
-    not_query (view c.args.members.now.0.now) next_beacon neighbours look_up read_frame counts
+    let seal : ¬ IsWord (view c.args.members.now.0.now) (codes "seal") =
+    not_word (view c.args.members.now.0.now) c.word_under.result line_words.Seal
+    c.word_under.ensures.none (λ some. search rules) in
+    not_query (view c.args.members.now.0.now) next_beacon neighbours look_up read_frame counts seal

@@ -5,6 +5,7 @@ use Rattle.std.proofs.lemmas.Bool.{lt-ltb, le-ltb}
 use Rattle.std.proofs.lemmas.List.{append-nil, length-map}
 use Rattle.std.proofs.lemmas.List.Elements.{All-pop, All-same, All-take, All-weaker}
 use Rattle.its_model.specs.History.{renewed}
+use Rattle.its_loctable.specs.declared.sorted.SortedTable.{SortedTable}
 use Rattle.its_loctable.specs.declared.sorted.slot.SortedSlot.{SortedSlot}
 use Rattle.its_loctable.specs.Heard.{reception}
 use Rattle.its_loctable.specs.Content.{entry_at}
@@ -15,36 +16,31 @@ use Rattle.its_loctable.specs.Sorted.{IsGapFor}
 use Rattle.its_loctable.specs.Eager.{swept, upsert, is_rising}
 use Rattle.its_loctable.proofs.EagerLemmas.{rising-true, true-rising, IsRising-upsert}
 use Rattle.its_loctable.proofs.RowLemmas.{popped, inserted}
-use Rattle.its_loctable.proofs.SortedLemmas.{key, absent-entry_at, absent-swept, absent-room}
+use Rattle.its_loctable.proofs.SortedLemmas.{key, absent-entry_at, gap-absent, absent-room}
 use Rattle.its_loctable.proofs.SortedLemmas.{held-insert, held-same, entry-after, All-insert}
 use Rattle.its_loctable.proofs.SortedLemmas.{swept-all, length-held, column-insert}
 use Rattle.its_loctable.proofs.VerdictLemmas.{eager_verdict-by, is_noted-none}
 use Rattle.its_loctable.proofs.sorted.SortedTable.hear_first.Goals as goal
 
-pub gap_for-place-requires : goal.gap_for-place-requires
-gap_for-place-requires c =
-    let table = c.args.self.now in
-    let after = c.sweep_if_due.new.self in
-    subst (λ a. All (λ (s : SortedSlot). key s ≢ a) after.slots.items)
-    (sym c.address.ensures)
-    (absent-swept (numbers_of table)
-    (numbers_of after) c.args.now table.slots.items
-    after.slots.items c.args.heard.now.vector.address c.sweep_if_due.ensures.content
-    c.requires.absent)
+-- no slot has an address that has a gap
+absent_of : (table : SortedTable) (a gap : ℕ) → IsGapFor (addresses_of table.slots.items) a gap
+    → All (λ (s : SortedSlot). key s ≢ a) table.slots.items
+absent_of table a gap is =
+    gap-absent table.slots.items a gap (rising-true (bare table.slots.items) table.rising) is
 
 pub first-slot-requires-clause-row : goal.first-slot-requires-clause-row
 first-slot-requires-clause-row c =
-    let table = c.sweep_if_due.new.self in
+    let table = c.sweep_for-place.new.self in
     (All-pop (IsRow table.remembered (vec_len table.numbers)) table.free.items
     c.pop.new.self.items (Some c.in-Some.row) c.in-Some.ensures.items table.free_rows).1
 
 pub invariant_of-self : goal.invariant_of-self
 invariant_of-self c =
-    let table = c.sweep_if_due.new.self in
+    let table = c.sweep_for-place.new.self in
     let xs = table.slots.items in
     let slot = c.first-slot.result in
     let some = c.in-Some.ensures in
-    let place = c.gap_for-place.result in
+    let place = c.sweep_for-place.result in
     let len = vec_len table.numbers in
     let fewer : vec_len c.pop.new.self + 1 ≡ vec_len table.free = some.cases in
     let room : vec_len table.slots < vec_capacity table.slots =
@@ -75,7 +71,7 @@ invariant_of-self c =
     (c.insert-in-Some.ensures.succeeds column_room) in
     let gap : IsGapFor (addresses_of xs) (key slot) place =
     subst (λ a. IsGapFor (addresses_of xs) a place)
-    (c.address.ensures ∙ sym c.first-slot.ensures.address) c.gap_for-place.ensures.gap in
+    (c.address.ensures ∙ sym c.first-slot.ensures.address) c.sweep_for-place.ensures.gap in
     let here : IsRow table.remembered len c.in-Some.row =
     (All-pop (IsRow table.remembered len) table.free.items c.pop.new.self.items
     (Some c.in-Some.row) some.items table.free_rows).1 in
@@ -116,7 +112,7 @@ invariant_of-self c =
 
 pub invariant_of-self-in-None : goal.invariant_of-self-in-None
 invariant_of-self-in-None c =
-    let table = c.sweep_if_due.new.self in
+    let table = c.sweep_for-place.new.self in
     let none = c.in-None.ensures in
     let free : c.pop.new.self.items ≡ table.free.items =
     sym (none.items ∙ append-nil c.pop.new.self.items) in
@@ -146,9 +142,9 @@ returns-in-Some-clause-answer c =
     let of = numbers_of table in
     let xs = table.slots.items in
     let a = c.args.heard.now.vector.address in
-    let after = c.sweep_if_due.new.self in
+    let after = c.sweep_for-place.new.self in
     let count = lengths of (numbers_of after) c.args.now xs
-    after.slots.items c.sweep_if_due.ensures.content in
+    after.slots.items c.sweep_for-place.ensures.content in
     let few : length (swept c.args.now (held of xs)) < table.capacity =
     omega (
       arith,
@@ -156,11 +152,11 @@ returns-in-Some-clause-answer c =
       c.in-Some.ensures.cases,
       after.total,
       after.slots.ok.0,
-      c.sweep_if_due.ensures.capacity,
+      c.sweep_for-place.ensures.capacity,
     ) in
     sym (eager_verdict-by table.capacity (held of xs) c.args.now c.args.heard.now false true
-    (is_noted-none _ c.args.heard.now.number (absent-entry_at of xs a c.args.now c.requires.absent))
-    (absent-room of xs a c.args.now table.capacity c.requires.absent ∙ lt-ltb _ _ few))
+    (is_noted-none _ c.args.heard.now.number (absent-entry_at of xs a c.args.now (absent_of c.args.self.now c.args.heard.now.vector.address c.args.gap c.requires.gap)))
+    (absent-room of xs a c.args.now table.capacity (absent_of c.args.self.now c.args.heard.now.vector.address c.args.gap c.requires.gap) ∙ lt-ltb _ _ few))
 
 pub returns-in-Some-clause-accepted : goal.returns-in-Some-clause-accepted
 returns-in-Some-clause-accepted c = λ _.
@@ -169,13 +165,13 @@ returns-in-Some-clause-accepted c = λ _.
     let es = held of table.slots.items in
     let a = c.args.heard.now.vector.address in
     let r = reception c.args.now c.args.heard.now in
-    let after = c.sweep_if_due.new.self in
+    let after = c.sweep_for-place.new.self in
     let swept_of = numbers_of after in
     let new_of = numbers_at after.remembered c.first-slot.new.numbers.items in
     let xs = after.slots.items in
     let slot = c.first-slot.result in
     let some = c.in-Some.ensures in
-    let place = c.gap_for-place.result in
+    let place = c.sweep_for-place.result in
     let room : vec_len after.slots < vec_capacity after.slots =
     omega (arith, some.cases, after.total, after.room) in
     let put : c.insert.new.self.items ≡ insert xs place slot =
@@ -183,18 +179,18 @@ returns-in-Some-clause-accepted c = λ _.
     (c.insert.ensures.succeeds room) in
     let gap : IsGapFor (addresses_of xs) (key slot) place =
     subst (λ n. IsGapFor (addresses_of xs) n place)
-    (c.address.ensures ∙ sym c.first-slot.ensures.address) c.gap_for-place.ensures.gap in
+    (c.address.ensures ∙ sym c.first-slot.ensures.address) c.sweep_for-place.ensures.gap in
     let others = popped xs after.free.items c.pop.new.self.items c.in-Some.row some.items
     after.owned in
     let same : All (λ (s : SortedSlot). new_of s ≡ swept_of s) xs = (λ k d within.
     c.first-slot.ensures.others (get_or xs k d) (others k d within) (after.rows k d within).1) in
     let known : known_by new_of slot ≡ renewed table.remembered (entry_at es a c.args.now) r =
-    c.first-slot.ensures.known ∙ ap (λ n. renewed n None r) c.sweep_if_due.ensures.remembered
+    c.first-slot.ensures.known ∙ ap (λ n. renewed n None r) c.sweep_for-place.ensures.remembered
     ∙ ap (λ o. renewed table.remembered o r)
-    (sym (absent-entry_at of table.slots.items a c.args.now c.requires.absent)) in
+    (sym (absent-entry_at of table.slots.items a c.args.now (absent_of c.args.self.now c.args.heard.now.vector.address c.args.gap c.requires.gap))) in
     ap (held new_of) put ∙ held-insert new_of xs slot place gap
     ∙ ap (λ l. upsert l (entry_by new_of slot))
-    (held-same swept_of new_of xs same ∙ c.sweep_if_due.ensures.content)
+    (held-same swept_of new_of xs same ∙ c.sweep_for-place.ensures.content)
     ∙ ap (upsert (swept c.args.now es))
     (entry-after new_of table.remembered es slot c.args.now c.args.heard.now
     c.first-slot.ensures.address known c.first-slot.ensures.until)
@@ -205,9 +201,9 @@ returns-in-None-clause-answer c =
     let of = numbers_of table in
     let xs = table.slots.items in
     let a = c.args.heard.now.vector.address in
-    let after = c.sweep_if_due.new.self in
+    let after = c.sweep_for-place.new.self in
     let count = lengths of (numbers_of after) c.args.now xs
-    after.slots.items c.sweep_if_due.ensures.content in
+    after.slots.items c.sweep_for-place.ensures.content in
     let many : table.capacity ≤ length (swept c.args.now (held of xs)) =
     omega (
       arith,
@@ -215,20 +211,20 @@ returns-in-None-clause-answer c =
       c.in-None.ensures.cases.0,
       after.total,
       after.slots.ok.0,
-      c.sweep_if_due.ensures.capacity,
+      c.sweep_for-place.ensures.capacity,
     ) in
     sym (eager_verdict-by table.capacity (held of xs) c.args.now c.args.heard.now false false
-    (is_noted-none _ c.args.heard.now.number (absent-entry_at of xs a c.args.now c.requires.absent))
-    (absent-room of xs a c.args.now table.capacity c.requires.absent ∙ le-ltb _ _ many))
+    (is_noted-none _ c.args.heard.now.number (absent-entry_at of xs a c.args.now (absent_of c.args.self.now c.args.heard.now.vector.address c.args.gap c.requires.gap)))
+    (absent-room of xs a c.args.now table.capacity (absent_of c.args.self.now c.args.heard.now.vector.address c.args.gap c.requires.gap) ∙ le-ltb _ _ many))
 
 pub returns-in-None-clause-unchanged : goal.returns-in-None-clause-unchanged
 returns-in-None-clause-unchanged c = λ _.
     let table = c.args.self.now in
     let of = numbers_of table in
     let xs = table.slots.items in
-    let after = c.sweep_if_due.new.self in
+    let after = c.sweep_for-place.new.self in
     let count = lengths of (numbers_of after) c.args.now xs
-    after.slots.items c.sweep_if_due.ensures.content in
+    after.slots.items c.sweep_for-place.ensures.content in
     let le : length (held of xs) ≤ length (swept c.args.now (held of xs)) =
     omega (
       arith,
@@ -236,9 +232,9 @@ returns-in-None-clause-unchanged c = λ _.
       c.in-None.ensures.cases.0,
       after.total,
       after.slots.ok.0,
-      c.sweep_if_due.ensures.capacity,
+      c.sweep_for-place.ensures.capacity,
       table.total,
       table.slots.ok.0,
       length-held of xs,
     ) in
-    c.sweep_if_due.ensures.content ∙ swept-all c.args.now (held of xs) le
+    c.sweep_for-place.ensures.content ∙ swept-all c.args.now (held of xs) le

@@ -29,14 +29,14 @@ returns-clause-next c = λ history rep.
     let start = subst (λ l. IsStartAbove l after i) (c.deref.ensures.value ∙ table.column)
     c.start_above-start.ensures.start in
     ap (λ o. option_map (λ (s : Known). s.vector) (option_map (known_by of) o))
-    (c.in_ok-place.ensures ∙ ap (λ l. find q (drop i l)) c.deref-2.ensures.value
+    (c.in_ok-slot.ensures ∙ ap (λ l. find q (drop i l)) c.deref-2.ensures.value
     ∙ find-start c.args.now after xs i rising start)
     ∙ ap (option_map (λ (s : Known). s.vector))
     (find-stations_at of table.remembered (is_next_neighbour after) xs history c.args.now
     c.requires rising rep)
 
-pub returns-in_err-place-clause-next : goal.returns-in_err-place-clause-next
-returns-in_err-place-clause-next c = λ history rep.
+pub returns-in_err-slot-clause-next : goal.returns-in_err-slot-clause-next
+returns-in_err-slot-clause-next c = λ history rep.
     let table = c.args.self.now in
     let of = numbers_of table in
     let xs = table.slots.items in
@@ -48,7 +48,7 @@ returns-in_err-place-clause-next c = λ history rep.
     c.start_above-start.ensures.start in
     c.from_residual.ensures
     ∙ ap (λ o. option_map (λ (s : Known). s.vector) (option_map (known_by of) o))
-    (c.in_err-place.ensures ∙ ap (λ l. find q (drop i l)) c.deref-2.ensures.value
+    (c.in_err-slot.ensures ∙ ap (λ l. find q (drop i l)) c.deref-2.ensures.value
     ∙ find-start c.args.now after xs i rising start)
     ∙ ap (option_map (λ (s : Known). s.vector))
     (find-stations_at of table.remembered (is_next_neighbour after) xs history c.args.now
@@ -62,11 +62,11 @@ returns-clause-above c =
     let i = c.start_above-start.result in
     let p = λ (s : SortedSlot). ltb c.args.now s.until && is_next_neighbour after (bare_known s) in
     let q = λ (s : SortedSlot). ltb c.args.now s.until && s.neighbour in
-    let slot = c.in_ok-place.slot.now in
+    let slot = c.in_ok-slot.slot.now in
     let start = subst (λ l. IsStartAbove l after i) (c.deref.ensures.value ∙ table.column)
     c.start_above-start.ensures.start in
     let first : Some slot ≡ find p xs =
-    c.in_ok-place.ensures ∙ ap (λ l. find q (drop i l)) c.deref-2.ensures.value
+    c.in_ok-slot.ensures ∙ ap (λ l. find q (drop i l)) c.deref-2.ensures.value
     ∙ find-start c.args.now after xs i (rising-true (bare xs) table.rising) start in
     (and_parts slot.neighbour (is_above after slot.vector.address)
     (and_parts (ltb c.args.now slot.until) (is_next_neighbour after (bare_known slot))

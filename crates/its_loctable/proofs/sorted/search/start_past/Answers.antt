@@ -5,18 +5,10 @@ use Rattle.its_loctable.proofs.sorted.search.start_past.Goals as goal
 
 pub returns-in-Ok-clause-start : goal.returns-in-Ok-clause-start
 returns-in-Ok-clause-start c =
-    let next : suc c.in-Ok.place ≡ c.in-Ok.place + 1 = omega arith in
+    let next : suc c.in-Ok.i ≡ c.in-Ok.i + 1 = omega arith in
     subst (λ i. IsStartAbove c.args.addresses.now (Some c.args.address) i) next
-    (start-found c.args.addresses.now c.args.address c.in-Ok.place
-    c.requires
-    (c.stands_at.ensures c.if-stands_at.true).0)
-
-pub returns-in-Ok-search-clause-start : goal.returns-in-Ok-search-clause-start
-returns-in-Ok-search-clause-start c =
-    let next : suc c.in-Ok-search.i ≡ c.in-Ok-search.i + 1 = omega arith in
-    subst (λ i. IsStartAbove c.args.addresses.now (Some c.args.address) i) next
-    (start-found c.args.addresses.now c.args.address c.in-Ok-search.i
-    c.requires c.in-Ok-search.ensures.found.0)
+    (start-found c.args.addresses.now c.args.address c.in-Ok.i
+    c.requires c.in-Ok.ensures.found.0)
 
 pub returns-in-Err-clause-start : goal.returns-in-Err-clause-start
 returns-in-Err-clause-start c =

@@ -1,0 +1,98 @@
+// Tests of signed packets from C++: calls of geostation.hpp return what those of geostation.h do.
+#include "geostation.hpp"
+
+#include <algorithm>
+#include <cstdio>
+#include <cstdlib>
+#include <cstring>
+
+#define CHECK(e) do { if (!(e)) { \
+    std::fprintf(stderr, "%s:%d: %s\n", __FILE__, __LINE__, #e); std::exit(1); } } while (0)
+
+namespace {
+
+using geostation::Answer;
+using geostation::Frame;
+using geostation::Octets;
+using geostation::Part;
+using geostation::SecuredFrame;
+using geostation::Station;
+using geostation::Status;
+
+const std::uint8_t HI[] = {'h', 'i'};
+const std::uint8_t MESSAGE[] = {3, 0x81, 0x40};
+const char OPEN[] = "{\"do\":\"open\",\"port\":2002}", SEAL[] = "{\"do\":\"seal\"}";
+
+template <typename T> Octets view(const T &buffer) {
+    return {buffer.octets.data(), buffer.size};
+}
+
+bool is(Octets octets, const std::uint8_t *other, std::size_t size) {
+    return octets.size == size && std::memcmp(octets.data, other, size) == 0;
+}
+
+Octets text(const char *line) {
+    return {reinterpret_cast<const std::uint8_t *>(line), std::strlen(line)};
+}
+
+Frame make_frame(Station &a) {
+    geostation_area_request area{};
+    area.port = 2002, area.lifetime = 0x1a, area.max_hops = 5;
+    area.shape = GEOSTATION_CIRCLE, area.latitude = 449, area.a = 200;
+    Frame frame;
+    CHECK(a.send_gbc(10, area, {HI, sizeof HI}, frame) == Status::Ok && frame.size == 76);
+    return frame;
+}
+
+void test_parts(const Frame &frame) {
+    SecuredFrame secured;
+    const Part plain = geostation::plain_part(view(frame));
+    CHECK(plain.status == Status::Ok && is(plain.octets, frame.octets.data() + 18, 58));
+    CHECK(geostation::message_of(view(frame)).status == Status::BadFrame);
+    CHECK(geostation::seal(view(frame), {MESSAGE, 3}, secured) == Status::Ok && secured.size == 21);
+    const Part message = geostation::message_of(view(secured));
+    CHECK(message.status == Status::Ok && is(message.octets, MESSAGE, 3));
+    const Part none = geostation::plain_part(view(secured));
+    CHECK(none.status == Status::BadFrame && none.octets.data == nullptr && none.octets.size == 0);
+    CHECK(geostation::seal(view(frame), {}, secured) == Status::BadArgument && secured.size == 0);
+    CHECK(geostation::seal({}, {MESSAGE, 3}, secured) == Status::BadFrame && secured.size == 0);
+}
+
+void test_receiving(Station &b, const Frame &frame) {
+    SecuredFrame secured, relay;
+    const Octets plain = geostation::plain_part(view(frame)).octets;
+    CHECK(geostation::seal(view(frame), {MESSAGE, 3}, secured) == Status::Ok);
+    auto got = b.receive_verified(11, view(secured), {plain.data, 57}, relay);
+    CHECK(got.status == Status::BadFrame && got.reception.fault == 6 && relay.size == 0);
+    got = b.receive_verified(11, view(secured), plain, relay);
+    CHECK(got.status == Status::Ok && got.payload.data == plain.data + 56);
+    CHECK(is(got.payload, HI, 2) && got.reception.port == 2002 && relay.size == 21);
+    CHECK(relay.octets[11] == 2 && relay.octets[17] == 4);
+    CHECK(std::equal(MESSAGE, MESSAGE + 3, relay.octets.begin() + 18));
+    Frame other;
+    CHECK(b.receive(12, view(frame), other).reception.ignored == GEOSTATION_DUPLICATE);
+    got = b.receive_verified(9, view(secured), plain, relay);
+    CHECK(got.status == Status::MomentEarlier && got.payload.size == 0);
+}
+
+void test_lines(Station &b) {
+    static Answer answer;
+    Frame frame;
+    SecuredFrame secured;
+    CHECK(b.handle_json(12, 1, text(SEAL), answer, frame) == Status::NoRoom && answer.size == 0);
+    CHECK(b.handle_json(12, 1, text(SEAL), answer, secured) == Status::Ok && answer.size != 0);
+    CHECK(secured.size == 0 && b.handle_json(12, 1, text(OPEN), answer, frame) == Status::Ok);
+}
+
+} // namespace
+
+int main() {
+    auto a = Station::make(0x1400020000000001, 449, 0, 64, 8);
+    auto b = Station::make(0x1400020000000002, 449, 900, 64, 8);
+    CHECK(a && b && b->open_port(0, 2002) == Status::Ok);
+    const Frame frame = make_frame(*a);
+    test_parts(frame);
+    test_receiving(*b, frame);
+    test_lines(*b);
+    return 0;
+}
