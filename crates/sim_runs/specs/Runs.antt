@@ -11,7 +11,8 @@ use Rattle.cmd_reporting.specs.Statuses.{IsCommandStatus}
 use Rattle.cmd_reporting.specs.declared.status.Status.{Status}
 use Rattle.cmd_reporting.specs.declared.status.Status.TheVariants.{Done, Refused, Failed}
 use Rattle.sim_runs.specs.declared.fault.RunFault.{RunFault}
-use Rattle.sim_runs.specs.declared.fault.RunFault.TheVariants.{Scenario as NoScenario, Row, Stopped}
+use Rattle.sim_runs.specs.declared.fault.RunFault.TheVariants.{Scenario as NoScenario, Row}
+use Rattle.sim_runs.specs.declared.fault.RunFault.TheVariants.{NoMoves, Stopped}
 
 -- how a run with these entries ends: refused where it is strict and one of them is a refusal, and
 -- else done
@@ -37,4 +38,5 @@ IsDoneRun strict scenario = EndsRun strict scenario (Ok Done)
 abbrev pub run_fault_status : RunFault → Status
 run_fault_status (NoScenario _ _) = Refused
 run_fault_status (Row _) = Refused
+run_fault_status NoMoves = Failed
 run_fault_status (Stopped _) = Failed

@@ -67,7 +67,8 @@ fn simulate_text<'a, R: Read + Drop, W: Write, E: Write>(
 
 /// Runs a scenario that was read, of at most 65535 stations, and prints its lines as `simulate`
 /// does. Returns `Refused` if something that it expects isn't met. With `strict`, also if an event
-/// was refused.
+/// was refused. Returns `Failed` with a sentence on standard error if the scenario was read for a
+/// file of moves: none is given here.
 ///
 /// `NoOutput` where a write failed, `OutOfMemory` where an allocation did.
 pub fn simulate_scenario<'f, W: Write, E: Write>(
