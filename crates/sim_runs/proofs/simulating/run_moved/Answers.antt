@@ -16,7 +16,7 @@ returns-clause-run g c =
     let start : c.args.watched.now.all_done ≡ list_all was_done [] = search rules in
     subst (λ (t : Timeline). (world : WorldState) × IsRunIn t c.args.scenario.now world
     (λ events log. c.status.result ≡ run_status c.args.strict log))
-    (sym c.args.requires.timeline) (
+    (sym c.requires.timeline) (
       c.in_ok-run_moves.field-0,
       moved_follows _ _ _ _ _ c.in_ok-run_moves.field-0
           (λ (events : List Event) (log : List Entry).
