@@ -1,9 +1,11 @@
 //! The command `mesh`.
 
-ghost use Rattle.std.specs.Prelude.{◌≡◌, IfOk, IfSome, None, map};
+ghost use Rattle.std.specs.Prelude.{◌≡◌, All, IfOk, IfSome, None, map};
 ghost use Rattle.cmd_reporting.specs.FileNames.{format_of_file};
 ghost use Rattle.cmd_reporting.specs.Statuses.{IsCommandStatus};
 ghost use Rattle.its_world.specs.Events.{config_of, event_of};
+ghost use Rattle.sim_scenario.specs.Events.{FitsEvent};
+ghost use Rattle.sim_scenario.specs.Scenarios.{IsPlain, plain_events};
 ghost use Rattle.cmd_mesh.specs.Calls.{IsMeshRun};
 ghost use Rattle.cmd_mesh.specs.Statuses.{IsMeshStatus};
 
@@ -12,8 +14,9 @@ use crate::mesh::Mesh;
 use crate::sockets::Sockets;
 use crate::udp::UdpSockets;
 use cmd_reporting::{FrameFile, Io, Status, Target, WriterFault, create, keep_apart, open};
-use sim_runs::{FrameTarget, frame_target, read_scenario_without_air, report_unknown};
-use sim_scenario::Scenario;
+use its_world::Event;
+use sim_runs::{FrameTarget, frame_target, read_scenario, report_unknown};
+use sim_scenario::{AirTable, PlainTimeline, Reading, Scenario, Timeline};
 use std::alloc::Global;
 use std::io::{Read, Write};
 use std::net::Net;
@@ -143,14 +146,33 @@ fn mesh_read<'a, R: Read + Drop, S: Sockets, W: Write, E: Write>(
     run_mesh(alloc, scenario, options, sockets, io)
 }
 
-/// Reads the scenario, whose name is `file`.
+/// Reads the scenario, whose name is `file`, without a radio model.
 fn read<'a, R: Read + Drop>(
     alloc: Global,
     file: &'a str,
     reader: R,
     options: MeshOptions,
-) -> Result<Scenario, MeshFault<'a>> {
-    Ok(read_scenario_without_air(alloc, file, reader, MOST_STATIONS, options.strict)?)
+) -> Result<Scenario, MeshFault<'a>>
+    ensures { IfOk result (λ scenario. IsPlain scenario.timeline) }
+{
+    let reading = Reading {
+        strict: options.strict,
+        air: AirTable::Ignored,
+        ..Reading::default()
+    };
+    Ok(read_scenario(alloc, file, reader, MOST_STATIONS, &reading)?)
+}
+
+/// The events of a scenario without a radio model.
+fn events_of(timeline: Timeline) -> Vec<Event>
+    requires { IsPlain timeline }
+    ensures events { result.items ≡ plain_events timeline }
+    ensures ranges { All FitsEvent result.items }
+{
+    match timeline {
+        Timeline::Plain(PlainTimeline { events }) => events,
+        _ => unreachable!(),
+    }
 }
 
 /// Runs a scenario, and writes the frames of its stations to the file.
@@ -162,13 +184,15 @@ pub(crate) fn mesh_with_frames<'t, F: Write + Drop, S: Sockets, W: Write, E: Wri
     sockets: &mut S,
     io: &mut Io<W, E>,
 ) -> Result<Status, MeshFault<'t>>
+    requires { IsPlain scenario.timeline }
     ensures { IfOk result IsCommandStatus }
 {
     let Scenario {
         stations,
-        events,
+        timeline,
         ..
     } = scenario;
+    let events = events_of(timeline);
     let mut mesh = match Mesh::new(alloc, stations.as_slice(), sockets, io) {
         Ok(mesh) => mesh,
         Err(fault) => {
@@ -193,15 +217,17 @@ fn run_mesh<'f, S: Sockets, W: Write, E: Write>(
     sockets: &mut S,
     io: &mut Io<W, E>,
 ) -> Result<Status, MeshFault<'f>>
+    requires { IsPlain scenario.timeline }
     ensures status { IfOk result (IsMeshStatus options.strict) }
     ensures run { IfOk result (IsMeshRun (map config_of scenario.stations.items)
-        (map event_of scenario.events.items) options.strict) }
+        (map event_of (plain_events scenario.timeline)) options.strict) }
 {
     let Scenario {
         stations,
-        events,
+        timeline,
         ..
     } = scenario;
+    let events = events_of(timeline);
     let stations = stations.as_slice();
     let mut mesh: Mesh<'_, '_, S, W, E, Vec<u8>> = Mesh::new(alloc, stations, sockets, io)?;
     Ok(mesh.run(events, options.strict)?)

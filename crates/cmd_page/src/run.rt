@@ -167,7 +167,7 @@ fn write_lines_of<'a, W: Write, E: Write>(
     requires { vec_len scenario.now.stations ≤ 65535 }
     ensures { IfOk result IsCommandStatus }
 {
-    let options = lines_options(options, scenario.air.is_some());
+    let options = lines_options(options, scenario.timeline.air().is_some());
     let mut inside = inside_of(way, out, err);
     let ran = simulate_scenario(alloc, scenario, &options, &mut inside);
     if inside.out.has_failed() {

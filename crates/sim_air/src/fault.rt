@@ -22,6 +22,9 @@ pub enum AirFault {
     /// The rows by which stations move can't be read on.
     #[error("moves: {0}")]
     Moves(MovesFault),
+    /// The scenario was read for the rows of a file, and is run without them.
+    #[error("no rows of moves")]
+    NoRows,
 }
 
 impl From<MovesFault> for AirFault {

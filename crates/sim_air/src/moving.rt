@@ -41,15 +41,16 @@ use its_gnvalue::Place;
 use its_model::laws::every_schedule;
 use its_world::{Config, Event, What, World};
 use sim_moves::{MovesFault, Row, Rows, Word};
-use sim_scenario::Scenario;
 use sim_scenario::events::{AddressedEvent, FileEvent};
-use sim_settings::{Air, Moves};
+use sim_scenario::{MovesTimeline, Scenario};
+use sim_settings::Moves;
 use sim_simulation::{EventSink, Note};
 use std::alloc::{AllocError, Global};
 use std::io::BufRead;
 
-/// Runs a scenario of at most 65535 stations in its air while stations move by the rows of a file,
-/// and hands each event to a sink as it is done. Gives the world that the last one left.
+/// Runs a scenario of at most 65535 stations, whose timeline is this one, while stations move by
+/// the rows of a file, and hands each event to a sink as it is done. Returns the world that the last
+/// one left.
 ///
 /// A row is a move of the station of its id, with an accurate place. Of an id that is new it makes
 /// the station, numbered behind all others and absent: it is moved, opens the ports that the
@@ -76,20 +77,20 @@ use std::io::BufRead;
 pub fn run_moves<R: BufRead + Drop, S: EventSink>(
     alloc: Global,
     scenario: &Scenario,
-    air: &Air,
+    timeline: &MovesTimeline,
     rows: &mut Rows<R>,
     sink: &mut S,
 ) -> Result<World, AirFault>
     requires { vec_len scenario.now.stations ≤ 65535 }
     ensures { S.Took sink.old [] [] → IfOk result (λ world.
-        IsMovedRun (rules_of air.now (all_traffic scenario.now.every.items)
-        (end_of air.now.until []) scenario.now.present.items)
-        (map config_of scenario.now.stations.items) scenario.now.moves
-        scenario.now.addressed.items air.now.until world (S.Took sink.new)) }
+        IsMovedRun (rules_of timeline.now.air (all_traffic timeline.now.every.items)
+        (end_of timeline.now.air.until []) scenario.now.present.items)
+        (map config_of scenario.now.stations.items) timeline.now.moves
+        timeline.now.events.items timeline.now.air.until world (S.Took sink.new)) }
 {
     // A law, for the proof alone.
     every_schedule();
-    let mut moving = MovingRun::begin(alloc, scenario, air)?;
+    let mut moving = MovingRun::begin(alloc, scenario, timeline)?;
     moving.read_row(rows)?;
     for _ in 0..usize::MAX {
         if !moving.go_on(rows, sink)? {
@@ -116,41 +117,45 @@ struct RowStation<'a> {
 
 impl<'a> MovingRun<'a> {
     /// A run of which nothing is done yet, and no row was read.
-    fn begin(alloc: Global, scenario: &'a Scenario, air: &Air) -> Result<MovingRun<'a>, AirFault>
+    fn begin(
+        alloc: Global,
+        scenario: &'a Scenario,
+        timeline: &'a MovesTimeline,
+    ) -> Result<MovingRun<'a>, AirFault>
         requires { vec_len scenario.now.stations ≤ 65535 }
         ensures world { IfOk result (λ moving. RepresentsWorld moving.run.world
             (opening (map config_of scenario.now.stations.items))) }
         ensures standings { IfOk result (λ moving. AreIndexed moving.run) }
-        ensures rules { IfOk result (λ moving. GoesBy (rules_of air.now
-            (all_traffic scenario.now.every.items) (end_of air.now.until [])
+        ensures rules { IfOk result (λ moving. GoesBy (rules_of timeline.now.air
+            (all_traffic timeline.now.every.items) (end_of timeline.now.air.until [])
             scenario.now.present.items) moving.run) }
         ensures present { IfOk result (λ moving.
             moving.run.present.items ≡ scenario.now.present.items) }
         ensures keeps { IfOk result (λ moving. Keeps moving.run.queue moving.run.draws
-            (air_opening (rules_of air.now (all_traffic scenario.now.every.items)
-            (end_of air.now.until []) scenario.now.present.items)
+            (air_opening (rules_of timeline.now.air (all_traffic timeline.now.every.items)
+            (end_of timeline.now.air.until []) scenario.now.present.items)
             (map config_of scenario.now.stations.items) []).timetable) }
         ensures departures { IfOk result (λ moving.
             heap_items moving.departures.waiting ≡ []) }
         ensures row { IfOk result (λ moving. moving.row ≡ None) }
-        ensures moves { IfOk result (λ moving. moving.moves.now ≡ scenario.now.moves) }
+        ensures moves { IfOk result (λ moving. moving.moves.now ≡ timeline.now.moves) }
         ensures asked { IfOk result (λ moving.
-            IsByMoment scenario.now.addressed.items (asked_in moving)) }
+            IsByMoment timeline.now.events.items (asked_in moving)) }
         ensures taken { IfOk result (λ moving. moving.taken ≡ 0) }
-        ensures until { IfOk result (λ moving. moving.until ≡ air.now.until) }
+        ensures until { IfOk result (λ moving. moving.until ≡ timeline.now.air.until) }
         ensures frames { IfOk result (λ moving. (moving.run.world.released ≡ 0)
             × (moving.frames_before ≡ 0) × (moving.delivered_by ≡ 0)) }
     {
         let stations = scenario.stations.as_slice();
         let present = scenario.present.as_slice();
-        let moves = &scenario.moves;
-        let events = in_order(alloc, scenario.addressed.as_slice())?;
+        let moves = &timeline.moves;
+        let events = in_order(alloc, timeline.events.as_slice())?;
         let greatest = last_moment(events.as_slice());
         let none: &[FileEvent] = &[];
-        let every = scenario.every.as_slice();
+        let every = timeline.every.as_slice();
         Ok(MovingRun {
             alloc,
-            run: Run::begin(alloc, stations, present, none, air, every)?,
+            run: Run::begin(alloc, stations, present, none, &timeline.air, every)?,
             moves,
             vehicles: Vehicles::beside(alloc, stations, moves)?,
             departures: Departures::of(alloc, stations.len(), moves.gone)?,
@@ -158,7 +163,7 @@ impl<'a> MovingRun<'a> {
             taken: 0,
             row: None,
             known: None,
-            until: air.until,
+            until: timeline.air.until,
             greatest,
             frames_before: 0,
             delivered_by: 0,

@@ -6,14 +6,16 @@ ghost use Rattle.sim_air.specs.Scenarios.{IsRunOf};
 use crate::fault::AirFault;
 use crate::run::run_air;
 use its_world::World;
-use sim_scenario::Scenario;
+use sim_scenario::{Scenario, Timeline};
 use sim_simulation::{EventSink, simulate_into};
 use std::alloc::Global;
 
-/// Runs a scenario of at most 65535 stations in its air, or its events alone where it has none, and
-/// hands each event to a sink as it is done. Gives the world that the last one left.
+/// Runs a scenario of at most 65535 stations by its timeline, and hands each event to a sink as it
+/// is done. Returns the world that the last one left.
 ///
-/// Where an allocation or the sink failed, the sink has the events before.
+/// `NoRows` if its stations move by the rows of a file: `run_moves` runs such a scenario. If an
+/// allocation or the sink failed, the sink has the events before.
+#[tactic(auto, using(crate::proofs::Ranges::all_in_range, crate::proofs::Ranges::all_moments))]
 pub fn run_scenario<S: EventSink>(
     alloc: Global,
     scenario: &Scenario,
@@ -23,16 +25,21 @@ pub fn run_scenario<S: EventSink>(
     ensures { S.Took sink.old [] [] → IfOk result (λ world.
         IsRunOf scenario.now world (S.Took sink.new)) }
 {
-    match &scenario.air {
-        None => Ok(simulate_into(alloc, scenario, sink)?),
-        Some(air) => run_air(
+    let stations = scenario.stations.as_slice();
+    match &scenario.timeline {
+        Timeline::Plain(timeline) => {
+            let events = timeline.events.as_slice();
+            Ok(simulate_into(alloc, stations, events, sink)?)
+        }
+        Timeline::Air(timeline) => run_air(
             alloc,
-            scenario.stations.as_slice(),
+            stations,
             scenario.present.as_slice(),
-            scenario.file.as_slice(),
-            air,
-            scenario.every.as_slice(),
+            timeline.events.as_slice(),
+            &timeline.air,
+            timeline.every.as_slice(),
             sink,
         ),
+        Timeline::Moves(_) => Err(AirFault::NoRows),
     }
 }

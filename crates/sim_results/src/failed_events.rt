@@ -9,8 +9,8 @@ use crate::late_events::late_events;
 use cmd_text::frames::Explanation;
 use its_gnvalue::NoMemory;
 use its_world::{Entry, EntryFault, Event};
-use sim_scenario::Scenario;
 use sim_scenario::events::{AddressedEvent, FileEvent, verb_of};
+use sim_scenario::{Scenario, Timeline};
 use sim_settings::keys::Verb;
 use sim_simulation::{EntryReason, EventRecord, Note};
 use std::alloc::Global;
@@ -135,21 +135,28 @@ impl AskedSend {
     }
 }
 
-/// The sends that a scenario asks for, in the order in which they are run.
-fn asked_sends(alloc: Global, scenario: &Scenario) -> Result<Vec<AskedSend>, NoMemory> {
+/// The sends that a timeline asks for, in the order in which they are run.
+fn asked_sends(alloc: Global, timeline: &Timeline) -> Result<Vec<AskedSend>, NoMemory> {
     let mut sends = Vec::new(alloc);
-    for (number, event) in scenario.events.iter().enumerate() {
-        push_send(&mut sends, AskedSend::of(number, event))?;
+    match timeline {
+        Timeline::Plain(timeline) => {
+            for (number, event) in timeline.events.iter().enumerate() {
+                push_send(&mut sends, AskedSend::of(number, event))?;
+            }
+            return Ok(sends);
+        }
+        Timeline::Air(timeline) => {
+            for (number, filed) in timeline.events.iter().enumerate() {
+                push_send(&mut sends, send_in(number, filed))?;
+            }
+        }
+        Timeline::Moves(timeline) => {
+            for event in &timeline.events {
+                push_send(&mut sends, send_in(event.number, &event.filed))?;
+            }
+        }
     }
-    for (number, filed) in scenario.file.iter().enumerate() {
-        push_send(&mut sends, send_in(number, filed))?;
-    }
-    for event in &scenario.addressed {
-        push_send(&mut sends, send_in(event.number, &event.filed))?;
-    }
-    if scenario.air.is_some() {
-        sends.sort_by_key(|send| send.moment)?;
-    }
+    sends.sort_by_key(|send| send.moment)?;
     Ok(sends)
 }
 
@@ -186,7 +193,7 @@ impl FailedEvents {
     {
         Ok(FailedEvents {
             alloc,
-            sends: asked_sends(alloc, scenario)?,
+            sends: asked_sends(alloc, &scenario.timeline)?,
             came: 0,
             first: Vec::new(alloc),
             count: 0,

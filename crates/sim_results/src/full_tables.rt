@@ -6,16 +6,20 @@ ghost use Rattle.sim_results.specs.FullTables.{met_full_table};
 
 use its_station::Refused;
 use its_world::{Entry, EntryFault};
-use sim_scenario::Scenario;
+use sim_scenario::{Scenario, Timeline};
 use sim_simulation::EventRecord;
 use std::io::Write;
 
-/// For how many sources a station has room: one of the scenario's own, or one that a row of moves
-/// made.
-fn capacity_of(scenario: &Scenario, station: usize) -> u16 {
-    match scenario.stations.as_slice().get(station) {
-        Some(config) => config.capacity,
-        None => scenario.moves.capacity,
+/// The size of a station's location table: one of the scenario's own stations, or one that a row of
+/// moves made. `None` if there is no such station.
+fn capacity_of(scenario: &Scenario, station: usize) -> Option<u16> {
+    match (
+        scenario.stations.as_slice().get(station),
+        &scenario.timeline,
+    ) {
+        (Some(config), _) => Some(config.capacity),
+        (None, Timeline::Moves(timeline)) => Some(timeline.moves.capacity),
+        (None, _) => None,
     }
 }
 
@@ -59,7 +63,9 @@ impl FullTables {
             return;
         }
         self.receptions = self.receptions.saturating_add(1);
-        self.least = self.least.min(capacity_of(scenario, done.station));
+        if let Some(capacity) = capacity_of(scenario, done.station) {
+            self.least = self.least.min(capacity);
+        }
     }
 
     /// Prints a line on standard error, where there were any, with how many and with the least

@@ -2,7 +2,8 @@
 
 use its_gnvalue::NoMemory;
 use its_world::What;
-use sim_scenario::Scenario;
+use sim_scenario::events::{AddressedEvent, FileEvent};
+use sim_scenario::{Scenario, Timeline};
 use std::alloc::Global;
 
 /// An event of a scenario whose moment is after the end of the run, which `until` gives.
@@ -19,16 +20,38 @@ pub(crate) struct LateEvent<'s> {
     pub(crate) until: u64,
 }
 
+impl<'s> LateEvent<'s> {
+    /// The event or leave of this number, of a run that ends at `until`.
+    fn of(number: usize, filed: &'s FileEvent, until: u64) -> LateEvent<'s> {
+        LateEvent {
+            number,
+            moment: filed.moment(),
+            station: Some(filed.station()),
+            what: filed.event().map(|event| &event.what),
+            until,
+        }
+    }
+
+    /// The event or leave of a scenario with moves, whose station may be given by an id.
+    fn of_addressed(event: &'s AddressedEvent, until: u64) -> LateEvent<'s> {
+        let late = LateEvent::of(event.number, &event.filed, until);
+        LateEvent {
+            station: event.id.is_none().then_some(event.filed.station()),
+            ..late
+        }
+    }
+}
+
 /// The events of a scenario that come after the end of its run, in the order of their moments.
 pub(crate) fn late_events(
     alloc: Global,
     scenario: &Scenario,
 ) -> Result<Vec<LateEvent<'_>>, NoMemory> {
     let mut late = Vec::new(alloc);
-    let Some(until) = scenario.air.as_ref().and_then(|air| air.until) else {
+    let Some(until) = scenario.timeline.air().and_then(|air| air.until) else {
         return Ok(late);
     };
-    for event in all_events(alloc, scenario, until)? {
+    for event in all_events(alloc, &scenario.timeline, until)? {
         if event.moment > until {
             late.push(event)?;
         }
@@ -37,30 +60,25 @@ pub(crate) fn late_events(
     Ok(late)
 }
 
-/// All events and leaves of a scenario with an air.
+/// All events and leaves of a timeline in a radio model.
 fn all_events(
     alloc: Global,
-    scenario: &Scenario,
+    timeline: &Timeline,
     until: u64,
 ) -> Result<Vec<LateEvent<'_>>, NoMemory> {
     let mut all = Vec::new(alloc);
-    for (number, filed) in scenario.file.iter().enumerate() {
-        all.push(LateEvent {
-            number,
-            moment: filed.moment(),
-            station: Some(filed.station()),
-            what: filed.event().map(|event| &event.what),
-            until,
-        })?;
-    }
-    for event in &scenario.addressed {
-        all.push(LateEvent {
-            number: event.number,
-            moment: event.filed.moment(),
-            station: event.id.is_none().then_some(event.filed.station()),
-            what: event.filed.event().map(|event| &event.what),
-            until,
-        })?;
+    match timeline {
+        Timeline::Plain(_) => {}
+        Timeline::Air(timeline) => {
+            for (number, filed) in timeline.events.iter().enumerate() {
+                all.push(LateEvent::of(number, filed, until))?;
+            }
+        }
+        Timeline::Moves(timeline) => {
+            for event in &timeline.events {
+                all.push(LateEvent::of_addressed(event, until))?;
+            }
+        }
     }
     Ok(all)
 }

@@ -2,8 +2,8 @@
 
 use its_gnvalue::NoMemory;
 use its_world::{Event, What};
-use sim_scenario::Scenario;
 use sim_scenario::events::FileEvent;
+use sim_scenario::{Scenario, Timeline};
 use sim_simulation::tally::CarriedPacket;
 use std::alloc::Global;
 use std::collections::HashMap;
@@ -37,8 +37,12 @@ impl WaitingFrames {
             given: None,
             delivered: None,
         };
-        waiting.expect_events(scenario.events.as_slice())?;
-        waiting.expect_file(scenario.file.as_slice())?;
+        match &scenario.timeline {
+            Timeline::Plain(timeline) => waiting.expect_events(timeline.events.as_slice())?,
+            Timeline::Air(timeline) => waiting.expect_file(timeline.events.as_slice())?,
+            // No event of such a scenario delivers a frame.
+            Timeline::Moves(_) => {}
+        }
         Ok(waiting)
     }
 

@@ -4,8 +4,9 @@ use crate::fault::{RunFault, fault_of_moves};
 use crate::options::RunOptions;
 use its_world::Event;
 use sim_moves::{Rows, Word};
-use sim_scenario::Scenario;
 use sim_scenario::events::end_of;
+use sim_scenario::{Scenario, Timeline};
+use sim_settings::Moves;
 use std::alloc::Global;
 use std::io::BufRead;
 use std::str;
@@ -18,15 +19,15 @@ pub(crate) struct MovesFile<'a, M: BufRead + Drop> {
 }
 
 impl<'a, M: BufRead + Drop> MovesFile<'a, M> {
-    /// Reads the first line of the file of this name, for a run of the scenario. The fault is that
+    /// Reads the first line of the file of this name, whose rows are read so. The fault is that
     /// of that line, or that it can't be read or memory ran out.
     pub(crate) fn open(
         alloc: Global,
         name: &'a str,
         reader: M,
-        scenario: &Scenario,
+        moves: &Moves,
     ) -> Result<MovesFile<'a, M>, RunFault<'a>> {
-        match Rows::open(alloc, scenario.moves.begin, reader) {
+        match Rows::open(alloc, moves.begin, reader) {
             Ok(rows) => Ok(MovesFile { name, rows }),
             Err(fault) => Err(fault_of_moves(fault, name)),
         }
@@ -44,26 +45,19 @@ pub(crate) struct Course<'s, 'a, M: BufRead + Drop> {
     pub(crate) scenario: &'s Scenario,
     /// How it is run.
     pub(crate) options: &'s RunOptions,
-    /// The moves, where they are given. The scenario has an air then, and was read for moves.
+    /// The file of moves, if the scenario is run with one.
     pub(crate) moves: Option<MovesFile<'a, M>>,
 }
 
 impl<'s, 'a, M: BufRead + Drop> Course<'s, 'a, M> {
-    /// Whether there are moves.
-    pub(crate) fn has_moves(&self) -> bool {
-        self.moves.is_some()
-    }
-
-    /// The last moment that is run, where it is known before the run: with moves that is one that
+    /// The last moment that is run, if it is known before the run. With moves it is the one that
     /// the scenario gives.
     pub(crate) fn end(&self) -> Option<u64> {
-        let Some(air) = &self.scenario.air else {
-            return Some(last_moment(self.scenario.events.as_slice()));
-        };
-        if self.has_moves() {
-            return air.until;
+        match &self.scenario.timeline {
+            Timeline::Plain(timeline) => Some(last_moment(timeline.events.as_slice())),
+            Timeline::Air(timeline) => Some(end_of(&timeline.air, timeline.events.as_slice())),
+            Timeline::Moves(timeline) => timeline.air.until,
         }
-        Some(end_of(air, self.scenario.file.as_slice()))
     }
 }
 

@@ -20,6 +20,9 @@ pub enum RunFault<'a> {
     /// A line of the file of moves is bad.
     #[error("{0}")]
     Row(BadRow<'a>),
+    /// The scenario was read for the moves of a file, and is run without one.
+    #[error("geostation: the scenario was read for a file of moves, and none is given")]
+    NoMoves,
     /// What ends any command.
     #[error("{0}")]
     Stopped(Fault<'a>),
@@ -35,6 +38,7 @@ impl CommandFault for RunFault<'_> {
         match self {
             RunFault::Scenario(..) => Status::Refused,
             RunFault::Row(row) => row.status(),
+            RunFault::NoMoves => Status::Failed,
             RunFault::Stopped(fault) => fault.status(),
         }
     }
@@ -48,6 +52,9 @@ impl CommandFault for RunFault<'_> {
                 let _ = writeln!(err, "{self}{}", Explanation(reason));
             }
             RunFault::Row(row) => row.report(format, err),
+            RunFault::NoMoves => {
+                let _ = writeln!(err, "{self}");
+            }
             RunFault::Stopped(fault) => fault.report(format, err),
         }
     }
@@ -94,6 +101,7 @@ pub(crate) fn fault_of_air<'a>(fault: AirFault, moves: Option<&'a str>) -> RunFa
         AirFault::OutOfMemory(error) => RunFault::Stopped(Fault::OutOfMemory(error)),
         AirFault::Output => RunFault::Stopped(Fault::no_output()),
         AirFault::Moves(fault) => fault_of_moves(fault, moves.unwrap_or("")),
+        AirFault::NoRows => RunFault::NoMoves,
         // No memory has the counts of so many.
         AirFault::TooManyEvents => RunFault::Stopped(Fault::OutOfMemory(AllocError)),
     }

@@ -15,7 +15,7 @@ use crate::simulating::{MOST_STATIONS, read_scenario, run_into};
 use crate::target::{FrameTarget, frame_target};
 use cmd_reporting::{Fault, Io, NamedFile, Opened, Status, Target, WriterFault, open, refuse_same};
 use sim_results::ResultFiles;
-use sim_scenario::{Reading, Scenario};
+use sim_scenario::{Reading, Scenario, Timeline};
 use std::alloc::Global;
 use std::io::{BufRead, BufReader, Read, Write};
 use std::rt::Files;
@@ -180,26 +180,26 @@ where
     let reader = open(rt, files.scenario, for_scenario)?;
     let reading = files.reading(options);
     let scenario = read_scenario(rt.alloc(), files.scenario, reader, MOST_STATIONS, &reading)?;
-    let moves = open_moves(rt, files.moves, for_moves, &scenario)?;
+    let moves = open_moves(rt, files.moves, for_moves, &scenario.timeline)?;
     Ok(RunInputs { scenario, moves })
 }
 
-/// Opens the file of moves of this name, where there is one, and reads its first line. `input` is
-/// standard input.
+/// Opens the file of moves of this name, if a timeline is run with one, and reads its first line.
+/// `input` is standard input.
 fn open_moves<'a, R: Files + AllocGlobal, I: Read + Drop>(
     rt: &R,
     name: Option<&'a str>,
     input: Input<I>,
-    scenario: &Scenario,
+    timeline: &Timeline,
 ) -> Result<Option<MovesFile<'a, RunReader<R::File, I>>>, RunFault<'a>>
 where
     R::File: Read + Drop,
 {
-    let Some(name) = name else {
+    let (Some(name), Timeline::Moves(timeline)) = (name, timeline) else {
         return Ok(None);
     };
     let reader = open(rt, name, input)?;
-    Ok(Some(MovesFile::open(rt.alloc(), name, reader, scenario)?))
+    Ok(Some(MovesFile::open(rt.alloc(), name, reader, &timeline.moves)?))
 }
 
 /// Refuses a file to be written that is one of those that are read, or another one to be written.

@@ -59,7 +59,7 @@ impl<'s, 'a, W: Write + Drop> Findings<'s, 'a, W> {
 
     /// How many receptions of an air met a full location table, if any did.
     fn table_full(&self) -> Option<usize> {
-        match &self.scenario.air {
+        match self.scenario.timeline.air() {
             Some(_) => self.full.receptions(),
             None => None,
         }
@@ -161,7 +161,7 @@ impl<'s, 'a, W: Write + Drop> Findings<'s, 'a, W> {
 
     /// Reports that location tables were full, in an air: the numbers of the run are wrong then.
     fn report_full<E: Write>(&self, err: &mut E) {
-        if self.scenario.air.is_some() {
+        if self.scenario.timeline.air().is_some() {
             self.full.report(err);
         }
     }

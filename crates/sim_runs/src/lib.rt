@@ -26,8 +26,6 @@ pub use input::Input;
 pub use options::RunOptions;
 pub use sim_results::ResultFiles;
 pub use sim_simulation::VERSION;
-pub use simulating::{
-    read_scenario, read_scenario_without_air, report_unknown, simulate, simulate_scenario,
-};
+pub use simulating::{read_scenario, report_unknown, simulate, simulate_scenario};
 pub use target::{FrameTarget, frame_target};
 pub use watched::is_refused;

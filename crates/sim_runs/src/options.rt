@@ -1,6 +1,6 @@
 //! What the arguments choose beside the scenario.
 
-use sim_scenario::Reading;
+use sim_scenario::{AirTable, Reading};
 use sim_settings::keys::AirSettings;
 
 /// How a scenario is run.
@@ -30,9 +30,14 @@ impl RunOptions {
     /// How the scenario is read. `has_results` says whether files of numbers are written, and
     /// `moves` whether it is run with the moves of a file.
     pub(crate) fn reading(&self, has_results: bool, moves: bool) -> Reading {
+        let needs_air = has_results || moves || self.notes || !self.settings.is_empty();
         Reading {
             strict: self.strict,
-            needs_air: has_results || moves || self.notes || !self.settings.is_empty(),
+            air: if needs_air {
+                AirTable::Required
+            } else {
+                AirTable::Optional
+            },
             moves,
             settings: self.settings,
         }

@@ -1,8 +1,11 @@
 //! The command `sim`.
 
-ghost use Rattle.std.specs.Prelude.{◌≡◌, ◌≤◌, IfOk, None, Ok, false, is_some, true, vec_len};
+ghost use Rattle.std.specs.Prelude.{◌≡◌, ◌≤◌, IfOk, Ok, true, vec_len};
 ghost use Rattle.cmd_reporting.specs.Statuses.{IsCommandStatus};
-ghost use Rattle.sim_runs.specs.Runs.{EndsRun, IsDoneRun, IsMovedStatus, IsRunStatus};
+ghost use Rattle.sim_runs.specs.Runs.{EndsRun, IsDoneRun, IsRunStatus};
+ghost use Rattle.sim_scenario.specs.Scenarios.{IsPlain};
+ghost use Rattle.sim_scenario.specs.declared.reading.AirTable.TheVariants as air_tables;
+ghost use Rattle.sim_scenario.specs.declared.timeline.Timeline.TheVariants as timelines;
 
 use crate::both::Both;
 use crate::course::Course;
@@ -18,8 +21,7 @@ use cmd_reporting::{Fault, FrameFile, Io, OutputFormat, Status};
 use cmd_text::frames::Explanation;
 use sim_air::{AirFault, run_moves, run_scenario};
 use sim_moves::Rows;
-use sim_scenario::{Reading, Scenario};
-use sim_settings::Air;
+use sim_scenario::{MovesTimeline, Reading, Scenario, Timeline};
 use sim_simulation::tally::Tally;
 use sim_simulation::{EventSink, JsonLines, SimulationFault, TextLines};
 use std::alloc::Global;
@@ -65,7 +67,8 @@ fn simulate_text<'a, R: Read + Drop, W: Write, E: Write>(
 
 /// Runs a scenario that was read, of at most 65535 stations, and prints its lines as `simulate`
 /// does. Returns `Refused` if something that it expects isn't met. With `strict`, also if an event
-/// was refused.
+/// was refused. Returns `Failed` with a sentence on standard error if the scenario was read for a
+/// file of moves: none is given here.
 ///
 /// `NoOutput` where a write failed, `OutOfMemory` where an allocation did.
 pub fn simulate_scenario<'f, W: Write, E: Write>(
@@ -77,7 +80,7 @@ pub fn simulate_scenario<'f, W: Write, E: Write>(
     requires { vec_len scenario.now.stations ≤ 65535 }
     ensures status { IfOk result IsCommandStatus }
     ensures done { result ≡ Ok Status.Done →
-        IsDoneRun options.now.strict scenario.now false }
+        IsDoneRun options.now.strict scenario.now }
 {
     let outputs: Outputs<'_, Vec<u8>> = Outputs::none();
     let options = *options;
@@ -99,8 +102,8 @@ pub(crate) fn run_into<'a, M: BufRead + Drop, F: Write + Drop, W: Write, E: Writ
 ) -> Result<Status, Fault<'a>>
     requires { vec_len course.old.scenario.now.stations ≤ 65535 }
     ensures status { IfOk result IsCommandStatus }
-    ensures done { result ≡ Ok Status.Done → IsDoneRun course.old.options.now.strict
-        course.old.scenario.now (is_some course.old.moves) }
+    ensures done { result ≡ Ok Status.Done →
+        IsDoneRun course.old.options.now.strict course.old.scenario.now }
 {
     let Outputs {
         mut frames,
@@ -149,8 +152,7 @@ fn run<M: BufRead + Drop, F: EventSink + SummaryDetails + Drop, W: Write>(
     out: &mut W,
 ) -> Result<Status, AirFault>
     requires { vec_len course.old.scenario.now.stations ≤ 65535 }
-    ensures ends { EndsRun course.old.options.now.strict course.old.scenario.now
-        (is_some course.old.moves) result }
+    ensures ends { EndsRun course.old.options.now.strict course.old.scenario.now result }
 {
     if course.options.summary {
         run_summed_up(alloc, course, other, format, out)
@@ -169,8 +171,7 @@ fn run_in_objects<M: BufRead + Drop, F: EventSink + Drop, W: Write>(
     out: &mut W,
 ) -> Result<Status, AirFault>
     requires { vec_len course.old.scenario.now.stations ≤ 65535 }
-    ensures ends { EndsRun course.old.options.now.strict course.old.scenario.now
-        (is_some course.old.moves) result }
+    ensures ends { EndsRun course.old.options.now.strict course.old.scenario.now result }
 {
     let (notes, strict) = (course.options.notes, course.options.strict);
     let mut lines = JsonLines::new(alloc, out)?.noting(notes);
@@ -188,14 +189,13 @@ fn run_in_words<M: BufRead + Drop, F: EventSink + Drop, W: Write>(
     out: &mut W,
 ) -> Result<Status, AirFault>
     requires { vec_len course.old.scenario.now.stations ≤ 65535 }
-    ensures ends { EndsRun course.old.options.now.strict course.old.scenario.now
-        (is_some course.old.moves) result }
+    ensures ends { EndsRun course.old.options.now.strict course.old.scenario.now result }
 {
     let (notes, strict) = (course.options.notes, course.options.strict);
     if course.options.heads {
         print_heads(course.scenario, out)?;
     }
-    let words = match &course.scenario.air {
+    let words = match course.scenario.timeline.air() {
         Some(_) => TextLines::with_actions(out, explain),
         None => TextLines::new(out, explain),
     };
@@ -206,7 +206,7 @@ fn run_in_words<M: BufRead + Drop, F: EventSink + Drop, W: Write>(
 
 /// Prints the heads of the columns of the lines in words.
 fn print_heads<W: Write>(scenario: &Scenario, out: &mut W) -> Result<(), SimulationFault> {
-    match &scenario.air {
+    match scenario.timeline.air() {
         Some(_) => writeln!(out, "event time station action result")?,
         None => writeln!(out, "event time station result")?,
     }
@@ -219,7 +219,7 @@ fn print_beginning<M: BufRead + Drop, W: Write>(
     course: &Course<'_, '_, M>,
 ) -> Result<(), SimulationFault> {
     let stations = course.scenario.stations.as_slice();
-    match &course.scenario.air {
+    match course.scenario.timeline.air() {
         Some(air) => objects.stations_in_air(stations, air, course.end()),
         None => objects.stations(stations),
     }
@@ -235,8 +235,7 @@ fn run_summed_up<M: BufRead + Drop, F: EventSink + SummaryDetails + Drop, W: Wri
     out: &mut W,
 ) -> Result<Status, AirFault>
     requires { vec_len course.old.scenario.now.stations ≤ 65535 }
-    ensures ends { EndsRun course.old.options.now.strict course.old.scenario.now
-        (is_some course.old.moves) result }
+    ensures ends { EndsRun course.old.options.now.strict course.old.scenario.now result }
 {
     let strict = course.options.strict;
     let mut watched = Watched::new(Both {
@@ -254,7 +253,7 @@ fn run_summed_up<M: BufRead + Drop, F: EventSink + SummaryDetails + Drop, W: Wri
     ran
 }
 
-/// Runs a scenario into a sink in which nothing was refused yet: how `sim` ends then.
+/// Runs a scenario into a sink in which nothing was refused yet. Returns the status of `sim`.
 fn run_watched<M: BufRead + Drop, S: EventSink>(
     alloc: Global,
     course: &mut Course<'_, '_, M>,
@@ -263,15 +262,14 @@ fn run_watched<M: BufRead + Drop, S: EventSink>(
 ) -> Result<Status, AirFault>
     requires stations { vec_len course.old.scenario.now.stations ≤ 65535 }
     requires fresh { watched.old.all_done ≡ true }
-    ensures ends { EndsRun strict course.old.scenario.now (is_some course.old.moves) result }
+    ensures ends { EndsRun strict course.old.scenario.now result }
 {
     let scenario = course.scenario;
-    let Some(air) = &scenario.air else {
-        return run_alone(alloc, scenario, watched, strict);
-    };
-    match &mut course.moves {
-        Some(moves) => run_moved(alloc, scenario, air, &mut moves.rows, watched, strict),
-        None => run_alone(alloc, scenario, watched, strict),
+    match (&scenario.timeline, &mut course.moves) {
+        (Timeline::Moves(timeline), Some(moves)) => {
+            run_moved(alloc, scenario, timeline, &mut moves.rows, watched, strict)
+        }
+        _ => run_alone(alloc, scenario, watched, strict),
     }
 }
 
@@ -291,21 +289,23 @@ fn run_alone<S: EventSink>(
     Ok(watched.status(strict))
 }
 
-/// Runs a scenario with the rows of a file of moves, and returns the status of `sim`.
+/// Runs a scenario of this timeline with the rows of a file of moves, and returns the status of
+/// `sim`.
 fn run_moved<M: BufRead + Drop, S: EventSink>(
     alloc: Global,
     scenario: &Scenario,
-    air: &Air,
+    timeline: &MovesTimeline,
     rows: &mut Rows<M>,
     watched: &mut Watched<S>,
     strict: bool,
 ) -> Result<Status, AirFault>
     requires stations { vec_len scenario.now.stations ≤ 65535 }
+    requires timeline { scenario.now.timeline ≡ timelines.Moves timeline.now }
     requires fresh { watched.old.all_done ≡ true }
     ensures command { IfOk result IsCommandStatus }
-    ensures run { IfOk result (IsMovedStatus strict scenario.now air.now) }
+    ensures run { IfOk result (IsRunStatus strict scenario.now) }
 {
-    run_moves(alloc, scenario, air, rows, watched)?;
+    run_moves(alloc, scenario, timeline, rows, watched)?;
     Ok(watched.status(strict))
 }
 
@@ -329,28 +329,12 @@ pub fn read_scenario<'a, R: Read + Drop>(
     most_stations: usize,
     reading: &Reading,
 ) -> Result<Scenario, RunFault<'a>>
-    ensures { IfOk result (λ scenario. vec_len scenario.stations ≤ most_stations) }
+    ensures few { IfOk result (λ scenario. vec_len scenario.stations ≤ most_stations) }
+    ensures plain { reading.now.air ≡ air_tables.Ignored →
+        IfOk result (λ scenario. IsPlain scenario.timeline) }
 {
     let text = read_text(alloc, file, reader)?;
     Scenario::read(alloc, text.as_slice(), most_stations, reading).map_err(
-        |fault| fault_of_scenario(fault, file),
-    )
-}
-
-/// Reads a scenario as `read_scenario` does, but ignores `air` and `expect`, whatever they are.
-/// With `strict` an unknown key is refused.
-pub fn read_scenario_without_air<'a, R: Read + Drop>(
-    alloc: Global,
-    file: &'a str,
-    reader: R,
-    most_stations: usize,
-    strict: bool,
-) -> Result<Scenario, RunFault<'a>>
-    ensures few { IfOk result (λ scenario. vec_len scenario.stations ≤ most_stations) }
-    ensures none { IfOk result (λ scenario. scenario.air ≡ None) }
-{
-    let text = read_text(alloc, file, reader)?;
-    Scenario::read_without_air(alloc, text.as_slice(), most_stations, strict).map_err(
         |fault| fault_of_scenario(fault, file),
     )
 }

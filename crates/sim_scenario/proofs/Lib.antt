@@ -1,3 +1,4 @@
 pub mod Said
 pub mod Round
 pub mod Bad
+pub mod Timelines

@@ -10,16 +10,23 @@ use Rattle.sim_settings.specs.Tables.{table_values}
 use Rattle.sim_settings.specs.declared.keys.key.Key.TheVariants as keys
 use Rattle.sim_settings.specs.declared.keys.settings.AirSettings.{AirSettings}
 use Rattle.sim_settings.specs.declared.keys.settings.SetAir.{SetAir}
+use Rattle.its_world.specs.declared.event.Event.{Event}
 use Rattle.sim_scenario.specs.Centres.{IsCentred}
 use Rattle.sim_settings.specs.Items.{SayItems, SaysItem, items_if, items_under, members_if}
 use Rattle.sim_settings.specs.Moves.{SaysMoves}
 use Rattle.sim_scenario.specs.Saying.{SaysAddressed, SaysEvent, SaysFiled, SaysPresent, SaysStation}
 use Rattle.sim_settings.specs.Saying.{SaysAir, SaysExpectation, SaysTraffic}
-use Rattle.sim_settings.specs.declared.air.Air.{Air}
+use Rattle.sim_settings.specs.declared.moves.Moves.{Moves as MovesSettings}
 use Rattle.sim_scenario.specs.declared.tables.Tables.{Tables}
 use Rattle.sim_scenario.specs.declared.events.event.FileEvent.{FileEvent}
-use Rattle.sim_scenario.specs.declared.scenario.Reading.{Reading}
+use Rattle.sim_scenario.specs.declared.reading.AirTable.{AirTable}
+use Rattle.sim_scenario.specs.declared.reading.AirTable.TheVariants.{Ignored, Optional, Required}
+use Rattle.sim_scenario.specs.declared.reading.Reading.{Reading}
 use Rattle.sim_scenario.specs.declared.scenario.Scenario.{Scenario}
+use Rattle.sim_scenario.specs.declared.timeline.AirTimeline.{AirTimeline}
+use Rattle.sim_scenario.specs.declared.timeline.MovesTimeline.{MovesTimeline}
+use Rattle.sim_scenario.specs.declared.timeline.Timeline.{Timeline}
+use Rattle.sim_scenario.specs.declared.timeline.Timeline.TheVariants.{Plain, Air, Moves}
 use Rattle.std.specs.BTreeMap.{BTreeMap}
 use Rattle.toml.specs.Data.{Data, Items, no_items, item, Members, no_members, as_table, get_member}
 use Rattle.toml.specs.Parse.{parse_document}
@@ -49,37 +56,31 @@ air_of_found settings (Some found) =
 abbrev pub air_under : AirSettings → Members → Option (Option FieldValues)
 air_under settings document = air_of_found settings (get_member (word_of keys.Air) document)
 
--- the parts of a document that are read without an air
-pub record AreWithoutAir (document : Members) (parts : Parts) : Type 0 where
-  pub stations : items_under keys.Station document ≡ Some parts.stations
-  pub events : items_under keys.Event document ≡ Some parts.events
-  pub has_moves : parts.has_moves ≡ false
-  pub air : parts.air ≡ None
-  pub every : parts.every ≡ no_items
-  pub moves : parts.moves ≡ no_members
-  pub expectations : parts.expectations ≡ no_items
+-- whether the table of the air is read
+abbrev pub reads_air : AirTable → Bool
+reads_air Ignored = false
+reads_air Optional = true
+reads_air Required = true
+
+-- what stands under the words of a document's air where it is read, else there is none
+abbrev pub air_if : Bool → AirSettings → Members → Option (Option FieldValues)
+air_if is_read settings document = cond is_read (air_under settings document) (Some None)
 
 -- the parts of a document that are read in this way
 pub record ArePartsOf (reading : Reading) (document : Members) (parts : Parts) : Type 0 where
   pub stations : items_under keys.Station document ≡ Some parts.stations
   pub events : items_under keys.Event document ≡ Some parts.events
   pub has_moves : parts.has_moves ≡ reading.moves
-  pub air : air_under reading.settings document ≡ Some parts.air
+  pub air : air_if (reads_air reading.air) reading.settings document ≡ Some parts.air
   pub every : items_if (is_some parts.air) keys.Every document ≡ Some parts.every
   pub moves : members_if (is_some parts.air) keys.Moves document ≡ Some parts.moves
-  pub expectations : items_under keys.Expect document ≡ Some parts.expectations
+  pub expectations :
+      items_if (reads_air reading.air) keys.Expect document ≡ Some parts.expectations
 
 -- whether a station is present at the start, by its keys in an air; else it is
 abbrev pub SaysPresence : Bool → FieldValues → Bool → Type 0
 SaysPresence true values present = SaysPresent values present
 SaysPresence false values present = present ≡ true
-
--- an air, where there is one
-abbrev pub SaysAirIf : Option FieldValues → Option Air → Type 0
-SaysAirIf None None = Unit {0}
-SaysAirIf None (Some air) = ⊥
-SaysAirIf (Some values) None = ⊥
-SaysAirIf (Some values) (Some air) = SaysAir values air
 
 -- the keys say what waits in an air; an area whose centre they leave out has some centre
 abbrev pub SaysFileEvent : FieldValues → FileEvent → Type 0
@@ -99,30 +100,59 @@ SayFiled (item found more) (f ∷ fs) (b ∷ bs) =
     SaysItem (λ values (filed : FileEvent). SaysFiled values filed b) found f
     × SayFiled more fs bs
 
--- the items of the events, by how they are read: without an air, in one, and in one with moves
-abbrev pub events_alone : Parts → Items
-events_alone parts = cond (is_some parts.air) no_items parts.events
+-- The parts of a document say the events of an air, and what they are run by. How moves are read is
+-- said too, as it would be with the moves of a file.
+pub record SayAirTimeline (values : FieldValues) (parts : Parts) (timeline : AirTimeline) : Type 0
+  where
+    pub air : SaysAir values timeline.air
+    pub every : SayItems SaysTraffic parts.every timeline.every.items
+    pub moves : (moves : MovesSettings) × SaysMoves parts.moves moves
+    pub events : SayItems SaysFileEvent parts.events timeline.events.items
 
-abbrev pub events_filed : Parts → Items
-events_filed parts =
-    cond (is_some parts.air) (cond parts.has_moves no_items parts.events) no_items
+-- the same in an air with the moves of a file
+pub record SayMovesTimeline (values : FieldValues) (parts : Parts) (timeline : MovesTimeline)
+    : Type 0 where
+  pub air : SaysAir values timeline.air
+  pub every : SayItems SaysTraffic parts.every timeline.every.items
+  pub moves : SaysMoves parts.moves timeline.moves
+  pub events : SayItems SaysAddressed parts.events timeline.events.items
 
-abbrev pub events_addressed : Parts → Items
-events_addressed parts =
-    cond (is_some parts.air) (cond parts.has_moves parts.events no_items) no_items
+-- the parts of a document say what its events are run by: the air, if there is one, with the moves of
+-- a file, if it is read for them; and the events
+abbrev pub SayTimelineIn : Option FieldValues → Bool → Parts → Timeline → Type 0
+SayTimelineIn None has_moves parts (Plain timeline) =
+    SayItems SaysEvent parts.events timeline.events.items
+SayTimelineIn None has_moves parts (Air timeline) = ⊥
+SayTimelineIn None has_moves parts (Moves timeline) = ⊥
+SayTimelineIn (Some air) false parts (Plain timeline) = ⊥
+SayTimelineIn (Some air) false parts (Air timeline) = SayAirTimeline air parts timeline
+SayTimelineIn (Some air) false parts (Moves timeline) = ⊥
+SayTimelineIn (Some air) true parts (Plain timeline) = ⊥
+SayTimelineIn (Some air) true parts (Air timeline) = ⊥
+SayTimelineIn (Some air) true parts (Moves timeline) = SayMovesTimeline air parts timeline
+
+abbrev pub SayTimeline : Parts → Timeline → Type 0
+SayTimeline parts timeline = SayTimelineIn parts.air parts.has_moves parts timeline
 
 -- these parts of a document say a scenario
 pub record SayScenario (parts : Parts) (scenario : Scenario) : Type 0 where
   pub stations : SayItems SaysStation parts.stations scenario.stations.items
   pub present :
       SayItems (SaysPresence (is_some parts.air)) parts.stations scenario.present.items
-  pub events : SayItems SaysEvent (events_alone parts) scenario.events.items
-  pub file : SayItems SaysFileEvent (events_filed parts) scenario.file.items
-  pub addressed : SayItems SaysAddressed (events_addressed parts) scenario.addressed.items
-  pub air : SaysAirIf parts.air scenario.air
-  pub every : SayItems SaysTraffic parts.every scenario.every.items
-  pub moves : SaysMoves parts.moves scenario.moves
+  pub timeline : SayTimeline parts scenario.timeline
   pub expectations : SayItems SaysExpectation parts.expectations scenario.expectations.items
+
+-- the events are run without an air
+abbrev pub IsPlain : Timeline → Type 0
+IsPlain (Plain timeline) = Unit {0}
+IsPlain (Air timeline) = ⊥
+IsPlain (Moves timeline) = ⊥
+
+-- its events then; none with an air
+abbrev pub plain_events : Timeline → List Event
+plain_events (Plain timeline) = timeline.events.items
+plain_events (Air timeline) = []
+plain_events (Moves timeline) = []
 
 -- what stands under the words of an air that was found
 abbrev pub set_air_values : SetAir → FieldValues
@@ -156,7 +186,7 @@ abbrev pub usual_reading : Reading
 usual_reading =
     record {
       strict = false;
-      needs_air = false;
+      air = Optional;
       moves = false;
       settings =
           record {
@@ -176,12 +206,4 @@ pub record SaysScenario (reading : Reading) (text : List ℕ) (scenario : Scenar
   pub parsed : parse_document text ≡ Some document
   pub parts : Parts
   pub are_its : ArePartsOf reading document parts
-  pub say : SayScenario parts scenario
-
--- the same of a document that is read without an air
-pub record SaysWithoutAir (text : List ℕ) (scenario : Scenario) : Type 0 where
-  pub document : Members
-  pub parsed : parse_document text ≡ Some document
-  pub parts : Parts
-  pub are_its : AreWithoutAir document parts
   pub say : SayScenario parts scenario

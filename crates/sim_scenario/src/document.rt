@@ -2,13 +2,15 @@
 
 ghost use Rattle.std.specs.Prelude.{◌≡◌, ◌≤◌, IfOk, IfErr, vec_len};
 ghost use Rattle.sim_scenario.specs.Documents.{IsToml, IsOfToml};
-ghost use Rattle.sim_scenario.specs.Scenarios.{SaysScenario, SaysWithoutAir, usual_reading};
+ghost use Rattle.sim_scenario.specs.Scenarios.{IsPlain, SaysScenario, usual_reading};
+ghost use Rattle.sim_scenario.specs.declared.reading.AirTable.TheVariants as air_tables;
 ghost use Rattle.toml.specs.Parse.{parse_document};
 ghost use Rattle.toml.specs.View.{table_view};
 
 use crate::fault::ScenarioFault;
 use crate::position::TomlFault;
-use crate::scenario::{Reading, Scenario};
+use crate::reading::Reading;
+use crate::scenario::Scenario;
 use crate::tables::Tables;
 use std::alloc::Global;
 use toml::Table;
@@ -37,26 +39,13 @@ impl Scenario {
         Scenario::read(alloc, text, most_stations, &Reading::default())
     }
 
-    /// The same, but that `air`, `every`, `moves` and `expect` are among the keys that are passed
-    /// over.
-    pub fn from_toml_without_air(
-        alloc: Global,
-        text: &[u8],
-        most_stations: usize,
-    ) -> Result<Scenario, ScenarioFault>
-        ensures toml { IfOk result (λ _. IsToml text.now) }
-        ensures refused { IfErr result (λ fault. IsOfToml fault → ¬ IsToml text.now) }
-        ensures says { IfOk result (SaysWithoutAir text.now) }
-        ensures few { IfOk result (λ scenario. vec_len scenario.stations ≤ most_stations) }
-        ensures none { IfOk result (λ scenario. scenario.air ≡ None) }
-    {
-        Scenario::read_without_air(alloc, text, most_stations, false)
-    }
-
-    /// Reads a document as `from_toml` does, in this way: with values in place of the air's own;
-    /// one without an air is refused where it is needed, where the air's kind is checked; and where
-    /// the reading is strict, each key of the document, of its stations and of its events that is
-    /// none of their words is refused, last of all, in this order.
+    /// Reads a document as `from_toml` does, in this way.
+    ///
+    /// The radio model has the given values in place of its own. If it is required, a document
+    /// without one is refused, where the kind of `air` is checked. If it is ignored, so are `every`,
+    /// `moves` and `expect`, whatever they are. A strict reading refuses each unknown key of the
+    /// document, of its stations and of its events, last of all, in this order.
+    #[tactic(auto, using(crate::proofs::Timelines::ignored_is_plain))]
     pub fn read(
         alloc: Global,
         text: &[u8],
@@ -67,32 +56,13 @@ impl Scenario {
         ensures refused { IfErr result (λ fault. IsOfToml fault → ¬ IsToml text.now) }
         ensures says { IfOk result (SaysScenario reading.now text.now) }
         ensures few { IfOk result (λ scenario. vec_len scenario.stations ≤ most_stations) }
+        ensures plain { reading.now.air ≡ air_tables.Ignored →
+            IfOk result (λ scenario. IsPlain scenario.timeline) }
     {
         let document = document_of(alloc, text)?;
         let tables = Tables::of(alloc, &document, reading)?;
         let scenario = tables.read(alloc, most_stations)?;
         tables.refuse_unknown(alloc, &document, reading.strict)?;
-        Ok(scenario)
-    }
-
-    /// Reads a document as `from_toml_without_air` does; where the reading is strict, keys that are
-    /// unknown are refused as by `read`.
-    pub fn read_without_air(
-        alloc: Global,
-        text: &[u8],
-        most_stations: usize,
-        strict: bool,
-    ) -> Result<Scenario, ScenarioFault>
-        ensures toml { IfOk result (λ _. IsToml text.now) }
-        ensures refused { IfErr result (λ fault. IsOfToml fault → ¬ IsToml text.now) }
-        ensures says { IfOk result (SaysWithoutAir text.now) }
-        ensures few { IfOk result (λ scenario. vec_len scenario.stations ≤ most_stations) }
-        ensures none { IfOk result (λ scenario. scenario.air ≡ None) }
-    {
-        let document = document_of(alloc, text)?;
-        let tables = Tables::without_air(alloc, &document)?;
-        let scenario = tables.read(alloc, most_stations)?;
-        tables.refuse_unknown(alloc, &document, strict)?;
         Ok(scenario)
     }
 }

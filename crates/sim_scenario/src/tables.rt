@@ -5,9 +5,8 @@ ghost use Rattle.sim_settings.specs.Keys.{word_of};
 ghost use Rattle.sim_settings.specs.Tables.{items_of_found};
 ghost use Rattle.sim_settings.specs.declared.keys.key.Key.TheVariants as keys;
 ghost use Rattle.sim_scenario.specs.Documents.{IsPastToml};
-ghost use Rattle.sim_scenario.specs.Scenarios.{AreWithoutAir, ArePartsOf, SayScenario, SaysAirIf};
-ghost use Rattle.sim_scenario.specs.Scenarios.{air_in, air_under, events_addressed, events_alone};
-ghost use Rattle.sim_scenario.specs.Scenarios.{events_filed, members_in, parts_in};
+ghost use Rattle.sim_scenario.specs.Scenarios.{ArePartsOf, SayScenario, SayTimeline, air_if};
+ghost use Rattle.sim_scenario.specs.Scenarios.{air_in, members_in, parts_in, reads_air};
 ghost use Rattle.sim_settings.specs.Items.{items_if, members_if};
 ghost use Rattle.sim_settings.specs.Moves.{SaysMoves};
 ghost use Rattle.toml.specs.Data.{get_member};
@@ -15,13 +14,15 @@ ghost use Rattle.toml.specs.View.{items_view, table_view};
 
 use crate::event_tables::{read_all_addressed, read_events, read_file};
 use crate::fault::ScenarioFault;
-use crate::scenario::{Reading, Scenario};
+use crate::reading::{AirTable, Reading};
+use crate::scenario::Scenario;
 use crate::settings::{read_every, read_expectations, read_known_air, read_known_moves};
 use crate::stations::read_stations;
+use crate::timeline::{AirTimeline, MovesTimeline, PlainTimeline, Timeline};
 use crate::unknown::{refuse_all_unknown, unknown_keys};
-use its_world::refuse_shared;
+use its_world::{Config, refuse_shared};
+use sim_settings::Moves;
 use sim_settings::keys::{Key, SetAir, items_of, value_of};
-use sim_settings::{Air, Moves};
 use std::alloc::Global;
 use toml::{Table, Value};
 
@@ -40,29 +41,7 @@ pub(crate) struct Tables<'a> {
 }
 
 impl<'a> Tables<'a> {
-    /// Those of a document, without an air and what is expected.
-    pub(crate) fn without_air(
-        alloc: Global,
-        document: &'a Table,
-    ) -> Result<Tables<'a>, ScenarioFault>
-        ensures refused { IfErr result IsPastToml }
-        ensures none { IfOk result (λ tables. tables.air ≡ None) }
-        ensures parts { IfOk result (λ tables.
-            AreWithoutAir (table_view document.now) (parts_in tables)) }
-    {
-        Ok(Tables {
-            document,
-            stations: array_of_tables(alloc, document, Key::Station)?,
-            events: array_of_tables(alloc, document, Key::Event)?,
-            has_moves: false,
-            air: None,
-            every: &[],
-            moves: None,
-            expectations: &[],
-        })
-    }
-
-    /// All of a document.
+    /// Those of a document.
     pub(crate) fn of(
         alloc: Global,
         document: &'a Table,
@@ -72,18 +51,21 @@ impl<'a> Tables<'a> {
         ensures parts { IfOk result (λ tables.
             ArePartsOf reading.now (table_view document.now) (parts_in tables)) }
     {
-        let first = Tables::without_air(alloc, document)?;
+        let stations = array_of_tables(alloc, document, Key::Station)?;
+        let events = array_of_tables(alloc, document, Key::Event)?;
         let air = air_of(alloc, document, reading)?;
-        let every = every_of(alloc, document, air.is_some())?;
+        let every = array_if(alloc, document, Key::Every, air.is_some())?;
         let moves = moves_of(alloc, document, air.is_some())?;
-        let expectations = array_of_tables(alloc, document, Key::Expect)?;
+        let expectations = array_if(alloc, document, Key::Expect, reading.air.is_read())?;
         Ok(Tables {
+            document,
+            stations,
+            events,
             has_moves: reading.moves,
             air,
             every,
             moves,
             expectations,
-            ..first
         })
     }
 
@@ -91,47 +73,48 @@ impl<'a> Tables<'a> {
     pub(crate) fn read(self, alloc: Global, most_stations: usize) -> Result<Scenario, ScenarioFault>
         ensures refused { IfErr result IsPastToml }
         ensures few { IfOk result (λ scenario. vec_len scenario.stations ≤ most_stations) }
-        ensures none { self.entry.air ≡ None → IfOk result (λ scenario. scenario.air ≡ None) }
         ensures says { IfOk result (SayScenario (parts_in self.entry)) }
     {
         if self.stations.len() > most_stations {
             return Err(ScenarioFault::TooManyStations);
         }
         let (stations, present) = read_stations(alloc, self.stations, self.air.is_some())?;
-        let air = self.read_air(alloc)?;
-        let every = read_every(alloc, self.every)?;
-        let moves = self.read_moves(alloc)?;
-        let parts = self.event_parts();
-        let events = read_events(alloc, parts.alone)?;
-        let file = read_file(alloc, parts.filed, stations.as_slice())?;
-        let addressed = read_all_addressed(alloc, parts.addressed, stations.len())?;
+        let timeline = self.read_timeline(alloc, stations.as_slice())?;
         let expectations = read_expectations(alloc, self.expectations)?;
         refuse_shared(alloc, stations.as_slice())?;
         let unknown = unknown_keys(alloc, self.document)?;
         Ok(Scenario {
             stations,
             present,
-            events,
-            file,
-            addressed,
-            air,
-            every,
-            moves,
+            timeline,
             expectations,
             unknown,
         })
     }
 
-    /// The air, where there is one.
-    fn read_air(self, alloc: Global) -> Result<Option<Air>, ScenarioFault>
+    /// The events of a scenario of these stations, and what they are run by.
+    fn read_timeline(self, alloc: Global, stations: &[Config]) -> Result<Timeline, ScenarioFault>
         ensures refused { IfErr result IsPastToml }
-        ensures none { self.entry.air ≡ None → IfOk result (λ air. air ≡ None) }
-        ensures says { IfOk result (SaysAirIf (air_in self.entry.air)) }
+        ensures says { IfOk result (SayTimeline (parts_in self.entry)) }
     {
-        match self.air {
-            Some(fields) => Ok(Some(read_known_air(alloc, fields)?)),
-            None => Ok(None),
+        let Some(fields) = self.air else {
+            let events = read_events(alloc, self.events)?;
+            return Ok(Timeline::Plain(PlainTimeline { events }));
+        };
+        let air = read_known_air(alloc, fields)?;
+        let every = read_every(alloc, self.every)?;
+        let moves = self.read_moves(alloc)?;
+        if self.has_moves {
+            let events = read_all_addressed(alloc, self.events, stations.len())?;
+            return Ok(Timeline::Moves(MovesTimeline {
+                air,
+                every,
+                moves,
+                events,
+            }));
         }
+        let events = read_file(alloc, self.events, stations)?;
+        Ok(Timeline::Air(AirTimeline { air, every, events }))
     }
 
     /// How moves are read.
@@ -142,33 +125,6 @@ impl<'a> Tables<'a> {
         match self.moves {
             Some(table) => read_known_moves(alloc, table),
             None => Ok(Moves::usual(alloc)),
-        }
-    }
-
-    /// The tables of events, of one part alone.
-    fn event_parts(self) -> EventParts<'a>
-        ensures alone { items_view result.alone.now ≡ events_alone (parts_in self.entry) }
-        ensures filed { items_view result.filed.now ≡ events_filed (parts_in self.entry) }
-        ensures by_id { items_view result.addressed.now ≡ events_addressed (parts_in self.entry) }
-    {
-        let none = EventParts {
-            alone: &[],
-            filed: &[],
-            addressed: &[],
-        };
-        match self.air {
-            None => EventParts {
-                alone: self.events,
-                ..none
-            },
-            Some(_) if self.has_moves => EventParts {
-                addressed: self.events,
-                ..none
-            },
-            Some(_) => EventParts {
-                filed: self.events,
-                ..none
-            },
         }
     }
 
@@ -189,31 +145,23 @@ impl<'a> Tables<'a> {
     }
 }
 
-/// The tables of events, by how they are read.
-#[derive(Clone, Copy)]
-struct EventParts<'a> {
-    /// Without an air.
-    alone: &'a [Value],
-    /// In an air.
-    filed: &'a [Value],
-    /// In an air with moves.
-    addressed: &'a [Value],
-}
-
-/// The table of the air with what is set of it, where there is one. `Air` where it is no table, and
-/// where there is none and the reading needs it.
+/// The table of the air with what is set of it, if it is read and there is one. `Air` if it is not a
+/// table, and if there is none and the reading requires it.
 fn air_of<'a>(
     alloc: Global,
     document: &'a Table,
     reading: &'a Reading,
 ) -> Result<Option<SetAir<'a>>, ScenarioFault>
     ensures refused { IfErr result IsPastToml }
-    ensures says { IfOk result (λ air.
-        air_under reading.now.settings (table_view document.now) ≡ Some (air_in air)) }
+    ensures says { IfOk result (λ air. air_if (reads_air reading.now.air) reading.now.settings
+        (table_view document.now) ≡ Some (air_in air)) }
 {
+    if !reading.air.is_read() {
+        return Ok(None);
+    }
     let settings = &reading.settings;
     match value_of(document, "air") {
-        None if reading.needs_air => {
+        None if matches!(reading.air, AirTable::Required) => {
             Err(ScenarioFault::of_missing(alloc, Key::Air, None, document))
         }
         None => Ok(None),
@@ -224,16 +172,22 @@ fn air_of<'a>(
     }
 }
 
-/// The tables of the traffic of an air. Where there is no air, the key is passed over.
-fn every_of(alloc: Global, document: &Table, has_air: bool) -> Result<&[Value], ScenarioFault>
+/// The tables of the array under a key, if it is read. Otherwise the key is ignored, and there are
+/// none.
+fn array_if<'a>(
+    alloc: Global,
+    document: &'a Table,
+    key: Key,
+    is_read: bool,
+) -> Result<&'a [Value], ScenarioFault>
     ensures refused { IfErr result IsPastToml }
     ensures says { IfOk result (λ items.
-        items_if has_air keys.Every (table_view document.now) ≡ Some (items_view items.now)) }
+        items_if is_read key (table_view document.now) ≡ Some (items_view items.now)) }
 {
-    if !has_air {
+    if !is_read {
         return Ok(&[]);
     }
-    array_of_tables(alloc, document, Key::Every)
+    array_of_tables(alloc, document, key)
 }
 
 /// The table of how moves are read, where there is one. Where there is no air, the key is passed

@@ -24,9 +24,10 @@ use Rattle.sim_air.proofs.moving.run_moves.Goals as goal
 pub loop-init : goal.loop-init
 loop-init g c =
     let s = c.args.scenario.now in
-    let air = c.args.air.now in
+    let t = c.args.timeline.now in
+    let air = t.air in
     let configs : List Config = map config_of s.stations.items in
-    let by : Rules = rules_of air (all_traffic s.every.items) (end_of air.until [])
+    let by : Rules = rules_of air (all_traffic t.every.items) (end_of air.until [])
     s.present.items in
     let m = c.in_ok-moving.moving in
     let b = c.in_ok-moving.ensures in
@@ -48,7 +49,7 @@ loop-init g c =
       until = read.until ∙ b.until;
       moves = ap (λ (x : Bor Moves). x.now) read.moves ∙ b.moves;
       asked =
-          subst (λ (v : Vec (Bor AddressedEvent) Global). IsByMoment s.addressed.items
+          subst (λ (v : Vec (Bor AddressedEvent) Global). IsByMoment t.events.items
           (map (λ (e : Bor AddressedEvent). e.now) v.items)) (sym read.events.0) b.asked;
       under = λ took.
           let moving = begun by configs (end_in m) m.run Took long b.rules b.present b.world
@@ -81,7 +82,7 @@ loop-preserved g c =
       moves = ap (λ (x : Bor Moves). x.now) c.go_on.ensures.moves ∙ c.loop.invariant.moves;
       asked =
           subst (λ (v : Vec (Bor AddressedEvent) Global). IsByMoment
-          c.args.scenario.now.addressed.items
+          c.args.timeline.now.events.items
           (map (λ (e : Bor AddressedEvent). e.now) v.items)) (sym c.go_on.ensures.asked)
           c.loop.invariant.asked;
       under = λ took.
@@ -91,14 +92,15 @@ loop-preserved g c =
 pub returns-then-not-branch : goal.returns-then-not-branch
 returns-then-not-branch g c = λ took.
     let s = c.args.scenario.now in
-    let air = c.args.air.now in
-    let by : Rules = rules_of air (all_traffic s.every.items) (end_of air.until [])
+    let t = c.args.timeline.now in
+    let air = t.air in
+    let by : Rules = rules_of air (all_traffic t.every.items) (end_of air.until [])
     s.present.items in
     let configs : List Config = map config_of s.stations.items in
     let world = c.go_on.new.self.run.world in
     let Took = g.S.EventSink.Took c.go_on.new.sink in
-    let asked = s.addressed.items in
-    subst (λ (u : Option ℕ). IsMovedRun by configs s.moves asked u world Took)
+    let asked = t.events.items in
+    subst (λ (u : Option ℕ). IsMovedRun by configs t.moves asked u world Took)
     c.loop.invariant.until
     (subst (λ (m : Moves). IsMovedRun by configs m asked c.loop.moving.until world Took)
     c.loop.invariant.moves

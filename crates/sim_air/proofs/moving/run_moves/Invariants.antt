@@ -13,12 +13,12 @@ abbrev pub invariant-loop : goal.invariant-loop
 invariant-loop g l =
     record {
       standings : AreStandingsOf l.moving.run.world.stations l.moving.run.standings.order.items;
-      until : l.moving.until ≡ l.air.until;
-      moves : l.moving.moves.now ≡ l.scenario.moves;
-      asked : IsByMoment l.scenario.addressed.items (asked_in l.moving);
+      until : l.moving.until ≡ l.timeline.air.until;
+      moves : l.moving.moves.now ≡ l.timeline.moves;
+      asked : IsByMoment l.timeline.events.items (asked_in l.moving);
       under : g.S.EventSink.Took l.fn.sink [] []
-          → IsUnderSome (rules_of l.air (all_traffic l.scenario.every.items)
-          (end_of l.air.until []) l.scenario.present.items)
+          → IsUnderSome (rules_of l.timeline.air (all_traffic l.timeline.every.items)
+          (end_of l.timeline.air.until []) l.scenario.present.items)
           (map config_of l.scenario.stations.items) l.rows.begin l.rows.before l.moving
           (g.S.EventSink.Took l.sink);
     }

@@ -12,7 +12,7 @@ pub returns-clause-run : goal.returns-clause-run
 returns-clause-run g c =
     let start : c.args.watched.now.all_done ≡ list_all was_done [] = search rules in (
       c.in_ok-run_scenario.field-0,
-      run_follows c.args.scenario.now.air c.args.scenario.now c.in_ok-run_scenario.field-0
+      run_follows c.args.scenario.now.timeline c.args.scenario.now c.in_ok-run_scenario.field-0
           (λ (events : List Event) (log : List Entry).
           c.run_scenario.new.sink.all_done ≡ list_all was_done log)
           (λ (events : List Event) (log : List Entry).

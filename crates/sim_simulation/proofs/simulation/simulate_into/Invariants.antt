@@ -8,7 +8,7 @@ abbrev pub invariant-loop-number : goal.invariant-loop-number
 invariant-loop-number g l =
     record {
       kept : l.world.released ≡ 0;
-      told : g.S.EventSink.Took l.fn.sink [] [] → IsSimulated (map config_of l.scenario.stations.items)
-          (map event_of (take l.number l.scenario.events.items)) l.world
+      told : g.S.EventSink.Took l.fn.sink [] [] → IsSimulated (map config_of l.stations)
+          (map event_of (take l.number l.events)) l.world
           (g.S.EventSink.Took l.sink);
     }
