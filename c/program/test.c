@@ -32,7 +32,8 @@ static void check_at(int line, bool good) {
 }
 #define CHECK(good) check_at(__LINE__, good)
 
-/* What one of the three functions writes into a buffer of a size, of which nothing else changes. */
+/* Checks what one of the three functions returned and wrote into a buffer of this size. Behind that
+ * the buffer has to be as before. */
 static void check_copy(ssize_t got, const uint8_t *buffer, size_t size, const char *text) {
     size_t length = text != NULL ? strlen(text) : 0;
     size_t copied = length < size ? length : size;

@@ -4,7 +4,7 @@ from __future__ import annotations
 
 import ctypes as c
 from dataclasses import fields
-from typing import Any, List, Optional, Tuple
+from typing import Any, Callable, List, Optional, Tuple
 
 from . import library
 from .calls import ANSWER_MAX, FRAME_MAX, SECURED_FRAME_MAX, Address, Calls, Degrees
@@ -207,20 +207,20 @@ class Station(Calls):
 
     def _heard(self, status: int, whole: bytes) -> Reception:
         """Returns the result of a received frame, whose payload is a part of these bytes."""
-        told = self._reception
+        heard = self._reception
         if status == Status.BAD_FRAME:
-            raise BadFrame(library.fault_of(told))
+            raise BadFrame(library.fault_of(heard))
         _done(status)
         delivered = None
-        if told.delivered:
-            start = told.payload_start
-            payload = whole[start : start + told.payload_length]
-            delivered = Message(told.port, told.info, payload)
+        if heard.delivered:
+            start = heard.payload_start
+            payload = whole[start : start + heard.payload_length]
+            delivered = Message(heard.port, heard.info, payload)
         return Reception(
-            IgnoreReason(told.ignored) if told.ignored else None,
+            IgnoreReason(heard.ignored) if heard.ignored else None,
             delivered,
-            c.string_at(self._frame, told.relay_length) or None,
-            None if told.ignored else told.source,
+            c.string_at(self._frame, heard.relay_length) or None,
+            None if heard.ignored else heard.source,
         )
 
     def _next_beacon(self, jitter: int) -> int:
@@ -388,11 +388,10 @@ def message_of(frame: bytes) -> bytes:
     Raises:
         Refused: The bytes are not a secured frame (`Status.BAD_FRAME`).
     """
-    frame = octets("frame", frame)
-    start, length = c.c_size_t(), c.c_size_t()
-    if library.load().message(frame, len(frame), start, length):
+    message = _part_of(library.load().message, octets("frame", frame))
+    if message is None:
         raise Refused(Status.BAD_FRAME, "not a secured frame")
-    return frame[start.value : start.value + length.value]
+    return message
 
 
 def plain_part(frame: bytes) -> bytes:
@@ -407,10 +406,10 @@ def plain_part(frame: bytes) -> bytes:
         BadFrame: The bytes are not a valid unsecured frame.
     """
     frame = octets("frame", frame)
-    start, length = c.c_size_t(), c.c_size_t()
-    if library.load().plain_part(frame, len(frame), start, length):
+    plain = _part_of(library.load().plain_part, frame)
+    if plain is None:
         raise BadFrame(_fault_of(frame), received=False)
-    return frame[start.value : start.value + length.value]
+    return plain
 
 
 def seal(frame: bytes, message: bytes) -> bytes:
@@ -439,10 +438,18 @@ def seal(frame: bytes, message: bytes) -> bytes:
     return c.string_at(sealed, length.value)
 
 
+def _part_of(find: Callable[..., int], frame: bytes) -> Optional[bytes]:
+    """Returns the part of a frame that a call of the library finds, or None if it finds none."""
+    start, length = c.c_size_t(), c.c_size_t()
+    if find(frame, len(frame), start, length):
+        return None
+    return frame[start.value : start.value + length.value]
+
+
 def _fault_of(frame: bytes) -> Fault:
-    told = library.Packet()
-    library.load().read_frame(frame, len(frame), told)
-    return library.fault_of(told)
+    packet = library.Packet()
+    library.load().read_frame(frame, len(frame), packet)
+    return library.fault_of(packet)
 
 
 def read_frame(frame: bytes) -> Packet:

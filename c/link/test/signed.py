@@ -150,11 +150,11 @@ def test_row():
         assert trio.stations[EAST].event("security")["up"] is True
         warn(trio, b"snow")
         until(lambda: trio.hear() or len({f[6:12] for f in trio.frames}) == 3, "no beacons")
-        told = "tshark isn't installed"
+        seen = "tshark isn't installed"
         if shutil.which("tshark"):
             assert dissect(trio.frames, f"{room}/wire.pcap") == len(trio.frames)
-            told = f"{len(trio.frames)} frames on the wire, all signed to tshark"
-        return f"signed warnings over one that forwards; {count} frames reach no station; {told}"
+            seen = f"{len(trio.frames)} frames on the wire, all signed to tshark"
+        return f"signed warnings over one that forwards; {count} frames reach no station; {seen}"
 
 
 class Sends:

@@ -127,18 +127,18 @@ def test_verified_frames():
         has(wanted, asked)
         assert abs(asked["at"] - now_ms()) < 60000, asked
         b.entity.verify(asked, psid=37, generated=2**63 + 1)
-        told = b.daemon.event("delivered")
-        assert list(told) == ["at", "event", "source", "port", "info", "tc", "payload", "psid",
-                              "generated"], told
+        delivered = b.daemon.event("delivered")
+        assert list(delivered) == ["at", "event", "source", "port", "info", "tc", "payload", "psid",
+                                   "generated"], delivered
         has({"source": f"{OTHER:016x}", "payload": b"ice".hex(), "psid": 37,
-             "generated": 2**63 + 1}, told)
+             "generated": 2**63 + 1}, delivered)
         relayed = b.received()
         own = bytes.fromhex("020000000001")
         assert relayed == b"\xff" * 6 + own + secured(frame)[12:17] + b"\x09" + secured(frame)[18:]
         b.send(secured(gbc(2, b"snow")))
         b.entity.verify(b.next_of("verify"))
-        told = b.daemon.event("delivered")
-        assert "psid" not in told and "generated" not in told, told
+        delivered = b.daemon.event("delivered")
+        assert "psid" not in delivered and "generated" not in delivered, delivered
         b.counts(verified=2)
 
 
