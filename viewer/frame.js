@@ -237,5 +237,5 @@
     return words.join(' ');
   }
 
-  geostation.frame = {read, readOfAnyLength, decode, line, lifetimeMillis, toHex, fromHex};
+  geostation.frame = {Fault, read, readOfAnyLength, decode, line, lifetimeMillis, toHex, fromHex};
 })(globalThis.geostation ??= {});

@@ -4,6 +4,8 @@
 (function (geostation) {
   'use strict';
 
+  const {Fault} = geostation.frame;
+
   /**
    * @typedef {object} Security
    * @property {boolean} isSigned false for unsecured data in a secured packet
@@ -15,14 +17,6 @@
   const MESSAGE = 18;
   const LONGEST = 2310;
   const UNSECURED_NEXT = 0x11;
-
-  /** What is wrong with a secured packet, and at which octet of it. */
-  class Fault extends Error {
-    /** @param {string} code @param {number} at */
-    constructor(code, at) {
-      super(`${code} at ${at}`);
-    }
-  }
 
   /** The octets of a packet from a place on. Each call takes what it returns. */
   class Message {
