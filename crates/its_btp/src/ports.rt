@@ -52,8 +52,9 @@ impl Error for PortFault {}
 /// once.
 #[derive(Drop)]
 pub struct Ports {
-    ports: [u16; MAX_OPEN_PORTS],
+    /// It is before the ports: with few of them, a look at all is a look at one cache line.
     count: usize,
+    ports: [u16; MAX_OPEN_PORTS],
 }
 
 impl Model for Ports {

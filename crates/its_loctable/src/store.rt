@@ -2,13 +2,13 @@
 
 ghost use Rattle.std.specs.Prelude.{◌≡◌, ◌≢◌, ◌^◌, ◌≤◌, ◌∷◌};
 ghost use Rattle.std.specs.Prelude.{ℕ, List, [], All, not, length, IfOk, IfSome, IsTrue, IsFalse};
-ghost use Rattle.std.specs.Prelude.{OnOk, OnErr};
+ghost use Rattle.std.specs.Prelude.{OnOk, OnErr, ◌⊎◌};
 ghost use Rattle.std.specs.Option.{option_map};
 ghost use Rattle.its_model.specs.History.{Reception, is_live, is_remembered, known};
 ghost use Rattle.its_model.specs.Stations.{stations_at, is_full, is_above, next_neighbour, by_mid};
 ghost use Rattle.its_loctable.specs.Content.{Entry, Represents};
 ghost use Rattle.its_loctable.specs.Heard.{reception, shown, verdict_at};
-ghost use Rattle.its_loctable.specs.Found.{verdict_of, HasIndex, IsIndexOf, Admits};
+ghost use Rattle.its_loctable.specs.Found.{addresses_in, verdict_of, HasIndex, IsIndexOf, Admits};
 ghost use Rattle.its_loctable.specs.Pieces.{first_piece, neighbours_above, AreAllAbove};
 
 use crate::found::{EntryIndex, Found};
@@ -116,6 +116,24 @@ pub trait LocationStore: Sized + Drop {
         ensures unchanged { result ≢ Ok Verdict.Accepted → content self.new ≡ content self.old }
         ensures limit { limit self.new ≡ limit self.old }
         ensures remember { remember self.new ≡ remember self.old };
+
+    /// The addresses of the entries in ascending order, if the store keeps them in one slice: with
+    /// `narrow`, several stores are searched side by side. Any other store returns nothing.
+    fn column(&self) -> &[GnAddress]
+        ensures { (result.now ≡ []) ⊎ (result.now ≡ addresses_in (content self.now)) }
+    {
+        &[]
+    }
+
+    /// Says which entry the next `find` will ask for, by its index in the `column`: the store may
+    /// look there first. Nothing else changes, and every index is allowed.
+    fn expect(&mut self, now: u64, index: usize)
+        ensures unchanged { content self.new ≡ content self.old }
+        ensures limit { limit self.new ≡ limit self.old }
+        ensures remember { remember self.new ≡ remember self.old }
+    {
+        let _ = (now, index);
+    }
 
     /// Looks a packet's source up, once: whether the packet is a duplicate, whether there is room
     /// for its source, and where the source's entry is. It finds what `accept` would answer. A

@@ -1,6 +1,6 @@
 //! What a station does with a frame (EN 302 636-4-1 clause 10, in this profile).
 
-ghost use Rattle.std.specs.Prelude.{◌≡◌, ◌≢◌, ◌≤◌, ◌^◌, ◌∷◌, ℕ, List, None};
+ghost use Rattle.std.specs.Prelude.{◌≡◌, ◌≢◌, ◌≤◌, ◌^◌, ◌∷◌, ℕ, List, None, [], ◌⊎◌, map};
 ghost use Rattle.std.specs.Prelude.{Err, IfOk, IfSome, OnErr, OnOk, IsTrue, IsFalse, length};
 ghost use Rattle.its_gnvalue.specs.Values.{Position};
 ghost use Rattle.std.specs.Option.{option_map};
@@ -34,7 +34,7 @@ use crate::station::Station;
 use its_btp::split;
 use its_forwarding::{Choice, choose};
 use its_geometry::contains;
-use its_gnvalue::{Mac, NoMemory};
+use its_gnvalue::{GnAddress, Mac, NoMemory};
 use its_headers::Kind;
 use its_linkframe::{FrameView, SecuredFault, VerifiedFrame, read_frame};
 use its_loctable::{EntryIndex, Found, Heard, LocationStore};
@@ -93,6 +93,23 @@ impl<S: LocationStore> Station<S> {
     {
         self.check_moment(now)?;
         self.hear(now, frame)
+    }
+
+    /// The addresses in the location table, in ascending order, if the table keeps them in one slice:
+    /// where the source of the next frame can be looked up beforehand (`narrow`).
+    pub fn column(&self) -> &[GnAddress]
+        ensures { (result.now ≡ []) ⊎ (result.now
+            ≡ map (λ entry. entry.address) self.now.content) }
+    {
+        self.store.column()
+    }
+
+    /// Says which entry of the location table the next reception will ask for, by its index in the
+    /// `column`. The table may look there first. Nothing else changes, and every index is allowed.
+    pub fn expect(&mut self, now: u64, index: usize)
+        ensures { self.new ≡ self.old }
+    {
+        self.store.expect(now, index);
     }
 
     /// Takes a secured frame that came, and the plain part that a security entity verified of its

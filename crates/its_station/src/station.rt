@@ -25,17 +25,17 @@ pub const LAST_MOMENT: u64 = 1 << 62;
 
 /// A station over a location table. Contracts see its fields and the content of its table
 /// (`StationState`), and each call's contract speaks of the stations of the model that it
-/// represents.
+/// represents. What a reception reads is in front, and side by side in memory.
 #[derive(Drop)]
 pub struct Station<S: LocationStore> {
-    pub(crate) alloc: Global,
-    pub(crate) vector: LongPv,
     pub(crate) clock: u64,
-    pub(crate) mobile: bool,
-    pub(crate) next_number: u16,
-    pub(crate) beacon_from: u64,
-    pub(crate) ports: Ports,
+    pub(crate) vector: LongPv,
     pub(crate) store: S,
+    pub(crate) ports: Ports,
+    pub(crate) beacon_from: u64,
+    pub(crate) next_number: u16,
+    pub(crate) mobile: bool,
+    pub(crate) alloc: Global,
 }
 
 impl<S: LocationStore> Model for Station<S> {

@@ -25,9 +25,10 @@ use crate::event::{Event, What};
 use crate::mids::refuse_shared;
 use crate::outcome::CallOutcome;
 use crate::stations::{begin_station, stations_of};
-use its_gnvalue::NoMemory;
+use its_gnvalue::{GnAddress, NoMemory};
 use its_linkframe::laws::{one_frame, one_frame_fault};
-use its_loctable::SortedTable;
+use its_linkframe::read_frame;
+use its_loctable::{SIDE_BY_SIDE, SortedTable, narrow};
 use its_model::laws::addresses_are_own;
 use its_station::{Reply, Station};
 use std::alloc::Global;
@@ -217,6 +218,90 @@ impl World {
         let outcome = CallOutcome::of_reply(done, reply, self.air.count());
         self.air.number(outcome.frame);
         Ok(outcome.entry)
+    }
+}
+
+impl World {
+    /// Says that this frame will be delivered to these stations next, so that they look its source up
+    /// side by side: a look-up mostly waits for memory, and so all wait at once. The world stays as it
+    /// was, and each delivery is answered as it would be without this call.
+    pub fn expect(&mut self, now: u64, frame: usize, stations: &[usize])
+        ensures { self.new ≡ self.old }
+    {
+        let Some(source) = self.source_of(frame) else {
+            return;
+        };
+        for part in stations.chunks(SIDE_BY_SIDE) {
+            let found = self.search_all(part, source);
+            for (index, number) in found.iter().zip(part) {
+                self.expect_at(*number, now, *index);
+            }
+        }
+    }
+
+    /// Says to a station, if it is there, where its next look-up will find its source.
+    fn expect_at(&mut self, number: usize, now: u64, index: usize)
+        ensures { self.new ≡ self.old }
+    {
+        if let Some(station) = self.stations.get_mut(number) {
+            station.expect(now, index);
+        }
+    }
+
+    /// The source of the packet of a frame, if the frame is kept.
+    fn source_of(&self, frame: usize) -> Option<GnAddress> {
+        let view = read_frame(self.air.get(frame)?).ok()?;
+        Some(view.packet.vector().address())
+    }
+
+    /// Where the location tables of the first `SIDE_BY_SIDE` of these stations have an address, if
+    /// they have it.
+    fn search_all(&self, stations: &[usize], address: GnAddress) -> [usize; SIDE_BY_SIDE] {
+        let columns = self.columns_of(stations);
+        let longest = columns.iter().map(|column| column.len()).max().unwrap_or(0);
+        let mut found = [0; SIDE_BY_SIDE];
+        for halving in 0..12u32 {
+            let half = 2048usize >> halving;
+            if half < longest {
+                for (last, column) in found.iter_mut().zip(&columns) {
+                    *last = narrow(column, *last, half, address);
+                }
+            }
+        }
+        found
+    }
+
+    /// The columns of the location tables of the first `SIDE_BY_SIDE` of these stations.
+    fn columns_of(&self, stations: &[usize]) -> [&[GnAddress]; SIDE_BY_SIDE] {
+        [
+            self.column_of(stations.get(0)),
+            self.column_of(stations.get(1)),
+            self.column_of(stations.get(2)),
+            self.column_of(stations.get(3)),
+            self.column_of(stations.get(4)),
+            self.column_of(stations.get(5)),
+            self.column_of(stations.get(6)),
+            self.column_of(stations.get(7)),
+            self.column_of(stations.get(8)),
+            self.column_of(stations.get(9)),
+            self.column_of(stations.get(10)),
+            self.column_of(stations.get(11)),
+            self.column_of(stations.get(12)),
+            self.column_of(stations.get(13)),
+            self.column_of(stations.get(14)),
+            self.column_of(stations.get(15)),
+        ]
+    }
+
+    /// The column of the location table of a station, nothing if there is no station.
+    fn column_of(&self, number: Option<&usize>) -> &[GnAddress] {
+        match number {
+            Some(number) => match self.stations.get(*number) {
+                Some(station) => station.column(),
+                None => &[],
+            },
+            None => &[],
+        }
     }
 }
 
