@@ -1,7 +1,7 @@
 //! A station over the table, and worlds of stations.
 use crate::geometry::{Area, Place, contains};
 use crate::packets::{
-    FrameFault, Kind, LongPv, Packet, View, read_frame, relay_frame, write_frame,
+    Frame, FrameFault, Kind, LongPv, Packet, View, read_frame, relay_frame, write_frame,
 };
 use crate::table::{Choice, Heard, Table, Verdict, choose};
 
@@ -116,6 +116,18 @@ impl Station {
     pub fn receive<'a>(&mut self, now: u64, octets: &'a [u8]) -> Result<Outcome<'a>, Refused> {
         self.check_moment(now)?;
         let frame = read_frame(octets).map_err(Refused::Frame)?;
+        let found = self.table.find(frame.packet.vector.address);
+        self.receive_found(now, &frame, found)
+    }
+
+    /// The same of a frame that was read, whose source was looked up.
+    pub fn receive_found<'a>(
+        &mut self,
+        now: u64,
+        frame: &Frame<'a>,
+        found: Result<usize, usize>,
+    ) -> Result<Outcome<'a>, Refused> {
+        self.check_moment(now)?;
         let packet = &frame.packet;
         let address = packet.vector.address;
         let mac = self.vector.address & MID;
@@ -133,7 +145,6 @@ impl Station {
             self.clock = now;
             return Ok(Outcome::Ignored(why));
         }
-        let found = self.table.find(address);
         if number.is_some_and(|n| self.table.remembers_at(now, found, n)) {
             self.clock = now;
             return Ok(Outcome::Ignored(Why::Duplicate));
@@ -141,7 +152,7 @@ impl Station {
         if !self.table.has_room_at(now, found) {
             return Err(Refused::TableFull);
         }
-        let copy = self.goes_on(packet).then(|| relay_frame(BROADCAST, mac, &frame));
+        let copy = self.goes_on(packet).then(|| relay_frame(BROADCAST, mac, frame));
         let heard = Heard { vector: packet.vector, number };
         if self.table.accept_at(now, found, &heard) != Verdict::Accepted {
             return Err(Refused::TableFull);
@@ -274,11 +285,16 @@ pub enum Entry {
 pub struct World {
     pub stations: Vec<Station>,
     air: Vec<Vec<u8>>,
+    /// The memory of a payload that was delivered, for the next one.
+    pub room: Vec<u8>,
 }
+
+/// How many receivers look a source up side by side.
+pub const CHUNK: usize = 16;
 
 impl World {
     pub fn new(stations: Vec<Station>) -> World {
-        World { stations, air: Vec::new() }
+        World { stations, air: Vec::new(), room: Vec::new() }
     }
 
     pub fn run(&mut self, events: &[Event]) -> Vec<Entry> {
@@ -325,6 +341,66 @@ impl World {
                 Ok(Entry::Accepted { handed, sent })
             }
         }
+    }
+
+    /// Delivers a frame that was read, whose source was looked up.
+    pub fn deliver_found(
+        &mut self,
+        station: usize,
+        now: u64,
+        frame: &Frame<'_>,
+        found: Result<usize, usize>,
+    ) -> Entry {
+        match self.stations[station].receive_found(now, frame, found) {
+            Err(refused) => Entry::Refused(refused),
+            Ok(Outcome::Ignored(why)) => Entry::Ignored(why),
+            Ok(Outcome::Accepted { handed, sent }) => {
+                let handed = handed.map(|handed| {
+                    let mut payload = std::mem::take(&mut self.room);
+                    payload.clear();
+                    payload.extend_from_slice(handed.payload);
+                    Delivery { port: handed.port, info: handed.info, payload }
+                });
+                let sent = sent.map(|frame| self.give(frame));
+                Entry::Accepted { handed, sent }
+            }
+        }
+    }
+
+    /// Looks an address up at these stations, step by step at all of them.
+    pub fn look_up(&self, part: &[u32], address: u64) -> [Result<usize, usize>; CHUNK] {
+        let mut columns: [&[u64]; CHUNK] = [&[]; CHUNK];
+        let mut longest = 0;
+        for (column, station) in columns.iter_mut().zip(part) {
+            *column = self.stations[*station as usize].table.column();
+            longest = longest.max(column.len());
+        }
+        let mut lasts = [0usize; CHUNK];
+        for level in (0..12).rev() {
+            if longest >> level == 0 {
+                continue;
+            }
+            for (last, column) in lasts.iter_mut().zip(&columns) {
+                if let Some(found) = column.get(*last + (1 << level)) {
+                    *last += ((*found <= address) as usize) << level;
+                }
+            }
+        }
+        let mut found = [Err(0); CHUNK];
+        for ((found, last), station) in found.iter_mut().zip(lasts).zip(part) {
+            *found = self.stations[*station as usize].table.found_at(last, address);
+        }
+        found
+    }
+
+    /// Takes the octets of a frame out, while it is delivered.
+    pub fn take_frame(&mut self, number: usize) -> Vec<u8> {
+        std::mem::take(&mut self.air[number])
+    }
+
+    /// Puts them back.
+    pub fn put_frame(&mut self, number: usize, octets: Vec<u8>) {
+        self.air[number] = octets;
     }
 
     fn give(&mut self, frame: Vec<u8>) -> usize {

@@ -81,6 +81,24 @@ impl Table {
         self.addresses.binary_search(&address)
     }
 
+    /// The addresses, in ascending order.
+    pub fn column(&self) -> &[u64] {
+        &self.addresses
+    }
+
+    /// What `find` returns, by the index of the last address that is not above this one. The slot is
+    /// read, so that it is in a cache.
+    pub fn found_at(&self, last: usize, address: u64) -> Result<usize, usize> {
+        match self.addresses.get(last) {
+            Some(found) if *found == address => {
+                std::hint::black_box(self.slot_at(last).until);
+                Ok(last)
+            }
+            Some(found) if *found < address => Err(last + 1),
+            _ => Err(last),
+        }
+    }
+
     fn slot_at(&self, place: usize) -> &Slot {
         &self.slots[self.rows[place] as usize]
     }

@@ -448,11 +448,23 @@ impl<'a> Run<'a> {
             (take_one rules configs a (pending_of (delivery_of delivery.now)) a.timetable) self.new
             (S.Took sink.new)) }
     {
+        self.announce(delivery);
         let event = delivery.event();
         let entry = self.do_event(&event, sink)?;
         let came = self.come(&event, &entry, sink);
         self.world.reuse(entry);
         came
+    }
+
+    /// Has the receivers of a frame look up its source together, when the first of them receives it.
+    fn announce(&mut self, delivery: &Delivery)
+        ensures { self.new ≡ self.old }
+    {
+        let receivers = self.queue.announce(delivery);
+        let stations = receivers.as_slice();
+        if !stations.is_empty() {
+            self.world.expect(delivery.moment, delivery.frame, stations);
+        }
     }
 
     /// Does one of the air's own, and puts what follows it. A tick or a send of an absent station

@@ -9,6 +9,7 @@ mod kinds;
 mod own_events;
 pub mod places;
 mod queue;
+mod receivers;
 mod scheduled;
 mod scheduling;
 
@@ -16,6 +17,7 @@ pub use draws::Draws;
 pub use fault::QueueFault;
 pub use own_events::OwnEvents;
 pub use queue::{Next, Queue};
+pub use receivers::Receivers;
 pub use scheduled::{AirAction, Delivery, Scheduled};
 pub use scheduling::{
     is_present, schedule_coming_sends, schedule_coming_tick, schedule_first_ticks, schedule_tick,

@@ -12,6 +12,7 @@ ghost use Rattle.sim_queue.specs.Waiting.{delivery_of, in_line};
 
 use crate::fault::QueueFault;
 use crate::kinds::{Counts, Kind};
+use crate::receivers::{MOST_RECEIVERS, Receivers};
 use crate::scheduled::{AirAction, Delivery, Scheduled};
 use std::alloc::Global;
 use std::collections::{BinaryHeap, VecDeque};
@@ -28,6 +29,8 @@ pub struct OwnEvents {
     line: VecDeque<Delivery>,
     /// How many wait of each kind, at each station. In line is none of these.
     counts: Counts,
+    /// How many of the next deliveries were in the last `Receivers`.
+    announced: usize,
 }
 
 impl Model for OwnEvents {
@@ -54,6 +57,7 @@ impl OwnEvents {
             heap: BinaryHeap::new(alloc),
             line: VecDeque::new(alloc),
             counts: Counts::new(alloc, kinds),
+            announced: 0,
         }
     }
 
@@ -114,6 +118,26 @@ impl OwnEvents {
         } else {
             None
         }
+    }
+
+    /// Which stations receive the frame of the delivery that was just taken: its own, and those that
+    /// come next in line. None if they were announced with an earlier delivery.
+    pub fn announce(&mut self, delivery: &Delivery) -> Receivers
+        ensures { self.new ≡ self.old }
+    {
+        let mut receivers = Receivers::none();
+        if self.announced == 0 {
+            receivers.add(delivery.station);
+            for next in self.line.iter().take(MOST_RECEIVERS - 1) {
+                if next.frame != delivery.frame {
+                    break;
+                }
+                receivers.add(next.station);
+            }
+            self.announced = receivers.count;
+        }
+        self.announced = self.announced.saturating_sub(1);
+        receivers
     }
 
     /// Takes the first, if its moment lies before this one.

@@ -15,6 +15,7 @@ ghost use Rattle.sim_queue.specs.Waiting.{delivery_of, is_send_at, is_tick_at, w
 
 use crate::fault::QueueFault;
 use crate::own_events::OwnEvents;
+use crate::receivers::Receivers;
 use crate::scheduled::{AirAction, Delivery, Scheduled};
 use sim_scenario::events::FileEvent;
 use std::alloc::{AllocError, Global};
@@ -156,6 +157,14 @@ impl<'a> Queue<'a> {
             None => self.until + 1,
         };
         self.own.pop_delivery_before(moment)
+    }
+
+    /// Which stations receive the frame of the delivery that was just taken: its own, and those that
+    /// come next. None if they were announced with an earlier delivery. What waits stays as it was.
+    pub fn announce(&mut self, delivery: &Delivery) -> Receivers
+        ensures { self.new ≡ self.old }
+    {
+        self.own.announce(delivery)
     }
 
     /// Takes the first that waits, unless its moment is past the last.

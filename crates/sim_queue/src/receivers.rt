@@ -1,0 +1,37 @@
+//! Stations that will receive a frame at once.
+
+ghost use Rattle.std.specs.Prelude.{◌≤◌};
+
+/// How many receivers are announced at once.
+pub(crate) const MOST_RECEIVERS: usize = 16;
+
+/// Some stations that will receive the same frame, one after the other.
+#[derive(Clone, Copy, Debug)]
+pub struct Receivers {
+    stations: [usize; MOST_RECEIVERS],
+    pub(crate) count: usize,
+    ghost few: { count ≤ 16 },
+}
+
+impl Receivers {
+    /// No station.
+    pub(crate) fn none() -> Receivers {
+        Receivers {
+            stations: [0; MOST_RECEIVERS],
+            count: 0,
+        }
+    }
+
+    /// Adds a station, if there is space for one more.
+    pub(crate) fn add(&mut self, station: usize) {
+        if let Some(next) = self.stations.get_mut(self.count) {
+            *next = station;
+            self.count += 1;
+        }
+    }
+
+    /// The stations, in order.
+    pub fn as_slice(&self) -> &[usize] {
+        &self.stations[..self.count]
+    }
+}
