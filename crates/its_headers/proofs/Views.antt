@@ -53,6 +53,11 @@ pub is_encoding : (p : Pdu) (left : ℕ) (w : List ℕ) → Encodes p left w →
 is_encoding p left w e =
     subst (λ (s : Seen). Encodes s.pdu s.left w) (sym (seen-encoding p left w e)) e
 
+-- octets are an encoding of one packet
+pub only_seen : (s : Seen) (p : Pdu) (left : ℕ) (w : List ℕ) → Encodes s.pdu s.left w
+    → Encodes p left w → s ≡ record { pdu = p; left = left }
+only_seen s p left w e enc = sym (seen-encoding s.pdu s.left w e) ∙ seen-encoding p left w enc
+
 -- what was read at the front
 pub front_is : (w : List ℕ) (x : Pdu × ℕ) (n : ℕ) → IsBytes w → walk packet_format 0 w ≡ Ok (x, n)
     → IsEncoding (take n w)

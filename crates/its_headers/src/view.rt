@@ -10,7 +10,7 @@ ghost use Rattle.its_headers.specs.Packets.{pdu_of_packet, hops_left, IsHeaderOf
 ghost use Rattle.its_headers.specs.Decoding.{HasPayload};
 ghost use Rattle.its_headers.specs.FirstFault.{FirstFault};
 ghost use Rattle.its_headers.specs.Inner.{inner_octets};
-ghost use Rattle.its_headers.specs.Seen.{basic_of};
+ghost use Rattle.its_headers.specs.Seen.{IsEncoding, basic_of};
 
 use crate::kind::Kind;
 use crate::packet::{AreaPacket, Header, Packet, SingleHopBroadcast};
@@ -69,6 +69,16 @@ impl<'a> PacketView<'a> {
             octets: &octets[..length],
         };
         Ok((view, length))
+    }
+
+    /// The packet of octets that were read before: nothing is checked again. For a frame that many
+    /// stations receive.
+    #[inline(always)]
+    pub fn of_encoding(octets: &'a [u8]) -> PacketView<'a>
+        requires { IsEncoding octets.now }
+        ensures { Encodes result.pdu result.left octets.now }
+    {
+        PacketView { octets }
     }
 
     /// The octets of the packet, and nothing else.

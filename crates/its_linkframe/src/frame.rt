@@ -3,7 +3,7 @@
 ghost use Rattle.std.specs.Prelude.{◌≡◌, ◌≤◌, ◌+◌, length, take, drop, IfOk, IfErr, IsOkAnd};
 ghost use Rattle.byteorder.specs.Endian.{big_bytes, big_number};
 ghost use Rattle.its_model.specs.Packet.{Transmission};
-ghost use Rattle.its_linkframe.specs.Frames.{EncodesFrame, transmission_of};
+ghost use Rattle.its_linkframe.specs.Frames.{EncodesFrame, IsFrame, transmission_of};
 ghost use Rattle.its_linkframe.specs.FrameFaults.{IsFrameFault};
 
 use crate::fields::{ETHER_TYPE, PACKET, SOURCE, TARGET};
@@ -57,6 +57,22 @@ pub fn read_frame(octets: &[u8]) -> Result<FrameView<'_>, FrameFault>
         from: mac_at(octets, SOURCE),
         packet,
     })
+}
+
+impl<'a> FrameView<'a> {
+    /// The frame that octets are in which `read_frame` found no fault: nothing is checked again. For
+    /// a frame that many stations receive.
+    #[inline(always)]
+    pub fn of_frame(octets: &'a [u8]) -> FrameView<'a>
+        requires { IsFrame octets.now }
+        ensures { EncodesFrame (transmission_of result) octets.now }
+    {
+        FrameView {
+            to: mac_at(octets, TARGET),
+            from: mac_at(octets, SOURCE),
+            packet: PacketView::of_encoding(&octets[PACKET..]),
+        }
+    }
 }
 
 /// The link address that begins at this octet.

@@ -71,6 +71,25 @@ impl<S: LocationStore> Station<S> {
         }
     }
 
+    /// Takes octets in which `read_frame` found no fault, as `receive` takes them, and without a second
+    /// check: for a frame that many stations receive.
+    pub fn receive_checked<'a>(
+        &mut self,
+        now: u64,
+        frame: &'a [u8],
+    ) -> Result<Outcome<'a>, Refused>
+        requires { IsFrame frame.now }
+        ensures step { (call : Call) × IsFrameCall frame.now call
+            × ((s : StationModel) → RepresentsStation self.old s →
+            IsStepOf Tells result self.new (station_step s now call)) }
+        ensures unchanged { OnErr result (self.new ≡ self.old) }
+        ensures payload { IfOk result (DeliversEndOf frame.now) }
+        ensures short { IfOk result (Fits 1394) }
+        ensures short_frame { IfOk result (SendsAtMost 1468) }
+    {
+        self.receive_frame(now, &FrameView::of_frame(frame))
+    }
+
     /// Takes a frame that was read, as `receive` takes its octets: for a program that reads more of
     /// it than what is delivered, as its source, its traffic class or its hops. Refused as there,
     /// but for `Frame` (S3).

@@ -7,6 +7,7 @@ ghost use Rattle.std.specs.Option.{option_map};
 ghost use Rattle.its_model.specs.Packet.{Transmission};
 ghost use Rattle.its_model.specs.Calls.{Answer, Call as ModelCall};
 ghost use Rattle.its_model.specs.Station.{StationModel, Step, station_step};
+ghost use Rattle.its_linkframe.specs.Frames.{IsFrame};
 ghost use Rattle.its_station.specs.State.{StationState, RepresentsStation};
 ghost use Rattle.its_station.specs.Steps.{IsStepOf, Says, refusal_of};
 ghost use Rattle.its_station.specs.Requests.{TellsSent, TellsTick};
@@ -224,6 +225,29 @@ impl<S: LocationStore> Station<S> {
         room.reserve(frame.len())?;
         let alloc = self.alloc();
         match self.receive(moment, frame) {
+            Ok(outcome) => Ok(reply_of(alloc, outcome, room)),
+            Err(refused) => refusal(refused),
+        }
+    }
+
+    /// `receive_in` of octets in which `read_frame` found no fault, without a second check.
+    pub fn receive_checked_in(
+        &mut self,
+        moment: u64,
+        frame: &[u8],
+        room: &mut Vec<u8>,
+    ) -> Result<Reply, NoMemory>
+        requires { IsFrame frame.now }
+        ensures step { IfOk result (λ reply. (c : ModelCall) × IsFrameCall frame.now c
+            × ((s : StationModel) → RepresentsStation self.old s →
+            IsReplyTo reply self.new (station_step s moment c))) }
+        ensures answered { IfOk result (λ reply. reply ≢ Reply.Done) }
+        ensures unchanged { OnErr result (self.new ≡ self.old) }
+    {
+        room.clear();
+        room.reserve(frame.len())?;
+        let alloc = self.alloc();
+        match self.receive_checked(moment, frame) {
             Ok(outcome) => Ok(reply_of(alloc, outcome, room)),
             Err(refused) => refusal(refused),
         }

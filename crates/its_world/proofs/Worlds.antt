@@ -1,8 +1,8 @@
 -- A world and the world of the model that it represents, one for one.
-use Rattle.std.proofs.Common.{◌≡◌, ℕ, zero, suc, ◌+◌, ◌-◌, ◌≤◌, List, [], ◌∷◌, ◌++◌, length}
-use Rattle.std.proofs.Common.{set, drop, Some, None, Bool, true, cond, refl, sym, ap}
-use Rattle.std.proofs.Common.{subst, ◌∙◌, arith, tests, length-drop}
-use Rattle.std.proofs.lemmas.List.{drop-append-le, drop-drop}
+use Rattle.std.proofs.Common.{◌≡◌, ◌≢◌, ℕ, zero, suc, ◌+◌, ◌-◌, ◌<◌, ◌≤◌, List, [], ◌∷◌, ◌++◌}
+use Rattle.std.proofs.Common.{length, set, drop, Option, Some, None, Bool, true, false, cond, refl}
+use Rattle.std.proofs.Common.{sym, ap, subst, ◌∙◌, arith, tests, length-drop, IfSome}
+use Rattle.std.proofs.lemmas.List.{drop-append-le, drop-drop, length-append, length-set}
 use Rattle.std.specs.Prelude.{slice_get, nat_le, Vec}
 use Rattle.std.specs.declared.alloc.Global.{Global}
 use Rattle.its_model.specs.Packet.{Transmission}
@@ -11,9 +11,10 @@ use Rattle.its_model.specs.World.{What}
 use Rattle.its_model.specs.World.What.{Calls, Deliver}
 use Rattle.its_linkframe.specs.Frames.{EncodesFrame}
 use Rattle.its_station.specs.State.{StationState, RepresentsStation}
-use Rattle.its_world.specs.Frames.{AreFrames, frame_in}
+use Rattle.its_model.specs.World.{with_one_more}
+use Rattle.its_world.specs.Frames.{AreFrames, IsFaultless, frame_in}
 use Rattle.its_world.specs.State.{RepresentStations}
-use Rattle.its_world.specs.Steps.{IsKept}
+use Rattle.its_world.specs.Steps.{AreSameBut, IsKept}
 
 -- the stations are as many
 pub length_stations : (states : List StationState) (models : List StationModel)
@@ -173,3 +174,49 @@ kept_left released now frames air le h =
 pub none_gone : (released : ℕ) (what : What) → released ≡ 0 → IsKept released what
 none_gone released (Calls call) e = tt
 none_gone released (Deliver k) e = omega (arith, e)
+
+-- ---- a frame that was checked
+left_part : {X : Type 0} (xs : List X) (x : X) (i : ℕ) → i < length xs
+    → slice_get (xs ++ x ∷ []) i ≡ slice_get xs i
+left_part [] x i lt = absurd (omega (arith, lt))
+left_part (y ∷ xs) x zero lt = refl
+left_part (y ∷ xs) x (suc i) lt = left_part xs x i (omega (arith, lt))
+
+-- it stays faultless if one more is sent
+faultless_more : (released : ℕ) (frames : List (Vec ℕ Global)) (sent : Option (Vec ℕ Global))
+    (k : ℕ) → IsFaultless released frames k
+    → IsFaultless released (with_one_more frames sent) k
+faultless_more released frames None k h = h
+faultless_more released frames (Some x) k h = (
+  omega (arith, h.0, length-append frames (x ∷ [])),
+  λ w e. h.1 w (same (nat_le released k) refl ∙ e),
+)
+  where
+    same : (b : Bool) → nat_le released k ≡ b → cond b (slice_get frames (k - released)) None
+        ≡ cond b (slice_get (frames ++ x ∷ []) (k - released)) None
+    same false e = refl
+    same true e =
+        let within : k - released < length frames = grind (arith, tests, e, h.0) in
+        sym (left_part frames x (k - released) within)
+
+pub checked_on : (checked : Option ℕ) (released now : ℕ) (frames after : List (Vec ℕ Global))
+    (sent : Option (Vec ℕ Global)) → now ≡ released → after ≡ with_one_more frames sent
+    → IfSome checked (IsFaultless released frames) → IfSome checked (IsFaultless now after)
+checked_on None released now frames after sent is e h = tt
+checked_on (Some k) released now frames after sent is e h =
+    subst (λ n. IsFaultless n after k) (sym is)
+    (subst (λ (xs : List (Vec ℕ Global)). IsFaultless released xs k) (sym e)
+    (faultless_more released frames sent k h))
+
+-- ---- one station of many is another
+set_apart : {X : Type 0} (xs : List X) (i n : ℕ) (y : X) → n ≢ i
+    → slice_get (set xs i y) n ≡ slice_get xs n
+set_apart [] i n y ne = refl
+set_apart (x ∷ xs) zero zero y ne = absurd (ne refl)
+set_apart (x ∷ xs) zero (suc n) y ne = refl
+set_apart (x ∷ xs) (suc i) zero y ne = refl
+set_apart (x ∷ xs) (suc i) (suc n) y ne = set_apart xs i n y (λ e. ne (ap suc e))
+
+pub same_but_set : (xs : List StationState) (i : ℕ) (y : StationState)
+    → AreSameBut i xs (set xs i y)
+same_but_set xs i y = (length-set xs i y, λ n ne. set_apart xs i n y ne)

@@ -2,12 +2,15 @@
 
 ghost use Rattle.std.specs.Prelude.{◌≡◌, ◌<◌, ◌≤◌, ◌+◌, ◌-◌, ◌++◌, ◌∷◌, [], ℕ, List, All, map, length};
 ghost use Rattle.std.specs.Prelude.{IfOk, IfErr, OnOk, OnErr, Some, slice_get, drop, min, max};
+ghost use Rattle.std.specs.Prelude.{IsSome, IsTrue};
 ghost use Rattle.std.specs.Option.{option_map};
 ghost use Rattle.its_model.specs.Calls.{Answer, Call};
 ghost use Rattle.its_model.specs.Station.{StationModel, station_step};
 ghost use Rattle.its_model.specs.World.{WorldModel, opening, world_step, entries};
+ghost use Rattle.its_model.specs.World.What.{Deliver};
 ghost use Rattle.its_model.specs.Reach.{HasOwnAddress};
 ghost use Rattle.its_headers.specs.Encoding.{IsBytes};
+ghost use Rattle.its_linkframe.specs.Frames.{IsFrame};
 ghost use Rattle.its_station.specs.Runs.{IsReplyTo, IsThisWhereDone};
 ghost use Rattle.its_station.specs.State.{StationState, RepresentsStation};
 ghost use Rattle.its_world.specs.Frames.{frame_in};
@@ -44,9 +47,13 @@ pub struct World {
     air: Air,
     /// Room for the payload of the next delivery: that of the last one, where nothing was delivered.
     room: Vec<u8>,
+    /// The number of a frame in which `read_frame` found no fault: the last one that was expected.
+    checked: Option<usize>,
 }
 
 impl Model for World {
+    ghost use Rattle.std.specs.Prelude.{IfSome};
+    ghost use Rattle.its_world.specs.Frames.{IsFaultless};
     ghost use Rattle.its_world.specs.State.{WorldState};
 
     ghost Value = { WorldState };
@@ -56,6 +63,9 @@ impl Model for World {
       released = w.air.released;
       frames = w.air.kept.items;
     } };
+
+    ghost invariant = { λ w.
+        IfSome w.checked (IsFaultless w.air.released w.air.kept.items) };
 }
 
 impl World {
@@ -93,6 +103,7 @@ impl World {
             stations: stations_of(alloc, configs)?,
             air: Air::new(alloc),
             room: Vec::new(alloc),
+            checked: None,
         })
     }
 
@@ -159,6 +170,7 @@ impl World {
         ensures count { self.new.released + length self.new.frames
             ≡ self.old.released + length self.old.frames }
     {
+        self.checked = None;
         self.air.release(before);
     }
 
@@ -212,8 +224,10 @@ impl World {
         // Laws, for the proof alone.
         one_frame();
         one_frame_fault();
+        let is_checked = delivers(&event.what, self.checked);
         let station = &mut self.stations[event.station];
-        let reply = ask(station, &mut self.room, event.moment, &event.what, frame)?;
+        let room = &mut self.room;
+        let reply = ask(station, room, event.moment, &event.what, frame, is_checked)?;
         let done = event.what.done_entry();
         let outcome = CallOutcome::of_reply(done, reply, self.air.count());
         self.air.number(outcome.frame);
@@ -228,7 +242,7 @@ impl World {
     pub fn expect(&mut self, now: u64, frame: usize, stations: &[usize])
         ensures { self.new ≡ self.old }
     {
-        let Some(source) = self.source_of(frame) else {
+        let Some(source) = self.check_frame(frame) else {
             return;
         };
         for part in stations.chunks(SIDE_BY_SIDE) {
@@ -248,10 +262,15 @@ impl World {
         }
     }
 
-    /// The source of the packet of a frame, if the frame is kept.
-    fn source_of(&self, frame: usize) -> Option<GnAddress> {
-        let view = read_frame(self.air.get(frame)?).ok()?;
-        Some(view.packet.vector().address())
+    /// Reads a frame, so that its deliveries need not check it again: the source of its packet, if the
+    /// frame is kept.
+    fn check_frame(&mut self, frame: usize) -> Option<GnAddress>
+        ensures { self.new ≡ self.old }
+    {
+        let octets = self.air.get(frame)?;
+        let source = source_of(octets)?;
+        self.checked = Some(frame);
+        Some(source)
     }
 
     /// Where the location tables of the first `SIDE_BY_SIDE` of these stations have an address, if
@@ -321,6 +340,16 @@ impl World {
     }
 }
 
+/// The source of the packet in the octets of a frame. `None` if they have a fault.
+fn source_of(octets: &[u8]) -> Option<GnAddress>
+    ensures { IsSome result → IsFrame octets.now }
+{
+    match read_frame(octets) {
+        Ok(view) => Some(view.packet.vector().address()),
+        Err(_) => None,
+    }
+}
+
 /// The frame that an event delivers, or no octets where it delivers none; `None` where no frame of
 /// its number is kept.
 fn delivered<'a>(air: &'a Air, what: &What) -> Option<&'a [u8]>
@@ -340,16 +369,29 @@ fn delivered<'a>(air: &'a Air, what: &What) -> Option<&'a [u8]>
     }
 }
 
+/// Whether an event delivers the frame of this number, if there is one.
+fn delivers(what: &What, frame: Option<usize>) -> bool
+    ensures { IsTrue result → (number : ℕ) × (what_of what.now ≡ Deliver number)
+        × (frame ≡ Some number) }
+{
+    match what {
+        What::Deliver(number) => frame == Some(*number),
+        _ => false,
+    }
+}
+
 /// What a station replies to a call or, where it is a delivery, to this frame. A payload that is
-/// delivered takes the room.
+/// delivered takes the room. The octets are not checked again if they are known to have no fault.
 fn ask(
     station: &mut Station<SortedTable>,
     room: &mut Vec<u8>,
     moment: u64,
     what: &What,
     frame: &[u8],
+    is_checked: bool,
 ) -> Result<Reply, NoMemory>
-    requires { IsInRange what.now }
+    requires range { IsInRange what.now }
+    requires checked { IsTrue is_checked → IsFrame frame.now }
     ensures step { IfOk result (λ reply. (call : Call) × IsAskedBy (what_of what.now) frame.now call
         × ((s : StationModel) → RepresentsStation station.old s →
         IsReplyTo reply station.new (station_step s moment call)
@@ -374,6 +416,7 @@ fn ask(
             Reply::of_send(station.send_geobroadcast(moment, &r.lend()))
         }
         What::SendGeoanycast(r) => Reply::of_send(station.send_geoanycast(moment, &r.lend())),
+        What::Deliver(_) if is_checked => station.receive_checked_in(moment, frame, room),
         What::Deliver(_) => station.receive_in(moment, frame, room),
     }
 }

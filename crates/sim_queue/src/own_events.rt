@@ -125,18 +125,12 @@ impl OwnEvents {
     pub fn announce(&mut self, delivery: &Delivery) -> Receivers
         ensures { self.new ≡ self.old }
     {
-        let mut receivers = Receivers::none();
-        if self.announced == 0 {
-            receivers.add(delivery.station);
-            for next in self.line.iter().take(MOST_RECEIVERS - 1) {
-                if next.frame != delivery.frame {
-                    break;
-                }
-                receivers.add(next.station);
-            }
-            self.announced = receivers.count;
+        if self.announced > 0 {
+            self.announced -= 1;
+            return Receivers::none();
         }
-        self.announced = self.announced.saturating_sub(1);
+        let receivers = receivers_of(&self.line, delivery);
+        self.announced = receivers.count.saturating_sub(1);
         receivers
     }
 
@@ -190,6 +184,19 @@ impl OwnEvents {
     {
         self.counts.get(kind.number()?, station)
     }
+}
+
+/// The station of a delivery, and those that receive the same frame next in line.
+fn receivers_of(line: &VecDeque<Delivery>, delivery: &Delivery) -> Receivers {
+    let mut receivers = Receivers::none();
+    receivers.add(delivery.station);
+    for next in line.iter().take(MOST_RECEIVERS - 1) {
+        if next.frame != delivery.frame {
+            break;
+        }
+        receivers.add(next.station);
+    }
+    receivers
 }
 
 /// Whether a delivery comes behind all that stand in line.

@@ -136,8 +136,17 @@ returns-in-SendGeoanycast-clause-step c =
 pub returns-in-Deliver-clause-step : goal.returns-in-Deliver-clause-step
 returns-in-Deliver-clause-step c =
     let frame = c.args.frame.now in
+    frame_reply c.receive_checked_in.result (IsFrameCall frame)
+    (IsAskedBy (what_of c.args.what.now) frame) c.args.station.now c.receive_checked_in.new.self
+    c.args.moment (done_answer (what_of c.args.what.now))
+    (λ call is. subst (λ (k : What). IsAskedBy (what_of k) frame call) (sym c.in-Deliver.is) is)
+    c.receive_checked_in.ensures.step c.receive_checked_in.ensures.answered
+
+pub returns-in-Deliver-2-clause-step : goal.returns-in-Deliver-2-clause-step
+returns-in-Deliver-2-clause-step c =
+    let frame = c.args.frame.now in
     frame_reply c.receive_in.result (IsFrameCall frame)
     (IsAskedBy (what_of c.args.what.now) frame) c.args.station.now c.receive_in.new.self
     c.args.moment (done_answer (what_of c.args.what.now))
-    (λ call is. subst (λ (k : What). IsAskedBy (what_of k) frame call) (sym c.in-Deliver.is) is)
+    (λ call is. subst (λ (k : What). IsAskedBy (what_of k) frame call) (sym c.in-Deliver-2.is) is)
     c.receive_in.ensures.step c.receive_in.ensures.answered

@@ -13,9 +13,9 @@ use Rattle.its_world.specs.State.{WorldState, RepresentsWorld}
 use Rattle.its_world.specs.Entries.{TellsEntry}
 use Rattle.its_world.specs.Frames.{AreFrames}
 use Rattle.its_world.specs.Events.{event_of, what_of}
-use Rattle.its_world.specs.Steps.{IsDelivered, IsKept}
+use Rattle.its_world.specs.Steps.{AreSameBut, IsDelivered, IsKept}
 use Rattle.its_world.proofs.Giving.{done_told, given_numbered}
-use Rattle.its_world.proofs.Worlds.{count_kept}
+use Rattle.its_world.proofs.Worlds.{checked_on, count_kept, same_but_set}
 use Rattle.its_world.proofs.Logs.{nowhere, undelivered, answered_step, station_at, get_or_is}
 use Rattle.its_world.proofs.world.World.step.Goals as goal
 
@@ -118,3 +118,19 @@ returns-clause-step c = λ w h kept. (
     here at.3 kept_here delivered asked.1 c.ask.new.station replied.0.1 refl c.number.ensures.released
     framed in
     (stepped.stands, entry_of (length w.air) answer, told, stepped.last))
+
+pub invariant_of-self-2 : goal.invariant_of-self-2
+invariant_of-self-2 c =
+    let inside = c.self.inside in
+    checked_on inside.checked inside.air.released c.number.new.self.released inside.air.kept.items
+    c.number.new.self.kept.items c.of_reply-outcome.result.frame
+    (c.number.ensures.released ∙ c.make_room.ensures.released)
+    (c.number.ensures.given ∙ ap (λ (xs : List (Vec ℕ Global)).
+    with_one_more xs c.of_reply-outcome.result.frame) c.make_room.ensures.kept) c.self.invariant
+
+pub returns-clause-others : goal.returns-clause-others
+returns-clause-others c =
+    let states = c.self.inside.stations.items in
+    let number = c.args.event.now.station in
+    subst (λ (v : WorldState). AreSameBut number v.stations (set states number c.ask.new.station))
+    c.self.view_is (same_but_set states number c.ask.new.station)

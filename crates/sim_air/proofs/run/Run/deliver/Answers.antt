@@ -17,6 +17,8 @@ use Rattle.sim_queue.proofs.Keeping.{on_ok, on_ok_both}
 use Rattle.sim_air.proofs.Keeping.{goes_on, same_file}
 use Rattle.sim_air.proofs.Stepping.{own_done}
 use Rattle.sim_air.proofs.Under.{told_on}
+use Rattle.sim_queue.specs.Files.{SameFile}
+use Rattle.sim_air.specs.declared.run.Run.{Run}
 use Rattle.sim_air.proofs.run.Run.deliver.Goals as goal
 
 pub returns-clause-run : goal.returns-clause-run
@@ -33,13 +35,16 @@ returns-clause-run g c = λ configs events before.
       subst (λ (x : WorldState). IsSimulated configs (events ++ e ∷ []) x After)
           (sym c.come-came.ensures.world.world)
           (told_on configs (events ++ e ∷ []) done.world (g.S.EventSink.Took c.do_event.new.sink)
-          After says (c.in_ok-entry.ensures.run configs events before)),
+          After says (c.in_ok-entry.ensures.run configs events (subst (λ (r : Run). IsSimulated configs events
+          r.world (g.S.EventSink.Took c.args.sink.now)) (sym c.announce.ensures) before))),
     ))
     c.come-came.ensures.told)
 
 pub returns-clause-timed : goal.returns-clause-timed
-returns-clause-timed g c = λ rules configs a h.
-    let run = c.args.self.now in
+returns-clause-timed g c = λ rules configs a h0.
+    let run = c.announce.new.self in
+    let h = subst (λ (r : Run). IsTimed rules configs a r (g.S.EventSink.Took c.args.sink.now))
+    (sym c.announce.ensures) h0 in
     let w = delivery_of c.args.delivery.now in
     let ev = event_of c.event-event.result in
     let e = happening_of w in
@@ -96,5 +101,6 @@ returns-clause-timed g c = λ rules configs a h.
 
 pub returns-clause-file : goal.returns-clause-file
 returns-clause-file g c =
-    same_file c.args.self.now.queue c.do_event.new.self.queue c.come-came.new.self.queue
-    c.do_event.ensures.file c.come-came.ensures.file
+    subst (λ (r : Run). SameFile r.queue c.come-came.new.self.queue) c.announce.ensures
+    (same_file c.announce.new.self.queue c.do_event.new.self.queue c.come-came.new.self.queue
+    c.do_event.ensures.file c.come-came.ensures.file)
