@@ -1,8 +1,9 @@
 -- What a run keeps of the model's air.
 use Rattle.std.proofs.Common.{◌≡◌, ℕ, ◌+◌, List, [], ◌∷◌, ◌++◌, refl, sym, ap, ◌∙◌}
 use Rattle.std.proofs.Common.{cond, Bool, true, false, Option, Some, None}
-use Rattle.std.proofs.Common.{not, ◌&&◌, zero, suc}
-use Rattle.std.specs.Prelude.{◌==◌, slice_get}
+use Rattle.std.proofs.Common.{not, ◌&&◌, zero, suc, subst}
+use Rattle.std.specs.Prelude.{◌==◌, slice_get, Vec}
+use Rattle.std.specs.declared.alloc.Global.{Global}
 use denote.Ref.{Bor}
 use Rattle.std.specs.Option.{option_map}
 use Rattle.std.proofs.lemmas.List.{reverse-append}
@@ -14,7 +15,6 @@ use Rattle.its_model.specs.Calls as model
 use Rattle.its_model.specs.Calls.{Answer, Refusal}
 use Rattle.its_station.specs.Steps.{refusal_of}
 use Rattle.its_world.specs.Entries.{TellsEntry, TellsFault}
-use Rattle.its_world.specs.declared.entry.Entry.{Entry}
 use Rattle.its_world.specs.declared.entry.Entry.TheVariants as entries
 use Rattle.its_world.specs.declared.entry.EntryFault.{EntryFault}
 use Rattle.its_world.specs.declared.entry.EntryFault.TheVariants as faults
@@ -27,8 +27,14 @@ use Rattle.sim_queue.specs.Files.{SameFile}
 use Rattle.sim_settings.specs.declared.air.Air.{Air}
 use Rattle.sim_air.specs.AirTimed.{rules_of}
 use Rattle.sim_queue.specs.Keeps.{Keeps}
-use Rattle.sim_air.specs.Keeps.{GoesBy}
-use Rattle.sim_air_model.specs.Timetable.{Rules}
+use Rattle.its_model.specs.World.{Config, Event}
+use Rattle.its_world.specs.declared.entry.Entry.{Entry}
+use Rattle.its_world.specs.State.{WorldState}
+use Rattle.sim_simulation.specs.Simulated.{IsSimulated}
+use Rattle.sim_queue.specs.declared.draws.Draws.{Draws}
+use Rattle.sim_air.specs.Keeps.{GoesBy, IsTimed}
+use Rattle.sim_air.specs.Runs.{SameWorld}
+use Rattle.sim_air_model.specs.Timetable.{AirModel, Rules}
 use Rattle.sim_air.specs.declared.run.Run.{Run}
 use Rattle.sim_air_model.specs.Range.{is_within}
 use Rattle.sim_queue.specs.Reach.{numbers_from, hears, hearers}
@@ -211,6 +217,20 @@ goes_on rules old new goes_by air every until =
     rules.present)
     every
     ∙ ap (λ n. rules_of old.air (all_traffic old.every.now) n rules.present) until ∙ goes_by
+
+-- it is timed as before if nothing changed but what no rule speaks of
+pub timed_on : (rules : Rules) (configs : List Config) (a : AirModel) (old new : Run)
+    (Took : List Event → List Entry → Type 0) → SameWorld old new → new.present ≡ old.present
+    → new.queue ≡ old.queue → new.draws ≡ old.draws → IsTimed rules configs a old Took
+    → IsTimed rules configs a new Took
+timed_on rules configs a old new Took world present queue draws h = record {
+  goes_by = goes_on rules old new h.goes_by world.air world.every
+      (ap (λ (q : Queue). q.until) queue);
+  present = ap (λ (v : Vec Bool Global). v.items) present ∙ h.present;
+  told = subst (λ (w : WorldState). IsSimulated configs a.done w Took) (sym world.world) h.told;
+  keeps = subst (λ (q : Queue). Keeps q new.draws a.timetable) (sym queue)
+      (subst (λ (d : Draws). Keeps old.queue d a.timetable) (sym draws) h.keeps);
+}
 
 -- the same file over two calls
 pub same_file : (a b c : Queue) → SameFile a b → SameFile b c → SameFile a c

@@ -135,6 +135,8 @@ pub(crate) struct Run<'a> {
     hearers: Vec<usize>,
     /// How many events were done.
     done: usize,
+    /// How many of the next deliveries were announced.
+    announced: usize,
 }
 
 impl<'a> Run<'a> {
@@ -183,6 +185,7 @@ impl<'a> Run<'a> {
             standings,
             hearers: Vec::new(alloc),
             done: 0,
+            announced: 0,
         })
     }
 
@@ -458,13 +461,19 @@ impl<'a> Run<'a> {
 
     /// Has the receivers of a frame look up its source together, when the first of them receives it.
     fn announce(&mut self, delivery: &Delivery)
-        ensures { self.new ≡ self.old }
+        ensures world { SameWorld self.old self.new }
+        ensures present { self.new.present ≡ self.old.present }
+        ensures queue { self.new.queue ≡ self.old.queue }
+        ensures draws { self.new.draws ≡ self.old.draws }
     {
-        let receivers = self.queue.announce(delivery);
-        let stations = receivers.as_slice();
-        if !stations.is_empty() {
-            self.world.expect(delivery.moment, delivery.frame, stations);
+        if self.announced > 0 {
+            self.announced -= 1;
+            return;
         }
+        let receivers = self.queue.receivers(delivery);
+        let stations = receivers.as_slice();
+        self.announced = stations.len().saturating_sub(1);
+        self.world.expect(delivery.moment, delivery.frame, stations);
     }
 
     /// Does one of the air's own, and puts what follows it. A tick or a send of an absent station

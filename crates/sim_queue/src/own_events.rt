@@ -29,8 +29,6 @@ pub struct OwnEvents {
     line: VecDeque<Delivery>,
     /// How many wait of each kind, at each station. In line is none of these.
     counts: Counts,
-    /// How many of the next deliveries were in the last `Receivers`.
-    announced: usize,
 }
 
 impl Model for OwnEvents {
@@ -57,7 +55,6 @@ impl OwnEvents {
             heap: BinaryHeap::new(alloc),
             line: VecDeque::new(alloc),
             counts: Counts::new(alloc, kinds),
-            announced: 0,
         }
     }
 
@@ -120,17 +117,17 @@ impl OwnEvents {
         }
     }
 
-    /// Which stations receive the frame of the delivery that was just taken: its own, and those that
-    /// come next in line. None if they were announced with an earlier delivery.
-    pub fn announce(&mut self, delivery: &Delivery) -> Receivers
-        ensures { self.new ≡ self.old }
-    {
-        if self.announced > 0 {
-            self.announced -= 1;
-            return Receivers::none();
+    /// The stations that receive the frame of a delivery that was just taken: its own, and those that
+    /// come next in line.
+    pub fn receivers(&self, delivery: &Delivery) -> Receivers {
+        let mut receivers = Receivers::none();
+        receivers.add(delivery.station);
+        for next in self.line.iter().take(MOST_RECEIVERS - 1) {
+            if next.frame != delivery.frame {
+                break;
+            }
+            receivers.add(next.station);
         }
-        let receivers = receivers_of(&self.line, delivery);
-        self.announced = receivers.count.saturating_sub(1);
         receivers
     }
 
@@ -184,19 +181,6 @@ impl OwnEvents {
     {
         self.counts.get(kind.number()?, station)
     }
-}
-
-/// The station of a delivery, and those that receive the same frame next in line.
-fn receivers_of(line: &VecDeque<Delivery>, delivery: &Delivery) -> Receivers {
-    let mut receivers = Receivers::none();
-    receivers.add(delivery.station);
-    for next in line.iter().take(MOST_RECEIVERS - 1) {
-        if next.frame != delivery.frame {
-            break;
-        }
-        receivers.add(next.station);
-    }
-    receivers
 }
 
 /// Whether a delivery comes behind all that stand in line.

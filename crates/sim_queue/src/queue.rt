@@ -159,12 +159,10 @@ impl<'a> Queue<'a> {
         self.own.pop_delivery_before(moment)
     }
 
-    /// Which stations receive the frame of the delivery that was just taken: its own, and those that
-    /// come next. None if they were announced with an earlier delivery. What waits stays as it was.
-    pub fn announce(&mut self, delivery: &Delivery) -> Receivers
-        ensures { self.new ≡ self.old }
-    {
-        self.own.announce(delivery)
+    /// The stations that receive the frame of a delivery that was just taken: its own, and those that
+    /// come next.
+    pub fn receivers(&self, delivery: &Delivery) -> Receivers {
+        self.own.receivers(delivery)
     }
 
     /// Takes the first that waits, unless its moment is past the last.

@@ -9,7 +9,7 @@ pub(crate) const MOST_RECEIVERS: usize = 16;
 #[derive(Clone, Copy, Debug)]
 pub struct Receivers {
     stations: [usize; MOST_RECEIVERS],
-    pub(crate) count: usize,
+    count: usize,
     ghost few: { count ≤ 16 },
 }
 

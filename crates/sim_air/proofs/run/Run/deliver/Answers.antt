@@ -14,11 +14,11 @@ use Rattle.sim_air_model.specs.Timetable.{come, comes, is_passed_over}
 use Rattle.sim_air_model.specs.Timetable.{present_after, spread, take_one}
 use Rattle.sim_queue.specs.Waits.{pending_of, planned_of}
 use Rattle.sim_queue.proofs.Keeping.{on_ok, on_ok_both}
-use Rattle.sim_air.proofs.Keeping.{goes_on, same_file}
+use Rattle.sim_air.proofs.Keeping.{goes_on, same_file, timed_on}
 use Rattle.sim_air.proofs.Stepping.{own_done}
 use Rattle.sim_air.proofs.Under.{told_on}
 use Rattle.sim_queue.specs.Files.{SameFile}
-use Rattle.sim_air.specs.declared.run.Run.{Run}
+use Rattle.sim_queue.specs.declared.queue.Queue.{Queue}
 use Rattle.sim_air.proofs.run.Run.deliver.Goals as goal
 
 pub returns-clause-run : goal.returns-clause-run
@@ -35,16 +35,18 @@ returns-clause-run g c = λ configs events before.
       subst (λ (x : WorldState). IsSimulated configs (events ++ e ∷ []) x After)
           (sym c.come-came.ensures.world.world)
           (told_on configs (events ++ e ∷ []) done.world (g.S.EventSink.Took c.do_event.new.sink)
-          After says (c.in_ok-entry.ensures.run configs events (subst (λ (r : Run). IsSimulated configs events
-          r.world (g.S.EventSink.Took c.args.sink.now)) (sym c.announce.ensures) before))),
+          After says (c.in_ok-entry.ensures.run configs events
+          (subst (λ (v : WorldState). IsSimulated configs events v
+          (g.S.EventSink.Took c.args.sink.now)) (sym c.announce.ensures.world.world) before))),
     ))
     c.come-came.ensures.told)
 
 pub returns-clause-timed : goal.returns-clause-timed
 returns-clause-timed g c = λ rules configs a h0.
     let run = c.announce.new.self in
-    let h = subst (λ (r : Run). IsTimed rules configs a r (g.S.EventSink.Took c.args.sink.now))
-    (sym c.announce.ensures) h0 in
+    let h = timed_on rules configs a c.args.self.now run (g.S.EventSink.Took c.args.sink.now)
+    c.announce.ensures.world c.announce.ensures.present c.announce.ensures.queue
+    c.announce.ensures.draws h0 in
     let w = delivery_of c.args.delivery.now in
     let ev = event_of c.event-event.result in
     let e = happening_of w in
@@ -101,6 +103,6 @@ returns-clause-timed g c = λ rules configs a h0.
 
 pub returns-clause-file : goal.returns-clause-file
 returns-clause-file g c =
-    subst (λ (r : Run). SameFile r.queue c.come-came.new.self.queue) c.announce.ensures
+    subst (λ (q : Queue). SameFile q c.come-came.new.self.queue) c.announce.ensures.queue
     (same_file c.announce.new.self.queue c.do_event.new.self.queue c.come-came.new.self.queue
     c.do_event.ensures.file c.come-came.ensures.file)
