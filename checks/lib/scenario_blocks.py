@@ -5,8 +5,10 @@
 
 STATION is a number, or the id of a vehicle. A key that is left out has the value of DEFAULTS. `KEY=`
 leaves it out of the scenario, and the value `-` is the empty text. Any other line is copied.
+As a program it writes the scenario of its standard input.
 """
 
+import sys
 from itertools import groupby
 
 AREA = "lt=26 hops=10 shape=circle alat=0 alon=0 a=100 b=0 angle=0"
@@ -62,3 +64,7 @@ def expand(lines):
         else:
             text += f"{array} = [\n" + "".join(f"  {line},\n" for line in shown) + "]\n"
     return text
+
+
+if __name__ == "__main__":
+    sys.stdout.write(expand(sys.stdin.read().splitlines()))
