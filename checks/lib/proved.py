@@ -1,7 +1,7 @@
 """The page PROVED.md: each public function, the names of its clauses, and what it does.
 
 Each crate of crates.txt is a section, with the subject of its `src/lib.rt`. A row is a function, a
-link to its source file, the first sentence of its `///` and the names of its clauses. Contracts are
+link to its source file, its `///` without examples, and the names of its clauses. Contracts are
 found by the layout that `rt fmt` gives every source, so nothing is parsed but the beginnings of
 lines.
 """
@@ -21,8 +21,8 @@ Every function is safe and returns, for any octets and for all values within its
 addition, each public function below has the result that its contract promises. The table names its
 clauses, which the file has at the function: `ensures NAME {{ .. }}`, or one clause without a name.
 *Under* names its conditions (`requires`). [READING.md]({proof}/READING.md) explains how to read a
-clause, and [DEFINITIONS.md]({proof}/DEFINITIONS.md) the words of the model. The sentence is the
-first of the function's `///`. The clauses are proved and may promise less: for a command of the
+clause, and [DEFINITIONS.md]({proof}/DEFINITIONS.md) the words of the model. What a function does is
+said by its `///`. The clauses are proved and may promise less: for a command of the
 program they promise the exit status only. Laws are contracts of functions that do nothing, in the
 module `laws` of their crate.
 
@@ -77,6 +77,11 @@ def sentence(comment):
     return (found.group(1) if found else first).replace("|", "\\|")
 
 
+def whole(comment):
+    """A comment up to its first example, as a cell of a table."""
+    return " ".join(" ".join(comment).partition("```")[0].split()).replace("|", "\\|")
+
+
 def comment_above(lines, at):
     """The lines of the `///` above a line; attributes may stand between."""
     comment = []
@@ -104,8 +109,8 @@ def contract(lines, at, indent):
 
 
 class Shown(NamedTuple):
-    """A function that a crate shows: its name, its trait, its line, the first sentence of its
-    comment, and the names of its clauses and conditions."""
+    """A function that a crate shows: its name, its trait, its line, its comment, and the names of
+    its clauses and conditions."""
 
     name: str
     trait: str
@@ -137,9 +142,9 @@ def shown_functions(path, names, modules):
         of_owner = shown and (is_public or declared or trait) if indent else False
         of_crate = not indent and is_public and (public or name in names or exported)
         if of_owner or of_crate:
-            about = sentence(comment_above(lines, at))
-            whole = f"{owner}::{name}" if indent else name
-            yield Shown(whole, trait, at + 1, about, *contract(lines, at, indent))
+            about = whole(comment_above(lines, at))
+            shown_name = f"{owner}::{name}" if indent else name
+            yield Shown(shown_name, trait, at + 1, about, *contract(lines, at, indent))
 
 
 def named(names, lone, many):

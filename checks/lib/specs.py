@@ -1,8 +1,8 @@
 """The page SPECS.md: the definitions of each crate, from the comments of its specs.
 
-Each crate of crates.txt that has definitions is a section, but those with chapters of their own in
-docs/proof/DEFINITIONS.md. Each file of `specs/` begins with a comment, its subject. A row is a
-definition and the comment above it, or what it is declared as if it has none.
+Each crate of crates.txt that has definitions is a section. Each file of `specs/` begins with a
+comment, its subject. A row is a definition and the comment above it, or what it is declared as if
+it has none.
 """
 
 import os
@@ -14,10 +14,9 @@ HEAD = """# Definitions, by crate
 <!-- Written by checks/docs from the sources. -->
 
 These are the definitions that the clauses of the crates use, in the words of their comments.
-[DEFINITIONS.md]({proof}/DEFINITIONS.md) explains the notation, and has the definitions of the
+[DEFINITIONS.md]({proof}/DEFINITIONS.md) explains the notation, and how to read those of the
 protocol and of geometry.
 """
-BY_HAND = ("its_geometry", "its_model")
 KEYWORDS = {"abbrev", "unfoldable", "pub", "record", "data"}
 
 
@@ -55,8 +54,7 @@ class Page:
         proof = os.path.relpath(TOP / "docs/proof", folder)
         lines = HEAD.format(proof=proof).rstrip("\n").split("\n")
         for crate in crate_names():
-            if crate not in BY_HAND:
-                lines += self.section(crate)
+            lines += self.section(crate)
         self.text = "\n".join(lines) + "\n"
 
     def section(self, crate):

@@ -57,10 +57,16 @@ function filesOf(folder, end) {
   return names.map((name) => ({name, text: fs.readFileSync(path.join(folder, name), 'utf8')}));
 }
 
+/** The TOML of a block of the language `scenario`. @param {string} lines */
+function expanded(lines) {
+  const program = path.join(CASES, '../checks/lib/scenario_blocks.py');
+  return spawnSync('python3', [program], {input: lines, encoding: 'utf8'}).stdout;
+}
+
 /** The scenarios in the cases of the program that send for an area, and need no file of moves. */
 const INSIDE = filesOf(CASES, '.md').flatMap(({name, text}) =>
-  [...text.matchAll(/^```toml (\S+)\n([^]*?)^```/gm)].map(([, block, scenario]) =>
-    ({name: `${block} of ${name}`, text: scenario})))
+  [...text.matchAll(/^```(toml|scenario) (\S+)\n([^]*?)^```/gm)].map(([, kind, block, lines]) =>
+    ({name: `${block} of ${name}`, text: kind === 'toml' ? lines : expanded(lines)})))
   .filter(({text}) => /"g[ab]c"/.test(text) && /address = /.test(text) && !/\bid = /.test(text));
 const SAMPLES = [...filesOf(path.join(CASES, 'data'), '.toml'), ...filesOf(samples.DATA, '.toml')];
 
