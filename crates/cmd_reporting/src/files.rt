@@ -3,7 +3,7 @@
 ghost use Rattle.std.specs.Prelude.{◌≡◌, IsOk, true};
 ghost use Rattle.cmd_reporting.specs.FileNames.{is_standard as names_standard};
 
-use crate::fault::{Fault, WriterFault};
+use crate::fault::Fault;
 use crate::named_file::{NamedFile, refuse_same};
 use crate::outputs::{OutputFault, is_standard};
 use std::alloc::AllocError;
@@ -72,19 +72,6 @@ pub fn keep_apart<'a, R: Files>(
         return Ok(());
     }
     refuse_same(&[NamedFile::of(rt, written)], &[NamedFile::of(rt, read)])
-}
-
-/// Creates a file that isn't the one that is read: `create`, or the refusal of `keep_apart`.
-pub fn create_apart<'a, R: Files + AllocGlobal>(
-    rt: &R,
-    written: &'a str,
-    read: &'a str,
-) -> Result<BufWriter<R::File>, WriterFault<'a, Fault<'a>>>
-where
-    R::File: Write + Drop,
-{
-    keep_apart(rt, written, read)?;
-    Ok(create(rt, written)?)
 }
 
 /// Opens a file for reading, with a buffer. `input` is standard input. `NotRead` or `CannotRead`
