@@ -20,6 +20,7 @@ abbrev pub AreNone : LinkFacts → Type 0
 AreNone facts = (facts.vlan ≡ None) × (facts.signal ≡ None) × (facts.rate ≡ None)
 
 abbrev pub AreFacts : LinkLayer → List ℕ → LinkFacts → Type 0
+AreFacts layers.Bare w facts = AreNone facts
 AreFacts layers.Ethernet w facts = AreTagged w facts
 AreFacts layers.Ieee80211 w facts = AreNone facts
 AreFacts layers.Radiotap w facts = AreReceived w facts

@@ -14,8 +14,9 @@ use Rattle.cap_linklayers.specs.declared.link.LinkLayer.{LinkLayer}
 use Rattle.cap_linklayers.specs.declared.link.LinkLayer.TheVariants as layers
 use Rattle.cap_linklayers.specs.declared.radiotap.RadiotapHeader.{RadiotapHeader}
 
--- the number of a link layer in pcap and pcapng
+-- the number of a link layer in pcap and pcapng; a bare frame is one of Ethernet there
 abbrev pub layer_number : LinkLayer → ℕ
+layer_number layers.Bare = 1
 layer_number layers.Ethernet = 1
 layer_number layers.Ieee80211 = 105
 layer_number layers.Radiotap = 127
@@ -74,6 +75,7 @@ IsFrameBehind r w f =
 
 -- the frame of a record
 abbrev pub IsFrameIn : LinkLayer → List ℕ → List ℕ → Type 0
+IsFrameIn layers.Bare w f = f ≡ w
 IsFrameIn layers.Ethernet w f = (at : ℕ) × IsTypeAt w at × (f ≡ take 12 w ++ drop at w)
 IsFrameIn layers.Ieee80211 w f = IsUncheckedData false 0 w f
 IsFrameIn layers.Radiotap w f = (r : RadiotapHeader) × IsRadiotap w r × IsFrameBehind r w f
@@ -89,6 +91,7 @@ IsFaultBehind r w f =
 
 -- The first rule that doesn't hold.
 abbrev pub IsLinkFault : LinkLayer → List ℕ → LinkFault → Type 0
+IsLinkFault layers.Bare w f = ⊥
 IsLinkFault layers.Ethernet w f = (f ≡ faults.Short) × EndsInTag w
 IsLinkFault layers.Ieee80211 w f = IsHeaderFault false w 0 f
 IsLinkFault layers.Radiotap w f =

@@ -44,7 +44,9 @@ impl LinkFacts {
                 rate: rate_of(octets),
                 ..LinkFacts::none()
             },
-            LinkLayer::Ieee80211 | LinkLayer::Sll | LinkLayer::Sll2 => LinkFacts::none(),
+            LinkLayer::Bare | LinkLayer::Ieee80211 | LinkLayer::Sll | LinkLayer::Sll2 => {
+                LinkFacts::none()
+            }
         }
     }
 }

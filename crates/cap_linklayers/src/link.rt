@@ -32,6 +32,9 @@ pub const LONGEST_RECORD: usize = 65535 + 36 + 6 + (LONGEST_SECURED_FRAME + 1) +
 /// A link layer that records are read of.
 #[derive(Clone, Copy, Debug, PartialEq, Eq)]
 pub enum LinkLayer {
+    /// None: a record is the frame itself, without a header before it. Files with link types have it
+    /// as Ethernet.
+    Bare,
     /// Ethernet: link type 1.
     Ethernet,
     /// IEEE 802.11: link type 105.
@@ -68,12 +71,12 @@ pub fn link_layer(number: u32) -> Option<LinkLayer>
 }
 
 impl LinkLayer {
-    /// Its number in pcap and pcapng.
+    /// Its number in pcap and pcapng. A bare frame is one of Ethernet there.
     pub fn number(self) -> u32
         ensures { result ≡ layer_number self }
     {
         match self {
-            LinkLayer::Ethernet => 1,
+            LinkLayer::Bare | LinkLayer::Ethernet => 1,
             LinkLayer::Ieee80211 => 105,
             LinkLayer::Radiotap => 127,
             LinkLayer::Sll => 113,
@@ -122,6 +125,7 @@ pub fn frame_start(layer: LinkLayer, octets: &mut Vec<u8>) -> Result<usize, Link
     ensures fault { IfErr result (IsLinkFault layer octets.old.items) }
 {
     match layer {
+        LinkLayer::Bare => Ok(0),
         LinkLayer::Ethernet => untag(octets),
         LinkLayer::Ieee80211 => unchecked_data(octets, 0, false),
         LinkLayer::Radiotap => {

@@ -1,5 +1,5 @@
 -- What a file says of an interface.
-use Rattle.std.specs.Prelude.{◌≡◌, ℕ, List, [], take, Option, Some, None}
+use Rattle.std.specs.Prelude.{ℕ, List, [], take, Option, Some, None}
 use Rattle.cap_linklayers.specs.LinkLayers.{layer_number}
 use Rattle.cap_pcap.specs.declared.info.InterfaceHead.{InterfaceHead}
 use Rattle.cap_pcap.specs.declared.info.InterfaceInfo.{InterfaceInfo}

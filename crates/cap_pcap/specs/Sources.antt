@@ -29,12 +29,12 @@ use Rattle.cap_pcap.specs.declared.source.AnySource.TheVariants as sources
 
 -- ---- a step of each format
 
--- A step of a capture: a record went, which is a whole frame of Ethernet; or the end was met, or a
+-- A step of a capture: a record went, which is a whole bare frame; or the end was met, or a
 -- fault. It has no part without a record.
 abbrev pub StepsCapture : captures.Reading → captures.Reading → List ℕ → Result Step SourceFault
     → Type 0
 StepsCapture was now frame (Ok (steps.Record h)) =
-    (h.captured ≡ length frame) × (h.wire ≡ length frame) × (h.layer ≡ Some layers.Ethernet)
+    (h.captured ≡ length frame) × (h.wire ≡ length frame) × (h.layer ≡ Some layers.Bare)
     × (h.fine ≡ record { nanos = 0; finer = false; ticks = h.moment }) × (h.interface ≡ 0)
     × IsCaptured (captured_at h.moment frame)
     × Consumes was.rest now.rest (record_octets (captured_at h.moment frame))

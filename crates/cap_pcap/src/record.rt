@@ -1,6 +1,6 @@
 //! What is told of a record, and what one call for records gives.
 
-ghost use Rattle.std.specs.Prelude.{◌≡◌};
+ghost use Rattle.std.specs.Prelude.{◌≡◌, IfErr, IfOk, None, Some};
 ghost use Rattle.cap_pcap.specs.Records.{fault_of, record_code_of};
 
 use cap_linklayers::LinkLayer;
@@ -59,17 +59,28 @@ pub enum RecordFault {
 }
 
 impl RecordHeader {
+    /// Returns the link layer of a record whose octets are all there.
+    ///
+    /// `LinkType` (P3) if the link layer is not read, before `CutFrame` (P4).
+    pub fn whole_layer(&self) -> Result<LinkLayer, RecordFault>
+        ensures layer { IfOk result (λ layer. self.now.layer ≡ Some layer) }
+        ensures whole { IfOk result (λ _. fault_of self.now ≡ None) }
+        ensures fault { IfErr result (λ fault. fault_of self.now ≡ Some fault) }
+    {
+        let Some(layer) = self.layer else {
+            return Err(RecordFault::LinkType);
+        };
+        if self.captured < self.wire {
+            return Err(RecordFault::CutFrame);
+        }
+        Ok(layer)
+    }
+
     /// The first fault of the record: P3 before P4.
     pub fn fault(&self) -> Option<RecordFault>
         ensures { result ≡ fault_of self.now }
     {
-        if self.layer.is_none() {
-            return Some(RecordFault::LinkType);
-        }
-        if self.captured < self.wire {
-            return Some(RecordFault::CutFrame);
-        }
-        None
+        self.whole_layer().err()
     }
 }
 

@@ -65,7 +65,7 @@ impl<R: Source> RecordSource for PcapngReader<R> {
     }
 }
 
-/// The records of a capture of this project's own: frames of Ethernet, none of them cut.
+/// The records of a capture of this project's own: bare frames, none of them cut.
 #[derive(Drop)]
 pub struct CaptureSource<R: Source> {
     reader: CaptureReader<R>,
@@ -116,7 +116,7 @@ impl<R: Source> RecordSource for CaptureSource<R> {
                     interface: 0,
                     captured: size,
                     wire: size,
-                    layer: Some(LinkLayer::Ethernet),
+                    layer: Some(LinkLayer::Bare),
                 }))
             }
         }

@@ -4,16 +4,19 @@ use Rattle.std.proofs.Common.{arith, length-drop, slice_set}
 use Rattle.std.proofs.lemmas.List.{length-set, length-take-le, drop-set-add, set-append_left, drop_at}
 use Rattle.std.proofs.lemmas.List.{append_assoc, drop-drop}
 use Rattle.std.proofs.Math.Seq.{take-append-add}
-use Rattle.std.proofs.Common.{Bool, true, false, None, Result, Ok, Err, IfOk, IfErr, rules, subst}
+use Rattle.std.proofs.Common.{Bool, true, false, None, Some, Result, Ok, Err, IfOk, IfErr, rules}
+use Rattle.std.proofs.Common.{subst}
 use lib.Seq.{paste}
 use Rattle.cap_pcap.specs.Records.{fault_of}
 use Rattle.cap_pcap.specs.declared.record.RecordHeader.{RecordHeader}
-use Rattle.cap_records.specs.SignedFrames.{begins_secured, layer_in, IsCarried, IsSignedIn}
+use Rattle.cap_linklayers.specs.LinkLayers.{IsFrameIn}
+use Rattle.cap_linklayers.specs.declared.link.LinkLayer.{LinkLayer}
+use Rattle.cap_records.specs.SignedFrames.{begins_secured, IsSignedIn}
 use Rattle.cap_records.specs.SignedFrames.{IsSignedFaultIn, IsSignedFault, HasSignedFrame}
 use Rattle.cap_records.specs.SignedFrames.{HasNoSignedFrame}
 use Rattle.cap_records.specs.declared.refusal.RecordFault.{RecordFault}
 use Rattle.cap_records.specs.declared.refusal.RecordFault.TheVariants as faults
-use Rattle.cap_records.specs.declared.signed.SignedFrame.{SignedFrame}
+use Rattle.cap_records.specs.declared.frame.RecordFrame.{RecordFrame}
 use Rattle.its_linkframe.specs.Frames.{EncodesFrame, link_header, transmission_of}
 use Rattle.its_linkframe.specs.Secured.{Secured, secured_octets, EncodesSecured, Verified, EncodesVerified}
 use Rattle.cap_records.specs.SignedFrames.{inner_frame, plain_octets}
@@ -86,46 +89,52 @@ inner_encodes v w part enc =
     }
 
 -- what a record has, by what its link layer carries
-pub signed_has : (h : RecordHeader) (linked : Bool) (w carried : List ℕ)
-    (read : Result SignedFrame RecordFault) → fault_of h ≡ None
-    → IsCarried (layer_in linked h.layer) w carried
-    → IfOk read (λ f. IsSignedIn (layer_in linked h.layer) carried (begins_secured carried)
-    (transmission_of f.frame) f.secured)
-    → IfOk read (λ f. HasSignedFrame h linked w (transmission_of f.frame) f.secured)
-signed_has h linked w carried (Ok f) whole carries has =
-    record { whole = whole; carried = carried; carries = carries; has = has }
-signed_has h linked w carried (Err fault) whole carries has = search rules
-
--- a fault of what is carried is one of the record
-no_frame : (h : RecordHeader) (linked : Bool) (w carried : List ℕ) (is_secured : Bool)
-    (fault : RecordFault) → fault_of h ≡ None → IsCarried (layer_in linked h.layer) w carried
-    → begins_secured carried ≡ is_secured
-    → IsSignedFaultIn (layer_in linked h.layer) carried is_secured fault
-    → HasNoSignedFrame h linked w fault
-no_frame h linked w carried b fault whole carries is none = record {
+pub signed_has : (h : RecordHeader) (layer : LinkLayer) (w carried : List ℕ) (is_secured : Bool)
+    (read : Result RecordFrame RecordFault) → fault_of h ≡ None → h.layer ≡ Some layer
+    → IsFrameIn layer w carried → begins_secured carried ≡ is_secured
+    → IfOk read (λ f. IsSignedIn layer carried is_secured (transmission_of f.frame) f.secured)
+    → IfOk read (λ f. HasSignedFrame h w (transmission_of f.frame) f.secured)
+signed_has h layer w carried b (Ok f) whole of carries is has = record {
   whole = whole;
+  layer = layer;
+  is_layer = of;
   carried = carried;
   carries = carries;
-  has_none = subst (λ (x : Bool). IsSignedFaultIn (layer_in linked h.layer) carried x fault)
-      (sym is) none;
+  has = subst (λ (x : Bool). IsSignedIn layer carried x (transmission_of f.frame) f.secured)
+      (sym is) has;
+}
+signed_has h layer w carried b (Err fault) whole of carries is has = search rules
+
+-- a fault of what is carried is one of the record
+no_frame : (h : RecordHeader) (layer : LinkLayer) (w carried : List ℕ) (is_secured : Bool)
+    (fault : RecordFault) → fault_of h ≡ None → h.layer ≡ Some layer → IsFrameIn layer w carried
+    → begins_secured carried ≡ is_secured → IsSignedFaultIn layer carried is_secured fault
+    → HasNoSignedFrame h w fault
+no_frame h layer w carried b fault whole of carries is none = record {
+  whole = whole;
+  layer = layer;
+  is_layer = of;
+  carried = carried;
+  carries = carries;
+  has_none = subst (λ (x : Bool). IsSignedFaultIn layer carried x fault) (sym is) none;
 }
 
 -- why it has none
-pub signed_none : (h : RecordHeader) (linked : Bool) (w carried : List ℕ) (is_secured : Bool)
-    (read : Result SignedFrame RecordFault) → fault_of h ≡ None
-    → IsCarried (layer_in linked h.layer) w carried → begins_secured carried ≡ is_secured
-    → IfErr read (IsSignedFaultIn (layer_in linked h.layer) carried is_secured)
-    → IfErr read (IsSignedFault h linked w)
-signed_none h linked w carried b (Ok f) whole carries is fault = search rules
-signed_none h linked w carried true (Err (faults.Record f)) whole carries is fault = absurd fault
-signed_none h linked w carried false (Err (faults.Record f)) whole carries is fault = absurd fault.2
-signed_none h linked w carried true (Err (faults.Link f)) whole carries is fault = absurd fault
-signed_none h linked w carried false (Err (faults.Link f)) whole carries is fault = absurd fault.2
-signed_none h linked w carried b (Err (faults.Frame f)) whole carries is fault =
-    no_frame h linked w carried b (faults.Frame f) whole carries is fault
-signed_none h linked w carried b (Err (faults.Secured f)) whole carries is fault =
-    no_frame h linked w carried b (faults.Secured f) whole carries is fault
-signed_none h linked w carried b (Err (faults.Signed f)) whole carries is fault =
-    no_frame h linked w carried b (faults.Signed f) whole carries is fault
-signed_none h linked w carried b (Err (faults.Message f)) whole carries is fault =
-    no_frame h linked w carried b (faults.Message f) whole carries is fault
+pub signed_none : (h : RecordHeader) (layer : LinkLayer) (w carried : List ℕ) (is_secured : Bool)
+    (read : Result RecordFrame RecordFault) → fault_of h ≡ None → h.layer ≡ Some layer
+    → IsFrameIn layer w carried → begins_secured carried ≡ is_secured
+    → IfErr read (IsSignedFaultIn layer carried is_secured) → IfErr read (IsSignedFault h w)
+signed_none h layer w carried b (Ok f) whole of carries is fault = search rules
+signed_none h layer w carried true (Err (faults.Record f)) whole of carries is fault = absurd fault
+signed_none h layer w carried false (Err (faults.Record f)) whole of carries is fault =
+    absurd fault.2
+signed_none h layer w carried true (Err (faults.Link f)) whole of carries is fault = absurd fault
+signed_none h layer w carried false (Err (faults.Link f)) whole of carries is fault = absurd fault.2
+signed_none h layer w carried b (Err (faults.Frame f)) whole of carries is fault =
+    no_frame h layer w carried b (faults.Frame f) whole of carries is fault
+signed_none h layer w carried b (Err (faults.Secured f)) whole of carries is fault =
+    no_frame h layer w carried b (faults.Secured f) whole of carries is fault
+signed_none h layer w carried b (Err (faults.Signed f)) whole of carries is fault =
+    no_frame h layer w carried b (faults.Signed f) whole of carries is fault
+signed_none h layer w carried b (Err (faults.Message f)) whole of carries is fault =
+    no_frame h layer w carried b (faults.Message f) whole of carries is fault

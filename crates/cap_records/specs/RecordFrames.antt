@@ -9,7 +9,7 @@ use Rattle.its_headers.specs.Fields.{kind_of_body}
 use Rattle.its_linkframe.specs.FrameFaults.{IsFrameFault}
 use Rattle.its_linkframe.specs.Frames.{EncodesFrame, transmission_of}
 use Rattle.its_linkframe.specs.Padding.{IsUnpadded}
-use Rattle.its_linkframe.specs.declared.frame.FrameView.{FrameView}
+use Rattle.cap_records.specs.declared.frame.RecordFrame.{RecordFrame}
 use Rattle.cap_linklayers.specs.LinkLayers.{IsFrameIn, IsLinkFault}
 use Rattle.cap_linklayers.specs.declared.link.LinkFault.TheVariants as links
 use Rattle.cap_linklayers.specs.declared.link.LinkLayer.{LinkLayer}
@@ -26,24 +26,23 @@ use Rattle.cap_records.specs.declared.refusal.RecordFault.TheVariants as faults
 -- what is read of the octets that a link layer carries: Ethernet fills short frames up, and cooked
 -- captures have them as they came
 abbrev pub IsReadAs : LinkLayer → List ℕ → List ℕ → Type 0
+IsReadAs layers.Bare carried text = text ≡ carried
 IsReadAs layers.Ethernet carried text = IsUnpadded carried text
 IsReadAs layers.Ieee80211 carried text = text ≡ carried
 IsReadAs layers.Radiotap carried text = text ≡ carried
 IsReadAs layers.Sll carried text = IsUnpadded carried text
 IsReadAs layers.Sll2 carried text = IsUnpadded carried text
 
--- what is read of a record's octets: all, or, where they have the header of their link layer, what
--- that carries
-abbrev pub IsText : Bool → Option LinkLayer → List ℕ → List ℕ → Type 0
-IsText true (Some layer) w text =
+-- what is read of a record's octets: what its link layer carries
+abbrev pub IsText : Option LinkLayer → List ℕ → List ℕ → Type 0
+IsText (Some layer) w text =
     (carried : List ℕ) × IsFrameIn layer w carried × IsReadAs layer carried text
-IsText true None w text = text ≡ w
-IsText false layer w text = text ≡ w
+IsText None w text = ⊥
 
 -- the record is whole, of a link layer that is read, and its octets are this frame
-abbrev pub HasFrame : RecordHeader → Bool → List ℕ → Transmission → Type 0
-HasFrame h linked w t =
-    (fault_of h ≡ None) × (text : List ℕ) × IsText linked h.layer w text × EncodesFrame t text
+abbrev pub HasFrame : RecordHeader → List ℕ → Transmission → Type 0
+HasFrame h w t =
+    (fault_of h ≡ None) × (text : List ℕ) × IsText h.layer w text × EncodesFrame t text
 
 -- ---- why a record has none
 
@@ -75,19 +74,17 @@ IsNoFrame text (faults.Signed f) = ⊥
 IsNoFrame text (faults.Message f) = ⊥
 
 -- The first fault of a record: its link layer or its being cut, its link layer's header, its octets.
-abbrev pub IsRecordFault : RecordHeader → Bool → List ℕ → RecordFault → Type 0
-IsRecordFault h linked w (faults.Record f) = fault_of h ≡ Some f
-IsRecordFault h linked w (faults.Link f) =
-    (fault_of h ≡ None) × (linked ≡ true) × (layer : LinkLayer) × (h.layer ≡ Some layer)
-    × IsLinkFault layer w f
-IsRecordFault h linked w (faults.Frame f) =
-    (fault_of h ≡ None) × (text : List ℕ) × IsText linked h.layer w text
-    × IsNoFrame text (faults.Frame f)
-IsRecordFault h linked w (faults.Secured f) =
-    (fault_of h ≡ None) × (text : List ℕ) × IsText linked h.layer w text
+abbrev pub IsRecordFault : RecordHeader → List ℕ → RecordFault → Type 0
+IsRecordFault h w (faults.Record f) = fault_of h ≡ Some f
+IsRecordFault h w (faults.Link f) =
+    (fault_of h ≡ None) × (layer : LinkLayer) × (h.layer ≡ Some layer) × IsLinkFault layer w f
+IsRecordFault h w (faults.Frame f) =
+    (fault_of h ≡ None) × (text : List ℕ) × IsText h.layer w text × IsNoFrame text (faults.Frame f)
+IsRecordFault h w (faults.Secured f) =
+    (fault_of h ≡ None) × (text : List ℕ) × IsText h.layer w text
     × IsNoFrame text (faults.Secured f)
-IsRecordFault h linked w (faults.Signed f) = ⊥
-IsRecordFault h linked w (faults.Message f) = ⊥
+IsRecordFault h w (faults.Signed f) = ⊥
+IsRecordFault h w (faults.Message f) = ⊥
 
 -- ---- what it is chosen by
 
@@ -122,17 +119,17 @@ is_other (faults.Signed fault) = false
 is_other (faults.Message fault) = false
 
 -- what a record is chosen by: its frame; or that it has none, and whether it is of another protocol
-abbrev pub AreTraits : RecordHeader → Bool → List ℕ → Option Traits → Bool → Type 0
-AreTraits h linked w (Some traits) other =
-    (t : Transmission) × HasFrame h linked w t × (traits ≡ traits_in t) × (other ≡ false)
-AreTraits h linked w None other =
-    (fault : RecordFault) × IsRecordFault h linked w fault × (other ≡ is_other fault)
+abbrev pub AreTraits : RecordHeader → List ℕ → Option Traits → Bool → Type 0
+AreTraits h w (Some traits) other =
+    (t : Transmission) × HasFrame h w t × (traits ≡ traits_in t) × (other ≡ false)
+AreTraits h w None other =
+    (fault : RecordFault) × IsRecordFault h w fault × (other ≡ is_other fault)
 
 -- the same of what was read
-abbrev pub traits_read : Result FrameView RecordFault → Option Traits
-traits_read (Ok frame) = Some (traits_in (transmission_of frame))
+abbrev pub traits_read : Result RecordFrame RecordFault → Option Traits
+traits_read (Ok read) = Some (traits_in (transmission_of read.frame))
 traits_read (Err fault) = None
 
-abbrev pub other_read : Result FrameView RecordFault → Bool
-other_read (Ok frame) = false
+abbrev pub other_read : Result RecordFrame RecordFault → Bool
+other_read (Ok read) = false
 other_read (Err fault) = is_other fault

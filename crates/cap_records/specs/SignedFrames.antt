@@ -22,6 +22,10 @@ begins_secured w =
     nat_lt 14 (length w) && (slice_index w 12 == 137) && (slice_index w 13 == 71)
     && (slice_index w 14 == 18)
 
+-- whether it is, where `signed` says that secured frames are read by their plain part
+abbrev pub reads_secured : Bool → List ℕ → Bool
+reads_secured signed w = signed && begins_secured w
+
 -- where a message says that the plain part is in its frame: 18 octets come before the message
 abbrev pub part_of : SaidMessage → PlainPart
 part_of m = record { start = 18 + m.start; length = length m.plain; info = m.info }
@@ -73,74 +77,57 @@ IsInnerFault w (faults.Message f) = IsUnread w (faults.Message f)
 
 -- ---- records
 
--- the link layer of which a record has the header
-abbrev pub layer_in : Bool → Option LinkLayer → Option LinkLayer
-layer_in true layer = layer
-layer_in false layer = None
-
--- what the octets of a record carry behind the header of a link layer, if they have one
-abbrev pub IsCarried : Option LinkLayer → List ℕ → List ℕ → Type 0
-IsCarried (Some layer) w carried = IsFrameIn layer w carried
-IsCarried None w carried = carried ≡ w
-
--- the same of what is read of them
-abbrev pub IsReadIn : Option LinkLayer → List ℕ → List ℕ → Type 0
-IsReadIn (Some layer) carried text = IsReadAs layer carried text
-IsReadIn None carried text = text ≡ carried
-
 -- the octets that a link layer carries are an unsecured frame
-abbrev pub IsUnsecuredIn : Option LinkLayer → List ℕ → Transmission → Option SecuredFacts → Type 0
+abbrev pub IsUnsecuredIn : LinkLayer → List ℕ → Transmission → Option SecuredFacts → Type 0
 IsUnsecuredIn layer carried t None =
-    (text : List ℕ) × IsReadIn layer carried text × EncodesFrame t text
+    (text : List ℕ) × IsReadAs layer carried text × EncodesFrame t text
 IsUnsecuredIn layer carried t (Some facts) = ⊥
 
 -- they are none
-abbrev pub IsUnsecuredFault : Option LinkLayer → List ℕ → RecordFault → Type 0
+abbrev pub IsUnsecuredFault : LinkLayer → List ℕ → RecordFault → Type 0
 IsUnsecuredFault layer carried fault =
-    (text : List ℕ) × IsReadIn layer carried text × IsNoFrame text fault
-
--- the header of the link layer has no frame behind it
-abbrev pub IsStartFault : Option LinkLayer → List ℕ → RecordFault → Type 0
-IsStartFault (Some layer) w (faults.Link f) = IsLinkFault layer w f
-IsStartFault layer w fault = ⊥
+    (text : List ℕ) × IsReadAs layer carried text × IsNoFrame text fault
 
 -- what these octets have: a frame inside a secured one, or an unsecured one
-abbrev pub IsSignedIn : Option LinkLayer → List ℕ → Bool → Transmission → Option SecuredFacts → Type 0
+abbrev pub IsSignedIn : LinkLayer → List ℕ → Bool → Transmission → Option SecuredFacts → Type 0
 IsSignedIn layer carried true t facts = IsInnerOf carried t facts
 IsSignedIn layer carried false t facts = IsUnsecuredIn layer carried t facts
 
-abbrev pub IsSignedFaultIn : Option LinkLayer → List ℕ → Bool → RecordFault → Type 0
+abbrev pub IsSignedFaultIn : LinkLayer → List ℕ → Bool → RecordFault → Type 0
 IsSignedFaultIn layer carried true fault = IsInnerFault carried fault
 IsSignedFaultIn layer carried false fault = IsUnsecuredFault layer carried fault
 
 -- The record is whole, of a link layer that is read, and what that carries has this frame.
-pub record HasSignedFrame (h : RecordHeader) (linked : Bool) (w : List ℕ) (t : Transmission)
+pub record HasSignedFrame (h : RecordHeader) (w : List ℕ) (t : Transmission)
     (facts : Option SecuredFacts) : Type 0 where
   pub whole : fault_of h ≡ None
+  pub layer : LinkLayer
+  pub is_layer : h.layer ≡ Some layer
   pub carried : List ℕ
-  pub carries : IsCarried (layer_in linked h.layer) w carried
-  pub has : IsSignedIn (layer_in linked h.layer) carried (begins_secured carried) t facts
+  pub carries : IsFrameIn layer w carried
+  pub has : IsSignedIn layer carried (begins_secured carried) t facts
 
 -- The record is whole, of a link layer that is read, and what that carries has no frame.
-pub record HasNoSignedFrame (h : RecordHeader) (linked : Bool) (w : List ℕ) (fault : RecordFault)
-    : Type 0 where
+pub record HasNoSignedFrame (h : RecordHeader) (w : List ℕ) (fault : RecordFault) : Type 0 where
   pub whole : fault_of h ≡ None
+  pub layer : LinkLayer
+  pub is_layer : h.layer ≡ Some layer
   pub carried : List ℕ
-  pub carries : IsCarried (layer_in linked h.layer) w carried
-  pub has_none : IsSignedFaultIn (layer_in linked h.layer) carried (begins_secured carried) fault
+  pub carries : IsFrameIn layer w carried
+  pub has_none : IsSignedFaultIn layer carried (begins_secured carried) fault
 
 -- The first fault of a record: its link layer or its being cut, its link layer's header, its octets.
-abbrev pub IsSignedFault : RecordHeader → Bool → List ℕ → RecordFault → Type 0
-IsSignedFault h linked w (faults.Record f) = fault_of h ≡ Some f
-IsSignedFault h linked w (faults.Link f) =
-    (fault_of h ≡ None) × IsStartFault (layer_in linked h.layer) w (faults.Link f)
-IsSignedFault h linked w fault = HasNoSignedFrame h linked w fault
+abbrev pub IsSignedFault : RecordHeader → List ℕ → RecordFault → Type 0
+IsSignedFault h w (faults.Record f) = fault_of h ≡ Some f
+IsSignedFault h w (faults.Link f) =
+    (fault_of h ≡ None) × (layer : LinkLayer) × (h.layer ≡ Some layer) × IsLinkFault layer w f
+IsSignedFault h w fault = HasNoSignedFrame h w fault
 
 -- What a record is chosen by: its frame, which may be inside a secured one; or that it has none, and
 -- whether it is of another protocol.
-abbrev pub AreSignedTraits : RecordHeader → Bool → List ℕ → Option Traits → Bool → Type 0
-AreSignedTraits h linked w (Some traits) other =
-    (t : Transmission) × (facts : Option SecuredFacts) × HasSignedFrame h linked w t facts
+abbrev pub AreSignedTraits : RecordHeader → List ℕ → Option Traits → Bool → Type 0
+AreSignedTraits h w (Some traits) other =
+    (t : Transmission) × (facts : Option SecuredFacts) × HasSignedFrame h w t facts
     × (traits ≡ traits_in t) × (other ≡ false)
-AreSignedTraits h linked w None other =
-    (fault : RecordFault) × IsSignedFault h linked w fault × (other ≡ is_other fault)
+AreSignedTraits h w None other =
+    (fault : RecordFault) × IsSignedFault h w fault × (other ≡ is_other fault)

@@ -1,5 +1,5 @@
 -- Which records of a capture a command is over, and how a walk over it ends.
-use Rattle.std.specs.Prelude.{◌≡◌, ◌⊎◌, ℕ, List, Bool, true, Option, ◌||◌, is_some, nat_lt}
+use Rattle.std.specs.Prelude.{◌≡◌, ◌⊎◌, ℕ, List, Bool, true, false, Option, ◌||◌, is_some, nat_lt}
 use Rattle.std.specs.Prelude.{if◌then◌else◌}
 use Rattle.cap_records.specs.Choosing.{selects}
 use Rattle.cap_records.specs.declared.choosing.Choice.{Choice}
@@ -16,19 +16,16 @@ abbrev pub walk_status : Walked → Status
 walk_status walked =
     if is_some walked.fault || nat_lt 0 walked.refused then Refused else Done
 
+-- what a record is chosen by; where secured frames are read by their plain part, the packet inside
+abbrev pub AreTraitsOf : Bool → RecordHeader → List ℕ → Option Traits → Bool → Type 0
+AreTraitsOf false h w traits other = AreTraits h w traits other
+AreTraitsOf true h w traits other = AreSignedTraits h w traits other
+
 -- whether a record is chosen: by its moment and what its frame is, or that it has none; by its
 -- moment alone where nothing is asked of its frame
 abbrev pub Chooses : Choice → Bool → RecordHeader → List ℕ → Bool → Type 0
-Chooses choice linked h w chosen =
-    ((traits : Option Traits) × (other : Bool) × AreTraits h linked w traits other
-    × (chosen ≡ selects choice h.moment traits other))
-    ⊎ ((chosen ≡ true)
-    × ((traits : Option Traits) (other : Bool) → selects choice h.moment traits other ≡ true))
-
--- the same where secured frames are read by their plain part
-abbrev pub ChoosesSigned : Choice → Bool → RecordHeader → List ℕ → Bool → Type 0
-ChoosesSigned choice linked h w chosen =
-    ((traits : Option Traits) × (other : Bool) × AreSignedTraits h linked w traits other
+Chooses choice signed h w chosen =
+    ((traits : Option Traits) × (other : Bool) × AreTraitsOf signed h w traits other
     × (chosen ≡ selects choice h.moment traits other))
     ⊎ ((chosen ≡ true)
     × ((traits : Option Traits) (other : Bool) → selects choice h.moment traits other ≡ true))

@@ -8,33 +8,34 @@ ghost use Rattle.cap_records.specs.RecordFrames.{IsReadAs, IsNoFrame};
 
 use crate::choosing::Traits;
 use crate::refusal::RecordFault;
+use crate::signed::SecuredFacts;
 use cap_pcap::{LinkLayer, RecordHeader, frame_start, without_padding};
 use its_btp::split;
 use its_linkframe::{FrameFault, FrameView, read_frame};
 
-/// The frame of a record, or why the record is refused. Its octets are the first ones of the
-/// record, `LONGEST_RECORD` of them where there are so many; a frame that is found is put together
-/// among them. `linked` says that they have the header of their link layer, as in pcap and pcapng:
-/// then that is read first, and what Ethernet filled a short frame up with is left out.
+/// The frame of a record.
+#[derive(Debug, Drop)]
+pub(crate) struct RecordFrame<'a> {
+    pub(crate) frame: FrameView<'a>,
+    /// What is known of the secured frame, if it is the inner frame of one.
+    pub(crate) secured: Option<SecuredFacts>,
+}
+
+/// Returns the frame of a record, or why the record is refused. Its octets are the first ones of the
+/// record, `LONGEST_RECORD` of them if there are so many. A frame that is found is put together among
+/// them: the header of its link layer is read first, and what Ethernet filled a short frame up with
+/// is left out.
 pub fn frame_of<'a>(
     head: &RecordHeader,
     octets: &'a mut Vec<u8>,
-    linked: bool,
 ) -> Result<FrameView<'a>, RecordFault>
     ensures frame { IfOk result
-        (λ v. HasFrame head.now linked octets.old.items (transmission_of v)) }
-    ensures fault { IfErr result (IsRecordFault head.now linked octets.old.items) }
+        (λ v. HasFrame head.now octets.old.items (transmission_of v)) }
+    ensures fault { IfErr result (IsRecordFault head.now octets.old.items) }
 {
-    if let Some(fault) = head.fault() {
-        return Err(RecordFault::Record(fault));
-    }
-    match head.layer {
-        Some(layer) if linked => {
-            let start = frame_start(layer, octets)?;
-            read_on(layer, &octets.as_slice()[start..])
-        }
-        _ => read(octets.as_slice()),
-    }
+    let layer = head.whole_layer()?;
+    let start = frame_start(layer, octets)?;
+    read_on(layer, &octets.as_slice()[start..])
 }
 
 /// The frame in octets that came from this link layer.
@@ -48,7 +49,7 @@ pub(crate) fn read_on(layer: LinkLayer, octets: &[u8]) -> Result<FrameView<'_>, 
         LinkLayer::Ethernet => read_filled_up(octets),
         LinkLayer::Sll => read_filled_up(octets),
         LinkLayer::Sll2 => read_filled_up(octets),
-        LinkLayer::Ieee80211 | LinkLayer::Radiotap => read(octets),
+        LinkLayer::Bare | LinkLayer::Ieee80211 | LinkLayer::Radiotap => read(octets),
     }
 }
 
@@ -69,7 +70,7 @@ fn read_filled_up(octets: &[u8]) -> Result<FrameView<'_>, RecordFault>
 }
 
 /// The frame that the octets are.
-pub(crate) fn read(octets: &[u8]) -> Result<FrameView<'_>, RecordFault>
+fn read(octets: &[u8]) -> Result<FrameView<'_>, RecordFault>
     ensures frame { IfOk result (λ v. EncodesFrame (transmission_of v) octets.now) }
     ensures fault { IfErr result (IsNoFrame octets.now) }
 {

@@ -15,7 +15,7 @@ pub use crate::choosing::{Choice, Kinds, Traits};
 pub use frame::{frame_of, traits_of};
 pub use refusal::{FileFault, RecordCode, RecordFault, SIGNED_HINT};
 pub use signed::{
-    FramePlace, PlainPart, SecuredFacts, bring_inner, find_plain, is_secured, traits_inside,
+    FramePlace, PlainPart, SecuredFacts, bring_inner, find_plain, reads_secured, traits_inside,
 };
 pub use told::RefusedCapture;
 pub use walk::{Place, RecordVisitor, Selection, Walked, each_record, open_records};

@@ -96,6 +96,14 @@ fn seems_secured(fault: FrameFault, frame: &[u8]) -> bool
     }
 }
 
+impl From<cap_pcap::RecordFault> for RecordFault {
+    ghost from_gives = { λ fault r. r ≡ faults.Record fault };
+
+    fn from(fault: cap_pcap::RecordFault) -> RecordFault {
+        RecordFault::Record(fault)
+    }
+}
+
 impl From<LinkFault> for RecordFault {
     ghost from_gives = { λ fault r. r ≡ faults.Link fault };
 

@@ -1,17 +1,18 @@
 //! Secured frames of records, read by their plain part. No signature is verified.
 
-ghost use Rattle.std.specs.Prelude.{◌≡◌, ◌≤◌, ◌+◌, ◌-◌, ℕ, List, IfOk, IfErr, length, take, drop};
+ghost use Rattle.std.specs.Prelude.{◌≡◌, ◌≤◌, ◌+◌, ◌-◌, IfOk, IfErr, length, take, drop};
 ghost use Rattle.its_model.specs.Packet.{Transmission};
 ghost use Rattle.its_linkframe.specs.Frames.{EncodesFrame, transmission_of};
 ghost use Rattle.its_linkframe.specs.Secured.{EncodesVerified, Verified};
 ghost use Rattle.cap_records.specs.RecordFrames.{traits_in};
-ghost use Rattle.cap_records.specs.SignedFrames.{begins_secured, HasPlain, IsUnread, inner_frame};
-ghost use Rattle.cap_records.specs.SignedFrames.{HasSignedFrame, IsSignedFault, IsCarried};
-ghost use Rattle.cap_records.specs.SignedFrames.{IsInnerOf, IsInnerFault, IsStartFault, plain_octets};
-ghost use Rattle.cap_records.specs.SignedFrames.{IsUnsecuredIn, IsUnsecuredFault, IsReadIn, layer_in};
+ghost use Rattle.cap_records.specs.SignedFrames.{begins_secured, reads_secured as reads};
+ghost use Rattle.cap_records.specs.SignedFrames.{HasPlain, IsUnread, inner_frame};
+ghost use Rattle.cap_records.specs.SignedFrames.{HasSignedFrame, IsSignedFault, plain_octets};
+ghost use Rattle.cap_records.specs.SignedFrames.{IsInnerOf, IsInnerFault};
+ghost use Rattle.cap_records.specs.SignedFrames.{IsUnsecuredIn, IsUnsecuredFault};
 
 use crate::choosing::Traits;
-use crate::frame::{read, read_on};
+use crate::frame::{RecordFrame, read_on};
 use crate::messages::{HeaderInfo, read_message};
 use crate::refusal::RecordFault;
 use cap_pcap::{LinkLayer, RecordHeader, frame_start};
@@ -67,21 +68,21 @@ pub struct SecuredFacts {
     pub info: Option<HeaderInfo>,
 }
 
-/// The frame of a record, and what is known of it if it is the inner frame of a secured one.
-#[derive(Debug, Drop)]
-pub(crate) struct SignedFrame<'a> {
-    pub(crate) frame: FrameView<'a>,
-    pub(crate) secured: Option<SecuredFacts>,
-}
-
 /// Whether a frame is read as a secured one: its octets 12 to 14 are 89 47 12.
-pub fn is_secured(frame: &[u8]) -> bool
+fn is_secured(frame: &[u8]) -> bool
     ensures { result ≡ begins_secured frame.now }
 {
     frame.len() > PACKET
         && frame[TYPE] == TYPE_HIGH
         && frame[TYPE + 1] == TYPE_LOW
         && frame[PACKET] == SECURED
+}
+
+/// Whether a frame is read as a secured one: if `signed` says that these are read by their plain part.
+pub fn reads_secured(signed: bool, frame: &[u8]) -> bool
+    ensures { result ≡ reads signed frame.now }
+{
+    signed && is_secured(frame)
 }
 
 /// Finds the plain part of a secured frame.
@@ -150,13 +151,6 @@ fn rest(octets: &Vec<u8>, start: usize) -> &[u8]
     &octets.as_slice()[start..]
 }
 
-/// The link layer whose header the octets of a record have, if they have one.
-fn layer_of(head: &RecordHeader, linked: bool) -> Option<LinkLayer>
-    ensures { result ≡ layer_in linked head.now.layer }
-{
-    if linked { head.layer } else { None }
-}
-
 /// The frame of a record, as `frame_of`; of a secured one the inner frame, which is put together
 /// among the octets.
 ///
@@ -165,17 +159,13 @@ fn layer_of(head: &RecordHeader, linked: bool) -> Option<LinkLayer>
 pub(crate) fn signed_frame_of<'a>(
     head: &RecordHeader,
     octets: &'a mut Vec<u8>,
-    linked: bool,
-) -> Result<SignedFrame<'a>, RecordFault>
-    ensures frame { IfOk result (λ f. HasSignedFrame head.now linked octets.old.items
+) -> Result<RecordFrame<'a>, RecordFault>
+    ensures frame { IfOk result (λ f. HasSignedFrame head.now octets.old.items
         (transmission_of f.frame) f.secured) }
-    ensures fault { IfErr result (IsSignedFault head.now linked octets.old.items) }
+    ensures fault { IfErr result (IsSignedFault head.now octets.old.items) }
 {
-    if let Some(fault) = head.fault() {
-        return Err(RecordFault::Record(fault));
-    }
-    let layer = layer_of(head, linked);
-    let start = start_in(layer, octets)?;
+    let layer = head.whole_layer()?;
+    let start = frame_start(layer, octets)?;
     if is_secured(rest(octets, start)) {
         read_secured(octets, start)
     } else {
@@ -184,19 +174,19 @@ pub(crate) fn signed_frame_of<'a>(
 }
 
 /// The inner frame of the secured one that begins at this octet, put together among the octets.
-fn read_secured<'a>(octets: &'a mut Vec<u8>, start: usize) -> Result<SignedFrame<'a>, RecordFault>
+fn read_secured<'a>(octets: &'a mut Vec<u8>, start: usize) -> Result<RecordFrame<'a>, RecordFault>
     requires { start ≤ length octets.old.items }
     ensures frame { IfOk result (λ f. IsInnerOf (drop start octets.old.items)
         (transmission_of f.frame) f.secured) }
     ensures fault { IfErr result (IsInnerFault (drop start octets.old.items)) }
 {
     let length = rest(octets, start).len();
-    let plain = judge(rest(octets, start))?;
+    let plain = find_packet(rest(octets, start))?;
     let place = bring_inner(octets, start, &plain);
     let frame = frame_inside(place.octets(octets.as_slice()));
     let info = plain.info;
     let secured = Some(SecuredFacts { length, info });
-    Ok(SignedFrame { frame, secured })
+    Ok(RecordFrame { frame, secured })
 }
 
 /// The frame that these octets are.
@@ -210,46 +200,21 @@ fn frame_inside(octets: &[u8]) -> FrameView<'_>
     }
 }
 
-/// Where the frame begins in octets that have the header of this link layer, or none.
-fn start_in(layer: Option<LinkLayer>, octets: &mut Vec<u8>) -> Result<usize, RecordFault>
-    ensures frame { IfOk result
-        (λ at. IsCarried layer octets.old.items (drop at octets.new.items)) }
-    ensures inside { IfOk result (λ at. at ≤ length octets.new.items) }
-    ensures fault { IfErr result (IsStartFault layer octets.old.items) }
-{
-    match layer {
-        Some(layer) => Ok(frame_start(layer, octets)?),
-        None => Ok(0),
-    }
-}
-
-/// The unsecured frame in octets that came from this link layer, or stand by themselves.
-fn read_unsecured(layer: Option<LinkLayer>, octets: &[u8]) -> Result<SignedFrame<'_>, RecordFault>
+/// The unsecured frame in octets that came from this link layer.
+fn read_unsecured(layer: LinkLayer, octets: &[u8]) -> Result<RecordFrame<'_>, RecordFault>
     ensures frame { IfOk result (λ f. IsUnsecuredIn layer octets.now
         (transmission_of f.frame) f.secured) }
     ensures fault { IfErr result (IsUnsecuredFault layer octets.now) }
 {
-    let frame = read_in(layer, octets)?;
-    Ok(SignedFrame {
+    let frame = read_on(layer, octets)?;
+    Ok(RecordFrame {
         frame,
         secured: None,
     })
 }
 
-/// The same, as the frame alone.
-fn read_in(layer: Option<LinkLayer>, octets: &[u8]) -> Result<FrameView<'_>, RecordFault>
-    ensures frame { IfOk result (λ v. (text : List ℕ) × IsReadIn layer octets.now text
-        × EncodesFrame (transmission_of v) text) }
-    ensures fault { IfErr result (IsUnsecuredFault layer octets.now) }
-{
-    match layer {
-        Some(layer) => read_on(layer, octets),
-        None => read(octets),
-    }
-}
-
 /// Finds the plain part of a secured frame, which has to be a packet.
-fn judge(frame: &[u8]) -> Result<PlainPart, RecordFault>
+fn find_packet(frame: &[u8]) -> Result<PlainPart, RecordFault>
     ensures found { IfOk result (HasPlain frame.now) }
     ensures behind { IfOk result (λ part. 18 ≤ part.start) }
     ensures inside { IfOk result (λ part. part.start + part.length ≤ length frame.now) }

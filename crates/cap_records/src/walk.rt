@@ -5,14 +5,14 @@ ghost use Rattle.cap_records.specs.Choosing.{selects};
 ghost use Rattle.cap_records.specs.declared.choosing.Traits.{Traits};
 ghost use Rattle.cap_linklayers.specs.declared.link.TheConstants.{LONGEST_RECORD};
 ghost use Rattle.cap_records.specs.RecordFrames.{traits_read, other_read};
-ghost use Rattle.cap_records.specs.Walks.{walk_status, Chooses, ChoosesSigned};
+ghost use Rattle.cap_records.specs.Walks.{walk_status, AreTraitsOf, Chooses};
 ghost use Rattle.cmd_reporting.specs.declared.fault.Fault.TheVariants.{CannotRead};
 
 use crate::choosing::Choice;
 use crate::cut::{CUT, CutFrame, cut_frame_of};
-use crate::frame::{frame_of, traits_of};
+use crate::frame::{RecordFrame, frame_of, traits_of};
 use crate::refusal::{FileFault, RecordFault};
-use crate::signed::{SecuredFacts, SignedFrame, signed_frame_of};
+use crate::signed::{SecuredFacts, signed_frame_of};
 use cap_linklayers::LinkFacts;
 use cap_pcap::{AnySource, Format, LONGEST_RECORD, RecordHeader, RecordSource, SourceFault, Step};
 use cmd_reporting::{Fault, Status, is_standard};
@@ -50,49 +50,42 @@ impl Selection {
         }
     }
 
-    /// Whether a record is chosen, of which these are all octets: its frame is read apart from them,
-    /// in this room, where it has to be known. `OutOfMemory` where the room can't be had.
+    /// Reads the frame of a record, which is put together among its octets.
+    fn read<'a>(
+        &self,
+        head: &RecordHeader,
+        octets: &'a mut Vec<u8>,
+    ) -> Result<RecordFrame<'a>, RecordFault>
+        ensures { AreTraitsOf self.now.signed head.now octets.old.items (traits_read result)
+            (other_read result) }
+    {
+        if self.signed {
+            return signed_frame_of(head, octets);
+        }
+        let frame = frame_of(head, octets)?;
+        Ok(RecordFrame {
+            frame,
+            secured: None,
+        })
+    }
+
+    /// Whether a record is selected, which has these octets. If its frame has to be known, that is
+    /// read in this room, and the octets stay. `OutOfMemory` if the room can't be had.
     pub fn has_record(
         &self,
         head: &RecordHeader,
         octets: &[u8],
-        linked: bool,
         room: &mut Vec<u8>,
     ) -> Result<bool, AllocError>
         ensures { IfOk result
-            (Chooses self.now.choice linked head.now (take LONGEST_RECORD octets.now)) }
+            (Chooses self.now.choice self.now.signed head.now (take LONGEST_RECORD octets.now)) }
     {
-        let moment = head.moment;
-        if self.has_any(moment) {
+        if self.has_any(head.moment) {
             return Ok(true);
         }
         room.clear();
         room.extend_from_slice(&octets[..octets.len().min(LONGEST_RECORD)])?;
-        let frame = frame_of(head, room, linked);
-        Ok(self.has(moment, &frame))
-    }
-
-    /// The same, where secured frames are read by their plain part.
-    pub fn has_signed_record(
-        &self,
-        head: &RecordHeader,
-        octets: &[u8],
-        linked: bool,
-        room: &mut Vec<u8>,
-    ) -> Result<bool, AllocError>
-        ensures { IfOk result
-            (ChoosesSigned self.now.choice linked head.now (take LONGEST_RECORD octets.now)) }
-    {
-        let moment = head.moment;
-        if self.has_any(moment) {
-            return Ok(true);
-        }
-        room.clear();
-        room.extend_from_slice(&octets[..octets.len().min(LONGEST_RECORD)])?;
-        match signed_frame_of(head, room, linked) {
-            Ok(signed) => Ok(self.has(moment, &Ok(signed.frame))),
-            Err(fault) => Ok(self.has(moment, &Err(fault))),
-        }
+        Ok(self.has(head.moment, &self.read(head, room)))
     }
 
     /// Whether a record of this moment is chosen, whatever its frame is.
@@ -113,12 +106,14 @@ impl Selection {
     }
 
     /// Whether a record of this moment is chosen, of which this was read.
-    fn has(&self, moment: u64, frame: &Result<FrameView<'_>, RecordFault>) -> bool
+    fn has(&self, moment: u64, read: &Result<RecordFrame<'_>, RecordFault>) -> bool
         ensures { result
-            ≡ selects self.now.choice moment (traits_read frame.now) (other_read frame.now) }
+            ≡ selects self.now.choice moment (traits_read read.now) (other_read read.now) }
     {
-        match frame {
-            Ok(frame) => self.choice.selects(moment, Some(traits_of(frame)), false),
+        match read {
+            Ok(read) => self
+                .choice
+                .selects(moment, Some(traits_of(&read.frame)), false),
             Err(fault) => self.choice.selects(moment, None, fault.is_other()),
         }
     }
@@ -160,13 +155,7 @@ pub struct Place {
 impl Place {
     /// The place behind so many records, of which the first has this moment and these nanoseconds
     /// below it, if there is one, of a record with these octets.
-    fn of(
-        number: u64,
-        head: &RecordHeader,
-        first: Option<(u64, u32)>,
-        octets: &[u8],
-        linked: bool,
-    ) -> Place {
+    fn of(number: u64, head: &RecordHeader, first: Option<(u64, u32)>, octets: &[u8]) -> Place {
         let (moment, nanos) = (head.moment, head.fine.nanos);
         let (first, first_nanos) = first.unwrap_or((moment, nanos));
         Place {
@@ -177,18 +166,18 @@ impl Place {
             first_nanos,
             interface: head.interface,
             length: head.captured,
-            link: link_facts(head, octets, linked),
+            link: link_facts(head, octets),
             known: None,
             secured: None,
         }
     }
 }
 
-/// What the headers of the link layer say, if the octets have them.
-fn link_facts(head: &RecordHeader, octets: &[u8], linked: bool) -> LinkFacts {
+/// What the headers of the link layer say, if that is one that is read.
+fn link_facts(head: &RecordHeader, octets: &[u8]) -> LinkFacts {
     match head.layer {
-        Some(layer) if linked => LinkFacts::of(layer, octets),
-        _ => LinkFacts::none(),
+        Some(layer) => LinkFacts::of(layer, octets),
+        None => LinkFacts::none(),
     }
 }
 
@@ -285,9 +274,8 @@ pub fn each_record<'a, S: Source + Drop, V: RecordVisitor, W: Write>(
     ensures { IfOk result (λ walked. walked.refused ≤ walked.records) }
 {
     let mut octets = Vec::with_capacity(alloc, LONGEST_RECORD)?;
-    let linked = source.format() != Format::Capture;
     let waits = is_standard(file);
-    let ended = walk(selection, waits, source, linked, &mut octets, visitor, out);
+    let ended = walk(selection, waits, source, &mut octets, visitor, out);
     let (walked, first, fault) = ended?;
     match fault {
         Some(fault) => {
@@ -314,7 +302,6 @@ fn walk<'a, S: RecordSource, V: RecordVisitor, W: Write>(
     selection: &Selection,
     waits: bool,
     source: &mut S,
-    linked: bool,
     octets: &mut Vec<u8>,
     visitor: &mut V,
     out: &mut W,
@@ -335,15 +322,13 @@ fn walk<'a, S: RecordSource, V: RecordVisitor, W: Write>(
         }
         match source.next_into(octets) {
             Ok(Step::Record(head)) => {
-                let place = Place::of(walked.read, &head, first, octets.as_slice(), linked);
+                let place = Place::of(walked.read, &head, first, octets.as_slice());
                 first = Some((place.first, place.first_nanos));
                 walked.read += 1;
-                let visited = if selection.partial && linked && is_cut(&head) {
+                let visited = if selection.partial && is_cut(&head) {
                     visit_cut(selection, place, &head, octets, &mut room, visitor, out)?
-                } else if selection.signed {
-                    visit_signed(selection, place, &head, octets, linked, visitor, out)?
                 } else {
-                    visit(selection, place, &head, octets, linked, visitor, out)?
+                    visit(selection, place, &head, octets, visitor, out)?
                 };
                 match visited {
                     Visited::Passed => {}
@@ -368,50 +353,23 @@ fn visit<'a, V: RecordVisitor, W: Write>(
     place: Place,
     head: &RecordHeader,
     octets: &mut Vec<u8>,
-    linked: bool,
     visitor: &mut V,
     out: &mut W,
 ) -> Result<Visited, Fault<'a>> {
-    let frame = frame_of(head, octets, linked);
-    visit_frame(selection, place, frame, visitor, out)
-}
-
-/// The same, where secured frames are read by their plain part.
-fn visit_signed<'a, V: RecordVisitor, W: Write>(
-    selection: &Selection,
-    place: Place,
-    head: &RecordHeader,
-    octets: &mut Vec<u8>,
-    linked: bool,
-    visitor: &mut V,
-    out: &mut W,
-) -> Result<Visited, Fault<'a>> {
-    match signed_frame_of(head, octets, linked) {
-        Ok(SignedFrame { frame, secured }) => {
-            let place = Place { secured, ..place };
-            visit_frame(selection, place, Ok(frame), visitor, out)
-        }
-        Err(fault) => visit_frame(selection, place, Err(fault), visitor, out),
-    }
-}
-
-/// Visits a record of which this was read, if it is chosen.
-fn visit_frame<'a, V: RecordVisitor, W: Write>(
-    selection: &Selection,
-    place: Place,
-    frame: Result<FrameView<'_>, RecordFault>,
-    visitor: &mut V,
-    out: &mut W,
-) -> Result<Visited, Fault<'a>> {
-    if !selection.has(place.moment, &frame) {
+    let read = selection.read(head, octets);
+    if !selection.has(place.moment, &read) {
         return Ok(Visited::Passed);
     }
-    let visited = match &frame {
-        Ok(_) => Visited::Frame,
-        Err(_) => Visited::Refused,
-    };
-    visitor.visit(place, frame, out)?;
-    Ok(visited)
+    match read {
+        Ok(RecordFrame { frame, secured }) => {
+            visitor.visit(Place { secured, ..place }, Ok(frame), out)?;
+            Ok(Visited::Frame)
+        }
+        Err(fault) => {
+            visitor.visit(place, Err(fault), out)?;
+            Ok(Visited::Refused)
+        }
+    }
 }
 
 /// Whether the record is of a link layer that is read, and was cut.

@@ -25,6 +25,10 @@ use Rattle.cap_pcap.specs.declared.sink.SinkFault.TheVariants as faults
 use Rattle.cmd_reporting.specs.declared.status.Status.{Status}
 use Rattle.cmd_captures.specs.Conversions.{Target, IsFileFault, IsLeftOut, HasText}
 use Rattle.cmd_captures.specs.Conversions.{WritesText, PutsRecord, WritesMet, WritesSteps, Went}
+use Rattle.cmd_captures.specs.Conversions.{IsTextFault}
+use Rattle.cap_pcap.specs.Places.{IsLayerFor}
+use Rattle.cmd_captures.specs.declared.written.PutRefusal.{PutRefusal}
+use Rattle.cmd_captures.specs.declared.written.PutRefusal.TheVariants as refusals
 use Rattle.cmd_captures.specs.Conversions.{start_octets, first_interface, header_octets}
 use Rattle.cmd_captures.specs.Conversions.{Said, MeetsIn, MeetsNewest}
 use Rattle.cap_pcap.specs.InterfaceHeads.{millis_head}
@@ -162,32 +166,57 @@ text_refused l h text t puts.Io p = tt
 text_refused l h text t puts.Failed p = tt
 
 -- what becomes of the octets of a record becomes of the record
-pub puts_text : (linked : Bool) (h : RecordHeader) (w : List ℕ) (t next : Target)
-    (r : Result (Unit {0}) SinkFault) (l : LinkLayer) (text : List ℕ)
-    → HasText t.frames_only t.layer linked h w l text → WritesText l h text t next r
-    → PutsRecord linked h w t next r
-puts_text linked h w t next (Ok _) l text has p = (l, text, p.0, has, p.1)
-puts_text linked h w t next (Err (faults.Put puts.Length)) l text has p = ((l, text, has, p.0), p.1)
-puts_text linked h w t next (Err (faults.Put puts.Moment)) l text has p = ((l, text, has, p.0), p.1)
-puts_text linked h w t next (Err (faults.Put puts.Interface)) l text has p = tt
-puts_text linked h w t next (Err (faults.Put puts.Name)) l text has p = tt
-puts_text linked h w t next (Err (faults.Put puts.Io)) l text has p = tt
-puts_text linked h w t next (Err (faults.Put puts.Failed)) l text has p = tt
-puts_text linked h w t next (Err (faults.Record f)) l text has p = absurd p
-puts_text linked h w t next (Err (faults.Link f)) l text has p = absurd p
+pub puts_text : (signed : Bool) (h : RecordHeader) (w : List ℕ) (t next : Target) (l : LinkLayer)
+    (text : List ℕ) → HasText t.frames_only t.layer signed h w l text
+    → WritesText l h text t next (Ok tt) → PutsRecord signed h w t next (Ok tt)
+puts_text signed h w t next l text has p = (l, text, p.0, has, p.1)
+
+pub puts_no_text : (signed : Bool) (h : RecordHeader) (w : List ℕ) (t next : Target)
+    (fault : SinkFault) (l : LinkLayer) (text : List ℕ)
+    → HasText t.frames_only t.layer signed h w l text → WritesText l h text t next (Err fault)
+    → PutsRecord signed h w t next (Err (refusals.Sink fault))
+puts_no_text signed h w t next (faults.Put puts.Length) l text has p = ((l, text, has, p.0), p.1)
+puts_no_text signed h w t next (faults.Put puts.Moment) l text has p = ((l, text, has, p.0), p.1)
+puts_no_text signed h w t next (faults.Put puts.Interface) l text has p = tt
+puts_no_text signed h w t next (faults.Put puts.Name) l text has p = tt
+puts_no_text signed h w t next (faults.Put puts.Io) l text has p = tt
+puts_no_text signed h w t next (faults.Put puts.Failed) l text has p = tt
+puts_no_text signed h w t next (faults.Record f) l text has p = absurd p
+puts_no_text signed h w t next (faults.Link f) l text has p = absurd p
+
+-- a record of which no frame is written
+pub puts_no_frame : (signed : Bool) (h : RecordHeader) (w : List ℕ) (t : Target) (own : LinkLayer)
+    (fault : PutRefusal) → t.frames_only ≡ true → IsLayerFor h None own
+    → IsTextFault signed own w fault → PutsRecord signed h w t t (Err fault)
+puts_no_frame signed h w t own (refusals.Sink (faults.Link f)) only for p =
+    ((only, own, for, p), refl)
+puts_no_frame signed h w t own (refusals.Sink (faults.Record f)) only for p = absurd p
+puts_no_frame signed h w t own (refusals.Sink (faults.Put f)) only for p = absurd p
+puts_no_frame signed h w t own (refusals.Unread fault) only for p = (
+  record {
+    frames_only = only;
+    own = own;
+    layer = for;
+    carried = p.0;
+    carries = p.1;
+    secured = p.2;
+    unread = p.3;
+  },
+  refl,
+)
 
 -- a record that has a word for why it isn't written is left out
-pub left_out : (linked : Bool) (h : RecordHeader) (w : List ℕ) (t next : Target) (fault : SinkFault)
-    → ¬ (word_of fault ≡ None) → PutsRecord linked h w t next (Err fault)
-    → IsLeftOut t linked h w fault × (next ≡ t)
-left_out linked h w t next (faults.Record f) some p = p
-left_out linked h w t next (faults.Link f) some p = p
-left_out linked h w t next (faults.Put puts.Length) some p = p
-left_out linked h w t next (faults.Put puts.Moment) some p = p
-left_out linked h w t next (faults.Put puts.Interface) some p = absurd (some refl)
-left_out linked h w t next (faults.Put puts.Name) some p = absurd (some refl)
-left_out linked h w t next (faults.Put puts.Io) some p = absurd (some refl)
-left_out linked h w t next (faults.Put puts.Failed) some p = absurd (some refl)
+pub left_out : (signed : Bool) (h : RecordHeader) (w : List ℕ) (t next : Target) (fault : SinkFault)
+    → ¬ (word_of fault ≡ None) → PutsRecord signed h w t next (Err (refusals.Sink fault))
+    → IsLeftOut t signed h w fault × (next ≡ t)
+left_out signed h w t next (faults.Record f) some p = p
+left_out signed h w t next (faults.Link f) some p = p
+left_out signed h w t next (faults.Put puts.Length) some p = p
+left_out signed h w t next (faults.Put puts.Moment) some p = p
+left_out signed h w t next (faults.Put puts.Interface) some p = absurd (some refl)
+left_out signed h w t next (faults.Put puts.Name) some p = absurd (some refl)
+left_out signed h w t next (faults.Put puts.Io) some p = absurd (some refl)
+left_out signed h w t next (faults.Put puts.Failed) some p = absurd (some refl)
 
 -- ---- steps
 
@@ -217,64 +246,64 @@ interface_appends formats.Pcapng said t added next p =
     newest_appends said.newest t added next p
 
 -- what a step writes stands behind what there was
-met_appends : (choice : Choice) (linked : Bool) (said : Said) (w : List ℕ)
+met_appends : (choice : Choice) (signed : Bool) (said : Said) (w : List ℕ)
     (step : Result Step SourceFault) (met : Met) (t : Target) (added : List ℕ) (next : Target)
-    → WritesMet choice linked said w step met t added next
+    → WritesMet choice signed said w step met t added next
     → Appends t.file.contents next.file.contents added
-met_appends choice linked said w (Ok (steps.Record h)) (mets.Record copies.Passed) t added next p =
+met_appends choice signed said w (Ok (steps.Record h)) (mets.Record copies.Passed) t added next p =
     none_added t next added p.1 (contents_of t next p.2)
-met_appends choice linked said w (Ok (steps.Record h)) (mets.Record copies.Written) t added next p =
+met_appends choice signed said w (Ok (steps.Record h)) (mets.Record copies.Written) t added next p =
     p.4.appends
-met_appends choice linked said w (Ok (steps.Record h)) (mets.Record (copies.LeftOut f)) t added next
+met_appends choice signed said w (Ok (steps.Record h)) (mets.Record (copies.LeftOut f)) t added next
     p =
     none_added t next added p.2 (contents_of t next p.3)
-met_appends choice linked said w (Ok (steps.Record h)) (mets.Record (copies.Unread f)) t added next
+met_appends choice signed said w (Ok (steps.Record h)) (mets.Record (copies.Unread f)) t added next
     p =
-    absurd p
-met_appends choice linked said w (Ok (steps.Record h)) mets.NoRecord t added next p = absurd p
-met_appends choice linked said w (Ok (steps.Record h)) (mets.End None) t added next p = absurd p
-met_appends choice linked said w (Ok (steps.Record h)) (mets.End (Some f)) t added next p = absurd p
-met_appends choice linked said w (Ok steps.Interface) (mets.Record copied) t added next p = absurd p
-met_appends choice linked said w (Ok steps.Interface) mets.NoRecord t added next p =
+    none_added t next added p.2 (contents_of t next p.3)
+met_appends choice signed said w (Ok (steps.Record h)) mets.NoRecord t added next p = absurd p
+met_appends choice signed said w (Ok (steps.Record h)) (mets.End None) t added next p = absurd p
+met_appends choice signed said w (Ok (steps.Record h)) (mets.End (Some f)) t added next p = absurd p
+met_appends choice signed said w (Ok steps.Interface) (mets.Record copied) t added next p = absurd p
+met_appends choice signed said w (Ok steps.Interface) mets.NoRecord t added next p =
     interface_appends t.file.format said t added next p
-met_appends choice linked said w (Ok steps.Interface) (mets.End None) t added next p = absurd p
-met_appends choice linked said w (Ok steps.Interface) (mets.End (Some f)) t added next p = absurd p
-met_appends choice linked said w (Ok steps.Passed) (mets.Record copied) t added next p = absurd p
-met_appends choice linked said w (Ok steps.Passed) mets.NoRecord t added next p =
+met_appends choice signed said w (Ok steps.Interface) (mets.End None) t added next p = absurd p
+met_appends choice signed said w (Ok steps.Interface) (mets.End (Some f)) t added next p = absurd p
+met_appends choice signed said w (Ok steps.Passed) (mets.Record copied) t added next p = absurd p
+met_appends choice signed said w (Ok steps.Passed) mets.NoRecord t added next p =
     none_added t next added p.0 (contents_of t next p.1)
-met_appends choice linked said w (Ok steps.Passed) (mets.End None) t added next p = absurd p
-met_appends choice linked said w (Ok steps.Passed) (mets.End (Some f)) t added next p = absurd p
-met_appends choice linked said w (Ok steps.End) (mets.Record copied) t added next p = absurd p
-met_appends choice linked said w (Ok steps.End) mets.NoRecord t added next p = absurd p
-met_appends choice linked said w (Ok steps.End) (mets.End None) t added next p =
+met_appends choice signed said w (Ok steps.Passed) (mets.End None) t added next p = absurd p
+met_appends choice signed said w (Ok steps.Passed) (mets.End (Some f)) t added next p = absurd p
+met_appends choice signed said w (Ok steps.End) (mets.Record copied) t added next p = absurd p
+met_appends choice signed said w (Ok steps.End) mets.NoRecord t added next p = absurd p
+met_appends choice signed said w (Ok steps.End) (mets.End None) t added next p =
     none_added t next added p.0 (contents_of t next p.1)
-met_appends choice linked said w (Ok steps.End) (mets.End (Some f)) t added next p = absurd p
-met_appends choice linked said w (Err g) (mets.Record copied) t added next p = absurd p
-met_appends choice linked said w (Err g) mets.NoRecord t added next p = absurd p
-met_appends choice linked said w (Err g) (mets.End None) t added next p = absurd p
-met_appends choice linked said w (Err g) (mets.End (Some f)) t added next p =
+met_appends choice signed said w (Ok steps.End) (mets.End (Some f)) t added next p = absurd p
+met_appends choice signed said w (Err g) (mets.Record copied) t added next p = absurd p
+met_appends choice signed said w (Err g) mets.NoRecord t added next p = absurd p
+met_appends choice signed said w (Err g) (mets.End None) t added next p = absurd p
+met_appends choice signed said w (Err g) (mets.End (Some f)) t added next p =
     none_added t next added p.1 (contents_of t next p.2)
 
 writes_last : {S : Type 0} (gives : S → S → List ℕ → Result Step SourceFault → Type 0)
-    (said : S → Said) (choice : Choice) (linked : Bool) (file : S) (t : Target)
+    (said : S → Said) (choice : Choice) (signed : Bool) (file : S) (t : Target)
     (went : List Went) (added : List ℕ) (left : S) (end : Target) (one : Went) (new : List ℕ)
     (later : S) (next : Target)
-    → WritesSteps gives said choice linked file t went added left end
+    → WritesSteps gives said choice signed file t went added left end
     → gives left later one.octets one.step
-    → WritesMet choice linked (said later) one.octets one.step one.met end new next
-    → WritesSteps gives said choice linked file t (went ++ one ∷ []) (added ++ new) later next
-writes_last gives said choice linked file t [] added left end one new later next before gave writes = (
+    → WritesMet choice signed (said later) one.octets one.step one.met end new next
+    → WritesSteps gives said choice signed file t (went ++ one ∷ []) (added ++ new) later next
+writes_last gives said choice signed file t [] added left end one new later next before gave writes = (
   new,
   [],
   later,
   next,
   ap (λ l. l ++ new) before.0 ∙ sym (append-nil new),
   subst (λ f. gives f later one.octets one.step) before.1 gave,
-  subst (λ (m : Target). WritesMet choice linked (said later) one.octets one.step one.met m new next)
+  subst (λ (m : Target). WritesMet choice signed (said later) one.octets one.step one.met m new next)
       before.2 writes,
   (refl, refl, refl),
 )
-writes_last gives said choice linked file t (g ∷ gs) added left end one new later next before gave
+writes_last gives said choice signed file t (g ∷ gs) added left end one new later next before gave
     writes =
     let (first, rest, mid, m, is, was, tell, more) = before in (
       first,
@@ -284,7 +313,7 @@ writes_last gives said choice linked file t (g ∷ gs) added left end one new la
       ap (λ k. k ++ new) is ∙ append_assoc first rest new,
       was,
       tell,
-      writes_last gives said choice linked mid m gs rest left end one new later next more gave writes,
+      writes_last gives said choice signed mid m gs rest left end one new later next more gave writes,
     )
 
 chosen_last : (went : List Went) (one : Went)
@@ -318,10 +347,10 @@ end_last (g ∷ gs) one is =
     ap (λ b. is_end g.met || b) (end_last gs one is) ∙ or_true (is_end g.met)
 
 pub copying_none : {S : Type 0} (gives : S → S → List ℕ → Result Step SourceFault → Type 0)
-    (said : S → Said) (choice : Choice) (linked : Bool) (file : S) (t : Target)
+    (said : S → Said) (choice : Choice) (signed : Bool) (file : S) (t : Target)
     (p : Progress) → p.chosen ≡ 0 → p.refused ≡ false
-    → IsCopying gives said choice linked file t file t p 0
-copying_none gives said choice linked file t p chosen refused =
+    → IsCopying gives said choice signed file t file t p 0
+copying_none gives said choice signed file t p chosen refused =
     record {
       went = [];
       added = [];
@@ -333,21 +362,21 @@ copying_none gives said choice linked file t p chosen refused =
     }
 
 pub copying_more : {S : Type 0} (gives : S → S → List ℕ → Result Step SourceFault → Type 0)
-    (said : S → Said) (choice : Choice) (linked : Bool) (file : S) (t : Target)
+    (said : S → Said) (choice : Choice) (signed : Bool) (file : S) (t : Target)
     (left : S) (end : Target) (p : Progress) (n : ℕ) (later : S) (next : Target) (met : Met)
     (after : Progress)
-    → IsCopying gives said choice linked file t left end p n
-    → IsStep gives said choice linked left end later next met → after ≡ after_met p met
-    → IsCopying gives said choice linked file t later next after (n + 1)
-copying_more gives said choice linked file t left end p n later next met after before step is =
+    → IsCopying gives said choice signed file t left end p n
+    → IsStep gives said choice signed left end later next met → after ≡ after_met p met
+    → IsCopying gives said choice signed file t later next after (n + 1)
+copying_more gives said choice signed file t left end p n later next met after before step is =
     let one : Went = record { octets = step.octets; step = step.step; met = met } in
     record {
       went = before.went ++ one ∷ [];
       added = before.added ++ step.added;
-      writes = writes_last gives said choice linked file t before.went before.added left end one
+      writes = writes_last gives said choice signed file t before.went before.added left end one
           step.added later next before.writes step.gave step.writes;
       contents = Appends-trans t.file.contents end.file.contents next.file.contents before.added
-          step.added before.contents (met_appends choice linked (said later) step.octets step.step
+          step.added before.contents (met_appends choice signed (said later) step.octets step.step
           met end step.added next step.writes);
       gone = omega (arith, before.gone, length-append before.went (one ∷ []));
       chosen = omega (
@@ -361,12 +390,12 @@ copying_more gives said choice linked file t left end p n later next met after b
     }
 
 pub copied : {S : Type 0} (gives : S → S → List ℕ → Result Step SourceFault → Type 0)
-    (said : S → Said) (choice : Choice) (count : Option ℕ) (linked : Bool) (file : S)
+    (said : S → Said) (choice : Choice) (count : Option ℕ) (signed : Bool) (file : S)
     (t : Target) (left : S) (end : Target) (p : Progress) (n : ℕ) (status : Status)
-    (k : IsCopying gives said choice linked file t left end p n) → AreAll count k.went
+    (k : IsCopying gives said choice signed file t left end p n) → AreAll count k.went
     → status ≡ told_status p.refused
-    → IsCopied gives said choice count linked file t left end status
-copied gives said choice count linked file t left end p n status k all is =
+    → IsCopied gives said choice count signed file t left end status
+copied gives said choice count signed file t left end p n status k all is =
     record {
       went = k.went;
       added = k.added;
@@ -378,20 +407,20 @@ copied gives said choice count linked file t left end p n status k all is =
 
 -- after its last step
 pub copied_end : {S : Type 0} (gives : S → S → List ℕ → Result Step SourceFault → Type 0)
-    (said : S → Said) (choice : Choice) (count : Option ℕ) (linked : Bool) (file : S)
+    (said : S → Said) (choice : Choice) (count : Option ℕ) (signed : Bool) (file : S)
     (t : Target) (left : S) (end : Target) (p : Progress) (n : ℕ) (later : S) (next : Target)
     (met : Met) (after : Progress) (status : Status)
-    → IsCopying gives said choice linked file t left end p n
-    → IsStep gives said choice linked left end later next met → after ≡ after_met p met
+    → IsCopying gives said choice signed file t left end p n
+    → IsStep gives said choice signed left end later next met → after ≡ after_met p met
     → is_end met ≡ true → status ≡ told_status after.refused
-    → IsCopied gives said choice count linked file t later next status
+    → IsCopied gives said choice count signed file t later next status
 unfolding copying_more
-copied_end gives said choice count linked file t left end p n later next met after status before step
+copied_end gives said choice count signed file t left end p n later next met after status before step
     is last told =
-    let k = copying_more gives said choice linked file t left end p n later next met after before step
+    let k = copying_more gives said choice signed file t left end p n later next met after before step
     is in
     let one : Went = record { octets = step.octets; step = step.step; met = met } in
-    copied gives said choice count linked file t later next after (n + 1) status k
+    copied gives said choice count signed file t later next after (n + 1) status k
     (inl (end_last before.went one last)) told
 
 -- no more records are read than steps are gone, and no more of them chosen

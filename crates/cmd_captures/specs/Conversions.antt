@@ -32,7 +32,10 @@ use Rattle.cap_pcap.specs.declared.record.Step.{Step}
 use Rattle.cap_pcap.specs.declared.record.Step.TheVariants as steps
 use Rattle.cap_pcap.specs.declared.sink.SinkFault.{SinkFault}
 use Rattle.cap_pcap.specs.declared.sink.SinkFault.TheVariants as faults
+use Rattle.cap_records.specs.SignedFrames.{HasPlain, IsUnread, inner_frame, reads_secured}
 use Rattle.cap_records.specs.Walks.{Chooses}
+use Rattle.cap_records.specs.declared.refusal.RecordFault.{RecordFault}
+use Rattle.cap_records.specs.declared.signed.PlainPart.{PlainPart}
 use Rattle.cmd_reporting.specs.declared.status.Status.{Status}
 use Rattle.cmd_reporting.specs.declared.status.Status.TheVariants.{Done, Refused}
 use Rattle.cmd_captures.specs.declared.converting.Copied.{Copied}
@@ -40,6 +43,8 @@ use Rattle.cmd_captures.specs.declared.converting.Copied.TheVariants as copies
 use Rattle.cmd_captures.specs.declared.converting.Met.{Met}
 use Rattle.cmd_captures.specs.declared.converting.Met.TheVariants as mets
 use Rattle.cmd_captures.specs.declared.converting.Progress.{Progress}
+use Rattle.cmd_captures.specs.declared.written.PutRefusal.{PutRefusal}
+use Rattle.cmd_captures.specs.declared.written.PutRefusal.TheVariants as refusals
 
 -- ---- the file that is written
 
@@ -145,24 +150,26 @@ MeetsInterface said t added next = MeetsIn t.file.format said t added next
 
 -- ---- records
 
--- records have the header of their link layer but in a capture
-abbrev pub has_links : Format → Bool
-has_links formats.Capture = false
-has_links formats.Pcap = true
-has_links formats.Pcapng = true
+-- The octets that are written of a frame, of which it is said whether it is read as a secured one:
+-- the frame, or the inner frame by its plain part, which isn't checked.
+abbrev pub IsWrittenOf : Bool → List ℕ → List ℕ → Type 0
+IsWrittenOf false carried text = text ≡ carried
+IsWrittenOf true carried text =
+    (part : PlainPart) × HasPlain carried part × (text ≡ inner_frame carried part)
 
--- the frame of a record of this link layer, whose octets have the layer's header, or are it
+-- the frame that is written of a record of this link layer
 abbrev pub IsFrameText : Bool → LinkLayer → List ℕ → List ℕ → Type 0
-IsFrameText true own w text = IsFrameIn own w text
-IsFrameText false own w text = text ≡ w
+IsFrameText signed own w text =
+    (carried : List ℕ) × IsFrameIn own w carried
+    × IsWrittenOf (reads_secured signed carried) carried text
 
 -- The octets that are written of a record, and their link layer: all of them and the record's own,
 -- or those of its frame and Ethernet. The record is of the link layer of the file, if that is
 -- known, and wasn't cut.
 abbrev pub HasText : Bool → Option LinkLayer → Bool → RecordHeader → List ℕ → LinkLayer → List ℕ → Type 0
-HasText false only linked h w l text = IsLayerFor h only l × (text ≡ w)
-HasText true only linked h w l text =
-    (own : LinkLayer) × IsLayerFor h None own × (l ≡ layers.Ethernet) × IsFrameText linked own w text
+HasText false only signed h w l text = IsLayerFor h only l × (text ≡ w)
+HasText true only signed h w l text =
+    (own : LinkLayer) × IsLayerFor h None own × (l ≡ layers.Ethernet) × IsFrameText signed own w text
 
 -- why nothing is written of a record, in the order in which it is checked: its link layer or its
 -- being cut, that it has no frame, or that its length or its moment has no place in the file
@@ -171,14 +178,24 @@ refusal_to true only = None
 refusal_to false only = only
 
 abbrev pub IsLeftOut : Target → Bool → RecordHeader → List ℕ → SinkFault → Type 0
-IsLeftOut t linked h w (faults.Record f) =
+IsLeftOut t signed h w (faults.Record f) =
     refusal_of h (refusal_to t.frames_only t.layer) ≡ Some f
-IsLeftOut t linked h w (faults.Link f) =
-    (t.frames_only ≡ true) × (linked ≡ true) × (own : LinkLayer) × IsLayerFor h None own
-    × IsLinkFault own w f
-IsLeftOut t linked h w (faults.Put f) =
-    (l : LinkLayer) × (text : List ℕ) × HasText t.frames_only t.layer linked h w l text
+IsLeftOut t signed h w (faults.Link f) =
+    (t.frames_only ≡ true) × (own : LinkLayer) × IsLayerFor h None own × IsLinkFault own w f
+IsLeftOut t signed h w (faults.Put f) =
+    (l : LinkLayer) × (text : List ℕ) × HasText t.frames_only t.layer signed h w l text
     × RefusesFrame t.file.format 1 0 h.moment text f
+
+-- why no frame is written of a record: it is a secured one whose message isn't read
+pub record IsUnreadIn (t : Target) (signed : Bool) (h : RecordHeader) (w : List ℕ)
+    (fault : RecordFault) : Type 0 where
+  pub frames_only : t.frames_only ≡ true
+  pub own : LinkLayer
+  pub layer : IsLayerFor h None own
+  pub carried : List ℕ
+  pub carries : IsFrameIn own w carried
+  pub secured : reads_secured signed carried ≡ true
+  pub unread : IsUnread carried fault
 
 -- the link layer of the file after a record of this one: pcapng has them side by side
 abbrev pub layer_after : Format → LinkLayer → Option LinkLayer → Option LinkLayer
@@ -207,14 +224,15 @@ kept w = take LONGEST_RECORD w
 
 -- what became of a record, what was written of it, and the file afterwards
 abbrev pub Copies : Choice → Bool → RecordHeader → List ℕ → Target → List ℕ → Target → Copied → Type 0
-Copies choice linked h w t added next copies.Passed =
-    Chooses choice linked h (kept w) false × (added ≡ []) × (next ≡ t)
-Copies choice linked h w t added next copies.Written =
-    Chooses choice linked h (kept w) true × (l : LinkLayer) × (text : List ℕ)
-    × HasText t.frames_only t.layer linked h w l text × IsAdded l h text added t next
-Copies choice linked h w t added next (copies.LeftOut fault) =
-    Chooses choice linked h (kept w) true × IsLeftOut t linked h w fault × (added ≡ []) × (next ≡ t)
-Copies choice linked h w t added next (copies.Unread fault) = ⊥
+Copies choice signed h w t added next copies.Passed =
+    Chooses choice signed h (kept w) false × (added ≡ []) × (next ≡ t)
+Copies choice signed h w t added next copies.Written =
+    Chooses choice signed h (kept w) true × (l : LinkLayer) × (text : List ℕ)
+    × HasText t.frames_only t.layer signed h w l text × IsAdded l h text added t next
+Copies choice signed h w t added next (copies.LeftOut fault) =
+    Chooses choice signed h (kept w) true × IsLeftOut t signed h w fault × (added ≡ []) × (next ≡ t)
+Copies choice signed h w t added next (copies.Unread fault) =
+    Chooses choice signed h (kept w) true × IsUnreadIn t signed h w fault × (added ≡ []) × (next ≡ t)
 
 -- ---- all records of a file
 
@@ -228,30 +246,30 @@ pub record Went : Type 0 where
 -- read has said this.
 abbrev pub WritesMet : Choice → Bool → Said → List ℕ → Result Step SourceFault → Met
     → Target → List ℕ → Target → Type 0
-WritesMet choice linked said w (Ok (steps.Record h)) (mets.Record copied) t added next =
-    Copies choice linked h w t added next copied
-WritesMet choice linked said w (Ok steps.Interface) mets.NoRecord t added next =
+WritesMet choice signed said w (Ok (steps.Record h)) (mets.Record copied) t added next =
+    Copies choice signed h w t added next copied
+WritesMet choice signed said w (Ok steps.Interface) mets.NoRecord t added next =
     MeetsInterface said t added next
-WritesMet choice linked said w (Ok steps.Passed) mets.NoRecord t added next =
+WritesMet choice signed said w (Ok steps.Passed) mets.NoRecord t added next =
     (added ≡ []) × (next ≡ t)
-WritesMet choice linked said w (Ok steps.End) (mets.End None) t added next =
+WritesMet choice signed said w (Ok steps.End) (mets.End None) t added next =
     (added ≡ []) × (next ≡ t)
-WritesMet choice linked said w (Err fault) (mets.End (Some told)) t added next =
+WritesMet choice signed said w (Err fault) (mets.End (Some told)) t added next =
     (told ≡ fault) × (added ≡ []) × (next ≡ t)
-WritesMet choice linked said w step met t added next = ⊥
+WritesMet choice signed said w step met t added next = ⊥
 
 -- The file that is read went these steps, one after the other, and was left so: what was written,
 -- in their order, and the file that is written afterwards.
 abbrev pub WritesSteps : {S : Type 0} → (S → S → List ℕ → Result Step SourceFault → Type 0)
     → (S → Said) → Choice → Bool → S → Target → List Went → List ℕ → S → Target
     → Type 0
-WritesSteps gives said choice linked file t [] added left end =
+WritesSteps gives said choice signed file t [] added left end =
     (added ≡ []) × (left ≡ file) × (end ≡ t)
-WritesSteps {S} gives said choice linked file t (went ∷ more) added left end =
+WritesSteps {S} gives said choice signed file t (went ∷ more) added left end =
     (first : List ℕ) × (rest : List ℕ) × (later : S) × (next : Target)
     × (added ≡ first ++ rest) × gives file later went.octets went.step
-    × WritesMet choice linked (said later) went.octets went.step went.met t first next
-    × WritesSteps gives said choice linked later next more rest left end
+    × WritesMet choice signed (said later) went.octets went.step went.met t first next
+    × WritesSteps gives said choice signed later next more rest left end
 
 -- whether a step was told on standard error: a record was left out, or the file has a fault
 abbrev pub is_told : Met → Bool
@@ -308,11 +326,11 @@ AreAll count went =
 -- The records of a file were copied: behind what the other had stands what was written of its
 -- records, one after the other, and of nothing else.
 pub record IsCopied {S : Type 0} (gives : S → S → List ℕ → Result Step SourceFault → Type 0)
-    (said : S → Said) (choice : Choice) (count : Option ℕ) (linked : Bool) (file : S)
+    (said : S → Said) (choice : Choice) (count : Option ℕ) (signed : Bool) (file : S)
     (t : Target) (left : S) (end : Target) (status : Status) : Type 0 where
   pub went : List Went
   pub added : List ℕ
-  pub writes : WritesSteps gives said choice linked file t went added left end
+  pub writes : WritesSteps gives said choice signed file t went added left end
   pub contents : Appends t.file.contents end.file.contents added
   pub all : AreAll count went
   pub status_is : status ≡ told_status (any_told went)
@@ -360,31 +378,42 @@ WritesText l h text t next (Err (faults.Put fault)) = Unit {0}
 WritesText l h text t next (Err (faults.Record fault)) = ⊥
 WritesText l h text t next (Err (faults.Link fault)) = ⊥
 
+-- why no frame is written of a record of this link layer
+abbrev pub IsTextFault : Bool → LinkLayer → List ℕ → PutRefusal → Type 0
+IsTextFault signed own w (refusals.Sink (faults.Link f)) = IsLinkFault own w f
+IsTextFault signed own w (refusals.Sink (faults.Record f)) = ⊥
+IsTextFault signed own w (refusals.Sink (faults.Put f)) = ⊥
+IsTextFault signed own w (refusals.Unread fault) =
+    (carried : List ℕ) × IsFrameIn own w carried × (reads_secured signed carried ≡ true)
+    × IsUnread carried fault
+
 -- the same of a record
-abbrev pub PutsRecord : Bool → RecordHeader → List ℕ → Target → Target → Result (Unit {0}) SinkFault
+abbrev pub PutsRecord : Bool → RecordHeader → List ℕ → Target → Target → Result (Unit {0}) PutRefusal
     → Type 0
-PutsRecord linked h w t next (Ok _) =
+PutsRecord signed h w t next (Ok _) =
     (l : LinkLayer) × (text : List ℕ) × (added : List ℕ)
-    × HasText t.frames_only t.layer linked h w l text × IsAdded l h text added t next
-PutsRecord linked h w t next (Err (faults.Put puts.Length)) =
-    IsLeftOut t linked h w (faults.Put puts.Length) × (next ≡ t)
-PutsRecord linked h w t next (Err (faults.Put puts.Moment)) =
-    IsLeftOut t linked h w (faults.Put puts.Moment) × (next ≡ t)
-PutsRecord linked h w t next (Err (faults.Put fault)) = Unit {0}
-PutsRecord linked h w t next (Err (faults.Record fault)) =
-    IsLeftOut t linked h w (faults.Record fault) × (next ≡ t)
-PutsRecord linked h w t next (Err (faults.Link fault)) =
-    IsLeftOut t linked h w (faults.Link fault) × (next ≡ t)
+    × HasText t.frames_only t.layer signed h w l text × IsAdded l h text added t next
+PutsRecord signed h w t next (Err (refusals.Sink (faults.Put puts.Length))) =
+    IsLeftOut t signed h w (faults.Put puts.Length) × (next ≡ t)
+PutsRecord signed h w t next (Err (refusals.Sink (faults.Put puts.Moment))) =
+    IsLeftOut t signed h w (faults.Put puts.Moment) × (next ≡ t)
+PutsRecord signed h w t next (Err (refusals.Sink (faults.Put fault))) = Unit {0}
+PutsRecord signed h w t next (Err (refusals.Sink (faults.Record fault))) =
+    IsLeftOut t signed h w (faults.Record fault) × (next ≡ t)
+PutsRecord signed h w t next (Err (refusals.Sink (faults.Link fault))) =
+    IsLeftOut t signed h w (faults.Link fault) × (next ≡ t)
+PutsRecord signed h w t next (Err (refusals.Unread fault)) =
+    IsUnreadIn t signed h w fault × (next ≡ t)
 
 -- one step of the file
 pub record IsStep {S : Type 0} (gives : S → S → List ℕ → Result Step SourceFault → Type 0)
-    (said : S → Said) (choice : Choice) (linked : Bool) (file : S) (t : Target)
+    (said : S → Said) (choice : Choice) (signed : Bool) (file : S) (t : Target)
     (later : S) (next : Target) (met : Met) : Type 0 where
   pub octets : List ℕ
   pub step : Result Step SourceFault
   pub added : List ℕ
   pub gave : gives file later octets step
-  pub writes : WritesMet choice linked (said later) octets step met t added next
+  pub writes : WritesMet choice signed (said later) octets step met t added next
 
 -- the counts and the status after one more step
 abbrev pub after_met : Progress → Met → Progress
@@ -396,11 +425,11 @@ after_met p met = record {
 
 -- the steps so far
 pub record IsCopying {S : Type 0} (gives : S → S → List ℕ → Result Step SourceFault → Type 0)
-    (said : S → Said) (choice : Choice) (linked : Bool) (file : S) (t : Target)
+    (said : S → Said) (choice : Choice) (signed : Bool) (file : S) (t : Target)
     (left : S) (end : Target) (p : Progress) (steps_gone : ℕ) : Type 0 where
   pub went : List Went
   pub added : List ℕ
-  pub writes : WritesSteps gives said choice linked file t went added left end
+  pub writes : WritesSteps gives said choice signed file t went added left end
   pub contents : Appends t.file.contents end.file.contents added
   pub gone : length went ≡ steps_gone
   pub chosen : p.chosen ≡ chosen_in went

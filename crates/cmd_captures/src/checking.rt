@@ -6,10 +6,10 @@ ghost use Rattle.cmd_reporting.specs.Statuses.{IsCommandStatus};
 use crate::output::Output;
 use crate::told::{Count, RefusedRecord};
 use cap_records::{Place, RecordFault, RecordVisitor, Selection, each_record, open_records};
-use cmd_reporting::{Fault, Io, Status};
+use cmd_reporting::{Fault, Io, Status, open};
 use its_linkframe::FrameView;
-use std::alloc::Global;
 use std::io::{Read, Write};
+use std::rt::Files;
 
 /// A line for each refused record.
 #[derive(Drop)]
@@ -33,34 +33,40 @@ impl RecordVisitor for RefusedRecords {
     }
 }
 
-/// Prints a line for each refused record that is chosen of the file that the reader gives, and how
-/// many records were chosen. `file` is its name.
+/// Prints a line for each refused record of the file that is chosen, and how many records were
+/// chosen. `input` is standard input.
 ///
-/// `Refused` where such a record or the file was refused, `Failed` where a read or a write failed
-/// or memory ran out.
-pub fn check<R: Read + Drop, W: Write, E: Write>(
-    alloc: Global,
+/// `Refused` if such a record or the file was refused, `Failed` if the file could not be read or
+/// standard output not written, or memory ran out.
+pub fn check_file<R: Files + AllocGlobal, I: Read + Drop, W: Write, E: Write>(
+    rt: &R,
     file: &str,
-    reader: R,
+    input: I,
     selection: &Selection,
     io: &mut Io<W, E>,
 ) -> Status
+where
+    R::File: Read + Drop,
     ensures { IsCommandStatus result }
 {
-    let ended = check_records(alloc, file, reader, selection, io);
+    let ended = check_records(rt, file, input, selection, io);
     io.status_of(ended)
 }
 
-/// The same, with the fault that ends it.
-pub(crate) fn check_records<'a, R: Read + Drop, W: Write, E>(
-    alloc: Global,
+/// Checks the records of the file. The fault is what ends the command before it is done.
+fn check_records<'a, R: Files + AllocGlobal, I: Read + Drop, W: Write, E>(
+    rt: &R,
     file: &'a str,
-    reader: R,
+    input: I,
     selection: &Selection,
     io: &mut Io<W, E>,
 ) -> Result<Status, Fault<'a>>
+where
+    R::File: Read + Drop,
     ensures { IfOk result IsCommandStatus }
 {
+    let alloc = rt.alloc();
+    let reader = open(rt, file, input)?;
     let mut visitor = RefusedRecords {
         output: Output::new(alloc, io.format)?,
     };

@@ -1,26 +1,33 @@
 //! The command `convert`.
 
-ghost use Rattle.std.specs.Prelude.{◌≡◌, ◌-◌, ◌^◌, ◌<◌, ℕ, List, IfOk, false};
-ghost use Rattle.cap_pcap.specs.Sources.{Gives, format_of_source};
-ghost use Rattle.cmd_reporting.specs.Statuses.{IsCommandStatus};
-ghost use Rattle.cmd_captures.specs.Conversions.{Copies, IsCopied, IsStep, after_met, has_links};
+ghost use Rattle.std.specs.Prelude.{◌≡◌, ◌-◌, ◌^◌, ◌<◌, ℕ, List, IfErr, IfOk, None, false, true};
+ghost use Rattle.cap_pcap.specs.Sources.{Gives};
+ghost use Rattle.cmd_captures.specs.Conversions.{Copies, IsCopied, IsStep, after_met};
 ghost use Rattle.cmd_captures.specs.Conversions.{is_end, told_status, said_by};
+ghost use Rattle.cmd_reporting.specs.FileNames.{format_of_output};
+ghost use Rattle.cmd_reporting.specs.FileNames.{is_standard as names_standard};
+ghost use Rattle.cmd_reporting.specs.Statuses.{IsCommandStatus, IsStopped};
 
+use crate::prompt::Prompt;
 use crate::told::UnreadRecord;
-use crate::written::{SignedFault, Written};
+use crate::written::{PutRefusal, Written};
 use cap_pcap::{
     AnySource, Format, LONGEST_CAPTURED, RecordHeader, RecordSource, SinkFault, SourceFault, Step,
 };
 use cap_records::{FileFault, RecordFault, RefusedCapture, Selection};
-use cmd_reporting::{Fault, Io, LeftOut, OutputFormat, Status, Target};
+use cmd_reporting::{
+    Fault, Io, LeftOut, OutputFormat, Status, Target, WriterFault, create_output, is_standard,
+    keep_apart, open,
+};
 use its_linkframe::{Counted, Source};
 use std::alloc::Global;
 use std::io::{Read, Write};
+use std::rt::Files;
 
 /// What is converted, and to what.
 #[derive(Clone, Copy, Debug, PartialEq, Eq)]
 pub struct Conversion<'a> {
-    /// The name of the file that is read.
+    /// The name of the file that is read. `-` is standard input.
     pub file: &'a str,
     /// The file that is written. `-` is standard output.
     pub target: Target<'a>,
@@ -29,48 +36,82 @@ pub struct Conversion<'a> {
     pub frames_only: bool,
 }
 
-/// Writes the chosen records of the file that the reader gives to the one that `io.out` makes, in
-/// the format `to`, one by one, in order. Frames are not checked. A record that has no place in the
-/// file is told on standard error, and left out; so is the fault that ends the file, and what was
-/// read before it is written.
+/// Writes the selected records of the file to the conversion's target, one by one, in order. The
+/// target is created once the file is open. `input` is standard input. Frames are not checked. A
+/// record that has no place in the target is left out and reported on standard error. So is the
+/// fault that ends the file, and what was read before it is written.
 ///
-/// `Refused` where either was told, `Failed` where a read or a write failed or memory ran out.
-pub fn convert<R: Read + Drop, W: Write, E: Write>(
-    alloc: Global,
+/// `BadArguments`, before anything is opened, if nothing says the target's format, and before the
+/// target is created if it is the file itself. `Refused` if a record was left out or the file has a
+/// fault. `Failed` if a file could not be read, created or written, or memory ran out.
+pub fn convert_file<R: Files + AllocGlobal, I: Read + Drop, W: Write, E: Write>(
+    rt: &R,
     conversion: Conversion<'_>,
-    to: Format,
     selection: &Selection,
-    reader: R,
+    input: I,
     io: &mut Io<W, E>,
 ) -> Status
-    ensures { IsCommandStatus result }
+where
+    R::File: Read + Write + Drop,
+    ensures format { format_of_output conversion.entry.target.to conversion.entry.target.name.now
+        ≡ None → result ≡ Status.BadArguments }
+    ensures standard { names_standard conversion.entry.target.name.now ≡ true
+        → ¬ (format_of_output conversion.entry.target.to conversion.entry.target.name.now ≡ None)
+        → IsCommandStatus result }
 {
+    let to = match conversion.target.format() {
+        Ok(to) => to,
+        Err(fault) => return io.status_of(Err(fault)),
+    };
     let converting = Converting {
         conversion,
         to,
         format: io.format,
     };
-    let ended = convert_records(
-        alloc,
-        converting,
-        selection,
-        reader,
-        &mut io.out,
-        &mut io.err,
-    );
+    let ended = convert_to(rt, converting, selection, input, io);
     io.status_of(ended)
 }
 
 /// What is converted, to which format, and how lines on standard error are printed.
 #[derive(Clone, Copy)]
-pub(crate) struct Converting<'a> {
-    pub(crate) conversion: Conversion<'a>,
-    pub(crate) to: Format,
-    pub(crate) format: OutputFormat,
+struct Converting<'a> {
+    conversion: Conversion<'a>,
+    to: Format,
+    format: OutputFormat,
 }
 
-/// The same, with the fault that ends it.
-pub(crate) fn convert_records<'a, R: Read + Drop, W: Write + Drop, E: Write>(
+/// Opens the file, and only then creates the target. What is written to standard output goes out at
+/// once if records come from standard input.
+fn convert_to<'a, R: Files + AllocGlobal, I: Read + Drop, W: Write, E: Write>(
+    rt: &R,
+    converting: Converting<'a>,
+    selection: &Selection,
+    input: I,
+    io: &mut Io<W, E>,
+) -> Result<Status, WriterFault<'a, Fault<'a>>>
+where
+    R::File: Read + Write + Drop,
+    ensures done { IfOk result IsCommandStatus }
+    ensures standard { names_standard converting.entry.conversion.target.name.now ≡ true
+        → IfErr result IsStopped }
+{
+    let Conversion { file, target, .. } = converting.conversion;
+    let reader = open(rt, file, input)?;
+    keep_apart(rt, target.name, file)?;
+    let out = Prompt::new(&mut io.out, is_standard(file));
+    let writer = create_output(rt, target.name, out)?;
+    Ok(convert_records(
+        rt.alloc(),
+        converting,
+        selection,
+        reader,
+        writer,
+        &mut io.err,
+    )?)
+}
+
+/// Writes the selected records of the file that the reader gives.
+fn convert_records<'a, R: Read + Drop, W: Write + Drop, E: Write>(
     alloc: Global,
     converting: Converting<'a>,
     selection: &Selection,
@@ -90,9 +131,6 @@ pub(crate) fn convert_records<'a, R: Read + Drop, W: Write + Drop, E: Write>(
     };
     let keep = LONGEST_CAPTURED as usize;
     let ended = match AnySource::open(alloc, Counted::new(reader), selection.format, keep) {
-        Ok(mut source) if selection.signed => {
-            copy_signed(alloc, telling, selection, &mut source, &mut written, err)
-        }
         Ok(mut source) => copy(alloc, telling, selection, &mut source, &mut written, err),
         Err(fault) => telling.end_file(fault, 0, err),
     };
@@ -101,7 +139,7 @@ pub(crate) fn convert_records<'a, R: Read + Drop, W: Write + Drop, E: Write>(
     let flushed = written.into_writer().flush();
     let status = ended?;
     if !is_whole || flushed.is_err() {
-        return Err(Fault::of_target(conversion.target.name));
+        return Err(Fault::of_target(telling.target));
     }
     losses.report(err);
     Ok(status)
@@ -119,47 +157,8 @@ fn copy<'a, S: Source + Drop, W: Write + Drop, E: Write>(
 ) -> Result<Status, Fault<'a>>
     ensures command { IfOk result IsCommandStatus }
     ensures copied { IfOk result (IsCopied Gives said_by selection.now.choice
-        selection.now.count (has_links (format_of_source source.old)) source.old written.old
-        source.new written.new) }
-{
-    let linked = is_linked(source.format());
-    let mut octets = Vec::new(alloc);
-    let mut room = Vec::new(alloc);
-    let mut progress = Progress::begin();
-    // The range is there so that the copying ends on any source. No file reaches its end.
-    for step in 0..u64::MAX {
-        if selection.count == Some(progress.chosen) {
-            return Ok(progress.status());
-        }
-        let target = telling.target;
-        let met = go_on(
-            selection,
-            target,
-            source,
-            linked,
-            &mut octets,
-            &mut room,
-            written,
-        )?;
-        telling.tell(met, progress.records, err)?;
-        progress = progress.after(met);
-        if met.is_end() {
-            return Ok(progress.status());
-        }
-    }
-    Ok(progress.status())
-}
-
-/// The same, where secured frames are read by their plain part.
-fn copy_signed<'a, S: Source + Drop, W: Write + Drop, E: Write>(
-    alloc: Global,
-    telling: Telling<'a>,
-    selection: &Selection,
-    source: &mut AnySource<S>,
-    written: &mut Written<W>,
-    err: &mut E,
-) -> Result<Status, Fault<'a>>
-    ensures { IfOk result IsCommandStatus }
+        selection.now.count selection.now.signed source.old written.old source.new
+        written.new) }
 {
     let mut octets = Vec::new(alloc);
     let mut room = Vec::new(alloc);
@@ -170,7 +169,7 @@ fn copy_signed<'a, S: Source + Drop, W: Write + Drop, E: Write>(
             return Ok(progress.status());
         }
         let target = telling.target;
-        let met = go_on_signed(selection, target, source, &mut octets, &mut room, written)?;
+        let met = go_on(selection, target, source, &mut octets, &mut room, written)?;
         telling.tell(met, progress.records, err)?;
         progress = progress.after(met);
         if met.is_end() {
@@ -178,13 +177,6 @@ fn copy_signed<'a, S: Source + Drop, W: Write + Drop, E: Write>(
         }
     }
     Ok(progress.status())
-}
-
-/// Whether the records of a file of this format have the header of their link layer.
-fn is_linked(format: Format) -> bool
-    ensures { result ≡ has_links format }
-{
-    format != Format::Capture
 }
 
 /// What became of a record.
@@ -284,17 +276,16 @@ fn go_on<'a, S: Source + Drop, W: Write + Drop>(
     selection: &Selection,
     target: &'a str,
     source: &mut AnySource<S>,
-    linked: bool,
     octets: &mut Vec<u8>,
     room: &mut Vec<u8>,
     written: &mut Written<W>,
 ) -> Result<Met, Fault<'a>>
-    ensures { IfOk result (IsStep Gives said_by selection.now.choice linked source.old
+    ensures { IfOk result (IsStep Gives said_by selection.now.choice selection.now.signed source.old
         written.old source.new written.new) }
 {
     match source.next_into(octets) {
         Ok(Step::Record(head)) => {
-            let copied = copy_record(selection, target, &head, octets, linked, room, written)?;
+            let copied = copy_record(selection, target, &head, octets, room, written)?;
             Ok(Met::Record(copied))
         }
         Ok(Step::Interface) => match written.meet(source.layer(), source.newest()) {
@@ -304,56 +295,6 @@ fn go_on<'a, S: Source + Drop, W: Write + Drop>(
         Ok(Step::Passed) => Ok(Met::NoRecord),
         Ok(Step::End) => Ok(Met::End(None)),
         Err(fault) => Ok(Met::End(Some(fault))),
-    }
-}
-
-/// The same, where secured frames are read by their plain part.
-fn go_on_signed<'a, S: Source + Drop, W: Write + Drop>(
-    selection: &Selection,
-    target: &'a str,
-    source: &mut AnySource<S>,
-    octets: &mut Vec<u8>,
-    room: &mut Vec<u8>,
-    written: &mut Written<W>,
-) -> Result<Met, Fault<'a>> {
-    let linked = is_linked(source.format());
-    match source.next_into(octets) {
-        Ok(Step::Record(head)) => {
-            let copied = copy_inner(selection, target, &head, octets, linked, room, written)?;
-            Ok(Met::Record(copied))
-        }
-        Ok(Step::Interface) => match written.meet(source.layer(), source.newest()) {
-            Ok(()) => Ok(Met::NoRecord),
-            Err(_) => Err(Fault::of_target(target)),
-        },
-        Ok(Step::Passed) => Ok(Met::NoRecord),
-        Ok(Step::End) => Ok(Met::End(None)),
-        Err(fault) => Ok(Met::End(Some(fault))),
-    }
-}
-
-/// Writes a record, if it is chosen by the packet inside where its frame is a secured one.
-fn copy_inner<'a, W: Write + Drop>(
-    selection: &Selection,
-    target: &'a str,
-    head: &RecordHeader,
-    octets: &mut Vec<u8>,
-    linked: bool,
-    room: &mut Vec<u8>,
-    written: &mut Written<W>,
-) -> Result<Copied, Fault<'a>> {
-    if !selection.has_signed_record(head, octets.as_slice(), linked, room)? {
-        return Ok(Copied::Passed);
-    }
-    match written.put_signed(head, octets, linked) {
-        Ok(()) => Ok(Copied::Written),
-        Err(SignedFault::Unread(fault)) => Ok(Copied::Unread(fault)),
-        Err(SignedFault::Sink(fault)) => {
-            if fault.word().is_none() {
-                return Err(Fault::of_target(target));
-            }
-            Ok(Copied::LeftOut(fault))
-        }
     }
 }
 
@@ -363,19 +304,19 @@ fn copy_record<'a, W: Write + Drop>(
     target: &'a str,
     head: &RecordHeader,
     octets: &mut Vec<u8>,
-    linked: bool,
     room: &mut Vec<u8>,
     written: &mut Written<W>,
 ) -> Result<Copied, Fault<'a>>
-    ensures { IfOk result (λ copied. (added : List ℕ) × Copies selection.now.choice linked head.now
-        octets.old.items written.old added written.new copied) }
+    ensures { IfOk result (λ copied. (added : List ℕ) × Copies selection.now.choice
+        selection.now.signed head.now octets.old.items written.old added written.new copied) }
 {
-    if !selection.has_record(head, octets.as_slice(), linked, room)? {
+    if !selection.has_record(head, octets.as_slice(), room)? {
         return Ok(Copied::Passed);
     }
-    match written.put(head, octets, linked) {
+    match written.put(head, octets, selection.signed) {
         Ok(()) => Ok(Copied::Written),
-        Err(fault) => {
+        Err(PutRefusal::Unread(fault)) => Ok(Copied::Unread(fault)),
+        Err(PutRefusal::Sink(fault)) => {
             if fault.word().is_none() {
                 return Err(Fault::of_target(target));
             }

@@ -16,6 +16,7 @@ use std::alloc::AllocError;
 /// in JSON, and as words in text.
 #[derive(Clone, Copy, Serialize)]
 pub(crate) struct FrameLine<'a> {
+    #[serde(skip_serializing_if = "Moment::is_fraction")]
     moment: Moment,
     #[serde(flatten)]
     keys: FrameKeys<'a>,

@@ -1,17 +1,22 @@
 //! The command `import`: lines of a moment and hexadecimal digits become a capture.
 
-ghost use Rattle.std.specs.Prelude.{◌≡◌, ◌+◌, ◌%◌, ◌==◌, ℕ, IfOk, All, IsErr, IsTrue, ◌⊎◌};
-ghost use Rattle.std.specs.Prelude.{length, vec_len};
+ghost use Rattle.std.specs.Prelude.{◌≡◌, ◌+◌, ◌%◌, ◌==◌, ℕ, IfErr, IfOk, All, IsErr, IsTrue, ◌⊎◌};
+ghost use Rattle.std.specs.Prelude.{length, true, vec_len};
 ghost use Rattle.std.specs.Char.{IsAsciiHexdigit};
 ghost use Rattle.its_linkframe.specs.Captures.{IsFrameLength};
 ghost use Rattle.cmd_captures.specs.Lines.{HasFrame};
+ghost use Rattle.cmd_reporting.specs.FileNames.{is_standard as names_standard};
+ghost use Rattle.cmd_reporting.specs.Statuses.{IsCommandStatus, IsStopped};
 
-use cmd_reporting::{CommandFault, Fault, OutputFormat, Status, WriterFault};
+use cmd_reporting::{
+    CommandFault, Fault, Io, OutputFormat, Status, WriterFault, create_output, keep_apart, open,
+};
 use cmd_text::frames::Explanation;
 use cmd_text::lines::{Line, Passed, are_digits};
 use its_linkframe::{CaptureWriter, Counted, LONGEST_FRAME, Record};
 use std::alloc::{AllocError, AllocFailed, Global};
-use std::io::{BufRead, Write};
+use std::io::{BufRead, Read, Write};
+use std::rt::Files;
 use std::str;
 use thiserror::Error;
 
@@ -108,6 +113,10 @@ impl<'a> From<Fault<'a>> for LinesFault<'a> {
 }
 
 impl<'a> From<LinesFault<'a>> for WriterFault<'a, LinesFault<'a>> {
+    ghost use Rattle.cmd_reporting.specs.declared.fault.WriterFault.TheVariants as writer_faults;
+
+    ghost from_gives = { λ fault e. e ≡ writer_faults.Stopped fault };
+
     fn from(fault: LinesFault<'a>) -> WriterFault<'a, LinesFault<'a>> {
         WriterFault::Stopped(fault)
     }
@@ -189,6 +198,46 @@ fn read_line(alloc: Global, line: &Line) -> Result<Record, LineError>
     }
     let frame = parse_frame(alloc, &rest[1..])?;
     Ok(Record { moment, frame })
+}
+
+/// Makes the capture `target` of the lines in the file. All lines are read before it is created; a
+/// target `-` is standard output. `input` is standard input.
+///
+/// `BadArguments` if the target is the file itself, before a line is read. `Refused` for a bad line,
+/// `Failed` if a file could not be read, created or written, or memory ran out.
+pub fn import_file<R: Files + AllocGlobal, I: Read + Drop, W: Write, E: Write>(
+    rt: &R,
+    file: &str,
+    input: I,
+    target: &str,
+    io: &mut Io<W, E>,
+) -> Status
+where
+    R::File: Read + Write + Drop,
+    ensures { names_standard target.now ≡ true → IsCommandStatus result }
+{
+    let ended = import_to(rt, file, input, target, &mut io.out);
+    io.status_of(ended)
+}
+
+/// Reads the lines, and only then creates the capture.
+fn import_to<'a, R: Files + AllocGlobal, I: Read + Drop, W: Write>(
+    rt: &R,
+    file: &'a str,
+    input: I,
+    target: &'a str,
+    out: &mut W,
+) -> Result<Status, WriterFault<'a, LinesFault<'a>>>
+where
+    R::File: Read + Write + Drop,
+    ensures done { IfOk result (λ status. status ≡ Status.Done) }
+    ensures standard { names_standard target.entry.now ≡ true → IfErr result IsStopped }
+{
+    let reader = open(rt, file, input)?;
+    keep_apart(rt, target, file)?;
+    let records = read_lines(rt.alloc(), file, reader)?;
+    let writer = create_output(rt, target, out)?;
+    Ok(write_records(target, records.as_slice(), writer)?)
 }
 
 /// Reads all lines that the reader gives. `file` is their name. Empty lines are passed over. A line

@@ -1,12 +1,11 @@
-//! The commands over captures: `show`, `check`, `convert` and `import`, each a function that gives the
-//! exit status, over a reader and writers or over named files.
+//! The commands over captures: `show`, `check`, `convert` and `import`, each a function over named
+//! files that returns the exit status.
 #![tactic(auto)]
 
 mod checking;
 mod converting;
 mod date;
 mod field;
-mod files;
 mod frame_line;
 mod importing;
 mod losses;
@@ -22,11 +21,10 @@ mod utc;
 mod written;
 
 pub use cap_records::{Choice, Kinds, Selection};
-pub use checking::check;
-pub use converting::{Conversion, convert};
+pub use checking::check_file;
+pub use converting::{Conversion, convert_file};
 pub use field::{FIELDS, Field};
-pub use files::{check_file, convert_file, import_file, show_file};
-pub use importing::{LineFault, LinesFault, read_lines, write_records};
+pub use importing::{LineFault, LinesFault, import_file, read_lines, write_records};
 pub use moment::Time;
-pub use showing::{Showing, show};
+pub use showing::{Showing, show_file};
 pub use utc::utc_moment;

@@ -55,7 +55,7 @@ pub(crate) enum Moment {
 
 impl Moment {
     /// Whether it is a number that is told with a fraction.
-    pub(crate) fn is_fraction(self) -> bool {
+    pub(crate) fn is_fraction(&self) -> bool {
         matches!(self, Moment::Between(_, _))
     }
 

@@ -103,29 +103,12 @@ impl Output {
     }
 }
 
-/// Writes an object whose first value is a moment. One with a fraction, which stands there as a
-/// text so that its digits stay, is a number: its quotation marks are left out.
+/// Writes an object that begins with a moment. A moment with a fraction isn't among its keys: its
+/// digits are written before them, as a number that keeps its zeros.
 fn write_object<W: Write>(line: &[u8], moment: Moment, out: &mut W) -> io::Result<()> {
     if !moment.is_fraction() {
         return out.write_all(line);
     }
-    let (front, rest) = cut_at_mark(line, 2);
-    let (digits, end) = cut_at_mark(rest, 0);
-    out.write_all(front)?;
-    out.write_all(digits)?;
-    out.write_all(end)
-}
-
-/// What stands before and behind a quotation mark, before which there are so many others.
-fn cut_at_mark(octets: &[u8], others: usize) -> (&[u8], &[u8]) {
-    let mut left = others;
-    for (place, octet) in octets.iter().enumerate() {
-        if *octet == b'"' {
-            if left == 0 {
-                return (&octets[..place], &octets[place + 1..]);
-            }
-            left -= 1;
-        }
-    }
-    (octets, &[])
+    write!(out, "{{\"moment\":{moment},")?;
+    out.write_all(line.get(1..).unwrap_or(&[]))
 }

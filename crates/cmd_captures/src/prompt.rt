@@ -3,16 +3,17 @@
 use std::io;
 use std::io::Write;
 
-/// A writer that passes on each write at once, for a reader that waits for it.
+/// A writer that passes on each write at once, if its reader waits for it.
 #[derive(Drop)]
 pub(crate) struct Prompt<W: Write + Drop> {
     out: W,
+    is_awaited: bool,
 }
 
 impl<W: Write + Drop> Prompt<W> {
     /// Returns a writer before this one.
-    pub(crate) fn new(out: W) -> Prompt<W> {
-        Prompt { out }
+    pub(crate) fn new(out: W, is_awaited: bool) -> Prompt<W> {
+        Prompt { out, is_awaited }
     }
 }
 
@@ -21,8 +22,10 @@ impl<W: Write + Drop> Write for Prompt<W> {
 
     fn write(&mut self, octets: &[u8]) -> io::Result<usize> {
         let written = self.out.write(octets)?;
-        // What fails here fails again at the end, where it is reported.
-        let _ = self.out.flush();
+        if self.is_awaited {
+            // What fails here fails again at the end, where it is reported.
+            let _ = self.out.flush();
+        }
         Ok(written)
     }
 

@@ -15,10 +15,11 @@ use cap_pcap::{AnySource, Format};
 use cap_records::{
     Place, RecordFault, RecordVisitor, RefusedCapture, Selection, each_record, open_records,
 };
-use cmd_reporting::{CommandFault, Fault, Io, OutputFormat, Status};
+use cmd_reporting::{CommandFault, Fault, Io, OutputFormat, Status, open};
 use its_linkframe::{FrameView, Source};
 use std::alloc::{AllocError, Global};
 use std::io::{Read, Write};
+use std::rt::Files;
 use thiserror::Error;
 
 /// How `show` tells records.
@@ -121,44 +122,49 @@ impl RecordVisitor for AllRecords {
     }
 }
 
-/// Prints a line, or a row of values, for each record that is chosen of the file that the reader
-/// gives. `file` is its name.
+/// Prints a line, or a row of values, for each record of the file that is chosen. `input` is
+/// standard input.
 ///
-/// `BadArguments` where moments are to be told in UTC and the capture, as one of this project's
-/// own, has no epoch. `Refused` where a chosen record or the file was refused, `Failed` where a
-/// read or a write failed or memory ran out.
-pub fn show<R: Read + Drop, W: Write, E: Write>(
-    alloc: Global,
+/// `BadArguments` if moments are to be printed in UTC and the file has no epoch, as a capture of this
+/// project. `Refused` if such a record or the file was refused, `Failed` if the file could not be
+/// read or standard output not written, or memory ran out.
+pub fn show_file<R: Files + AllocGlobal, I: Read + Drop, W: Write, E: Write>(
+    rt: &R,
     file: &str,
-    reader: R,
+    input: I,
     selection: &Selection,
     showing: Showing<'_>,
     io: &mut Io<W, E>,
 ) -> Status
+where
+    R::File: Read + Drop,
     ensures { ¬ (showing.entry.time ≡ times.Utc) → IsCommandStatus result }
 {
-    let ended = show_records(alloc, file, reader, selection, showing, io);
+    let ended = show_records(rt, file, input, selection, showing, io);
     io.status_of(ended)
 }
 
-/// The same, with the fault that ends it.
-pub(crate) fn show_records<'a, R: Read + Drop, W: Write, E: Write>(
-    alloc: Global,
+/// Shows the records of the file. The fault is what ends the command before it is done.
+fn show_records<'a, R: Files + AllocGlobal, I: Read + Drop, W: Write, E: Write>(
+    rt: &R,
     file: &'a str,
-    reader: R,
+    input: I,
     selection: &Selection,
     showing: Showing<'_>,
     io: &mut Io<W, E>,
 ) -> Result<Status, ShowFault<'a>>
+where
+    R::File: Read + Drop,
     ensures done { IfOk result IsCommandStatus }
     ensures stopped { ¬ (showing.entry.time ≡ times.Utc) →
         IfErr result (λ fault. IsCommandStatus (show_fault_status fault)) }
 {
-    let mut source = open_records(alloc, file, selection.format, reader)?;
+    let reader = open(rt, file, input)?;
+    let mut source = open_records(rt.alloc(), file, selection.format, reader)?;
     if showing.time == Time::Utc && source.format() == Format::Capture {
         return Err(ShowFault::NoEpoch(file));
     }
-    Ok(show_opened(alloc, file, &mut source, selection, showing, io)?)
+    Ok(show_opened(rt.alloc(), file, &mut source, selection, showing, io)?)
 }
 
 /// The same of a file that is open.

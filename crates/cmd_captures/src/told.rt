@@ -10,6 +10,7 @@ use std::fmt;
 /// What `show` tells of a record that is refused.
 #[derive(Clone, Copy, Serialize)]
 pub(crate) struct RefusedAt {
+    #[serde(skip_serializing_if = "Moment::is_fraction")]
     moment: Moment,
     refused: Printed<RecordCode>,
     reason: Printed<RecordFault>,

@@ -1,9 +1,9 @@
 //! The file that `convert` writes.
 
-ghost use Rattle.std.specs.Prelude.{◌≡◌, ◌≤◌, ℕ, List, OnOk, IfOk, IfErr, true, drop, length};
-ghost use Rattle.cap_linklayers.specs.LinkLayers.{IsLinkFault};
+ghost use Rattle.std.specs.Prelude.{◌≡◌, ℕ, List, OnOk, IfOk, IfErr};
 ghost use Rattle.cmd_captures.specs.Conversions.{IsBegun, IsFileFault, PutsRecord, WritesText};
-ghost use Rattle.cmd_captures.specs.Conversions.{IsFrameText, MeetsInterface, HasInterface};
+ghost use Rattle.cmd_captures.specs.Conversions.{IsFrameText, IsTextFault};
+ghost use Rattle.cmd_captures.specs.Conversions.{MeetsInterface, HasInterface};
 ghost use Rattle.cmd_captures.specs.Conversions.{unit_with, layer_after, is_finer_unit};
 ghost use Rattle.cmd_captures.specs.Conversions.{head_to, HasSection};
 ghost use Rattle.cap_pcap.specs.InterfaceHeads.{name_in};
@@ -14,7 +14,7 @@ use cap_pcap::{
     AnySink, Format, InterfaceHead, InterfaceInfo, InterfaceName, LinkFault, LinkLayer, PutFault,
     RecordHeader, RecordSink, SinkFault, Unit, frame_start, has_place, layer_for,
 };
-use cap_records::{RecordFault, bring_inner, find_plain, is_secured};
+use cap_records::{RecordFault, bring_inner, find_plain, reads_secured};
 use its_linkframe::Counted;
 use std::io::Write;
 use std::marker::Model;
@@ -120,49 +120,27 @@ impl<W: Write + Drop> Written<W> {
         Ok(())
     }
 
-    /// Writes a record, whose octets have the header of their link layer where they are linked, or
-    /// its frame, which is put together among them.
+    /// Writes a record, or only its frame, which is put together among the octets. `signed` says that
+    /// of a secured frame the inner frame is written. It isn't checked.
     ///
     /// Refused first by its link layer, then as one that was cut, where a frame is written by the
-    /// rules of its link layer, then by its length and last by its moment.
+    /// rules of its link layer and then as a secured one whose message can't be read (`Unread`),
+    /// then by its length and last by its moment.
     pub(crate) fn put(
         &mut self,
         head: &RecordHeader,
         octets: &mut Vec<u8>,
-        linked: bool,
-    ) -> Result<(), SinkFault>
-        ensures { PutsRecord linked head.now octets.old.items self.old self.new result }
+        signed: bool,
+    ) -> Result<(), PutRefusal>
+        ensures { PutsRecord signed head.now octets.old.items self.old self.new result }
     {
         if !self.frames_only {
             let layer = layer_for(head, self.layer)?;
-            return self.write(layer, head, octets.as_slice());
+            return Ok(self.write(layer, head, octets.as_slice())?);
         }
         let layer = layer_for(head, None)?;
-        let start = text_start(layer, octets, linked)?;
-        self.write(LinkLayer::Ethernet, head, &octets.as_slice()[start..])
-    }
-
-    /// The same, where secured frames are read by their plain part: in place of a secured frame the
-    /// inner frame is written, which isn't judged. `Unread` if its message can't be read. Records with
-    /// the header of their link layer are written as ever.
-    pub(crate) fn put_signed(
-        &mut self,
-        head: &RecordHeader,
-        octets: &mut Vec<u8>,
-        linked: bool,
-    ) -> Result<(), SignedFault> {
-        if !self.frames_only {
-            return Ok(self.put(head, octets, linked)?);
-        }
-        let layer = layer_for(head, None)?;
-        let start = text_start(layer, octets, linked)?;
-        if !is_secured(&octets.as_slice()[start..]) {
-            return Ok(self.write(LinkLayer::Ethernet, head, &octets.as_slice()[start..])?);
-        }
-        let plain = find_plain(&octets.as_slice()[start..])?;
-        let place = bring_inner(octets, start, &plain);
-        let inner = place.octets(octets.as_slice());
-        Ok(self.write(LinkLayer::Ethernet, head, inner)?)
+        let frame = frame_text(layer, octets, signed)?;
+        Ok(self.write(LinkLayer::Ethernet, head, frame)?)
     }
 
     /// Writes a record of these octets, behind the headers where it is the first.
@@ -226,58 +204,58 @@ impl<W: Write + Drop> Written<W> {
     }
 }
 
-/// Why a record isn't written whose secured frame is read by its plain part.
+/// Why a record isn't written.
 #[derive(Clone, Copy)]
-pub(crate) enum SignedFault {
-    /// As any record.
+pub(crate) enum PutRefusal {
+    /// It has no place in the file, or the file failed.
     Sink(SinkFault),
     /// Its secured frame can't be read.
     Unread(RecordFault),
 }
 
-impl From<SinkFault> for SignedFault {
+impl From<SinkFault> for PutRefusal {
     ghost use Rattle.std.specs.Prelude.{◌≡◌};
-    ghost use Rattle.cmd_captures.specs.declared.written.SignedFault.TheVariants as signed_faults;
+    ghost use Rattle.cmd_captures.specs.declared.written.PutRefusal.TheVariants as refusals;
 
-    ghost from_gives = { λ fault e. e ≡ signed_faults.Sink fault };
+    ghost from_gives = { λ fault e. e ≡ refusals.Sink fault };
 
-    fn from(fault: SinkFault) -> SignedFault {
-        SignedFault::Sink(fault)
+    fn from(fault: SinkFault) -> PutRefusal {
+        PutRefusal::Sink(fault)
     }
 }
 
-impl From<cap_pcap::RecordFault> for SignedFault {
+impl From<cap_pcap::RecordFault> for PutRefusal {
     ghost use Rattle.std.specs.Prelude.{◌≡◌};
-    ghost use Rattle.cmd_captures.specs.declared.written.SignedFault.TheVariants as signed_faults;
+    ghost use Rattle.cmd_captures.specs.declared.written.PutRefusal.TheVariants as refusals;
     ghost use Rattle.cap_pcap.specs.declared.sink.SinkFault.TheVariants as sink_faults;
 
-    ghost from_gives = { λ fault e. e ≡ signed_faults.Sink (sink_faults.Record fault) };
+    ghost from_gives = { λ fault e. e ≡ refusals.Sink (sink_faults.Record fault) };
 
-    fn from(fault: cap_pcap::RecordFault) -> SignedFault {
-        SignedFault::Sink(SinkFault::Record(fault))
+    fn from(fault: cap_pcap::RecordFault) -> PutRefusal {
+        PutRefusal::Sink(SinkFault::Record(fault))
     }
 }
 
-impl From<LinkFault> for SignedFault {
+impl From<LinkFault> for PutRefusal {
     ghost use Rattle.std.specs.Prelude.{◌≡◌};
-    ghost use Rattle.cmd_captures.specs.declared.written.SignedFault.TheVariants as signed_faults;
+    ghost use Rattle.cmd_captures.specs.declared.written.PutRefusal.TheVariants as refusals;
     ghost use Rattle.cap_pcap.specs.declared.sink.SinkFault.TheVariants as sink_faults;
 
-    ghost from_gives = { λ fault e. e ≡ signed_faults.Sink (sink_faults.Link fault) };
+    ghost from_gives = { λ fault e. e ≡ refusals.Sink (sink_faults.Link fault) };
 
-    fn from(fault: LinkFault) -> SignedFault {
-        SignedFault::Sink(SinkFault::Link(fault))
+    fn from(fault: LinkFault) -> PutRefusal {
+        PutRefusal::Sink(SinkFault::Link(fault))
     }
 }
 
-impl From<RecordFault> for SignedFault {
+impl From<RecordFault> for PutRefusal {
     ghost use Rattle.std.specs.Prelude.{◌≡◌};
-    ghost use Rattle.cmd_captures.specs.declared.written.SignedFault.TheVariants as signed_faults;
+    ghost use Rattle.cmd_captures.specs.declared.written.PutRefusal.TheVariants as refusals;
 
-    ghost from_gives = { λ fault e. e ≡ signed_faults.Unread fault };
+    ghost from_gives = { λ fault e. e ≡ refusals.Unread fault };
 
-    fn from(fault: RecordFault) -> SignedFault {
-        SignedFault::Unread(fault)
+    fn from(fault: RecordFault) -> PutRefusal {
+        PutRefusal::Unread(fault)
     }
 }
 
@@ -332,17 +310,17 @@ fn name_of(name: &Option<InterfaceName>) -> &[u8]
     }
 }
 
-/// Where the frame of a record of this link layer begins in its octets, after it is put together
-/// there.
-fn text_start(layer: LinkLayer, octets: &mut Vec<u8>, linked: bool) -> Result<usize, LinkFault>
-    ensures frame { IfOk result
-        (λ at. IsFrameText linked layer octets.old.items (drop at octets.new.items)) }
-    ensures inside { IfOk result (λ at. at ≤ length octets.new.items) }
-    ensures fault { IfErr result (λ f. (linked ≡ true) × IsLinkFault layer octets.old.items f) }
+/// Returns the frame that is written of a record of this link layer, after it is put together among
+/// the record's octets.
+fn frame_text(layer: LinkLayer, octets: &mut Vec<u8>, signed: bool) -> Result<&[u8], PutRefusal>
+    ensures frame { IfOk result (λ text. IsFrameText signed layer octets.old.items text.now) }
+    ensures fault { IfErr result (IsTextFault signed layer octets.old.items) }
 {
-    if linked {
-        frame_start(layer, octets)
-    } else {
-        Ok(0)
+    let start = frame_start(layer, octets)?;
+    if !reads_secured(signed, &octets.as_slice()[start..]) {
+        return Ok(&octets.as_slice()[start..]);
     }
+    let plain = find_plain(&octets.as_slice()[start..])?;
+    let place = bring_inner(octets, start, &plain);
+    Ok(place.octets(octets.as_slice()))
 }

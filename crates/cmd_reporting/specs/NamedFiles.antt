@@ -1,6 +1,6 @@
 -- Which names stand for one and the same file.
 use Rattle.std.specs.Prelude.{◌≡◌, ◌&&◌, ◌||◌, ◌==◌, ℕ, zero, suc, Bool, true, false, List, take}
-use Rattle.std.specs.Prelude.{slice_get, length, Option, Some, None}
+use Rattle.std.specs.Prelude.{slice_get, length, Option, Some}
 use Rattle.std.specs.List.{list_any}
 use Rattle.std.specs.Str.{bytes_eq}
 use Rattle.cmd_reporting.specs.declared.named_file.Identity.{Identity}

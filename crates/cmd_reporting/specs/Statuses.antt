@@ -23,3 +23,8 @@ IsCommandStatus status = status ≢ BadArguments
 abbrev pub writer_fault_status : {F : Type 0} → (F → Status) → WriterFault F → Status
 writer_fault_status status_of (Stopped fault) = status_of fault
 writer_fault_status status_of (Output fault) = BadArguments
+
+-- the fault would end the command if it wrote no file
+abbrev pub IsStopped : {F : Type 0} → WriterFault F → Type 0
+IsStopped (Stopped fault) = Unit {0}
+IsStopped (Output fault) = ⊥

@@ -1,19 +1,22 @@
 //! A file of frames, written as they are given.
 
-ghost use Rattle.std.specs.Prelude.{◌≡◌, ◌^◌, ◌<◌, IfOk, Ok, is_ok};
+ghost use Rattle.std.specs.Prelude.{◌≡◌, ◌^◌, ◌<◌, IfOk, None, Ok, is_ok};
 ghost use Rattle.cmd_reporting.specs.Statuses.{IsCommandStatus};
 ghost use Rattle.cmd_reporting.specs.FrameFiles.{HasNewInterface, IsBegun, IsNoted, IsEnded};
 
-use crate::fault::Fault;
+use crate::fault::{Fault, WriterFault};
+use crate::files::{create, keep_apart};
 use crate::left_out::LeftOut;
 use crate::options::OutputFormat;
+use crate::outputs::FrameTarget;
 use crate::status::Status;
 use cap_pcap::{AnySink, Format, PutFault, RecordSink, SinkFault, Stamp};
 use its_linkframe::Counted;
 use std::alloc::Global;
 use std::io;
-use std::io::Write;
+use std::io::{BufWriter, Write};
 use std::marker::Model;
+use std::rt::Files;
 
 /// A file of the frames that stations give, one by one.
 #[derive(Drop)]
@@ -159,4 +162,25 @@ impl<'a, W: Write + Drop> FrameFile<'a, W> {
             Err(_) => Err(Fault::CannotWrite(target)),
         }
     }
+}
+
+/// Creates the file of frames, if there is one, and begins it, for so many stations. It may not be the
+/// file that is read: `SameFile`. `NotWritten` or `CannotWrite` if it can't be created or written,
+/// `OutOfMemory` if an allocation failed.
+pub fn create_frames<'a, R: Files + AllocGlobal>(
+    rt: &R,
+    target: Option<FrameTarget<'a>>,
+    read: &'a str,
+    stations: usize,
+) -> Result<Option<FrameFile<'a, BufWriter<R::File>>>, WriterFault<'a, Fault<'a>>>
+where
+    R::File: Write + Drop,
+    ensures { target.entry ≡ None → result ≡ Ok None }
+{
+    let Some(FrameTarget { name, format }) = target else {
+        return Ok(None);
+    };
+    keep_apart(rt, name, read)?;
+    let created = create(rt, name)?;
+    Ok(Some(FrameFile::start(rt.alloc(), created, name, format, stations)?))
 }

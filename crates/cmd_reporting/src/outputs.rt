@@ -1,7 +1,8 @@
 //! The files that a command writes: what their names say, and why one isn't written.
 
-ghost use Rattle.std.specs.Prelude.{◌≡◌, MatchResult, None, Some};
+ghost use Rattle.std.specs.Prelude.{◌≡◌, IfSome, IsErr, MatchResult, None, Ok, Some};
 ghost use Rattle.std.specs.Str.{str_eq_ignore_ascii_case};
+ghost use Rattle.cap_pcap.specs.declared.format.Format.{Format as FileFormat};
 ghost use Rattle.cmd_reporting.specs.FileNames.{ends_in, format_of_file, format_of_name};
 ghost use Rattle.cmd_reporting.specs.FileNames.{format_of_output};
 ghost use Rattle.cmd_reporting.specs.FileNames.{is_standard as names_standard};
@@ -63,6 +64,37 @@ impl<'a> Target<'a> {
             self.format()
         }
     }
+}
+
+/// A file of frames that is to be made.
+#[derive(Clone, Copy, Debug, PartialEq, Eq)]
+pub struct FrameTarget<'a> {
+    /// Its name.
+    pub name: &'a str,
+    /// Its format.
+    pub format: Format,
+}
+
+/// Returns the file of frames that the arguments ask for, if they do. `NoFormat` if nothing says its
+/// format or its name is `-`.
+pub fn frame_target<'a>(
+    frames: Option<Target<'a>>,
+) -> Result<Option<FrameTarget<'a>>, OutputFault<'a>>
+    ensures alone { frames.entry ≡ None → result ≡ Ok None }
+    ensures format { IfSome frames.entry (λ target. format_of_file target.to target.name.now ≡ None
+        → IsErr result) }
+    ensures made { IfSome frames.entry (λ target. (format : FileFormat)
+        → format_of_file target.to target.name.now ≡ Some format
+        → result ≡ Ok (Some (record { name = target.name; format = format }))) }
+{
+    let Some(target) = frames else {
+        return Ok(None);
+    };
+    let format = target.file_format()?;
+    Ok(Some(FrameTarget {
+        name: target.name,
+        format,
+    }))
 }
 
 /// The format that a name says, if it says one.

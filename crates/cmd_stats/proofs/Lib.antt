@@ -1,3 +1,3 @@
 pub mod Opened
 pub mod Records
-pub mod Counts
+pub mod Verified

@@ -1,8 +1,9 @@
 -- One more port that is opened.
-use Rattle.std.proofs.Common.{◌≡◌, ◌≢◌, ℕ, List, [], ◌∷◌, ◌++◌, ◌+◌, refl, ap, ◌∙◌}
+use Rattle.std.proofs.Common.{◌≡◌, ◌≢◌, ℕ, List, [], ◌∷◌, ◌++◌, refl, ap, ◌∙◌}
 use Rattle.std.proofs.Common.{map, Ok, Err}
 use Rattle.std.specs.Prelude.{Result}
-use Rattle.its_model.specs.Calls.{Own, Opened}
+use Rattle.its_model.specs.Calls.{Answer, Own, Opened}
+use Rattle.its_model.specs.Packet.{Transmission}
 use Rattle.its_model.specs.Calls.OwnCall.{Open}
 use Rattle.its_model.specs.Isolation.{TimedCall, station_run}
 use Rattle.its_model.specs.Station.{StationModel, Step, station_step}
@@ -13,20 +14,26 @@ use Rattle.its_station.specs.declared.refused.Refused.TheVariants as refused
 use Rattle.cmd_stats.specs.Units.{opening, with_open}
 
 -- whatever is answered but want of memory, the station is that after the step
+pub stands_by : {T : Type 0} (says : T → Answer Transmission → Type 0) (answer : Result T Refused)
+    (new : StationState) (step : Step) → IsStepOf says answer new step
+    → answer ≢ Err refused.NoMemory → RepresentsStation new step.station
+stands_by says (Ok x) new step is not = is.1
+stands_by says (Err refused.MomentEarlier) new step is not = is.1
+stands_by says (Err refused.MomentTooLate) new step is not = is.1
+stands_by says (Err refused.JitterRange) new step is not = is.1
+stands_by says (Err (refused.Frame fault)) new step is not = is.1
+stands_by says (Err (refused.Secured fault)) new step is not = is.1
+stands_by says (Err (refused.Port fault)) new step is not = is.1
+stands_by says (Err refused.PayloadTooLong) new step is not = is.1
+stands_by says (Err refused.HopLimitZero) new step is not = is.1
+stands_by says (Err refused.TableFull) new step is not = is.1
+stands_by says (Err refused.NoMemory) new step is not = absurd (not refl)
+
+-- the same of a port that is opened
 pub stands_after : {T : Type 0} (answer : Result T Refused) (new : StationState) (step : Step)
     → IsStepOf (Says Opened) answer new step → answer ≢ Err refused.NoMemory
     → RepresentsStation new step.station
-stands_after (Ok x) new step is not = is.1
-stands_after (Err refused.MomentEarlier) new step is not = is.1
-stands_after (Err refused.MomentTooLate) new step is not = is.1
-stands_after (Err refused.JitterRange) new step is not = is.1
-stands_after (Err (refused.Frame fault)) new step is not = is.1
-stands_after (Err (refused.Secured fault)) new step is not = is.1
-stands_after (Err (refused.Port fault)) new step is not = is.1
-stands_after (Err refused.PayloadTooLong) new step is not = is.1
-stands_after (Err refused.HopLimitZero) new step is not = is.1
-stands_after (Err refused.TableFull) new step is not = is.1
-stands_after (Err refused.NoMemory) new step is not = absurd (not refl)
+stands_after answer new step is not = stands_by (Says Opened) answer new step is not
 
 map_last : (ports : List ℕ) (port : ℕ)
     → map opening (ports ++ port ∷ []) ≡ map opening ports ++ opening port ∷ []

@@ -23,24 +23,24 @@ use Rattle.cmd_stats.specs.declared.replay.replaying.Gone.TheVariants as gone
 use Rattle.cmd_stats.specs.declared.replay.replaying.Replayed.{Replayed}
 
 steps_last : {S : Type 0} (gives : S → S → List ℕ → Result Step SourceFault → Type 0)
-    (choice : Choice) (linked : Bool) (file : S) (s : StationModel) (given : List Given)
+    (choice : Choice) (signed : Bool) (file : S) (s : StationModel) (given : List Given)
     (told : List Heard) (left : S) (end : StationModel) (one : Given) (new : List Heard) (then : S)
     (next : StationModel)
-    → TellsSteps gives choice linked file s given told left end
+    → TellsSteps gives choice signed file s given told left end
     → gives left then one.octets one.step
-    → TellsStep choice linked one.octets one.step end new next
-    → TellsSteps gives choice linked file s (given ++ one ∷ []) (told ++ new) then next
-steps_last gives choice linked file s [] told left end one new then next before gave tells = (
+    → TellsStep choice signed one.octets one.step end new next
+    → TellsSteps gives choice signed file s (given ++ one ∷ []) (told ++ new) then next
+steps_last gives choice signed file s [] told left end one new then next before gave tells = (
   new,
   [],
   then,
   next,
   ap (λ l. l ++ new) before.0 ∙ sym (append-nil new),
   subst (λ f. gives f then one.octets one.step) before.1 gave,
-  subst (λ (m : StationModel). TellsStep choice linked one.octets one.step m new next) before.2 tells,
+  subst (λ (m : StationModel). TellsStep choice signed one.octets one.step m new next) before.2 tells,
   (refl, refl, refl),
 )
-steps_last gives choice linked file s (g ∷ gs) told left end one new then next before gave tells =
+steps_last gives choice signed file s (g ∷ gs) told left end one new then next before gave tells =
     let (first, rest, mid, m, is, was, tell, more) = before in (
       first,
       rest ++ new,
@@ -49,7 +49,7 @@ steps_last gives choice linked file s (g ∷ gs) told left end one new then next
       ap (λ k. k ++ new) is ∙ append_assoc first rest new,
       was,
       tell,
-      steps_last gives choice linked mid m gs rest left end one new then next more gave tells,
+      steps_last gives choice signed mid m gs rest left end one new then next more gave tells,
     )
 
 records_last : (given : List Given) (one : Given)
@@ -111,12 +111,12 @@ counts_last counts given told (gone.End fault) one new are none is =
     }
 
 pub replayed_none : {S : Type 0} (gives : S → S → List ℕ → Result Step SourceFault → Type 0)
-    (choice : Choice) (linked : Bool) (file : S) (s : StationModel) (station : StationState)
+    (choice : Choice) (signed : Bool) (file : S) (s : StationModel) (station : StationState)
     (Took : List Heard → Type 0)
     → RepresentsStation station s → Took []
-    → IsReplayed gives choice linked file s file station
+    → IsReplayed gives choice signed file s file station
     (record { read = 0; chosen = 0; fault = None }) Took
-replayed_none gives choice linked file s station Took rep took =
+replayed_none gives choice signed file s station Took rep took =
     record {
       given = [];
       told = [];
@@ -129,27 +129,27 @@ replayed_none gives choice linked file s station Took rep took =
 
 -- the counts with which a file begins, and no call
 pub replayed_begun : {S : Type 0} (gives : S → S → List ℕ → Result Step SourceFault → Type 0)
-    (choice : Choice) (linked : Bool) (file : S) (s : StationModel) (station : StationState)
+    (choice : Choice) (signed : Bool) (file : S) (s : StationModel) (station : StationState)
     (Took : List Heard → Type 0) (counts : Replayed)
     → counts ≡ record { read = 0; chosen = 0; fault = None }
     → RepresentsStation station s → Took []
-    → (begun : IsReplayed gives choice linked file s file station counts Took)
+    → (begun : IsReplayed gives choice signed file s file station counts Took)
     × (length begun.given ≡ 0)
 unfolding replayed_none
-replayed_begun gives choice linked file s station Took counts is rep took =
-    subst (λ (r : Replayed). (begun : IsReplayed gives choice linked file s file station r Took)
+replayed_begun gives choice signed file s station Took counts is rep took =
+    subst (λ (r : Replayed). (begun : IsReplayed gives choice signed file s file station r Took)
     × (length begun.given ≡ 0)) (sym is)
-    (replayed_none gives choice linked file s station Took rep took, refl)
+    (replayed_none gives choice signed file s station Took rep took, refl)
 
 pub replayed_more : {S : Type 0} (gives : S → S → List ℕ → Result Step SourceFault → Type 0)
-    (choice : Choice) (linked : Bool) (file : S) (s : StationModel) (left then : S)
+    (choice : Choice) (signed : Bool) (file : S) (s : StationModel) (left then : S)
     (station next : StationState) (counts : Replayed) (met : Gone)
     (Took Later : List Heard → Type 0)
-    (before : IsReplayed gives choice linked file s left station counts Took)
+    (before : IsReplayed gives choice signed file s left station counts Took)
     → counts.fault ≡ None
-    → IsGone gives choice linked left before.end before.told then next met Later
-    → IsReplayed gives choice linked file s then next (counts_after counts met) Later
-replayed_more gives choice linked file s left then station next counts met Took Later before none
+    → IsGone gives choice signed left before.end before.told then next met Later
+    → IsReplayed gives choice signed file s then next (counts_after counts met) Later
+replayed_more gives choice signed file s left then station next counts met Took Later before none
     one =
     record {
       given = before.given ++ one.given ∷ [];
@@ -157,7 +157,7 @@ replayed_more gives choice linked file s left then station next counts met Took 
       end = one.next;
       counted = counts_last counts before.given before.told met one.given one.told before.counted
           none one.met_is;
-      tells = steps_last gives choice linked file s before.given before.told left before.end
+      tells = steps_last gives choice signed file s before.given before.told left before.end
           one.given one.told then one.next before.tells one.gave one.tells;
       took = one.took;
       stands = one.stands;
@@ -165,21 +165,21 @@ replayed_more gives choice linked file s left then station next counts met Took 
 
 -- the same of counts that are known to be those after the step, and with one call more
 pub counted_then : {S : Type 0} (gives : S → S → List ℕ → Result Step SourceFault → Type 0)
-    (choice : Choice) (linked : Bool) (file : S) (s : StationModel) (left then : S)
+    (choice : Choice) (signed : Bool) (file : S) (s : StationModel) (left then : S)
     (station next : StationState) (counts : Replayed) (met : Gone) (result : Replayed)
     (Took Later : List Heard → Type 0) (step : ℕ)
-    (before : IsReplayed gives choice linked file s left station counts Took)
+    (before : IsReplayed gives choice signed file s left station counts Took)
     → length before.given ≡ step
     → result ≡ counts_after counts met → counts.fault ≡ None
-    → IsGone gives choice linked left before.end before.told then next met Later
-    → (after : IsReplayed gives choice linked file s then next result Later)
+    → IsGone gives choice signed left before.end before.told then next met Later
+    → (after : IsReplayed gives choice signed file s then next result Later)
     × (length after.given ≡ step + 1)
 unfolding replayed_more
-counted_then gives choice linked file s left then station next counts met result Took Later step
+counted_then gives choice signed file s left then station next counts met result Took Later step
     before steps is none one =
-    subst (λ (r : Replayed). (after : IsReplayed gives choice linked file s then next r Later)
+    subst (λ (r : Replayed). (after : IsReplayed gives choice signed file s then next r Later)
     × (length after.given ≡ step + 1)) (sym is) (
-      replayed_more gives choice linked file s left then station next counts met Took Later before
+      replayed_more gives choice signed file s left then station next counts met Took Later before
           none one,
       omega (arith, length-append before.given (one.given ∷ []), steps),
     )
@@ -197,19 +197,19 @@ ends_by count counts before one (gone.End (Some fault)) told is met = inl refl
 
 -- the file was read to its end, or to its fault
 pub whole_then : {S : Type 0} (gives : S → S → List ℕ → Result Step SourceFault → Type 0)
-    (choice : Choice) (count : Option ℕ) (linked : Bool) (file : S) (s : StationModel)
+    (choice : Choice) (count : Option ℕ) (signed : Bool) (file : S) (s : StationModel)
     (left then : S) (station next : StationState) (counts : Replayed) (met : Gone)
     (result : Replayed) (Took Later : List Heard → Type 0)
-    (before : IsReplayed gives choice linked file s left station counts Took)
+    (before : IsReplayed gives choice signed file s left station counts Took)
     → result ≡ counts_after counts met → counts.fault ≡ None → is_end met ≡ true
-    → IsGone gives choice linked left before.end before.told then next met Later
-    → IsReplayedWhole gives choice count linked file s then next result Later
+    → IsGone gives choice signed left before.end before.told then next met Later
+    → IsReplayedWhole gives choice count signed file s then next result Later
 unfolding replayed_more
-whole_then gives choice count linked file s left then station next counts met result Took Later
+whole_then gives choice count signed file s left then station next counts met result Took Later
     before is none ends one =
-    subst (λ (r : Replayed). IsReplayedWhole gives choice count linked file s then next r Later)
+    subst (λ (r : Replayed). IsReplayedWhole gives choice count signed file s then next r Later)
     (sym is) (record {
-      replayed = replayed_more gives choice linked file s left then station next counts met Took
+      replayed = replayed_more gives choice signed file s left then station next counts met Took
           Later before none one;
       ended = ends_by count counts before.given one.given met one.told ends one.met_is;
     })
@@ -238,12 +238,12 @@ chosen_grows counts gone.NoRecord le = le
 chosen_grows counts (gone.End fault) le = le
 
 -- a record that isn't chosen
-pub heard_none : (choice : Choice) (linked : Bool) (head : RecordHeader) (w : List ℕ) (s : StationModel)
+pub heard_none : (choice : Choice) (signed : Bool) (head : RecordHeader) (w : List ℕ) (s : StationModel)
     (log : List Heard) (station : StationState) (Took : List Heard → Type 0) (air : OnAir)
-    → IsOnAir linked head w air → AnswersChoice air choice head.moment false
+    → IsOnAir signed head w air → AnswersChoice air choice head.moment false
     → RepresentsStation station s → Took log
-    → IsHeard choice linked head w s log station gone.Passed Took
-heard_none choice linked head w s log station Took air on passed rep took =
+    → IsHeard choice signed head w s log station gone.Passed Took
+heard_none choice signed head w s log station Took air on passed rep took =
     record {
       told = [];
       next = s;
@@ -261,14 +261,14 @@ heard_none choice linked head w s log station Took air on passed rep took =
 
 -- a step that gave a record
 pub gone_record : {S E : Type 0} (gives : S → S → List ℕ → Result Step SourceFault → Type 0)
-    (choice : Choice) (linked : Bool) (file : S) (s : StationModel) (log : List Heard) (left : S)
+    (choice : Choice) (signed : Bool) (file : S) (s : StationModel) (log : List Heard) (left : S)
     (station : StationState) (result : Result Gone E) (Took : List Heard → Type 0) (head : RecordHeader)
     (w : List ℕ)
     → gives file left w (Ok (steps.Record head))
-    → IfOk result (λ met. IsHeard choice linked head w s log station met Took)
-    → IfOk result (λ met. IsGone gives choice linked file s log left station met Took)
-gone_record gives choice linked file s log left station (Err e) Took head w gave heard = tt
-gone_record gives choice linked file s log left station (Ok met) Took head w gave heard =
+    → IfOk result (λ met. IsHeard choice signed head w s log station met Took)
+    → IfOk result (λ met. IsGone gives choice signed file s log left station met Took)
+gone_record gives choice signed file s log left station (Err e) Took head w gave heard = tt
+gone_record gives choice signed file s log left station (Ok met) Took head w gave heard =
     record {
       given = record { octets = w; step = Ok (steps.Record head) };
       told = heard.told;
@@ -282,13 +282,13 @@ gone_record gives choice linked file s log left station (Ok met) Took head w gav
 
 -- a step of which nothing is told
 pub gone_none : {S : Type 0} (gives : S → S → List ℕ → Result Step SourceFault → Type 0)
-    (choice : Choice) (linked : Bool) (file : S) (s : StationModel) (log : List Heard) (left : S)
+    (choice : Choice) (signed : Bool) (file : S) (s : StationModel) (log : List Heard) (left : S)
     (station : StationState) (met : Gone) (Took : List Heard → Type 0) (w : List ℕ)
     (step : Result Step SourceFault)
-    → gives file left w step → IsMet met step [] → TellsStep choice linked w step s [] s
+    → gives file left w step → IsMet met step [] → TellsStep choice signed w step s [] s
     → RepresentsStation station s → Took log
-    → IsGone gives choice linked file s log left station met Took
-gone_none gives choice linked file s log left station met Took w step gave is tells rep took =
+    → IsGone gives choice signed file s log left station met Took
+gone_none gives choice signed file s log left station met Took w step gave is tells rep took =
     record {
       given = record { octets = w; step = step };
       told = [];

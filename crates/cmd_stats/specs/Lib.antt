@@ -1,4 +1,3 @@
 pub mod Units
 pub mod OnAir
 pub mod Replays
-pub mod Secured

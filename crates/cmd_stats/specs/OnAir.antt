@@ -1,5 +1,6 @@
 -- What of a record was on the air.
 use Rattle.std.specs.Prelude.{◌≡◌, ℕ, Bool, true, false, List, Option, Some, None}
+use Rattle.std.specs.Prelude.{Result, Ok, Err, IfOk}
 use Rattle.cap_records.specs.Choosing.{is_chosen}
 use Rattle.cap_records.specs.declared.choosing.Choice.{Choice}
 use Rattle.cap_records.specs.declared.choosing.Traits.{Traits}
@@ -7,6 +8,8 @@ use Rattle.its_faults.specs.declared.frame.FrameFault.{FrameFault}
 use Rattle.its_linkframe.specs.FrameFaults.{IsFrameFault}
 use Rattle.its_linkframe.specs.Frames.{EncodesFrame}
 use Rattle.its_linkframe.specs.Padding.{IsUnpadded}
+use Rattle.its_faults.specs.declared.secured.SecuredFault.{SecuredFault}
+use Rattle.its_linkframe.specs.Secured.{EncodesVerified, IsVerifiedFault, Verified}
 use Rattle.cap_linklayers.specs.LinkLayers.{IsFrameIn, IsLinkFault}
 use Rattle.its_model.specs.Packet.{Transmission}
 use Rattle.cap_pcap.specs.Records.{fault_of}
@@ -16,11 +19,15 @@ use Rattle.cap_pcap.specs.declared.record.RecordHeader.{RecordHeader}
 use Rattle.cap_records.specs.RecordFrames.{traits_in}
 use Rattle.cap_records.specs.declared.refusal.RecordFault.{RecordFault}
 use Rattle.cap_records.specs.declared.refusal.RecordFault.TheVariants as faults
+use Rattle.cap_records.specs.SignedFrames.{HasPlain, IsUnread, plain_octets, reads_secured}
+use Rattle.cap_records.specs.declared.signed.PlainPart.{PlainPart}
 use Rattle.cmd_stats.specs.declared.replay.on_air.OnAir.{OnAir}
 use Rattle.cmd_stats.specs.declared.replay.on_air.OnAir.TheVariants as airs
+use Rattle.cmd_stats.specs.declared.replay.secured_octets.SecuredOctets.{SecuredOctets}
 
 -- the frame without what Ethernet, alone of the link layers, fills short ones up with
 abbrev pub IsUnfilled : LinkLayer → List ℕ → List ℕ → Type 0
+IsUnfilled layers.Bare frame octets = octets ≡ frame
 IsUnfilled layers.Ethernet frame octets = IsUnpadded frame octets
 IsUnfilled layers.Ieee80211 frame octets = octets ≡ frame
 IsUnfilled layers.Radiotap frame octets = octets ≡ frame
@@ -31,31 +38,39 @@ IsUnfilled layers.Sll2 frame octets = IsUnpadded frame octets
 abbrev pub IsFrameOf : LinkLayer → List ℕ → List ℕ → Type 0
 IsFrameOf layer w octets = (frame : List ℕ) × IsFrameIn layer w frame × IsUnfilled layer frame octets
 
--- the same of a record with the header of its link layer, and of one that is a frame
-abbrev pub AreHeard : Bool → Option LinkLayer → List ℕ → List ℕ → Type 0
-AreHeard false layer w octets = octets ≡ w
-AreHeard true None w octets = ⊥
-AreHeard true (Some layer) w octets = IsFrameOf layer w octets
+-- the same of a record that may be of none that is read
+abbrev pub AreHeard : Option LinkLayer → List ℕ → List ℕ → Type 0
+AreHeard None w octets = ⊥
+AreHeard (Some layer) w octets = IsFrameOf layer w octets
 
 -- why a record of this link layer has no frame: the first rule of the layer that doesn't hold
-abbrev pub IsLayerFault : Bool → Option LinkLayer → List ℕ → RecordFault → Type 0
-IsLayerFault true (Some layer) w (faults.Link fault) = IsLinkFault layer w fault
-IsLayerFault linked layer w fault = ⊥
+abbrev pub IsLayerFault : Option LinkLayer → List ℕ → RecordFault → Type 0
+IsLayerFault (Some layer) w (faults.Link fault) = IsLinkFault layer w fault
+IsLayerFault layer w fault = ⊥
 
 -- The station hears these octets of the record.
-pub record HasOctets (linked : Bool) (head : RecordHeader) (w octets : List ℕ) : Type 0 where
+pub record HasOctets (head : RecordHeader) (w octets : List ℕ) : Type 0 where
   pub whole : fault_of head ≡ None
-  pub heard : AreHeard linked head.layer w octets
+  pub heard : AreHeard head.layer w octets
 
 -- It hears nothing: the record isn't of a link layer that is read, or was cut, or has no frame.
-abbrev pub HasNothing : Bool → RecordHeader → List ℕ → RecordFault → Type 0
-HasNothing linked head w (faults.Record fault) = fault_of head ≡ Some fault
-HasNothing linked head w fault = (fault_of head ≡ None) × IsLayerFault linked head.layer w fault
+abbrev pub HasNothing : RecordHeader → List ℕ → RecordFault → Type 0
+HasNothing head w (faults.Record fault) = fault_of head ≡ Some fault
+HasNothing head w fault = (fault_of head ≡ None) × IsLayerFault head.layer w fault
+
+-- where the plain part of a secured frame is, or why it isn't found
+abbrev pub HasPlainPart : List ℕ → Result PlainPart RecordFault → Type 0
+HasPlainPart w (Ok part) = HasPlain w part
+HasPlainPart w (Err fault) = IsUnread w fault
 
 -- what there is of a record to hear
 abbrev pub IsOnAir : Bool → RecordHeader → List ℕ → OnAir → Type 0
-IsOnAir linked head w (airs.Octets octets) = HasOctets linked head w octets.items
-IsOnAir linked head w (airs.Nothing fault) = HasNothing linked head w fault
+IsOnAir signed head w (airs.Octets octets) =
+    HasOctets head w octets.items × (reads_secured signed octets.items ≡ false)
+IsOnAir signed head w (airs.Secured s) =
+    HasOctets head w s.frame.items × (reads_secured signed s.frame.items ≡ true)
+    × HasPlainPart s.frame.items s.plain
+IsOnAir signed head w (airs.Nothing fault) = HasNothing head w fault
 
 -- what these octets are chosen by: their frame, or that they are none
 abbrev pub AreFrameTraits : List ℕ → Option Traits → Type 0
@@ -63,9 +78,19 @@ AreFrameTraits octets (Some traits) =
     (t : Transmission) × EncodesFrame t octets × (traits ≡ traits_in t)
 AreFrameTraits octets None = (fault : FrameFault) × IsFrameFault octets fault
 
+-- what a secured frame is chosen by: the packet in its plain part
+abbrev pub AreInnerTraits : SecuredOctets → Option Traits → Type 0
+AreInnerTraits s (Some traits) =
+    (part : PlainPart) × (s.plain ≡ Ok part) × (v : Verified)
+    × EncodesVerified v s.frame.items (plain_octets s.frame.items part)
+    × (traits ≡ traits_in v.frame)
+AreInnerTraits s None = IfOk s.plain (λ part. (fault : SecuredFault)
+    × IsVerifiedFault s.frame.items (plain_octets s.frame.items part) fault)
+
 -- what a record is chosen by; one that has nothing to hear has nothing that frames are chosen by
 abbrev pub AreTraitsOf : OnAir → Option Traits → Type 0
 AreTraitsOf (airs.Octets octets) traits = AreFrameTraits octets.items traits
+AreTraitsOf (airs.Secured s) traits = AreInnerTraits s traits
 AreTraitsOf (airs.Nothing fault) traits = traits ≡ None
 
 -- The choice answers this of a record of this moment, by what the record is chosen by.
@@ -76,7 +101,9 @@ pub record AnswersChoice (air : OnAir) (choice : Choice) (moment : ℕ) (answer 
 
 -- ---- words of private functions
 
--- the same of a record of this link layer that wasn't cut
-abbrev pub IsOnLayer : LinkLayer → List ℕ → OnAir → Type 0
-IsOnLayer layer w (airs.Octets octets) = IsFrameOf layer w octets.items
-IsOnLayer layer w (airs.Nothing fault) = IsLayerFault true (Some layer) w fault
+-- the same of octets that were heard
+abbrev pub IsOf : Bool → List ℕ → OnAir → Type 0
+IsOf signed w (airs.Octets octets) = (octets.items ≡ w) × (reads_secured signed w ≡ false)
+IsOf signed w (airs.Secured s) =
+    (s.frame.items ≡ w) × (reads_secured signed w ≡ true) × HasPlainPart w s.plain
+IsOf signed w (airs.Nothing fault) = ⊥

@@ -8,16 +8,17 @@ use Rattle.cap_pcap.specs.declared.fault.SourceFault.{SourceFault}
 use Rattle.cap_pcap.specs.declared.record.RecordHeader.{RecordHeader}
 use Rattle.cap_pcap.specs.declared.record.Step.{Step}
 use Rattle.cap_pcap.specs.declared.record.Step.TheVariants as steps
-use Rattle.its_station.specs.Receiving.{IsFrameCall}
+use Rattle.its_station.specs.Receiving.{IsFrameCall, IsVerifiedCall, VerifiedCall, verified_step}
 use Rattle.its_station.specs.Runs.{TellsReply}
 use Rattle.its_station.specs.State.{StationState, RepresentsStation}
 use Rattle.its_station.specs.declared.run.Call.{Call}
 use Rattle.its_station.specs.declared.run.Call.TheVariants as calls
-use Rattle.cmd_stats.specs.OnAir.{AnswersChoice, HasNothing, HasOctets, IsOnAir}
+use Rattle.cmd_stats.specs.OnAir.{AnswersChoice, IsOnAir}
 use Rattle.cmd_stats.specs.declared.replay.heard.Heard.{Heard}
 use Rattle.cmd_stats.specs.declared.replay.heard.Heard.TheVariants as heards
 use Rattle.cmd_stats.specs.declared.replay.on_air.OnAir.{OnAir}
 use Rattle.cmd_stats.specs.declared.replay.on_air.OnAir.TheVariants as airs
+use Rattle.cmd_stats.specs.declared.replay.secured_octets.SecuredOctets.{SecuredOctets}
 use Rattle.cmd_stats.specs.declared.replay.replaying.Gone.{Gone}
 use Rattle.cmd_stats.specs.declared.replay.replaying.Gone.TheVariants as gone
 use Rattle.cmd_stats.specs.declared.replay.replaying.Replayed.{Replayed}
@@ -31,27 +32,51 @@ TellsReceived s moment (heards.Received at frame reply) next =
     × (next ≡ (station_step s moment call).station))
 TellsReceived s moment (heards.Nothing at fault) next = (at ≡ moment) × (next ≡ s)
 
--- what is told is of the octets that the record has on the air, or of why there are none
-abbrev pub IsOf : Bool → RecordHeader → List ℕ → Heard → Type 0
-IsOf linked head w (heards.Received at frame reply) = HasOctets linked head w frame.items
-IsOf linked head w (heards.Nothing at fault) = HasNothing linked head w fault
+-- The station receives these octets with the plain part of a secured frame, as
+-- `Station::receive_verified` does; the step is that of the model.
+abbrev pub TellsVerified : StationModel → ℕ → Heard → StationModel → Type 0
+TellsVerified s moment (heards.Received at frame reply) next =
+    (at ≡ moment) × ((plain : List ℕ) × (call : VerifiedCall)
+    × IsVerifiedCall frame.items plain call × (next ≡ (verified_step s moment call).station))
+TellsVerified s moment (heards.Nothing at fault) next = (at ≡ moment) × (next ≡ s)
+
+-- what was on the air is received
+abbrev pub TellsAir : OnAir → StationModel → ℕ → Heard → StationModel → Type 0
+TellsAir (airs.Octets octets) s moment heard next = TellsReceived s moment heard next
+TellsAir (airs.Secured secured) s moment heard next = TellsVerified s moment heard next
+TellsAir (airs.Nothing fault) s moment heard next = TellsReceived s moment heard next
+
+-- what is told is of what the record has on the air: its octets, or why there are none
+abbrev pub IsToldOf : List ℕ → Heard → Type 0
+IsToldOf octets (heards.Received at frame reply) = frame.items ≡ octets
+IsToldOf octets (heards.Nothing at fault) = ⊥
+
+abbrev pub IsToldOfSecured : SecuredOctets → Heard → Type 0
+IsToldOfSecured s (heards.Received at frame reply) = frame.items ≡ s.frame.items
+IsToldOfSecured s (heards.Nothing at fault) = s.plain ≡ Err fault
+
+abbrev pub IsTold : OnAir → Heard → Type 0
+IsTold (airs.Octets octets) heard = IsToldOf octets.items heard
+IsTold (airs.Secured s) heard = IsToldOfSecured s heard
+IsTold (airs.Nothing fault) (heards.Nothing at why) = why ≡ fault
+IsTold (airs.Nothing fault) (heards.Received at frame reply) = ⊥
 
 -- The record is chosen, by what there is of it to hear, and received at its moment.
-pub record TellsHeard (choice : Choice) (linked : Bool) (head : RecordHeader) (w : List ℕ)
+pub record TellsHeard (choice : Choice) (signed : Bool) (head : RecordHeader) (w : List ℕ)
     (s : StationModel) (told : List Heard) (next : StationModel) : Type 0 where
   pub air : OnAir
-  pub on_air : IsOnAir linked head w air
+  pub on_air : IsOnAir signed head w air
   pub chosen : AnswersChoice air choice head.moment true
   pub heard : Heard
   pub told_is : told ≡ heard ∷ []
-  pub of : IsOf linked head w heard
-  pub received : TellsReceived s head.moment heard next
+  pub told_of : IsTold air heard
+  pub received : TellsAir air s head.moment heard next
 
 -- The record isn't chosen, by what there is of it to hear: it is as if it weren't there.
-pub record TellsPassed (choice : Choice) (linked : Bool) (head : RecordHeader) (w : List ℕ)
+pub record TellsPassed (choice : Choice) (signed : Bool) (head : RecordHeader) (w : List ℕ)
     (s : StationModel) (told : List Heard) (next : StationModel) : Type 0 where
   pub air : OnAir
-  pub on_air : IsOnAir linked head w air
+  pub on_air : IsOnAir signed head w air
   pub passed : AnswersChoice air choice head.moment false
   pub told_is : told ≡ []
   pub next_is : next ≡ s
@@ -59,18 +84,18 @@ pub record TellsPassed (choice : Choice) (linked : Bool) (head : RecordHeader) (
 -- what is told of a record, and the station afterwards
 abbrev pub TellsRecord : Choice → Bool → RecordHeader → List ℕ → StationModel → List Heard → StationModel
     → Type 0
-TellsRecord choice linked head w s told next =
-    TellsPassed choice linked head w s told next ⊎ TellsHeard choice linked head w s told next
+TellsRecord choice signed head w s told next =
+    TellsPassed choice signed head w s told next ⊎ TellsHeard choice signed head w s told next
 
 -- the same of what a call for the next record gives, with these octets: only a record is received
 abbrev pub TellsStep : Choice → Bool → List ℕ → Result Step SourceFault → StationModel
     → List Heard → StationModel → Type 0
-TellsStep choice linked w (Ok (steps.Record head)) s told next =
-    TellsRecord choice linked head w s told next
-TellsStep choice linked w (Ok steps.Interface) s told next = (told ≡ []) × (next ≡ s)
-TellsStep choice linked w (Ok steps.Passed) s told next = (told ≡ []) × (next ≡ s)
-TellsStep choice linked w (Ok steps.End) s told next = (told ≡ []) × (next ≡ s)
-TellsStep choice linked w (Err fault) s told next = (told ≡ []) × (next ≡ s)
+TellsStep choice signed w (Ok (steps.Record head)) s told next =
+    TellsRecord choice signed head w s told next
+TellsStep choice signed w (Ok steps.Interface) s told next = (told ≡ []) × (next ≡ s)
+TellsStep choice signed w (Ok steps.Passed) s told next = (told ≡ []) × (next ≡ s)
+TellsStep choice signed w (Ok steps.End) s told next = (told ≡ []) × (next ≡ s)
+TellsStep choice signed w (Err fault) s told next = (told ≡ []) × (next ≡ s)
 
 -- what one call for the next record gave
 pub record Given : Type 0 where
@@ -81,12 +106,12 @@ pub record Given : Type 0 where
 -- afterwards.
 abbrev pub TellsSteps : {S : Type 0} → (S → S → List ℕ → Result Step SourceFault → Type 0)
     → Choice → Bool → S → StationModel → List Given → List Heard → S → StationModel → Type 0
-TellsSteps gives choice linked file s [] told left end = (told ≡ []) × (left ≡ file) × (end ≡ s)
-TellsSteps {S} gives choice linked file s (given ∷ more) told left end =
+TellsSteps gives choice signed file s [] told left end = (told ≡ []) × (left ≡ file) × (end ≡ s)
+TellsSteps {S} gives choice signed file s (given ∷ more) told left end =
     (first : List Heard) × (rest : List Heard) × (then : S) × (next : StationModel)
     × (told ≡ first ++ rest) × gives file then given.octets given.step
-    × TellsStep choice linked given.octets given.step s first next
-    × TellsSteps gives choice linked then next more rest left end
+    × TellsStep choice signed given.octets given.step s first next
+    × TellsSteps gives choice signed then next more rest left end
 
 -- how many records one call gave, and why it gave none
 abbrev pub records_of : Result Step SourceFault → ℕ
@@ -123,13 +148,13 @@ pub record AreCounts (counts : Replayed) (given : List Given) (told : List Heard
 -- their order and each at its moment: what was told of them was taken, and it represents the station
 -- of the model after these very receptions.
 pub record IsReplayed {S : Type 0} (gives : S → S → List ℕ → Result Step SourceFault → Type 0)
-    (choice : Choice) (linked : Bool) (file : S) (s : StationModel) (left : S)
+    (choice : Choice) (signed : Bool) (file : S) (s : StationModel) (left : S)
     (station : StationState) (counts : Replayed) (Took : List Heard → Type 0) : Type 0 where
   pub given : List Given
   pub told : List Heard
   pub end : StationModel
   pub counted : AreCounts counts given told
-  pub tells : TellsSteps gives choice linked file s given told left end
+  pub tells : TellsSteps gives choice signed file s given told left end
   pub took : Took told
   pub stands : RepresentsStation station end
 
@@ -148,9 +173,9 @@ EndsFile count counts given =
 -- The same, and the file was read to its end, to its fault, or to as many chosen records as are
 -- wanted.
 pub record IsReplayedWhole {S : Type 0} (gives : S → S → List ℕ → Result Step SourceFault → Type 0)
-    (choice : Choice) (count : Option ℕ) (linked : Bool) (file : S) (s : StationModel) (left : S)
+    (choice : Choice) (count : Option ℕ) (signed : Bool) (file : S) (s : StationModel) (left : S)
     (station : StationState) (counts : Replayed) (Took : List Heard → Type 0) : Type 0 where
-  pub replayed : IsReplayed gives choice linked file s left station counts Took
+  pub replayed : IsReplayed gives choice signed file s left station counts Took
   pub ended : EndsFile count counts replayed.given
 
 -- ---- words of private functions
@@ -189,24 +214,24 @@ counts_after r (gone.End fault) = record { read = r.read; chosen = r.chosen; fau
 
 -- one step of the file, after others of which this was told
 pub record IsGone {S : Type 0} (gives : S → S → List ℕ → Result Step SourceFault → Type 0)
-    (choice : Choice) (linked : Bool) (file : S) (s : StationModel) (log : List Heard) (left : S)
+    (choice : Choice) (signed : Bool) (file : S) (s : StationModel) (log : List Heard) (left : S)
     (station : StationState) (met : Gone) (Took : List Heard → Type 0) : Type 0 where
   pub given : Given
   pub told : List Heard
   pub next : StationModel
   pub met_is : IsMet met given.step told
   pub gave : gives file left given.octets given.step
-  pub tells : TellsStep choice linked given.octets given.step s told next
+  pub tells : TellsStep choice signed given.octets given.step s told next
   pub took : Took (log ++ told)
   pub stands : RepresentsStation station next
 
 -- the same of a record
-pub record IsHeard (choice : Choice) (linked : Bool) (head : RecordHeader) (w : List ℕ) (s : StationModel)
+pub record IsHeard (choice : Choice) (signed : Bool) (head : RecordHeader) (w : List ℕ) (s : StationModel)
     (log : List Heard) (station : StationState) (met : Gone) (Took : List Heard → Type 0) : Type 0 where
   pub told : List Heard
   pub next : StationModel
   pub met_is : IsMet met (Ok (steps.Record head)) told
-  pub tells : TellsRecord choice linked head w s told next
+  pub tells : TellsRecord choice signed head w s told next
   pub took : Took (log ++ told)
   pub stands : RepresentsStation station next
 
@@ -214,11 +239,6 @@ pub record IsHeard (choice : Choice) (linked : Bool) (head : RecordHeader) (w : 
 abbrev pub IsReceive : Call → Type 0
 IsReceive (calls.Receive octets) = Unit {0}
 IsReceive call = ⊥
-
--- what is told is of these octets
-abbrev pub IsToldOf : List ℕ → Heard → Type 0
-IsToldOf octets (heards.Received at frame reply) = frame.items ≡ octets
-IsToldOf octets (heards.Nothing at fault) = ⊥
 
 -- these octets were received at the moment
 pub record TellsOctets (octets : List ℕ) (moment : ℕ) (s : StationModel) (heard : Heard)
@@ -228,16 +248,18 @@ pub record TellsOctets (octets : List ℕ) (moment : ℕ) (s : StationModel) (he
   pub received : TellsReceived s moment heard next
   pub stands : RepresentsStation station next
 
--- what is told is of what was on the air
-abbrev pub IsTold : OnAir → Heard → Type 0
-IsTold (airs.Octets octets) heard = IsToldOf octets.items heard
-IsTold (airs.Nothing fault) (heards.Nothing at why) = why ≡ fault
-IsTold (airs.Nothing fault) (heards.Received at frame reply) = ⊥
+-- the same of a secured frame
+pub record TellsSecured (secured : SecuredOctets) (moment : ℕ) (s : StationModel) (heard : Heard)
+    (station : StationState) : Type 0 where
+  pub told : IsToldOfSecured secured heard
+  pub next : StationModel
+  pub received : TellsVerified s moment heard next
+  pub stands : RepresentsStation station next
 
 -- what was on the air was received at the moment
 pub record TellsOnAir (air : OnAir) (moment : ℕ) (s : StationModel) (heard : Heard)
     (station : StationState) : Type 0 where
   pub told : IsTold air heard
   pub next : StationModel
-  pub received : TellsReceived s moment heard next
+  pub received : TellsAir air s moment heard next
   pub stands : RepresentsStation station next

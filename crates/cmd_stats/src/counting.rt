@@ -12,10 +12,11 @@ use crate::sources::Sources;
 use cap_records::{
     Place, RecordFault, RecordVisitor, Selection, each_record, open_records, traits_of,
 };
-use cmd_reporting::{Fault, Io, Status};
+use cmd_reporting::{Fault, Io, Status, open};
 use its_linkframe::FrameView;
 use std::alloc::{AllocError, Global};
 use std::io::{Read, Write};
+use std::rt::Files;
 
 /// The octets of a frame before its packet.
 const LINK_HEADER: usize = 14;
@@ -87,36 +88,43 @@ impl RecordVisitor for Counts {
     }
 }
 
-/// Prints what the records of the file are, of those that are chosen, and the traffic of their
-/// frames: by source, by port, and the second with the most air time. `file` is its name, and `top`
-/// how many sources are told at most. What is told is one object, or tables.
+/// Prints what the selected records of the file are, and the traffic of their frames: by source, by
+/// port, and the second with the most air time. `input` is standard input. At most `top` sources are
+/// printed. The output is one object, or tables.
 ///
-/// `Refused` where the file was refused, `Failed` where a read or a write failed or memory ran out.
-pub fn stats<R: Read + Drop, W: Write, E: Write>(
-    alloc: Global,
+/// `Refused` if the file was refused, `Failed` if it could not be read or standard output not
+/// written, or memory ran out.
+pub fn stats_file<R: Files + AllocGlobal, I: Read + Drop, W: Write, E: Write>(
+    rt: &R,
     file: &str,
-    reader: R,
+    input: I,
     selection: &Selection,
     top: Option<u64>,
     io: &mut Io<W, E>,
 ) -> Status
+where
+    R::File: Read + Drop,
     ensures { IsCommandStatus result }
 {
-    let ended = count(alloc, file, reader, selection, top, io);
+    let ended = count(rt, file, input, selection, top, io);
     io.status_of(ended)
 }
 
-/// The same, with the fault that ends it.
-pub(crate) fn count<'a, R: Read + Drop, W: Write, E>(
-    alloc: Global,
+/// Counts the records of the file. The fault is what ends the command before it is done.
+fn count<'a, R: Files + AllocGlobal, I: Read + Drop, W: Write, E>(
+    rt: &R,
     file: &'a str,
-    reader: R,
+    input: I,
     selection: &Selection,
     top: Option<u64>,
     io: &mut Io<W, E>,
 ) -> Result<Status, Fault<'a>>
+where
+    R::File: Read + Drop,
     ensures { IfOk result IsCommandStatus }
 {
+    let alloc = rt.alloc();
+    let reader = open(rt, file, input)?;
     let mut counts = Counts::new(alloc);
     let mut source = open_records(alloc, file, selection.format, reader)?;
     let walked = each_record(

@@ -3,7 +3,6 @@
 #![tactic(auto)]
 
 mod counting;
-mod files;
 mod kinds;
 mod numbers;
 mod ports;
@@ -15,5 +14,4 @@ mod sources;
 mod table;
 mod traffic;
 
-pub use counting::stats;
-pub use files::stats_file;
+pub use counting::stats_file;

@@ -1,18 +1,21 @@
-//! The command `replay` over a reader and writers.
+//! The command `replay`.
 
-ghost use Rattle.std.specs.Prelude.{IfOk};
-ghost use Rattle.cmd_reporting.specs.Statuses.{IsCommandStatus};
+ghost use Rattle.std.specs.Prelude.{◌≡◌, IfErr, IfOk, IfSome, None};
+ghost use Rattle.cmd_reporting.specs.FileNames.{format_of_file};
+ghost use Rattle.cmd_reporting.specs.Statuses.{IsCommandStatus, IsStopped};
 ghost use Rattle.cmd_stats.specs.Units.{IsUnit};
 
 use crate::replay::printing::Printer;
 use crate::replay::replaying::replay_records;
-use crate::replay::signed::replay_signed;
 use crate::replay::unit::Unit;
-use cap_pcap::Format;
 use cap_records::{FileFault, RefusedCapture, Selection, open_records};
-use cmd_reporting::{Fault, FrameFile, Io, Status, is_standard};
+use cmd_reporting::{
+    Fault, FrameFile, FrameTarget, Io, Status, Target, WriterFault, create_frames, frame_target,
+    is_standard, open,
+};
 use std::alloc::Global;
 use std::io::{Read, Write};
+use std::rt::Files;
 
 /// What is replayed, and to which station.
 #[derive(Clone, Copy, Debug, PartialEq, Eq)]
@@ -25,62 +28,67 @@ pub struct ReplayOptions<'a> {
     pub unit: Unit,
 }
 
-/// Gives the chosen records of the file that the reader gives to the station, each at its moment,
-/// and prints a line of each. Frames that the station passes on are numbered, and written to the
-/// writer, where there is one: a file of this name and format.
+/// Prints what the station would have done with the selected records of the file, each at its moment.
+/// `input` is standard input. Frames that the station forwards are numbered. With `frames` they are
+/// also written to that file, which is created once the capture is open.
 ///
-/// `Refused` where the file was refused or a frame had no place in the one that is written;
-/// `Failed` where a read or a write failed or memory ran out.
-pub fn replay<'a, R: Read + Drop, F: Write + Drop, W: Write, E: Write>(
-    alloc: Global,
-    replay: &ReplayOptions<'a>,
-    reader: R,
-    frames: Option<(F, &'a str, Format)>,
+/// `BadArguments`, before anything is opened, if nothing says the format of the file of frames or its
+/// name is `-`, and before it is created if it is the capture itself. `Refused` if the capture was
+/// refused or a frame has no place in its file, `Failed` if a file could not be read, created or
+/// written or standard output not written, or memory ran out.
+pub fn replay_file<'a, R: Files + AllocGlobal, I: Read + Drop, W: Write, E: Write>(
+    rt: &R,
+    what: &ReplayOptions<'a>,
+    input: I,
+    frames: Option<Target<'a>>,
     io: &mut Io<W, E>,
 ) -> Status
-    requires { IsUnit replay.now.unit }
-    ensures { IsCommandStatus result }
+where
+    R::File: Read + Write + Drop,
+    requires { IsUnit what.now.unit }
+    ensures alone { frames.entry ≡ None → IsCommandStatus result }
+    ensures format { IfSome frames.entry (λ target. format_of_file target.to target.name.now ≡ None
+        → result ≡ Status.BadArguments) }
 {
-    let ended = replay_with(alloc, replay, reader, frames, io);
+    let target = match frame_target(frames) {
+        Ok(target) => target,
+        Err(fault) => return io.status_of(Err(fault)),
+    };
+    let ended = replay_to(rt, what, input, target, io);
     io.status_of(ended)
 }
 
-/// The same, with the fault that ends it.
-pub(crate) fn replay_with<'a, R: Read + Drop, F: Write + Drop, W: Write, E: Write>(
-    alloc: Global,
-    replay: &ReplayOptions<'a>,
-    reader: R,
-    frames: Option<(F, &'a str, Format)>,
+/// Opens the file, and only then creates the file of frames, if there is one.
+fn replay_to<'a, R: Files + AllocGlobal, I: Read + Drop, W: Write, E: Write>(
+    rt: &R,
+    what: &ReplayOptions<'a>,
+    input: I,
+    target: Option<FrameTarget<'a>>,
     io: &mut Io<W, E>,
-) -> Result<Status, Fault<'a>>
-    requires { IsUnit replay.now.unit }
-    ensures { IfOk result IsCommandStatus }
+) -> Result<Status, WriterFault<'a, Fault<'a>>>
+where
+    R::File: Read + Write + Drop,
+    requires { IsUnit what.now.unit }
+    ensures done { IfOk result IsCommandStatus }
+    ensures alone { target.entry ≡ None → IfErr result IsStopped }
 {
-    match frames {
-        Some((writer, target, format)) => {
-            let file = FrameFile::start(alloc, writer, target, format, 1)?;
-            replay_into(alloc, replay, reader, Some(file), io)
-        }
-        None => {
-            let none: Option<FrameFile<'a, F>> = None;
-            replay_into(alloc, replay, reader, none, io)
-        }
-    }
+    let reader = open(rt, what.file, input)?;
+    let frames = create_frames(rt, target, what.file, 1)?;
+    Ok(replay_into(rt.alloc(), what, reader, frames, io)?)
 }
 
-/// The same with the file of frames begun, which is ended then.
+/// Replays the file that the reader gives, and ends the file of frames, if there is one.
 fn replay_into<'a, R: Read + Drop, F: Write + Drop, W: Write, E: Write>(
     alloc: Global,
     replay: &ReplayOptions<'a>,
     reader: R,
-    file: Option<FrameFile<'a, F>>,
+    frames: Option<FrameFile<'a, F>>,
     io: &mut Io<W, E>,
 ) -> Result<Status, Fault<'a>>
     requires { IsUnit replay.now.unit }
     ensures { IfOk result IsCommandStatus }
 {
-    let waits = is_standard(replay.file);
-    let mut printer = Printer::new(alloc, waits, file, io)?;
+    let mut printer = Printer::new(alloc, is_standard(replay.file), frames, io)?;
     let ended = replay_lines(alloc, replay, reader, &mut printer);
     match printer.file.take() {
         Some(file) => file.end(ended),
@@ -100,13 +108,8 @@ fn replay_lines<'a, R: Read + Drop, F: Write + Drop, W: Write, E: Write>(
 {
     let (file, selection) = (replay.file, &replay.selection);
     let mut source = open_records(alloc, file, selection.format, reader)?;
-    let linked = source.format() != Format::Capture;
     let mut station = replay.unit.begin(alloc)?;
-    let replayed = if selection.signed {
-        replay_signed(alloc, &mut station, selection, &mut source, linked, printer)?
-    } else {
-        replay_records(alloc, &mut station, selection, &mut source, linked, printer)?
-    };
+    let replayed = replay_records(alloc, &mut station, selection, &mut source, printer)?;
     let Some(fault) = replayed.fault else {
         return Ok(Status::Done);
     };

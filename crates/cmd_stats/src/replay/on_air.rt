@@ -1,54 +1,56 @@
 //! The octets of a record that were on the air, for a station to hear.
 
 ghost use Rattle.std.specs.Prelude.{◌≡◌, IfOk};
-ghost use Rattle.cmd_stats.specs.OnAir.{AnswersChoice, IsOnAir, IsOnLayer, IsUnfilled};
+ghost use Rattle.cmd_stats.specs.OnAir.{AnswersChoice, IsOf, IsOnAir, IsUnfilled};
 
+use crate::replay::secured_octets::SecuredOctets;
 use cap_pcap::{LinkLayer, RecordHeader, frame_start, without_padding};
-use cap_records::{Choice, RecordFault, traits_of};
+use cap_records::{Choice, RecordFault, reads_secured, traits_of};
 use its_linkframe::read_frame;
 use std::alloc::{AllocError, Global};
 
 /// What there is of a record for a station to hear.
-#[derive(Debug, Drop, PartialEq, Eq)]
+#[derive(Drop)]
 pub(crate) enum OnAir {
     /// These octets, whether they are a frame or not.
     Octets(Vec<u8>),
+    /// A secured frame, which is received by its plain part.
+    Secured(SecuredOctets),
     /// Nothing: its link layer has no frame.
     Nothing(RecordFault),
 }
 
 impl OnAir {
-    /// What there is of a record with this head and these octets. `linked` says that these have the
-    /// header of their link layer, as in pcap and pcapng: then it is left out, and what Ethernet
-    /// filled a short frame up with. What the buffer has afterwards isn't said.
+    /// What there is of a record with this head and these octets, without what Ethernet filled a
+    /// short frame up with. `signed` says that secured frames are read by their plain part. What the
+    /// buffer has afterwards isn't said.
     pub(crate) fn of(
         alloc: Global,
         head: &RecordHeader,
         octets: &mut Vec<u8>,
-        linked: bool,
+        signed: bool,
     ) -> Result<OnAir, AllocError>
-        ensures { IfOk result (IsOnAir linked head.now octets.old.items) }
+        ensures { IfOk result (IsOnAir signed head.now octets.old.items) }
     {
-        if let Some(fault) = head.fault() {
-            return Ok(OnAir::Nothing(RecordFault::Record(fault)));
-        }
-        match head.layer {
-            Some(layer) if linked => OnAir::on(alloc, layer, octets),
-            _ => Ok(OnAir::Octets(copied(alloc, octets.as_slice())?)),
+        let layer = match head.whole_layer() {
+            Ok(layer) => layer,
+            Err(fault) => return Ok(OnAir::Nothing(RecordFault::Record(fault))),
+        };
+        match frame_start(layer, octets) {
+            Ok(start) => OnAir::heard(alloc, unfilled(layer, &octets.as_slice()[start..]), signed),
+            Err(fault) => Ok(OnAir::Nothing(RecordFault::Link(fault))),
         }
     }
 
-    /// What there is of a record of this link layer.
-    fn on(alloc: Global, layer: LinkLayer, octets: &mut Vec<u8>) -> Result<OnAir, AllocError>
-        ensures { IfOk result (IsOnLayer layer octets.old.items) }
+    /// These octets, as a station hears them.
+    fn heard(alloc: Global, octets: &[u8], signed: bool) -> Result<OnAir, AllocError>
+        ensures { IfOk result (IsOf signed octets.now) }
     {
-        match frame_start(layer, octets) {
-            Ok(start) => {
-                let frame = unfilled(layer, &octets.as_slice()[start..]);
-                Ok(OnAir::Octets(copied(alloc, frame)?))
-            }
-            Err(fault) => Ok(OnAir::Nothing(RecordFault::Link(fault))),
+        let heard = copied(alloc, octets)?;
+        if reads_secured(signed, octets) {
+            return Ok(OnAir::Secured(SecuredOctets::of(heard)));
         }
+        Ok(OnAir::Octets(heard))
     }
 
     /// Whether the record is chosen: one whose octets are no frame has nothing that frames are
@@ -61,6 +63,7 @@ impl OnAir {
                 Ok(frame) => Some(traits_of(&frame)),
                 Err(_) => None,
             },
+            OnAir::Secured(secured) => secured.traits(),
             OnAir::Nothing(_) => None,
         };
         choice.is_chosen(moment, traits)
@@ -75,7 +78,7 @@ fn unfilled(layer: LinkLayer, frame: &[u8]) -> &[u8]
         LinkLayer::Ethernet => without_padding(frame),
         LinkLayer::Sll => without_padding(frame),
         LinkLayer::Sll2 => without_padding(frame),
-        LinkLayer::Ieee80211 | LinkLayer::Radiotap => frame,
+        LinkLayer::Bare | LinkLayer::Ieee80211 | LinkLayer::Radiotap => frame,
     }
 }
 

@@ -11,7 +11,7 @@ ghost use Rattle.cmd_stats.specs.Replays.{IsReceive, counts_after, is_end};
 use crate::replay::heard::{Heard, HeardSink};
 use crate::replay::on_air::OnAir;
 use cap_pcap::{LONGEST_RECORD, RecordHeader, RecordSource, SourceFault, Step};
-use cap_records::{Choice, Selection};
+use cap_records::Selection;
 use cmd_reporting::Fault;
 use its_gnvalue::NoMemory;
 use its_loctable::SortedTable;
@@ -31,7 +31,7 @@ pub struct Replayed {
 
 impl Replayed {
     /// Nothing yet.
-    pub(crate) fn begin() -> Replayed
+    fn begin() -> Replayed
         ensures { result ≡ record { read = 0; chosen = 0; fault = None } }
     {
         Replayed {
@@ -42,7 +42,7 @@ impl Replayed {
     }
 
     /// The same after one more step.
-    pub(crate) fn after(self, met: Gone) -> Replayed
+    fn after(self, met: Gone) -> Replayed
         requires read { self.read < 2 ^ 64 - 1 }
         requires chosen { self.chosen < 2 ^ 64 - 1 }
         ensures { result ≡ counts_after self met }
@@ -65,7 +65,7 @@ impl Replayed {
 
 /// What a step over the file met.
 #[derive(Clone, Copy, Debug, PartialEq, Eq)]
-pub(crate) enum Gone {
+enum Gone {
     /// A record that is chosen.
     Chosen,
     /// A record that isn't.
@@ -78,7 +78,7 @@ pub(crate) enum Gone {
 
 impl Gone {
     /// Whether there is no further step.
-    pub(crate) fn is_end(self) -> bool
+    fn is_end(self) -> bool
         ensures { result ≡ is_end self }
     {
         matches!(self, Gone::End(_))
@@ -87,9 +87,9 @@ impl Gone {
 
 /// Reads the file to its end, to its fault or until as many records are chosen as are wanted, and
 /// gives the octets of each chosen one to the station, at the record's moment: each is a call of
-/// `Station::receive`. What came of it is handed to the sink before the next is read. The
-/// station represents that of the model after these calls. `linked` says that records have the
-/// header of their link layer.
+/// `Station::receive`, or of `Station::receive_verified` for a secured frame, if the selection reads
+/// these by their plain part. The outcome is passed to the sink before the next record is read. The
+/// station represents that of the model after these calls.
 ///
 /// `OutOfMemory` where an allocation failed, and what the sink answers: then nothing further is
 /// read.
@@ -98,16 +98,14 @@ pub fn replay_records<'f, S: RecordSource, K: HeardSink>(
     station: &mut Station<SortedTable>,
     selection: &Selection,
     source: &mut S,
-    linked: bool,
     sink: &mut K,
 ) -> Result<Replayed, Fault<'f>>
     ensures { (s : StationModel) → RepresentsStation station.old s → K.Took sink.old [] →
         IfOk result (λ counts. IsReplayedWhole S.GivesStep selection.now.choice
-        selection.now.count linked source.old s source.new station.new counts
+        selection.now.count selection.now.signed source.old s source.new station.new counts
         (K.Took sink.new)) }
 {
     let mut octets = Vec::with_capacity(alloc, LONGEST_RECORD)?;
-    let choice = &selection.choice;
     let mut replayed = Replayed::begin();
     // The range is there so that the walk ends on any source. No file reaches its end: a step has
     // 11 octets at least, so that many are over 2^67 octets.
@@ -115,7 +113,7 @@ pub fn replay_records<'f, S: RecordSource, K: HeardSink>(
         if selection.count == Some(replayed.chosen) {
             return Ok(replayed);
         }
-        let met = go_on(alloc, station, choice, source, linked, &mut octets, sink)?;
+        let met = go_on(alloc, station, selection, source, &mut octets, sink)?;
         replayed = replayed.after(met);
         if met.is_end() {
             return Ok(replayed);
@@ -128,18 +126,17 @@ pub fn replay_records<'f, S: RecordSource, K: HeardSink>(
 fn go_on<'f, S: RecordSource, K: HeardSink>(
     alloc: Global,
     station: &mut Station<SortedTable>,
-    choice: &Choice,
+    selection: &Selection,
     source: &mut S,
-    linked: bool,
     octets: &mut Vec<u8>,
     sink: &mut K,
 ) -> Result<Gone, Fault<'f>>
     ensures { (s : StationModel) (log : List ToldRecord) → RepresentsStation station.old s →
-        K.Took sink.old log → IfOk result (λ met. IsGone S.GivesStep choice.now linked
-        source.old s log source.new station.new met (K.Took sink.new)) }
+        K.Took sink.old log → IfOk result (λ met. IsGone S.GivesStep selection.now.choice
+        selection.now.signed source.old s log source.new station.new met (K.Took sink.new)) }
 {
     match source.next_into(octets) {
-        Ok(Step::Record(head)) => { hear(alloc, station, choice, &head, linked, octets, sink) }
+        Ok(Step::Record(head)) => hear(alloc, station, selection, &head, octets, sink),
         Ok(Step::Interface) => Ok(Gone::NoRecord),
         Ok(Step::Passed) => Ok(Gone::NoRecord),
         Ok(Step::End) => Ok(Gone::End(None)),
@@ -151,28 +148,28 @@ fn go_on<'f, S: RecordSource, K: HeardSink>(
 fn hear<'f, K: HeardSink>(
     alloc: Global,
     station: &mut Station<SortedTable>,
-    choice: &Choice,
+    selection: &Selection,
     head: &RecordHeader,
-    linked: bool,
     octets: &mut Vec<u8>,
     sink: &mut K,
 ) -> Result<Gone, Fault<'f>>
     ensures { (s : StationModel) (log : List ToldRecord) → RepresentsStation station.old s →
-        K.Took sink.old log → IfOk result (λ met. IsHeard choice.now linked head.now
-        octets.old.items s log station.new met (K.Took sink.new)) }
+        K.Took sink.old log → IfOk result (λ met. IsHeard selection.now.choice selection.now.signed
+        head.now octets.old.items s log station.new met (K.Took sink.new)) }
 {
-    let on_air = OnAir::of(alloc, head, octets, linked)?;
-    if !on_air.is_chosen(choice, head.moment) {
+    let on_air = OnAir::of(alloc, head, octets, selection.signed)?;
+    if !on_air.is_chosen(&selection.choice, head.moment) {
         return Ok(Gone::Passed);
     }
-    let heard = receive(station, head.moment, on_air)?;
+    let heard = receive(alloc, station, head.moment, on_air)?;
     sink.put(heard)?;
     Ok(Gone::Chosen)
 }
 
 /// Gives what was on the air to the station at a moment. `NoMemory` where an allocation failed: the
 /// station stands as before.
-pub(crate) fn receive(
+fn receive(
+    alloc: Global,
     station: &mut Station<SortedTable>,
     moment: u64,
     on_air: OnAir,
@@ -182,6 +179,7 @@ pub(crate) fn receive(
 {
     match on_air {
         OnAir::Octets(octets) => receive_octets(station, moment, octets),
+        OnAir::Secured(secured) => secured.receive(alloc, station, moment),
         OnAir::Nothing(fault) => Ok(Heard::Nothing { moment, fault }),
     }
 }

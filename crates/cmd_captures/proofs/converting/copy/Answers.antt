@@ -1,7 +1,6 @@
-use Rattle.std.proofs.Common.{rules, ◌≡◌, ◌≤◌, ◌^◌, ◌-◌, ◌∙◌, ap, sym, subst, inl, inr, Some, arith}
-use Rattle.std.specs.Prelude.{Bool}
+use Rattle.std.proofs.Common.{rules, ◌≡◌, ◌≤◌, ◌^◌, ◌-◌, ◌∙◌, ap, sym, inl, inr, Some, arith}
 use Rattle.cap_pcap.specs.Sources.{Gives}
-use Rattle.cmd_captures.specs.Conversions.{IsCopied, has_links, said_by}
+use Rattle.cmd_captures.specs.Conversions.{said_by}
 use Rattle.cmd_captures.proofs.Copies.{copied, copied_end, copying_more, records_grow, chosen_grow}
 use Rattle.cmd_captures.proofs.converting.copy.Goals as goal
 
@@ -9,31 +8,19 @@ pub returns-then-eq-clause-copied : goal.returns-then-eq-clause-copied
 returns-then-eq-clause-copied g c =
     let k = c.loop-step.invariant.copying in
     let is : c.args.selection.now.count ≡ Some c.loop-step.progress.chosen = search rules in
-    let linked = c.is_linked-linked.ensures ∙ ap has_links c.format.ensures in
-    subst
-    (λ (b : Bool). IsCopied Gives said_by c.args.selection.now.choice
-    c.args.selection.now.count b c.args.source.now c.args.written.now c.loop-step.source
-    c.loop-step.written c.status.result)
-    linked
-    (copied Gives said_by c.args.selection.now.choice c.args.selection.now.count
-    c.is_linked-linked.result c.args.source.now c.args.written.now c.loop-step.source
+    copied Gives said_by c.args.selection.now.choice c.args.selection.now.count
+    c.args.selection.now.signed c.args.source.now c.args.written.now c.loop-step.source
     c.loop-step.written c.loop-step.progress c.loop-step.step c.status.result k
-    (inr (inl (is ∙ ap Some k.chosen))) c.status.ensures)
+    (inr (inl (is ∙ ap Some k.chosen))) c.status.ensures
 
 pub returns-then-is_end-clause-copied : goal.returns-then-is_end-clause-copied
 returns-then-is_end-clause-copied g c =
-    let linked = c.is_linked-linked.ensures ∙ ap has_links c.format.ensures in
-    subst
-    (λ (b : Bool). IsCopied Gives said_by c.args.selection.now.choice
-    c.args.selection.now.count b c.args.source.now c.args.written.now c.go_on.new.source
-    c.go_on.new.written c.status-then-is_end.result)
-    linked
-    (copied_end Gives said_by c.args.selection.now.choice c.args.selection.now.count
-    c.is_linked-linked.result c.args.source.now c.args.written.now c.loop-step.source
+    copied_end Gives said_by c.args.selection.now.choice c.args.selection.now.count
+    c.args.selection.now.signed c.args.source.now c.args.written.now c.loop-step.source
     c.loop-step.written c.loop-step.progress c.loop-step.step c.go_on.new.source
     c.go_on.new.written c.in_ok-met.met c.after-progress.result c.status-then-is_end.result
     c.loop-step.invariant.copying c.in_ok-met.ensures c.after-progress.ensures
-    (sym c.is_end.ensures ∙ c.if-is_end.true) c.status-then-is_end.ensures)
+    (sym c.is_end.ensures ∙ c.if-is_end.true) c.status-then-is_end.ensures
 
 pub loop-step-preserved : goal.loop-step-preserved
 loop-step-preserved g c = record {
@@ -42,7 +29,7 @@ loop-step-preserved g c = record {
   chosen = chosen_grow c.loop-step.progress c.in_ok-met.met c.after-progress.result
       c.loop-step.step c.after-progress.ensures c.loop-step.invariant.chosen;
   copying = copying_more Gives said_by c.args.selection.now.choice
-      c.is_linked-linked.result c.args.source.now c.args.written.now c.loop-step.source
+      c.args.selection.now.signed c.args.source.now c.args.written.now c.loop-step.source
       c.loop-step.written c.loop-step.progress c.loop-step.step c.go_on.new.source
       c.go_on.new.written c.in_ok-met.met c.after-progress.result
       c.loop-step.invariant.copying c.in_ok-met.ensures c.after-progress.ensures;
@@ -52,13 +39,7 @@ pub returns-clause-copied : goal.returns-clause-copied
 returns-clause-copied g c =
     let k = c.loop-step.invariant.copying in
     let last : 2 ^ 64 - 1 ≤ c.loop-step.step = search rules in
-    let linked = c.is_linked-linked.ensures ∙ ap has_links c.format.ensures in
-    subst
-    (λ (b : Bool). IsCopied Gives said_by c.args.selection.now.choice
-    c.args.selection.now.count b c.args.source.now c.args.written.now c.loop-step.source
-    c.loop-step.written c.status-2.result)
-    linked
-    (copied Gives said_by c.args.selection.now.choice c.args.selection.now.count
-    c.is_linked-linked.result c.args.source.now c.args.written.now c.loop-step.source
+    copied Gives said_by c.args.selection.now.choice c.args.selection.now.count
+    c.args.selection.now.signed c.args.source.now c.args.written.now c.loop-step.source
     c.loop-step.written c.loop-step.progress c.loop-step.step c.status-2.result k
-    (inr (inr (omega (arith, last, k.gone)))) c.status-2.ensures)
+    (inr (inr (omega (arith, last, k.gone)))) c.status-2.ensures

@@ -8,6 +8,6 @@ abbrev pub invariant-loop-step : goal.invariant-loop-step
 invariant-loop-step g l = record {
   records : l.progress.records ≤ l.step;
   chosen : l.progress.chosen ≤ l.step;
-  copying : IsCopying Gives said_by l.selection.choice l.linked l.fn.source l.fn.written
+  copying : IsCopying Gives said_by l.selection.choice l.selection.signed l.fn.source l.fn.written
       l.source l.written l.progress l.step;
 }

@@ -1,7 +1,7 @@
-use Rattle.std.proofs.Common.{rules, ◌≡◌, ◌-◌, ℕ, List, Bool, true, sym, ap, ◌∙◌, subst, refl, drop, take, length}
+use Rattle.std.proofs.Common.{rules, ◌≡◌, Bool, true, sym, subst, refl}
 use Rattle.cap_linklayers.specs.declared.link.LinkLayer.TheVariants as layers
-use Rattle.cmd_captures.specs.Conversions.{HasText, IsFrameText}
-use Rattle.cmd_captures.proofs.Copies.{puts_text, take_rest}
+use Rattle.cmd_captures.specs.Conversions.{HasText}
+use Rattle.cmd_captures.proofs.Copies.{puts_text, puts_no_text}
 use Rattle.cmd_captures.proofs.written.Written.put.Goals as goal
 
 pub returns : goal.returns
@@ -9,16 +9,24 @@ returns g c =
     let h = c.args.head.now in
     let w = c.args.octets.now.items in
     let t = c.args.self.now in
-    let own = c.in_ok-layer-2.layer in
-    let all = c.as_slice-2.result.now in
-    let start = c.in_ok-start.start in
-    let text = take (length all - start) (drop start all) in
+    let text = c.in_ok-frame.frame.now in
     let only : t.frames_only ≡ true = search rules in
-    let same : text ≡ drop start c.text_start.new.octets.items =
-    take_rest start all ∙ ap (λ (x : List ℕ). drop start x) c.as_slice-2.ensures.value in
-    let frame = subst (λ (x : List ℕ). IsFrameText c.args.linked own w x) (sym same)
-    c.in_ok-start.ensures.frame in
-    let has = subst (λ (b : Bool). HasText b t.layer c.args.linked h w layers.Ethernet text)
-    (sym only) (own, c.in_ok-layer-2.ensures, refl, frame) in
-    puts_text c.args.linked h w t c.write-2.new.self c.write-2.result layers.Ethernet text has
-    c.write-2.ensures
+    let has = subst (λ (b : Bool). HasText b t.layer c.args.signed h w layers.Ethernet text)
+    (sym only) (c.in_ok-layer-2.layer, c.in_ok-layer-2.ensures, refl, c.in_ok-frame.ensures.frame)
+    in
+    puts_text c.args.signed h w t c.write-2.new.self layers.Ethernet text has
+    c.in_ok-write-2.ensures
+
+pub returns-in_err-write-2 : goal.returns-in_err-write-2
+returns-in_err-write-2 g c =
+    let h = c.args.head.now in
+    let w = c.args.octets.now.items in
+    let t = c.args.self.now in
+    let text = c.in_ok-frame.frame.now in
+    let only : t.frames_only ≡ true = search rules in
+    let has = subst (λ (b : Bool). HasText b t.layer c.args.signed h w layers.Ethernet text)
+    (sym only) (c.in_ok-layer-2.layer, c.in_ok-layer-2.ensures, refl, c.in_ok-frame.ensures.frame)
+    in
+    let puts = puts_no_text c.args.signed h w t c.write-2.new.self c.in_err-write-2.field-0.0
+    layers.Ethernet text has c.in_err-write-2.ensures in
+    search rules

@@ -1,4 +1,4 @@
-use Rattle.std.proofs.Common.{◌≤◌, ◌+◌, ◌-◌, ◌^◌, ◌∙◌, ap, sym, subst, arith, inl, inr, refl}
+use Rattle.std.proofs.Common.{◌≤◌, ◌+◌, ◌∙◌, ap, sym, subst, arith, inr}
 use Rattle.cmd_stats.specs.declared.replay.replaying.Replayed.{Replayed}
 use Rattle.cmd_stats.proofs.Records.{chosen_grows, fault_stays, read_grows, counted_then, whole_then}
 use Rattle.cmd_stats.proofs.Records.{replayed_begun}
@@ -8,7 +8,7 @@ pub returns-then-is_end : goal.returns-then-is_end
 returns-then-is_end g c = λ s rep took.
     let before = (c.loop-step.invariant.received s rep took).0 in
     whole_then {S = g.row.S.Denot} g.S.RecordSource.GivesStep c.args.selection.now.choice
-    c.args.selection.now.count c.args.linked c.args.source.now s c.loop-step.source
+    c.args.selection.now.count c.args.selection.now.signed c.args.source.now s c.loop-step.source
     c.go_on.new.source c.loop-step.station c.go_on.new.station c.loop-step.replayed
     c.in_ok-met.met c.after-replayed.result (g.K.HeardSink.Took c.loop-step.sink)
     (g.K.HeardSink.Took c.go_on.new.sink) before c.after-replayed.ensures
@@ -27,7 +27,7 @@ loop-step-preserved g c = record {
   received = λ s rep took.
       let (before, steps) = c.loop-step.invariant.received s rep took in
       counted_then {S = g.row.S.Denot} g.S.RecordSource.GivesStep c.args.selection.now.choice
-      c.args.linked c.args.source.now s c.loop-step.source c.go_on.new.source
+      c.args.selection.now.signed c.args.source.now s c.loop-step.source c.go_on.new.source
       c.loop-step.station c.go_on.new.station c.loop-step.replayed c.in_ok-met.met
       c.after-replayed.result (g.K.HeardSink.Took c.loop-step.sink)
       (g.K.HeardSink.Took c.go_on.new.sink) c.loop-step.step before steps
@@ -42,7 +42,7 @@ loop-step-init g c = record {
   good = ap (λ (r : Replayed). r.fault) c.begin-replayed.ensures;
   received = λ s rep took.
       replayed_begun {S = g.row.S.Denot} g.S.RecordSource.GivesStep c.args.selection.now.choice
-      c.args.linked c.args.source.now s c.args.station.now (g.K.HeardSink.Took c.args.sink.now)
+      c.args.selection.now.signed c.args.source.now s c.args.station.now (g.K.HeardSink.Took c.args.sink.now)
       c.begin-replayed.result c.begin-replayed.ensures rep took;
 }
 

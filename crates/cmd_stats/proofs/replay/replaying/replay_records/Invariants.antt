@@ -13,6 +13,6 @@ invariant-loop-step g l = record {
   good : l.replayed.fault ≡ None;
   received : (s : StationModel) → RepresentsStation l.fn.station s
       → g.K.HeardSink.Took l.fn.sink []
-      → (r : IsReplayed g.S.RecordSource.GivesStep l.selection.choice l.linked l.fn.source s
+      → (r : IsReplayed g.S.RecordSource.GivesStep l.selection.choice l.selection.signed l.fn.source s
       l.source l.station l.replayed (g.K.HeardSink.Took l.sink)) × (length r.given ≡ l.step);
 }

@@ -1,6 +1,6 @@
 use Rattle.std.proofs.Common.{subst, inr, List, ℕ}
 use Rattle.its_linkframe.specs.Secured.{EncodesVerified, IsVerifiedFault}
-use Rattle.cap_records.proofs.signed.judge.Goals as goal
+use Rattle.cap_records.proofs.signed.find_packet.Goals as goal
 
 pub returns-in-Ok-clause-packet : goal.returns-in-Ok-clause-packet
 returns-in-Ok-clause-packet c =
