@@ -1,9 +1,9 @@
 -- What came from outside to a run with rows, from one step to the next.
 use Rattle.std.proofs.Common.{◌≡◌, ℕ, ◌+◌, ◌*◌, ◌≤◌, ◌<◌, List, [], ◌∷◌, ◌++◌, refl, sym, ap, subst}
 use Rattle.std.proofs.Common.{◌∙◌, arith, All, Option, Some, None, length, map, take, drop}
-use Rattle.std.proofs.Common.{append-nil, Bool, true, false, slice_index_or, ◌⊎◌, inl, inr}
+use Rattle.std.proofs.Common.{append-nil, Bool, slice_index_or, ◌⊎◌, inl, inr, pos}
 use Rattle.std.proofs.Common.{length-drop, get_or-drop}
-use Rattle.std.specs.Option.{ForSome}
+use Rattle.std.specs.Option.{ForSome, option_map}
 use Rattle.std.specs.Prelude.{string_bytes, Vec, IfNone, IfSome, slice_get, ◌==◌}
 use Rattle.std.specs.declared.alloc.Global.{Global}
 use Rattle.std.specs.BinaryHeap.{heap_items}
@@ -12,22 +12,24 @@ use Rattle.std.specs.List.Sorted.{ties, IsNonDecreasingBy, IsStableByKey}
 use Rattle.std.specs.Ordering.{nat_cmp, is_lt}
 use Rattle.std.proofs.lemmas.List.{get_or-map, length-map, length-append, take_more}
 use Rattle.std.proofs.lemmas.Option.{get_or_from_slice_get, slice_get-map, slice_get_within}
-use Rattle.std.proofs.lemmas.Option.{slice_get-get_or}
+use Rattle.std.proofs.lemmas.Option.{slice_get_cases, slice_get-get_or}
 use denote.Ref.{Bor}
-use Rattle.its_model.specs.World.{Config, Event}
+use Rattle.its_model.specs.World.{Config, Event, What}
 use Rattle.sim_moves.specs.declared.row.Row.{Row}
-use Rattle.sim_scenario.specs.Airs.{moment_of}
+use Rattle.sim_scenario.specs.Actions.{IsDoneAt, what_at}
+use Rattle.sim_scenario.specs.declared.events.action.Action.{Action}
+use Rattle.sim_scenario.specs.declared.events.action.Action.TheVariants as actions
 use Rattle.sim_scenario.specs.declared.events.event.AddressedEvent.{AddressedEvent}
+use Rattle.sim_scenario.specs.declared.events.event.Addressee.TheVariants as addressees
 use Rattle.sim_scenario.specs.declared.events.event.FileEvent.TheVariants as files
 use Rattle.sim_settings.specs.declared.moves.Moves.{Moves}
 use Rattle.its_world.specs.declared.entry.Entry.{Entry}
 use Rattle.sim_air.specs.Outside.{Came, IsBrought, IsByMoment, IsOutside, Brings, asked_at}
 use Rattle.sim_air.specs.Outside.{asked_of, ids_of, turn_of, MayAsk, MayCome, row_move, opening_at}
-use Rattle.sim_air.specs.Outside.{IsOfStation}
+use Rattle.sim_air.specs.Outside.{IsOfStation, filed_when, station_of_filed}
 use Rattle.sim_queue.specs.Queues.{filed_of}
 use Rattle.its_gnvalue.specs.Values.{Position}
-use Rattle.sim_scenario.specs.Centres.{centred}
-use Rattle.sim_scenario.specs.Events.{station_in}
+use Rattle.its_world.specs.Events.{what_of}
 use Rattle.sim_scenario.specs.declared.events.event.FileEvent.{FileEvent}
 use Rattle.std.specs.Prelude.{String}
 use Rattle.sim_air.specs.Outside.Came.{Makes, Moved, Left, Asked}
@@ -165,12 +167,12 @@ next_leave_turn m R None N1 N next is some none class h h' never = (
 next_event_turn : (m : MovingRun) (E N : Option Coming) (next : Coming) → N ≡ Some next
     → IfSome E (λ c. IsComing m c.moment c.outside
     × ((e : Bor AddressedEvent) → slice_get m.events.items m.taken ≡ Some e →
-    c.moment ≤ moment_of e.now.filed))
+    c.moment ≤ e.now.moment))
     → IfNone E (slice_get m.events.items m.taken ≡ None)
     → IfSome E (λ c. class_in c.outside ≡ 2)
     → IfSome E (λ other. IfSome N (λ first. turn_in first ≤ turn_in other))
     → (e : Bor AddressedEvent) → slice_get m.events.items m.taken ≡ Some e →
-    turn_in next ≤ 3 * moment_of e.now.filed + 2
+    turn_in next ≤ 3 * e.now.moment + 2
 next_event_turn m (Some c) N next is some none class h = λ e here.
     let le = below (Some c) N c next refl is h in
     let on = some.1 e here in
@@ -188,7 +190,7 @@ pub next_turn : (m : MovingRun) (R D N1 E N : Option Coming) (next : Coming) →
     → IfNone D (heap_items m.departures.waiting ≡ []) → IfSome D (λ c. class_in c.outside ≡ 1)
     → IfSome E (λ c. IsComing m c.moment c.outside
     × ((e : Bor AddressedEvent) → slice_get m.events.items m.taken ≡ Some e →
-    c.moment ≤ moment_of e.now.filed))
+    c.moment ≤ e.now.moment))
     → IfNone E (slice_get m.events.items m.taken ≡ None)
     → IfSome E (λ c. class_in c.outside ≡ 2)
     → IfSome R (λ other. IfSome N1 (λ first. turn_in first ≤ turn_in other))
@@ -226,7 +228,7 @@ pub next_is : (m : MovingRun) (R D N1 E N : Option Coming) (next : Coming) → N
     × All (λ d. c.moment ≤ d.moment) (heap_items m.departures.waiting))
     → IfSome E (λ c. IsComing m c.moment c.outside
     × ((e : Bor AddressedEvent) → slice_get m.events.items m.taken ≡ Some e →
-    c.moment ≤ moment_of e.now.filed))
+    c.moment ≤ e.now.moment))
     → IfSome N1 (λ first. (R ≡ Some first) ⊎ (D ≡ Some first))
     → IfSome N (λ first. (N1 ≡ Some first) ⊎ (E ≡ Some first))
     → IsComing m next.moment next.outside
@@ -246,7 +248,7 @@ next_is m R D N1 E N next is r d e two three =
     either (inr here) =
         (some_is E (λ c. IsComing m c.moment c.outside
         × ((x : Bor AddressedEvent) → slice_get m.events.items m.taken ≡ Some x →
-        c.moment ≤ moment_of x.now.filed)) next here e).0
+        c.moment ≤ x.now.moment)) next here e).0
 
 -- a row before one that leaves, and these before what the scenario has
 pub classes_two : (R D : Option Coming) → IfSome R (λ c. class_in c.outside ≡ 0)
@@ -401,10 +403,10 @@ pub event_came : (own made : ℕ) (came : List Came) (past piece : List Filed)
     (e : Bor AddressedEvent) (old new : MovingRun)
     → slice_get old.events.items old.taken ≡ Some e → new.moves ≡ old.moves
     → new.events ≡ old.events → new.taken ≡ old.taken + 1
-    → MayAsk (own + made) e.now e.now.id e.now.round_station piece
-    → ComesInTurn (3 * moment_of e.now.filed + 2) new
-    → CameUnder own made came past (3 * moment_of e.now.filed + 2) old
-    → CameUnder own made (Asked e.now ∷ came) (past ++ piece) (3 * moment_of e.now.filed + 2) new
+    → MayAsk (own + made) e.now e.now.addressee piece
+    → ComesInTurn (3 * e.now.moment + 2) new
+    → CameUnder own made came past (3 * e.now.moment + 2) old
+    → CameUnder own made (Asked e.now ∷ came) (past ++ piece) (3 * e.now.moment + 2) new
 event_came own made came past piece e old new is moves events taken may next h =
     let xs = asked_in old in
     let here : slice_get xs old.taken ≡ Some e.now =
@@ -414,9 +416,9 @@ event_came own made came past piece e old new is moves events taken may next h =
     let one : take (old.taken + 1) xs ≡ take old.taken xs ++ e.now ∷ [] =
     take_more xs old.taken e.now lt
     ∙ ap (λ x. take old.taken xs ++ x ∷ []) (get_or_from_slice_get xs old.taken e.now e.now here) in
-    more_came own made made came past piece (3 * moment_of e.now.filed + 2) (Asked e.now) old new
+    more_came own made made came past piece (3 * e.now.moment + 2) (Asked e.now) old new
     moves refl next
-    (subst (λ n. MayAsk (own + n) e.now e.now.id e.now.round_station piece) h.made_by_rows may)
+    (subst (λ n. MayAsk (own + n) e.now e.now.addressee piece) h.made_by_rows may)
     (λ so. so)
     (λ so. ap (λ (l : List AddressedEvent). l ++ e.now ∷ []) so ∙ sym one
     ∙ sym (ap (λ (v : Vec (Bor AddressedEvent) Global).
@@ -431,7 +433,7 @@ event_came own made came past piece e old new is moves events taken may next h =
 
 -- those of a moment are those that tie with one of it
 tied : (lt : Bor AddressedEvent → Bor AddressedEvent → Bool) (x : Bor AddressedEvent) (m : ℕ)
-    → ((y : Bor AddressedEvent) → ties lt x y ≡ (moment_of y.now.filed == m))
+    → ((y : Bor AddressedEvent) → ties lt x y ≡ (y.now.moment == m))
     → (xs : List (Bor AddressedEvent))
     → asked_at m (map (λ (e : Bor AddressedEvent). e.now) xs)
     ≡ map (λ (e : Bor AddressedEvent). e.now) (filter (ties lt x) xs)
@@ -441,8 +443,8 @@ tied lt x m is (y ∷ xs) = grind (arith, is y, tied lt x m is xs)
 -- they are sorted by their moments, and those of one moment as they stand
 pub by_moment : (before sorted : List (Bor AddressedEvent)) (addressed : List AddressedEvent)
     → map (λ (e : Bor AddressedEvent). e.now) before ≡ addressed
-    → IsNonDecreasingBy (λ (e : Bor AddressedEvent). moment_of e.now.filed) sorted
-    → IsStableByKey (λ (e : Bor AddressedEvent). moment_of e.now.filed) nat_cmp before sorted
+    → IsNonDecreasingBy (λ (e : Bor AddressedEvent). e.now.moment) sorted
+    → IsStableByKey (λ (e : Bor AddressedEvent). e.now.moment) nat_cmp before sorted
     → IsByMoment addressed (map (λ (e : Bor AddressedEvent). e.now) sorted)
 by_moment before sorted addressed all rises stable =
     record {
@@ -450,18 +452,18 @@ by_moment before sorted addressed all rises stable =
           let f : Bor AddressedEvent → AddressedEvent = λ e. e.now in
           let lt' : b < length sorted = subst (λ n. b < n) (length-map sorted f) lt in
           let x : Bor AddressedEvent = record { ref_ptr = (0, 0); now = d } in
-          subst (λ (e : AddressedEvent). moment_of e.filed
-          ≤ moment_of (slice_index_or (map f sorted) b d).filed)
+          subst (λ (e : AddressedEvent). e.moment
+          ≤ (slice_index_or (map f sorted) b d).moment)
           (sym (get_or-map f sorted a x d (omega (arith, le, lt'))))
-          (subst (λ (e : AddressedEvent). moment_of (slice_index_or sorted a x).now.filed
-          ≤ moment_of e.filed) (sym (get_or-map f sorted b x d lt')) (rises a b x le lt'));
+          (subst (λ (e : AddressedEvent). (slice_index_or sorted a x).now.moment
+          ≤ e.moment) (sym (get_or-map f sorted b x d lt')) (rises a b x le lt'));
       as_before = λ m.
           let f : Bor AddressedEvent → AddressedEvent = λ e. e.now in
           let x = one_of m in
           let lt : Bor AddressedEvent → Bor AddressedEvent → Bool =
-          λ y z. is_lt (nat_cmp (moment_of y.now.filed) (moment_of z.now.filed)) in
-          let here : (y : Bor AddressedEvent) → ties lt x y ≡ (moment_of y.now.filed == m) =
-          λ y. ties_at m (moment_of y.now.filed) in
+          λ y z. is_lt (nat_cmp (y.now.moment) (z.now.moment)) in
+          let here : (y : Bor AddressedEvent) → ties lt x y ≡ (y.now.moment == m) =
+          λ y. ties_at m (y.now.moment) in
           tied lt x m here sorted
           ∙ ap (map f) (stable x)
           ∙ sym (tied lt x m here before)
@@ -472,7 +474,12 @@ by_moment before sorted addressed all rises stable =
     one_of m =
         record {
           ref_ptr = (0, 0);
-          now = record { number = 0; id = None; filed = files.Leaves 0 m; round_station = false };
+          now = record {
+            number = 0;
+            addressee = addressees.Station 0;
+            moment = m;
+            action = actions.Leaves;
+          };
         }
 
 -- ---- at the beginning and at the end
@@ -492,9 +499,9 @@ none_came own m taken next =
 
 -- what is behind the next is no earlier
 late_from : (events : List (Bor AddressedEvent)) (n end : ℕ)
-    → IsNonDecreasingBy (λ a. moment_of a.now.filed) events
-    → ((e : Bor AddressedEvent) → slice_get events n ≡ Some e → end + 1 ≤ moment_of e.now.filed)
-    → All (λ (e : AddressedEvent). end < moment_of e.filed)
+    → IsNonDecreasingBy (λ a. a.now.moment) events
+    → ((e : Bor AddressedEvent) → slice_get events n ≡ Some e → end + 1 ≤ e.now.moment)
+    → All (λ (e : AddressedEvent). end < e.moment)
     (drop n (map (λ (e : Bor AddressedEvent). e.now) events))
 late_from events n end sorted first = λ k d lt.
     let f : Bor AddressedEvent → AddressedEvent = λ e. e.now in
@@ -507,7 +514,7 @@ late_from events n end sorted first = λ k d lt.
     let rises = sorted n (n + k) x (omega arith) within in
     let here : slice_index_or (drop n (map f events)) k d ≡ f (slice_index_or events (n + k) x) =
     get_or-drop n (map f events) k d ∙ get_or-map f events (n + k) x d within in
-    subst (λ (e : AddressedEvent). end < moment_of e.filed) (sym here)
+    subst (λ (e : AddressedEvent). end < e.moment) (sym here)
     (omega (arith, le, rises))
 
 -- it is all that came from outside
@@ -530,45 +537,61 @@ is_outside own made came past turn end m asked by comes h =
 
 -- ---- what the scenario asks for
 
--- an event comes, or the same with its area round a place
-pub comes_of : (count : ℕ) (round : Bool) (filed one : FileEvent) (came : List Filed)
-    → (one ≡ filed) ⊎ ((round ≡ true) × (place : Position) × (one ≡ centred filed place))
-    → MayCome count (filed_of one) came
-    → MayCome count (filed_of filed) came
-    ⊎ ((round ≡ true) × (place : Position) × MayCome count (filed_of (centred filed place)) came)
-comes_of count round filed one came (inl is) may =
-    inl (subst (λ (f : FileEvent). MayCome count (filed_of f) came) is may)
-comes_of count round filed one came (inr x) may =
-    inr (x.0, x.1, subst (λ (f : FileEvent). MayCome count (filed_of f) came) x.2 may)
+-- what a station does at a place, as what waits
+pub filed_done : (action : Action) (station moment : ℕ) (place : Position) (filed : FileEvent)
+    → IsDoneAt action station moment place filed
+    → filed_of filed ≡ filed_when station moment (what_at action place)
+filed_done action station moment place (files.Happens e) h =
+    ap (λ n. filed_when n e.moment (Some (what_of e.what))) h.0
+    ∙ ap (λ n. filed_when station n (Some (what_of e.what))) h.1
+    ∙ ap (filed_when station moment) h.2
+filed_done action station moment place (files.Leaves n m) h =
+    ap (λ n. filed_when n m None) h.0
+    ∙ ap (λ n. filed_when station n None) h.1
+    ∙ ap (filed_when station moment) h.2
 
--- of a station of its own, as it stands
-pub may_own : (count : ℕ) (event : AddressedEvent) (came : List Filed) → event.id ≡ None
-    → event.round_station ≡ false → MayCome count (filed_of event.filed) came
-    → MayAsk count event event.id event.round_station came
-may_own count event came id round may =
-    subst (λ i. MayAsk count event i event.round_station came) (sym id)
-    (subst (λ b. MayAsk count event None b came) (sym round) may)
+-- nothing is found past the end
+pub none_past : {X Y : Type 0} (f : X → Y) (xs : List X) (n : ℕ)
+    → option_map f (slice_get xs n) ≡ None → length xs ≤ n
+none_past f xs n none = either (slice_get_cases xs n).1
+  where
+    either : ((x : _) × (n < length xs) × (slice_get xs n ≡ Some x) × (slice_index_or xs n x ≡ x))
+        ⊎ ((length xs ≤ n) × (slice_get xs n ≡ None)) → length xs ≤ n
+    either (inl x) =
+        let bad : Some (f x.0) ≡ None = sym (ap (option_map f) x.2) ∙ none in
+        let no : ⊥ = cc in absurd no
+    either (inr past) = past.0
 
--- the same, with an area round where that station stands
-pub may_centred : (count : ℕ) (event : AddressedEvent) (came : List Filed) → event.id ≡ None
-    → event.round_station ≡ true → IsOfStation count event (station_in event.filed) came
-    → MayAsk count event event.id event.round_station came
-may_centred count event came id round may =
-    subst (λ i. MayAsk count event i event.round_station came) (sym id)
-    (subst (λ b. MayAsk count event None b came) (sym round) may)
+-- the station isn't there: nothing comes
+pub away_at : (count : ℕ) (event : AddressedEvent) (station : ℕ) → count ≤ station
+    → IsOfStation count event station []
+away_at count event station le =
+    let place : Position = record { latitude = pos 0; longitude = pos 0 } in
+    (place, inr (inl (away (what_at event.action place)), refl))
+  where
+    away : (o : Option What)
+        → count ≤ station_of_filed (filed_when station event.moment o)
+    away (Some what) = le
+    away None = le
+
+-- of a station of its own
+pub may_own : (count : ℕ) (event : AddressedEvent) (station : ℕ) (came : List Filed)
+    → event.addressee ≡ addressees.Station station → IsOfStation count event station came
+    → MayAsk count event event.addressee came
+may_own count event station came is may =
+    subst (λ a. MayAsk count event a came) (sym is) may
 
 -- of an id, as that of a station
 pub may_id : (count : ℕ) (event : AddressedEvent) (id : String Global) (station : ℕ)
-    (came : List Filed) → event.id ≡ Some id → IsOfStation count event station came
-    → MayAsk count event event.id event.round_station came
+    (came : List Filed) → event.addressee ≡ addressees.Vehicle id
+    → IsOfStation count event station came → MayAsk count event event.addressee came
 may_id count event id station came is may =
-    subst (λ i. MayAsk count event i event.round_station came) (sym is) (inl (station, may))
+    subst (λ a. MayAsk count event a came) (sym is) (inl (station, may))
 
 -- or not at all
-pub may_not : (count : ℕ) (event : AddressedEvent) (id : String Global) → event.id ≡ Some id
-    → MayAsk count event event.id event.round_station []
-may_not count event id is =
-    subst (λ i. MayAsk count event i event.round_station []) (sym is) (inr refl)
+pub may_not : (count : ℕ) (event : AddressedEvent) (id : String Global)
+    → event.addressee ≡ addressees.Vehicle id → MayAsk count event event.addressee []
+may_not count event id is = subst (λ a. MayAsk count event a []) (sym is) (inr refl)
 
 -- ---- what is done
 
@@ -678,10 +701,10 @@ pub event_done_under : (rules : Rules) (configs made : List Config) (past : List
     ≡ length configs + length made → slice_get old.events.items old.taken ≡ Some e
     → new.moves ≡ old.moves → new.row ≡ old.row → new.departures ≡ old.departures
     → new.events ≡ old.events → new.taken ≡ old.taken + 1
-    → moment_of e.now.filed ≤ end_in old
-    → IsUnder rules configs made past (moment_of e.now.filed) (moment_of e.now.filed) begin clock
+    → e.now.moment ≤ end_in old
+    → IsUnder rules configs made past (e.now.moment) (e.now.moment) begin clock
     old A
-    → CameUnder (length configs) (length made) came past (3 * moment_of e.now.filed + 2) old
+    → CameUnder (length configs) (length made) came past (3 * e.now.moment + 2) old
     → DoesEvent e.now old A new B → IsUnderSome rules configs begin clock new B
 event_done_under rules configs made past came begin clock e old new A B count is moves row
     departures
@@ -690,15 +713,15 @@ event_done_under rules configs made past came begin clock e old new A B count is
     let may = x.1 in
     let on = x.2 rules configs made past begin clock within under in
     record {
-      last = moment_of e.now.filed;
-      from = moment_of e.now.filed;
+      last = e.now.moment;
+      from = e.now.moment;
       made = made;
       past = past ++ piece;
       came = Asked e.now ∷ came;
-      turn = 3 * moment_of e.now.filed + 2;
+      turn = 3 * e.now.moment + 2;
       under = on;
       outside =
           event_came (length configs) (length made) came past piece e old new is moves events taken
-          (subst (λ n. MayAsk n e.now e.now.id e.now.round_station piece) count may)
-          (turn_of_event (moment_of e.now.filed) old new row departures h.next on.comings) h;
+          (subst (λ n. MayAsk n e.now e.now.addressee piece) count may)
+          (turn_of_event (e.now.moment) old new row departures h.next on.comings) h;
     }

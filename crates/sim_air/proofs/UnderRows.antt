@@ -14,7 +14,6 @@ use denote.Ref.{Bor}
 use Rattle.its_model.specs.World.{Config, Event}
 use Rattle.sim_moves.specs.Rows.{IsRowBetween}
 use Rattle.sim_moves.specs.declared.row.Row.{Row}
-use Rattle.sim_scenario.specs.Airs.{moment_of}
 use Rattle.sim_scenario.specs.declared.events.event.AddressedEvent.{AddressedEvent}
 use Rattle.its_world.specs.declared.entry.Entry.{Entry}
 use Rattle.sim_air.specs.Moving.{DoesAt, IsMoving}
@@ -85,14 +84,14 @@ same_heap from old new is h =
 
 -- the next event comes no earlier than the one before it
 pub next_event : (events : List (Bor AddressedEvent)) (n : ℕ) (e next : Bor AddressedEvent)
-    → IsNonDecreasingBy (λ a. moment_of a.now.filed) events → slice_get events n ≡ Some e
-    → slice_get events (n + 1) ≡ Some next → moment_of e.now.filed ≤ moment_of next.now.filed
+    → IsNonDecreasingBy (λ a. a.now.moment) events → slice_get events n ≡ Some e
+    → slice_get events (n + 1) ≡ Some next → e.now.moment ≤ next.now.moment
 next_event events n e next sorted is after =
     let le = sorted n (n + 1) e (omega arith) (slice_get_within events (n + 1) next after) in
-    subst (λ (x : Bor AddressedEvent). moment_of e.now.filed ≤ moment_of x.now.filed)
+    subst (λ (x : Bor AddressedEvent). e.now.moment ≤ x.now.moment)
     (get_or_from_slice_get events (n + 1) next e after)
-    (subst (λ (x : Bor AddressedEvent). moment_of x.now.filed
-    ≤ moment_of (slice_index_or events (n + 1) e).now.filed)
+    (subst (λ (x : Bor AddressedEvent). x.now.moment
+    ≤ (slice_index_or events (n + 1) e).now.moment)
     (get_or_from_slice_get events n e e is) le)
 
 -- ---- steps of the run inside
@@ -174,12 +173,12 @@ event_at events read n e same lt is =
 event_comes : (e : Bor AddressedEvent) (old new : MovingRun)
     → slice_get old.events.items old.taken ≡ Some e → new.row ≡ old.row
     → new.departures ≡ old.departures → new.events ≡ old.events → new.taken ≡ old.taken + 1
-    → ComesFrom (moment_of e.now.filed) old → ComesFrom (moment_of e.now.filed) new
+    → ComesFrom (e.now.moment) old → ComesFrom (e.now.moment) new
 event_comes e old new is row departures events taken h =
     record {
       row = λ r here. h.row r (sym row ∙ here);
       departures =
-          subst (λ (d : Departures). All (λ (x : Departure). moment_of e.now.filed ≤ x.moment)
+          subst (λ (d : Departures). All (λ (x : Departure). e.now.moment ≤ x.moment)
           (heap_items d.waiting)) (sym departures) h.departures;
       events = λ next here.
           next_event old.events.items old.taken e next old.sorted is
@@ -196,13 +195,13 @@ pub event_taken : (rules : Rules) (configs made : List Config) (past : List File
     → new.departures ≡ old.departures → new.events ≡ old.events → new.taken ≡ old.taken + 1
     → end_in new ≡ end_in old → new.frames_before ≡ old.frames_before
     → new.delivered_by ≡ old.delivered_by
-    → IsUnder rules configs made past (moment_of e.now.filed) (moment_of e.now.filed) begin clock
+    → IsUnder rules configs made past (e.now.moment) (e.now.moment) begin clock
     old A
-    → IsUnder rules configs made past (moment_of e.now.filed) (moment_of e.now.filed) begin clock
+    → IsUnder rules configs made past (e.now.moment) (e.now.moment) begin clock
     new A
 event_taken rules configs made past begin clock e old new A is run row departures events taken end
     counted by h =
-    let m = moment_of e.now.filed in
+    let m = e.now.moment in
     record {
       moving =
           subst (λ (r : Run). IsMoving rules configs made past m m (end_in new) new.frames_before
@@ -227,11 +226,11 @@ pub event_done : (e : Bor AddressedEvent) (came : List Filed) (old new : MovingR
     → new.departures ≡ old.departures → new.events ≡ old.events → new.taken ≡ old.taken + 1
     → end_in new ≡ end_in old → new.frames_before ≡ old.frames_before
     → new.delivered_by ≡ old.delivered_by
-    → DoesAt (moment_of e.now.filed) came old.run A new.run B
-    → StaysAt (moment_of e.now.filed) came old A new B
+    → DoesAt (e.now.moment) came old.run A new.run B
+    → StaysAt (e.now.moment) came old A new B
 event_done e came old new A B is row departures events taken end counted by does =
     λ rules configs made past begin clock within h.
-    let m = moment_of e.now.filed in
+    let m = e.now.moment in
     record {
       moving =
           subst (λ n. IsMoving rules configs made (past ++ came) m m n new.frames_before
@@ -267,8 +266,8 @@ pub event_does : (event e : Bor AddressedEvent) (came : List Filed) (old new : M
     → new.departures ≡ old.departures → new.events ≡ old.events → new.taken ≡ old.taken + 1
     → end_in new ≡ end_in old → new.frames_before ≡ old.frames_before
     → new.delivered_by ≡ old.delivered_by
-    → MayAsk (stations_in old) event.now event.now.id event.now.round_station came
-    → DoesAt (moment_of event.now.filed) came old.run A new.run B → DoesEvent e.now old A new B
+    → MayAsk (stations_in old) event.now event.now.addressee came
+    → DoesAt (event.now.moment) came old.run A new.run B → DoesEvent e.now old A new B
 event_does event e came old new A B one is row departures events taken end counted by may does =
     subst (λ (x : Bor AddressedEvent). DoesEvent x.now old A new B) one (
       came,
@@ -284,10 +283,10 @@ pub event_passed : (event e : Bor AddressedEvent) (old new : MovingRun)
     → new.row ≡ old.row → new.departures ≡ old.departures → new.events ≡ old.events
     → new.taken ≡ old.taken + 1 → end_in new ≡ end_in old
     → new.frames_before ≡ old.frames_before → new.delivered_by ≡ old.delivered_by
-    → MayAsk (stations_in old) event.now event.now.id event.now.round_station []
+    → MayAsk (stations_in old) event.now event.now.addressee []
     → SaysAsBefore A B → DoesEvent e.now old A new B
 event_passed event e old new A B one is run row departures events taken end counted by may says =
-    let m = moment_of event.now.filed in
+    let m = event.now.moment in
     subst (λ (x : Bor AddressedEvent). DoesEvent x.now old A new B) one (
       [],
       may,

@@ -5,7 +5,6 @@ use Rattle.std.specs.Prelude.{Option, IfSome}
 use Rattle.std.specs.List.{AllByRecursion}
 use Rattle.its_model.specs.World.{Config, Event, What, opening, world_run}
 use Rattle.its_model.specs.World.What.{Calls, Deliver}
-use Rattle.sim_scenario.specs.Airs.{moment_of}
 use Rattle.sim_scenario.specs.declared.events.event.AddressedEvent.{AddressedEvent}
 use Rattle.sim_settings.specs.declared.moves.Moves.{Moves}
 use Rattle.its_world.specs.declared.entry.Entry.{Entry}
@@ -136,4 +135,4 @@ pub record DoesAsked (event : AddressedEvent) (station : ℕ) (old : Run)
     (After : List Event → List Entry → Type 0) : Type 0 where
   pub came : List Filed
   pub may : IsOfStation (length old.world.stations) event station came
-  pub does : DoesAt (moment_of event.filed) came old Before new After
+  pub does : DoesAt (event.moment) came old Before new After

@@ -1,9 +1,7 @@
 -- What comes to a run with moves from outside, one after the other: rows of a file, stations that
 -- leave, and what the scenario has.
 use Rattle.std.specs.Prelude.{◌≡◌, ◌≤◌, ◌<◌, ◌+◌, ◌*◌, ◌++◌, ◌∷◌, [], ◌⊎◌, ℕ, List, length, map}
-use Rattle.std.specs.Prelude.{Option, Some, None, Bool, true, false, All, string_bytes, take, drop}
-use Rattle.std.specs.Prelude.{String}
-use Rattle.std.specs.declared.alloc.Global.{Global}
+use Rattle.std.specs.Prelude.{Option, Some, None, true, All, string_bytes, take, drop}
 use Rattle.std.specs.List.{AllByRecursion, filter}
 use Rattle.std.specs.List.Sorted.{IsNonDecreasingBy}
 use Rattle.std.specs.Prelude.{◌==◌}
@@ -12,13 +10,11 @@ use Rattle.its_model.specs.Calls.OwnCall.{Move, Open}
 use Rattle.its_model.specs.World.{Event, What}
 use Rattle.its_model.specs.World.What.{Calls, Deliver}
 use Rattle.sim_moves.specs.declared.row.Row.{Row}
-use Rattle.sim_scenario.specs.Airs.{moment_of}
-use Rattle.sim_scenario.specs.Centres.{centred}
-use Rattle.sim_scenario.specs.Events.{station_in}
+use Rattle.sim_scenario.specs.Actions.{what_at}
 use Rattle.sim_scenario.specs.declared.events.event.AddressedEvent.{AddressedEvent}
-use Rattle.sim_scenario.specs.declared.events.event.FileEvent.{FileEvent}
+use Rattle.sim_scenario.specs.declared.events.event.Addressee.{Addressee}
+use Rattle.sim_scenario.specs.declared.events.event.Addressee.TheVariants as addressees
 use Rattle.sim_settings.specs.declared.moves.Moves.{Moves}
-use Rattle.sim_queue.specs.Queues.{filed_of}
 use Rattle.sim_air_model.specs.Timetable.{Filed}
 use Rattle.sim_air_model.specs.Timetable.Filed.{Happens, Leaves}
 
@@ -35,7 +31,7 @@ abbrev pub came_at : Came → ℕ
 came_at (Makes row station) = row.moment
 came_at (Moved row station) = row.moment
 came_at (Left station moment) = moment
-came_at (Asked event) = moment_of event.filed
+came_at (Asked event) = event.moment
 
 -- of one moment rows come first, then those that leave, then what the scenario has
 abbrev pub class_of : Came → ℕ
@@ -83,12 +79,6 @@ abbrev pub opening_at : ℕ → ℕ → ℕ → Filed
 opening_at station moment port =
     Happens (record { station = station; moment = moment; what = Calls (Open port) })
 
--- the same event or leave, of another station
-abbrev pub at_station : ℕ → Filed → Filed
-at_station station (Happens e) =
-    Happens (record { station = station; moment = e.moment; what = e.what })
-at_station station (Leaves number moment) = Leaves station moment
-
 -- the station of an event or leave
 abbrev pub station_of_filed : Filed → ℕ
 station_of_filed (Happens e) = e.station
@@ -110,22 +100,23 @@ MayCome count filed came =
     ((station_of_filed filed < count) × (came ≡ filed ∷ []))
     ⊎ (((count ≤ station_of_filed filed) ⊎ Delivers filed) × (came ≡ []))
 
--- what the scenario has, of a station: as it stands, but that an area may be left to lie round
--- where that station stands
-pub record IsOfStation (count : ℕ) (event : AddressedEvent) (station : ℕ) (came : List Filed)
-    : Type 0 where
-  pub filed : FileEvent
-  pub same : filed_of filed ≡ at_station station (filed_of event.filed)
-  pub comes : MayCome count (filed_of filed) came
-      ⊎ ((event.round_station ≡ true) × (place : Position)
-      × MayCome count (filed_of (centred filed place)) came)
+-- what is done by a station at a moment, or its leave
+abbrev pub filed_when : ℕ → ℕ → Option What → Filed
+filed_when station moment (Some what) =
+    Happens (record { station = station; moment = moment; what = what })
+filed_when station moment None = Leaves station moment
 
--- what the scenario has comes: of one of its own stations as it stands, of an id as that of the
--- station of the id, or not
-abbrev pub MayAsk : ℕ → AddressedEvent → Option (String Global) → Bool → List Filed → Type 0
-MayAsk count event None false came = MayCome count (filed_of event.filed) came
-MayAsk count event None true came = IsOfStation count event (station_in event.filed) came
-MayAsk count event (Some id) round came =
+-- what the scenario has, of a station that is at some place
+abbrev pub IsOfStation : ℕ → AddressedEvent → ℕ → List Filed → Type 0
+IsOfStation count event station came =
+    (place : Position)
+    × MayCome count (filed_when station event.moment (what_at event.action place)) came
+
+-- what the scenario has comes: of one of its own stations; of an id as that of the station of the
+-- id, or not
+abbrev pub MayAsk : ℕ → AddressedEvent → Addressee → List Filed → Type 0
+MayAsk count event (addressees.Station station) came = IsOfStation count event station came
+MayAsk count event (addressees.Vehicle id) came =
     ((station : ℕ) × IsOfStation count event station came) ⊎ (came ≡ [])
 
 -- What one brings to the file, behind those before it, where there are so many stations of the
@@ -140,7 +131,7 @@ Brings own ports before (Moved row station) came =
 Brings own ports before (Left station moment) came =
     MayCome (own + length (ids_of before)) (Leaves station moment) came
 Brings own ports before (Asked event) came =
-    MayAsk (own + length (ids_of before)) event event.id event.round_station came
+    MayAsk (own + length (ids_of before)) event event.addressee came
 
 -- the file is what each of these brought, the last in front, one after the other
 abbrev pub IsBrought : ℕ → List ℕ → List Came → List Filed → Type 0
@@ -151,11 +142,11 @@ IsBrought own ports (c ∷ before) file =
 
 -- those of a moment
 abbrev pub asked_at : ℕ → List AddressedEvent → List AddressedEvent
-asked_at moment events = filter (λ e. moment_of e.filed == moment) events
+asked_at moment events = filter (λ e. e.moment == moment) events
 
 -- these are the others by their moments, those of one moment in the same order
 pub record IsByMoment (others events : List AddressedEvent) : Type 0 where
-  pub rises : IsNonDecreasingBy (λ e. moment_of e.filed) events
+  pub rises : IsNonDecreasingBy (λ e. e.moment) events
   pub as_before : (moment : ℕ) → asked_at moment events ≡ asked_at moment others
 
 -- What came from outside, of so many stations of the scenario's own and these that rows made, up to
@@ -171,4 +162,4 @@ pub record IsOutside (own made : ℕ) (moves : Moves) (asked : List AddressedEve
   pub by_moment : IsByMoment asked events
   pub count : ℕ
   pub each : asked_of came ≡ take count events
-  pub late : All (λ e. until < moment_of e.filed) (drop count events)
+  pub late : All (λ e. until < e.moment) (drop count events)

@@ -7,7 +7,6 @@ use Rattle.std.specs.Option.{ForSome}
 use denote.Ref.{Bor}
 use Rattle.its_model.specs.World.{Config, Event}
 use Rattle.sim_moves.specs.declared.row.Row.{Row}
-use Rattle.sim_scenario.specs.Airs.{moment_of}
 use Rattle.sim_scenario.specs.declared.events.event.AddressedEvent.{AddressedEvent}
 use Rattle.its_world.specs.declared.entry.Entry.{Entry}
 use Rattle.sim_air.specs.Moving.{IsMoving}
@@ -37,7 +36,7 @@ pub record ComesFrom (from : ℕ) (m : MovingRun) : Type 0 where
   pub row : ForSome m.row (λ row. from ≤ row.moment)
   pub departures : All (λ d. from ≤ d.moment) (heap_items m.departures.waiting)
   pub events : (e : Bor AddressedEvent) → slice_get m.events.items m.taken ≡ Some e →
-      from ≤ moment_of e.now.filed
+      from ≤ e.now.moment
 
 -- it is that from outside which comes
 abbrev pub IsComing : MovingRun → ℕ → Outside → Type 0
@@ -47,7 +46,7 @@ IsComing m moment (outsides.Departure station) =
     (from : ℕ) → All (λ d. from ≤ d.moment) (heap_items m.departures.waiting) → from ≤ moment
 IsComing m moment outsides.Event =
     (e : Bor AddressedEvent) × (slice_get m.events.items m.taken ≡ Some e)
-    × (moment_of e.now.filed ≡ moment)
+    × (e.now.moment ≡ moment)
 
 -- of one moment a row comes first, then one that leaves, then what the scenario has
 abbrev pub class_in : Outside → ℕ
@@ -66,7 +65,7 @@ pub record ComesInTurn (turn : ℕ) (m : MovingRun) : Type 0 where
   pub by_since : turn ≤ 3 * since + 1
   pub departures : All (λ d. since ≤ d.moment) (heap_items m.departures.waiting)
   pub events : (e : Bor AddressedEvent) → slice_get m.events.items m.taken ≡ Some e →
-      turn ≤ 3 * moment_of e.now.filed + 2
+      turn ≤ 3 * e.now.moment + 2
 
 -- it is the next from outside
 pub record IsNext (m : MovingRun) (coming : Coming) : Type 0 where
@@ -147,8 +146,8 @@ DoesLeave station moment old Before new After =
 abbrev pub DoesEvent : AddressedEvent → MovingRun → (List Event → List Entry → Type 0)
     → MovingRun → (List Event → List Entry → Type 0) → Type 0
 DoesEvent event old Before new After =
-    (came : List Filed) × MayAsk (stations_in old) event event.id event.round_station came
-    × StaysAt (moment_of event.filed) came old Before new After
+    (came : List Filed) × MayAsk (stations_in old) event event.addressee came
+    × StaysAt (event.moment) came old Before new After
 
 -- What came from outside is what these brought, the last in front, each in its turn, none later
 -- than when this turn is, and what is to come comes no earlier.

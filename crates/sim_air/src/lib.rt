@@ -2,7 +2,6 @@
 //! world in it.
 #![tactic(auto)]
 
-mod copying;
 mod departures;
 mod fault;
 mod moving;

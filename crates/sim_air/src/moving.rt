@@ -9,8 +9,8 @@ ghost use Rattle.std.specs.List.{AllByRecursion};
 ghost use Rattle.std.specs.List.Sorted.{IsNonDecreasingBy};
 ghost use Rattle.std.specs.Option.{ForSome};
 ghost use denote.Ref.{Bor};
-ghost use Rattle.sim_scenario.specs.Airs.{end_of, moment_of};
-ghost use Rattle.sim_scenario.specs.Events.{FitsFileEvent};
+ghost use Rattle.sim_scenario.specs.Airs.{end_of};
+ghost use Rattle.sim_scenario.specs.Events.{FitsAddressed};
 ghost use Rattle.sim_scenario.specs.declared.events.event.AddressedEvent.{AddressedEvent as Addressed};
 ghost use Rattle.its_model.specs.World.{Config as Beginning, WorldModel, opening};
 ghost use Rattle.sim_moves.specs.Rows.{IsRowBetween};
@@ -41,7 +41,7 @@ use its_gnvalue::Place;
 use its_model::laws::every_schedule;
 use its_world::{Config, Event, What, World};
 use sim_moves::{MovesFault, Row, Rows, Word};
-use sim_scenario::events::{AddressedEvent, FileEvent};
+use sim_scenario::events::{AddressedEvent, Addressee, FileEvent};
 use sim_scenario::{MovesTimeline, Scenario};
 use sim_settings::Moves;
 use sim_simulation::{EventSink, Note};
@@ -352,13 +352,13 @@ impl<'a> MovingRun<'a> {
     fn next_event(&self) -> Option<Coming>
         ensures some { IfSome result (λ coming. IsComing self.now coming.moment coming.outside
             × ((e : Bor Addressed) → slice_get self.now.events.items self.now.taken ≡ Some e →
-            coming.moment ≤ moment_of e.now.filed)) }
+            coming.moment ≤ e.now.moment)) }
         ensures class { IfSome result (λ coming. class_in coming.outside ≡ 2) }
         ensures none { IfNone result (slice_get self.now.events.items self.now.taken ≡ None) }
     {
         match self.events.get(self.taken) {
             Some(event) => Some(Coming {
-                moment: event.filed.moment(),
+                moment: event.moment,
                 outside: Outside::Event,
             }),
             None => None,
@@ -578,16 +578,9 @@ impl<'a> MovingRun<'a> {
         };
         let event = *event;
         self.taken += 1;
-        match &event.id {
-            None if !event.round_station => do_filed(&mut self.run, &event.filed, sink),
-            None => do_at(
-                self.alloc,
-                &mut self.run,
-                event,
-                event.filed.station(),
-                sink,
-            ),
-            Some(id) => match self.present_station(id.as_str()) {
+        match &event.addressee {
+            Addressee::Station(station) => do_at(self.alloc, &mut self.run, event, *station, sink),
+            Addressee::Vehicle(id) => match self.present_station(id.as_str()) {
                 Some(station) => do_at(self.alloc, &mut self.run, event, station, sink),
                 None => {
                     let id = id.as_str();
@@ -597,7 +590,7 @@ impl<'a> MovingRun<'a> {
                         event,
                         has_left,
                     };
-                    sink.note(&self.run.world, event.filed.moment(), &absent)?;
+                    sink.note(&self.run.world, event.moment, &absent)?;
                     Ok(())
                 }
             },
@@ -617,10 +610,10 @@ impl<'a> MovingRun<'a> {
 
 /// Events and leaves in the order in which they are taken: those of one moment as they stand.
 fn in_order(alloc: Global, addressed: &[AddressedEvent]) -> Result<Vec<&AddressedEvent>, AllocError>
-    requires ranges { All (λ a. FitsFileEvent a.filed) addressed.now }
-    ensures ranges { IfOk result (λ events. All (λ a. FitsFileEvent a.now.filed) events.items) }
+    requires ranges { All FitsAddressed addressed.now }
+    ensures ranges { IfOk result (λ events. All (λ a. FitsAddressed a.now) events.items) }
     ensures sorted { IfOk result (λ events.
-        IsNonDecreasingBy (λ a. moment_of a.now.filed) events.items) }
+        IsNonDecreasingBy (λ a. a.now.moment) events.items) }
     ensures each { IfOk result (λ events. IsByMoment addressed.now
         (map (λ (a : Bor Addressed). a.now) events.items)) }
 {
@@ -628,17 +621,17 @@ fn in_order(alloc: Global, addressed: &[AddressedEvent]) -> Result<Vec<&Addresse
     for event in addressed {
         events.push(event)?;
     }
-    events.sort_by_key(|event| event.filed.moment())?;
+    events.sort_by_key(|event| event.moment)?;
     Ok(events)
 }
 
 /// The moment of the last of these, 0 where there is none.
 fn last_moment(events: &[&AddressedEvent]) -> u64
-    requires { All (λ a. FitsFileEvent a.now.filed) events.now }
+    requires { All (λ a. FitsAddressed a.now) events.now }
     ensures { result < 2 ^ 63 }
 {
     match events.len().checked_sub(1) {
-        Some(last) => events[last].filed.moment(),
+        Some(last) => events[last].moment,
         None => 0,
     }
 }

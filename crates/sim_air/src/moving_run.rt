@@ -4,8 +4,7 @@ ghost use Rattle.std.specs.Prelude.{◌≤◌, ◌<◌, ◌^◌, All, IfSome};
 ghost use Rattle.std.specs.List.Sorted.{IsNonDecreasingBy};
 ghost use Rattle.std.specs.Option.{ForSome};
 ghost use Rattle.std.proofs.Props.{props};
-ghost use Rattle.sim_scenario.specs.Airs.{moment_of};
-ghost use Rattle.sim_scenario.specs.Events.{FitsFileEvent};
+ghost use Rattle.sim_scenario.specs.Events.{FitsAddressed};
 ghost use Rattle.sim_air.specs.FitsRun.{FitsRun};
 
 use crate::departures::Departures;
@@ -59,8 +58,8 @@ pub(crate) struct MovingRun<'a> {
     pub(crate) frames_before: usize,
     /// The moment of the last delivery of one of these, at the latest.
     pub(crate) delivered_by: u64,
-    ghost ranges: { All (λ a. FitsFileEvent a.now.filed) events.items },
-    ghost sorted: { IsNonDecreasingBy (λ a. moment_of a.now.filed) events.items },
+    ghost ranges: { All (λ a. FitsAddressed a.now) events.items },
+    ghost sorted: { IsNonDecreasingBy (λ a. a.now.moment) events.items },
     ghost next: { ForSome row FitsRun },
     ghost last: { IfSome until (λ moment. moment ≤ 2 ^ 62) } by { Prim.hlevel props },
     ghost bound: { greatest < 2 ^ 63 },

@@ -3,28 +3,27 @@
 ghost use Rattle.std.specs.Prelude.{[], ℕ, IsTrue, ◌≡◌, ◌≤◌, ◌<◌, ◌+◌, ◌^◌, ◌∷◌, All, length};
 ghost use Rattle.std.specs.Prelude.{IfOk, OnOk, ◌⊎◌, false, map};
 ghost use Rattle.sim_scenario.specs.Airs.{moment_of};
-ghost use Rattle.sim_scenario.specs.Events.{FitsFileEvent, station_in};
+ghost use Rattle.sim_scenario.specs.Events.{FitsAddressed, station_in};
 ghost use Rattle.its_world.specs.Events.{IsInRange, event_of, what_of};
 ghost use Rattle.its_world.specs.Steps.{IsKept};
 ghost use Rattle.sim_air.specs.AirRun.{events_in};
 ghost use Rattle.sim_air.specs.Moving.{DoesAsked, DoesFiled, DoesTaken, DoesThere};
-ghost use Rattle.sim_air.specs.Outside.{Delivers, at_station, opening_at, station_of_filed};
+ghost use Rattle.sim_air.specs.Outside.{Delivers, opening_at, station_of_filed};
 ghost use Rattle.sim_queue.specs.Queues.{IsFiledInRange, filed_of};
 ghost use Rattle.sim_air.specs.Runs.{AreIndexed};
 ghost use Rattle.sim_queue.specs.Waiting.{own_of};
 ghost use Rattle.sim_air_model.specs.Timetable.Filed.{Happens};
 
-use crate::copying::copy_of;
 use crate::fault::AirFault;
 use crate::run::{Run, place_of};
 use its_world::{Event, What};
 use sim_queue::Scheduled;
 use sim_scenario::events::{AddressedEvent, FileEvent};
 use sim_simulation::EventSink;
-use std::alloc::{AllocError, Global};
+use std::alloc::Global;
 
-/// Does an event or leave of the scenario at the station of this number. An area whose centre is
-/// left out lies round where that station stands.
+/// Does an event or leave of the scenario at the station of this number. Nothing is done if there is
+/// no such station.
 pub(crate) fn do_at<S: EventSink>(
     alloc: Global,
     run: &mut Run<'_>,
@@ -32,39 +31,17 @@ pub(crate) fn do_at<S: EventSink>(
     station: usize,
     sink: &mut S,
 ) -> Result<(), AirFault>
-    requires fits { FitsFileEvent event.now.filed }
+    requires fits { FitsAddressed event.now }
     requires standings { AreIndexed run.old }
     ensures standings { OnOk result (AreIndexed run.new) }
     ensures moving { OnOk result (DoesAsked event.now station run.old (S.Took sink.old) run.new
         (S.Took sink.new)) }
 {
-    let mut filed = filed_at(alloc, &event.filed, station)?;
-    if event.round_station {
-        if let Some(place) = place_of(&run.world, station) {
-            filed.centre_at(place);
-        }
-    }
+    let Some(place) = place_of(&run.world, station) else {
+        return Ok(());
+    };
+    let filed = event.at(alloc, station, place)?;
     do_filed(run, &filed, sink)
-}
-
-/// The same event or leave of a station of this number.
-fn filed_at(alloc: Global, filed: &FileEvent, station: usize) -> Result<FileEvent, AllocError>
-    requires range { IsFiledInRange filed.now }
-    ensures range { IfOk result IsFiledInRange }
-    ensures moment { IfOk result (λ same. moment_of same ≡ moment_of filed.now) }
-    ensures same { IfOk result (λ same. filed_of same ≡ at_station station (filed_of filed.now)) }
-{
-    Ok(match filed {
-        FileEvent::Happens(event) => FileEvent::Happens(Event {
-            station,
-            moment: event.moment,
-            what: copy_of(alloc, &event.what)?,
-        }),
-        FileEvent::Leaves { moment, .. } => FileEvent::Leaves {
-            station,
-            moment: *moment,
-        },
-    })
 }
 
 /// Does what the scenario has, of a station that is there.

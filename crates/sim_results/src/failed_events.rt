@@ -9,7 +9,7 @@ use crate::late_events::late_events;
 use cmd_text::frames::Explanation;
 use its_gnvalue::NoMemory;
 use its_world::{Entry, EntryFault, Event};
-use sim_scenario::events::{AddressedEvent, FileEvent, verb_of};
+use sim_scenario::events::{AddressedEvent, verb_of};
 use sim_scenario::{Scenario, Timeline};
 use sim_settings::keys::Verb;
 use sim_simulation::{EntryReason, EventRecord, Note};
@@ -120,13 +120,22 @@ struct AskedSend {
 
 impl AskedSend {
     /// The send of an event of this number, if it is one.
-    fn of(number: usize, event: &Event) -> Option<AskedSend> {
-        let verb = verb_of(&event.what);
+    fn of(number: usize, moment: u64, verb: Verb) -> Option<AskedSend> {
         matches!(verb, Verb::Shb | Verb::Gbc | Verb::Gac).then_some(AskedSend {
             number,
-            moment: event.moment,
+            moment,
             verb,
         })
+    }
+
+    /// The send of an event of the world of this number, if it is one.
+    fn of_event(number: usize, event: &Event) -> Option<AskedSend> {
+        AskedSend::of(number, event.moment, verb_of(&event.what))
+    }
+
+    /// The send of an event of a scenario with moves, if it is one.
+    fn of_addressed(event: &AddressedEvent) -> Option<AskedSend> {
+        AskedSend::of(event.number, event.moment, event.action.verb())
     }
 
     /// Whether an event that was done is this one. Traffic of the air comes after it at a moment.
@@ -141,28 +150,25 @@ fn asked_sends(alloc: Global, timeline: &Timeline) -> Result<Vec<AskedSend>, NoM
     match timeline {
         Timeline::Plain(timeline) => {
             for (number, event) in timeline.events.iter().enumerate() {
-                push_send(&mut sends, AskedSend::of(number, event))?;
+                push_send(&mut sends, AskedSend::of_event(number, event))?;
             }
             return Ok(sends);
         }
         Timeline::Air(timeline) => {
             for (number, filed) in timeline.events.iter().enumerate() {
-                push_send(&mut sends, send_in(number, filed))?;
+                if let Some(event) = filed.event() {
+                    push_send(&mut sends, AskedSend::of_event(number, event))?;
+                }
             }
         }
         Timeline::Moves(timeline) => {
             for event in &timeline.events {
-                push_send(&mut sends, send_in(event.number, &event.filed))?;
+                push_send(&mut sends, AskedSend::of_addressed(event))?;
             }
         }
     }
     sends.sort_by_key(|send| send.moment)?;
     Ok(sends)
-}
-
-/// The send that waits in an air, if it is one.
-fn send_in(number: usize, filed: &FileEvent) -> Option<AskedSend> {
-    AskedSend::of(number, filed.event()?)
 }
 
 /// Adds a send, if it is one.
@@ -267,7 +273,7 @@ impl FailedEvents {
     ) -> Result<(), NoMemory>
         ensures { IfOk result (λ _. self.new.count ≡ one_more self.old.count) }
     {
-        if send_in(event.number, &event.filed).is_some() {
+        if AskedSend::of_addressed(event).is_some() {
             self.came = self.came.saturating_add(1);
         }
         let vehicle = if has_left {
@@ -278,7 +284,7 @@ impl FailedEvents {
         let id = String::from_str(self.alloc, id)?;
         self.add(FailedEvent {
             number: event.number,
-            moment: event.filed.moment(),
+            moment: event.moment,
             why: Failure::NoVehicle(id, vehicle),
         })
     }

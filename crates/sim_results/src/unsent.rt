@@ -3,7 +3,7 @@
 use crate::late_events::LateEvent;
 use its_headers::Kind;
 use its_world::{EntryFault, What};
-use sim_scenario::events::AddressedEvent;
+use sim_scenario::events::{Action, AddressedEvent};
 use sim_simulation::EventRecord;
 use std::io::Write;
 use std::{fmt, io};
@@ -29,48 +29,74 @@ impl fmt::Display for Unsent {
     }
 }
 
+/// The kind and the port of a packet for an area.
+#[derive(Clone, Copy)]
+pub(crate) struct AreaPacket {
+    kind: Kind,
+    port: u16,
+}
+
+impl AreaPacket {
+    /// The packet that a call asks for, if it asks for one.
+    pub(crate) fn of(what: &What) -> Option<AreaPacket> {
+        let (kind, port) = match what {
+            What::SendGeobroadcast(request) => (Kind::Gbc, request.port),
+            What::SendGeoanycast(request) => (Kind::Gac, request.port),
+            _ => return None,
+        };
+        Some(AreaPacket { kind, port })
+    }
+
+    /// The packet that an action of a scenario sends, if it sends one.
+    pub(crate) fn of_action(action: &Action) -> Option<AreaPacket> {
+        let (kind, port) = match action {
+            Action::Happens(what) => return AreaPacket::of(what),
+            Action::GeobroadcastAround(request) => (Kind::Gbc, request.port),
+            Action::GeoanycastAround(request) => (Kind::Gac, request.port),
+            Action::Leaves => return None,
+        };
+        Some(AreaPacket { kind, port })
+    }
+}
+
 /// A packet for an area that isn't sent.
 #[derive(Clone, Copy)]
 pub(crate) struct UnsentPacket {
     moment: u64,
     /// Its station, if the event names one by its number.
     station: Option<usize>,
-    kind: Kind,
-    port: u16,
+    packet: AreaPacket,
     why: Unsent,
 }
 
 impl UnsentPacket {
     /// The packet of an event that was done and that its station refused so.
     pub(crate) fn refused(done: &EventRecord<'_>, fault: EntryFault) -> Option<UnsentPacket> {
-        let station = Some(done.station);
-        UnsentPacket::of(done.what, done.moment, station, Unsent::Refused(fault))
+        Some(UnsentPacket {
+            moment: done.moment,
+            station: Some(done.station),
+            packet: AreaPacket::of(done.what)?,
+            why: Unsent::Refused(fault),
+        })
     }
 
     /// The packet of an event whose station is absent.
     pub(crate) fn absent(event: &AddressedEvent) -> Option<UnsentPacket> {
-        let happens = event.filed.event()?;
-        UnsentPacket::of(&happens.what, happens.moment, None, Unsent::Absent)
+        Some(UnsentPacket {
+            moment: event.moment,
+            station: None,
+            packet: AreaPacket::of_action(&event.action)?,
+            why: Unsent::Absent,
+        })
     }
 
     /// The packet of an event after the end of the run.
-    pub(crate) fn late(event: &LateEvent<'_>) -> Option<UnsentPacket> {
-        UnsentPacket::of(event.what?, event.moment, event.station, Unsent::AfterUntil)
-    }
-
-    /// The packet that an event asks for, if it asks for one.
-    fn of(what: &What, moment: u64, station: Option<usize>, why: Unsent) -> Option<UnsentPacket> {
-        let (kind, port) = match what {
-            What::SendGeobroadcast(request) => (Kind::Gbc, request.port),
-            What::SendGeoanycast(request) => (Kind::Gac, request.port),
-            _ => return None,
-        };
+    pub(crate) fn late(event: &LateEvent) -> Option<UnsentPacket> {
         Some(UnsentPacket {
-            moment,
-            station,
-            kind,
-            port,
-            why,
+            moment: event.moment,
+            station: event.station,
+            packet: event.packet?,
+            why: Unsent::AfterUntil,
         })
     }
 
@@ -83,7 +109,7 @@ impl UnsentPacket {
         writeln!(
             out,
             ",{} {},{},,,,,,,,,,,,,",
-            self.kind, self.why, self.port
+            self.packet.kind, self.why, self.packet.port
         )
     }
 }

@@ -1,4 +1,3 @@
 pub mod Said
-pub mod Round
 pub mod Bad
 pub mod Timelines

@@ -1,60 +1,60 @@
--- What waits in an air, line by line, and what was read of each.
-use Rattle.std.proofs.Common.{◌≡◌, ℕ, ◌+◌, ◌<◌, List, [], ◌∷◌, ◌++◌, length, take, get_or}
-use Rattle.std.proofs.Common.{Bool, sym, ap, subst, suc, ◌∙◌, arith, drop}
-use Rattle.std.proofs.lemmas.Grind.{common_steps}
-use Rattle.std.proofs.lemmas.List.{take_more}
+-- Events of a file that are read, and then done where their stations are.
+use Rattle.std.proofs.Common.{◌++◌, List, [], ◌∷◌, subst, sym}
+use Rattle.its_gnvalue.specs.Values.{Position}
 use Rattle.sim_settings.specs.Fields.{FieldValues}
-use Rattle.sim_scenario.specs.Centres.{AllCentred}
-use Rattle.sim_scenario.specs.Saying.{SaysFiled}
-use Rattle.sim_settings.specs.Items.{SayItems, SaysItem}
-use Rattle.sim_scenario.specs.Scenarios.{SayFiled, SaysFileEvent}
+use Rattle.sim_settings.specs.Items.{SayItems}
+use Rattle.sim_settings.specs.Tables.{table_values}
+use Rattle.sim_settings.specs.declared.keys.key.Key.TheVariants as keys
+use Rattle.sim_settings.specs.Fields.{IsNumber}
+use Rattle.sim_scenario.specs.Actions.{IsDoneAt}
+use Rattle.sim_scenario.specs.Saying.{SaysFileEvent, SaysStationEvent}
 use Rattle.sim_scenario.specs.declared.events.event.FileEvent.{FileEvent}
-use Rattle.toml.specs.Data.{Data, Items, no_items, item}
-use Rattle.toml.specs.View.{items_view, view}
-use Rattle.toml.specs.declared.value.Value.{Value}
+use Rattle.sim_scenario.specs.declared.events.event.StationEvent.{StationEvent}
+use Rattle.toml.specs.Data.{Items, no_items, item}
 
--- one more at the end
-filed_push : (items : List Value) (v : Value) (fs : List FileEvent) (f : FileEvent)
-    (bs : List Bool) (b : Bool) → SayFiled (items_view items) fs bs
-    → SaysItem (λ values (filed : FileEvent). SaysFiled values filed b) (view v) f
-    → SayFiled (items_view (items ++ v ∷ [])) (fs ++ f ∷ []) (bs ++ b ∷ [])
-filed_push [] v [] f [] b all one = (one, tt)
-filed_push [] v [] f (c ∷ bs) b all one = absurd all
-filed_push [] v (g ∷ fs) f bs b all one = absurd all
-filed_push (w ∷ ws) v [] f bs b all one = absurd all
-filed_push (w ∷ ws) v (g ∷ fs) f [] b all one = absurd all
-filed_push (w ∷ ws) v (g ∷ fs) f (c ∷ bs) b all one =
-    (all.0, filed_push ws v fs f bs b all.1 one)
+-- it is the event, done where its station is
+abbrev pub IsDone : StationEvent → FileEvent → Type 0
+IsDone event filed =
+    (place : Position) × IsDoneAt event.action event.station event.moment place filed
 
--- one more of the first items
-pub filed_more : (items : List Value) (i : ℕ) (v : Value) (fs : List FileEvent) (f : FileEvent)
-    (bs : List Bool) (b : Bool) → i < length items → v ≡ get_or items i v
-    → SayFiled (items_view (take i items)) fs bs
-    → SaysItem (λ values (filed : FileEvent). SaysFiled values filed b) (view v) f
-    → SayFiled (items_view (take (i + 1) items)) (fs ++ f ∷ []) (bs ++ b ∷ [])
-filed_more items i v fs f bs b lt is all one =
-    subst (λ (l : List Value). SayFiled (items_view l) (fs ++ f ∷ []) (bs ++ b ∷ []))
-    (ap (λ z. take i items ++ z ∷ []) is ∙ sym (take_more items i v lt))
-    (filed_push (take i items) v fs f bs b all one)
+-- each is the event in its place
+abbrev pub AreDone : List StationEvent → List FileEvent → Type 0
+AreDone [] [] = Unit {0}
+AreDone [] (f ∷ file) = ⊥
+AreDone (e ∷ events) [] = ⊥
+AreDone (e ∷ events) (f ∷ file) = IsDone e f × AreDone events file
 
--- once each has its centre
-pub filed_centred : (items : Items) (fs : List FileEvent) (bs : List Bool) (gs : List FileEvent)
-    → length gs ≡ length fs → SayFiled items fs bs → AllCentred bs fs gs
-    → SayItems SaysFileEvent items gs
-filed_centred no_items [] [] [] long says all = tt
-filed_centred no_items [] [] (g ∷ gs) long says all = absurd (omega arith)
-filed_centred no_items [] (b ∷ bs) gs long says all = absurd says
-filed_centred no_items (f ∷ fs) bs gs long says all = absurd says
-filed_centred (item found more) [] bs gs long says all = absurd says
-filed_centred (item found more) (f ∷ fs) [] gs long says all = absurd says
-filed_centred (item found more) (f ∷ fs) (b ∷ bs) [] long says all = absurd (omega arith)
-filed_centred (item found more) (f ∷ fs) (b ∷ bs) (g ∷ gs) long says all =
+-- one more is done
+pub done_more : (events : List StationEvent) (file : List FileEvent) (e : StationEvent)
+    (f : FileEvent) → AreDone events file → IsDone e f
+    → AreDone (events ++ e ∷ []) (file ++ f ∷ [])
+done_more [] [] e f all one = (one, tt)
+done_more [] (g ∷ file) e f all one = absurd all
+done_more (d ∷ events) [] e f all one = absurd all
+done_more (d ∷ events) (g ∷ file) e f all one = (all.0, done_more events file e f all.1 one)
+
+one_says : (values : FieldValues) (e : StationEvent) (f : FileEvent) → IsDone e f
+    → SaysStationEvent values e → SaysFileEvent values f
+one_says values e f done says = (
+  e.action,
+  done.0,
+  subst (IsNumber values keys.Station) (sym done.1.0) says.0,
+  subst (IsNumber values keys.At) (sym done.1.1) says.1,
+  says.2,
+  done.1.2,
+)
+
+-- what says the events, says them as they are done
+pub done_say : (items : Items) (events : List StationEvent) (file : List FileEvent)
+    → AreDone events file → SayItems SaysStationEvent items events
+    → SayItems SaysFileEvent items file
+done_say no_items [] [] done says = tt
+done_say no_items [] (f ∷ file) done says = absurd done
+done_say no_items (e ∷ events) file done says = absurd says
+done_say (item found more) [] file done says = absurd says
+done_say (item found more) (e ∷ events) [] done says = absurd done
+done_say (item found more) (e ∷ events) (f ∷ file) done says =
     let one = says.0 in (
-      (one.0, one.1, (f, b, one.2, all 0 f (omega arith))),
-      filed_centred more fs bs gs (omega arith) says.1 (λ k d lt. all (suc k) d (omega arith)),
+      (one.0, one.1, one_says (table_values one.0) e f done.0 one.2),
+      done_say more events file done.1 says.1,
     )
-
--- the items of a vector whose slice was written
-pub written : {X : Type 0} (count : ℕ) (now was : List X) → length now ≡ length was
-    → count ≡ length was → take count (now ++ drop (length now) was) ≡ now
-written count now was long all = grind (arith, common_steps)

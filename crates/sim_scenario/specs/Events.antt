@@ -1,12 +1,19 @@
 -- The events of a scenario.
-use Rattle.std.specs.Prelude.{ℕ, ℤ, pos, ◌<◌, ◌^◌}
+use Rattle.std.specs.Prelude.{ℕ, ℤ, pos, ◌<◌, ◌^◌, string_bytes}
 use Rattle.its_gnvalue.specs.Values.{IsSpeed}
 use Rattle.its_world.specs.declared.event.Event.{Event}
 use Rattle.its_world.specs.declared.event.What.{What}
 use Rattle.its_world.specs.declared.event.What.TheVariants as whats
+use Rattle.sim_moves.specs.Rows.{IsId}
 use Rattle.sim_scenario.specs.Airs.{moment_of}
+use Rattle.sim_scenario.specs.declared.events.action.Action.{Action}
+use Rattle.sim_scenario.specs.declared.events.action.Action.TheVariants as actions
+use Rattle.sim_scenario.specs.declared.events.event.AddressedEvent.{AddressedEvent}
+use Rattle.sim_scenario.specs.declared.events.event.Addressee.{Addressee}
+use Rattle.sim_scenario.specs.declared.events.event.Addressee.TheVariants as addressees
 use Rattle.sim_scenario.specs.declared.events.event.FileEvent.{FileEvent}
 use Rattle.sim_scenario.specs.declared.events.event.FileEvent.TheVariants as files
+use Rattle.sim_scenario.specs.declared.events.event.StationEvent.{StationEvent}
 
 -- the speed of a move; 0 where none is given
 abbrev pub speed_of : What → ℤ
@@ -44,3 +51,34 @@ frame_in (files.Leaves station moment) = 0
 abbrev pub FitsFileEvent : FileEvent → Type 0
 FitsFileEvent f =
     (station_in f < 2 ^ 16) × (moment_of f < 2 ^ 63) × IsSpeed (speed_in f) × (frame_in f < 2 ^ 32)
+
+-- the speed and the frame of what an event of a scenario does, 0 where it has none
+abbrev pub speed_at : Action → ℤ
+speed_at (actions.Happens what) = speed_of what
+speed_at action = pos 0
+
+abbrev pub frame_at : Action → ℕ
+frame_at (actions.Happens what) = frame_of what
+frame_at action = 0
+
+-- they are in their ranges
+abbrev pub FitsAction : Action → Type 0
+FitsAction action = IsSpeed (speed_at action) × (frame_at action < 2 ^ 32)
+
+-- so are the numbers of an event of a station
+abbrev pub FitsStationEvent : StationEvent → Type 0
+FitsStationEvent e = (e.station < 2 ^ 16) × (e.moment < 2 ^ 63) × FitsAction e.action
+
+-- the number of a station, 0 where it is one by its id
+abbrev pub number_of : Addressee → ℕ
+number_of (addressees.Station station) = station
+number_of (addressees.Vehicle id) = 0
+
+-- the id is one that a row may have
+abbrev pub HasId : Addressee → Type 0
+HasId (addressees.Station station) = Unit {0}
+HasId (addressees.Vehicle id) = IsId (string_bytes id)
+
+-- the numbers of an event of a scenario with moves are in their ranges
+abbrev pub FitsAddressed : AddressedEvent → Type 0
+FitsAddressed a = (number_of a.addressee < 2 ^ 16) × (a.moment < 2 ^ 63) × FitsAction a.action

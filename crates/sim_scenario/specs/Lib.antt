@@ -2,9 +2,9 @@ pub mod Documents
 pub mod Faults
 pub mod Scenarios
 pub mod Airs
-pub mod Centres
+pub mod Actions
 pub mod Events
+pub mod Measures
 pub mod Reading
 pub mod Saying
-pub mod Tables
 pub mod Verbs

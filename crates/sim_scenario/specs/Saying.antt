@@ -1,26 +1,27 @@
 -- What the tables of a scenario say of its stations and its events.
-use Rattle.std.specs.Prelude.{◌≡◌, ℕ, Bool, true, false, not, ◌&&◌, List, Option, Some}
-use Rattle.std.specs.Prelude.{None, length, string_bytes, String}
+use Rattle.std.specs.Prelude.{◌≡◌, ℕ, Bool, false, not, List, length, string_bytes}
 use Rattle.std.specs.Int.{w64, from_be_bytes}
-use Rattle.std.specs.declared.alloc.Global.{Global}
 use Rattle.sim_settings.specs.Fields.{FieldValues, AreOctets, IsMissing, IsNumber}
 use Rattle.sim_settings.specs.Fields.{IsNumberOr, IsPlace, IsText, IsTruthOr}
-use Rattle.sim_settings.specs.Keys.{word_of}
+use Rattle.its_gnvalue.specs.Values.{Position}
 use Rattle.sim_settings.specs.Verbs.{verb_word}
 use Rattle.sim_settings.specs.declared.keys.key.Key.TheVariants as keys
 use Rattle.sim_settings.specs.declared.keys.verb.Verb.TheVariants as verbs
 use Rattle.sim_scenario.specs.Airs.{moment_of}
 use Rattle.sim_scenario.specs.Events.{station_in}
-use Rattle.sim_scenario.specs.Reading.{SaysWhat}
-use Rattle.sim_scenario.specs.Tables.{air_values}
+use Rattle.sim_scenario.specs.Actions.{what_at, what_in}
+use Rattle.sim_scenario.specs.Reading.{SaysWhat, shape_word}
+use Rattle.sim_scenario.specs.declared.events.action.Action.{Action}
+use Rattle.sim_scenario.specs.declared.events.action.Action.TheVariants as actions
+use Rattle.sim_scenario.specs.declared.events.around.AroundRequest.{AroundRequest}
 use Rattle.sim_scenario.specs.declared.events.event.AddressedEvent.{AddressedEvent}
+use Rattle.sim_scenario.specs.declared.events.event.Addressee.{Addressee}
+use Rattle.sim_scenario.specs.declared.events.event.Addressee.TheVariants as addressees
 use Rattle.sim_scenario.specs.declared.events.event.FileEvent.{FileEvent}
-use Rattle.sim_scenario.specs.declared.events.event.FileEvent.TheVariants as files
+use Rattle.sim_scenario.specs.declared.events.event.StationEvent.{StationEvent}
 use Rattle.its_world.specs.Events.{what_of}
 use Rattle.its_world.specs.declared.config.Config.{Config}
 use Rattle.its_world.specs.declared.event.Event.{Event}
-use Rattle.its_world.specs.declared.event.What.{What}
-use Rattle.its_world.specs.declared.event.What.TheVariants as whats
 
 -- the digits under `address` are those of the address' 8 octets, the highest first
 abbrev pub IsAddress : FieldValues → ℕ → Type 0
@@ -48,43 +49,57 @@ SaysEvent values event =
     × IsNumber values keys.At event.moment
     × SaysWhat values (what_of event.what)
 
--- both coordinates of an area's centre are left out
-abbrev pub lacks_centre : FieldValues → Bool
-lacks_centre values =
-    not (values.has (word_of keys.Alat)) && not (values.has (word_of keys.Alon))
+-- The keys beside those of the station and the moment say a request for an area around the station:
+-- both coordinates of its centre are left out.
+abbrev pub SaysAround : FieldValues → AroundRequest → Type 0
+SaysAround values request =
+    IsMissing values keys.Alat
+    × IsMissing values keys.Alon
+    × IsNumber values keys.Tc request.class
+    × IsNumber values keys.Lt request.lifetime
+    × IsNumber values keys.Hops request.max_hops
+    × IsText values keys.Shape (shape_word request.shape)
+    × IsNumber values keys.A request.a
+    × IsNumber values keys.B request.b
+    × IsNumber values keys.Angle request.angle
+    × IsNumber values keys.Port request.port
+    × IsNumber values keys.Info request.info
+    × AreOctets values keys.Payload request.payload.items
 
--- whether a packet is sent for an area
-abbrev pub is_geocast : What → Bool
-is_geocast (whats.SendGeobroadcast request) = true
-is_geocast (whats.SendGeoanycast request) = true
-is_geocast what = false
+-- the same keys say that this is done
+abbrev pub SaysAction : FieldValues → Action → Type 0
+SaysAction values (actions.Happens what) = SaysWhat values (what_of what)
+SaysAction values (actions.GeobroadcastAround request) =
+    IsText values keys.Do (verb_word verbs.Gbc) × SaysAround values request
+SaysAction values (actions.GeoanycastAround request) =
+    IsText values keys.Do (verb_word verbs.Gac) × SaysAround values request
+SaysAction values actions.Leaves = IsText values keys.Do (verb_word verbs.Leave)
 
--- The keys beside those of the station and the moment say that this waits in an air, and whether
--- its area lies round its station: a leave; or what happens, where the coordinates of a centre that
--- is left out are 0.
-abbrev pub SaysDone : FieldValues → FileEvent → Bool → Type 0
-SaysDone values (files.Leaves station moment) round_station =
-    IsText values keys.Do (verb_word verbs.Leave) × (round_station ≡ false)
-SaysDone values (files.Happens event) round_station =
-    SaysWhat (air_values (lacks_centre values) values) (what_of event.what)
-    × (round_station ≡ (lacks_centre values && is_geocast event.what))
+-- the keys say this event or leave of a station
+abbrev pub SaysStationEvent : FieldValues → StationEvent → Type 0
+SaysStationEvent values event =
+    IsNumber values keys.Station event.station
+    × IsNumber values keys.At event.moment
+    × SaysAction values event.action
 
--- the keys say that this waits in an air, and whether its area lies round its station
-abbrev pub SaysFiled : FieldValues → FileEvent → Bool → Type 0
-SaysFiled values filed round_station =
-    IsNumber values keys.Station (station_in filed)
-    × IsNumber values keys.At (moment_of filed)
-    × SaysDone values filed round_station
+-- the keys say what waits in an air; an area around its station lies around some place
+abbrev pub SaysFileEvent : FieldValues → FileEvent → Type 0
+SaysFileEvent values waiting =
+    (action : Action) × (place : Position)
+    × IsNumber values keys.Station (station_in waiting)
+    × IsNumber values keys.At (moment_of waiting)
+    × SaysAction values action
+    × (what_in waiting ≡ what_at action place)
 
--- this id stands under `id`, and the station's number is 0; or nothing does, and the number of the
--- station stands under `station`
-abbrev pub IsAddressee : FieldValues → Option (String Global) → ℕ → Type 0
-IsAddressee values (Some id) station = IsText values keys.Id (string_bytes id) × (station ≡ 0)
-IsAddressee values None station = IsMissing values keys.Id × IsNumber values keys.Station station
+-- this id stands under `id`; or nothing does, and the number of the station stands under `station`
+abbrev pub SaysAddressee : FieldValues → Addressee → Type 0
+SaysAddressee values (addressees.Vehicle id) = IsText values keys.Id (string_bytes id)
+SaysAddressee values (addressees.Station station) =
+    IsMissing values keys.Id × IsNumber values keys.Station station
 
 -- the keys say this line of the events of a scenario that is run with moves
 abbrev pub SaysAddressed : FieldValues → AddressedEvent → Type 0
 SaysAddressed values addressed =
-    IsAddressee values addressed.id (station_in addressed.filed)
-    × IsNumber values keys.At (moment_of addressed.filed)
-    × SaysDone values addressed.filed addressed.round_station
+    SaysAddressee values addressed.addressee
+    × IsNumber values keys.At addressed.moment
+    × SaysAction values addressed.action

@@ -1,5 +1,5 @@
 -- Which scenario a document is.
-use Rattle.std.specs.Prelude.{◌≡◌, ℕ, Bool, true, false, List, [], ◌∷◌, Option, Some, None, cond}
+use Rattle.std.specs.Prelude.{◌≡◌, ℕ, Bool, true, false, List, [], Option, Some, None, cond}
 use Rattle.std.specs.Prelude.{String, is_some}
 use Rattle.std.specs.Option.{option_map}
 use Rattle.std.specs.declared.alloc.Global.{Global}
@@ -11,14 +11,13 @@ use Rattle.sim_settings.specs.declared.keys.key.Key.TheVariants as keys
 use Rattle.sim_settings.specs.declared.keys.settings.AirSettings.{AirSettings}
 use Rattle.sim_settings.specs.declared.keys.settings.SetAir.{SetAir}
 use Rattle.its_world.specs.declared.event.Event.{Event}
-use Rattle.sim_scenario.specs.Centres.{IsCentred}
-use Rattle.sim_settings.specs.Items.{SayItems, SaysItem, items_if, items_under, members_if}
+use Rattle.sim_settings.specs.Items.{SayItems, items_if, items_under, members_if}
 use Rattle.sim_settings.specs.Moves.{SaysMoves}
-use Rattle.sim_scenario.specs.Saying.{SaysAddressed, SaysEvent, SaysFiled, SaysPresent, SaysStation}
+use Rattle.sim_scenario.specs.Saying.{SaysAddressed, SaysEvent, SaysFileEvent}
+use Rattle.sim_scenario.specs.Saying.{SaysPresent, SaysStation}
 use Rattle.sim_settings.specs.Saying.{SaysAir, SaysExpectation, SaysTraffic}
 use Rattle.sim_settings.specs.declared.moves.Moves.{Moves as MovesSettings}
 use Rattle.sim_scenario.specs.declared.tables.Tables.{Tables}
-use Rattle.sim_scenario.specs.declared.events.event.FileEvent.{FileEvent}
 use Rattle.sim_scenario.specs.declared.reading.AirTable.{AirTable}
 use Rattle.sim_scenario.specs.declared.reading.AirTable.TheVariants.{Ignored, Optional, Required}
 use Rattle.sim_scenario.specs.declared.reading.Reading.{Reading}
@@ -28,7 +27,7 @@ use Rattle.sim_scenario.specs.declared.timeline.MovesTimeline.{MovesTimeline}
 use Rattle.sim_scenario.specs.declared.timeline.Timeline.{Timeline}
 use Rattle.sim_scenario.specs.declared.timeline.Timeline.TheVariants.{Plain, Air, Moves}
 use Rattle.std.specs.BTreeMap.{BTreeMap}
-use Rattle.toml.specs.Data.{Data, Items, no_items, item, Members, no_members, as_table, get_member}
+use Rattle.toml.specs.Data.{Data, Items, Members, no_members, as_table, get_member}
 use Rattle.toml.specs.Parse.{parse_document}
 use Rattle.toml.specs.View.{items_view, table_view}
 use Rattle.toml.specs.declared.value.Value.{Value}
@@ -81,24 +80,6 @@ pub record ArePartsOf (reading : Reading) (document : Members) (parts : Parts) :
 abbrev pub SaysPresence : Bool → FieldValues → Bool → Type 0
 SaysPresence true values present = SaysPresent values present
 SaysPresence false values present = present ≡ true
-
--- the keys say what waits in an air; an area whose centre they leave out has some centre
-abbrev pub SaysFileEvent : FieldValues → FileEvent → Type 0
-SaysFileEvent values waiting =
-    (filed : FileEvent) × (round_station : Bool) × SaysFiled values filed round_station
-    × IsCentred round_station filed waiting
-
--- each item is a table whose keys say what waits in its place, and whether its area lies round its
--- station
-abbrev pub SayFiled : Items → List FileEvent → List Bool → Type 0
-SayFiled no_items [] [] = Unit {0}
-SayFiled no_items [] (b ∷ bs) = ⊥
-SayFiled no_items (f ∷ fs) bs = ⊥
-SayFiled (item found more) [] bs = ⊥
-SayFiled (item found more) (f ∷ fs) [] = ⊥
-SayFiled (item found more) (f ∷ fs) (b ∷ bs) =
-    SaysItem (λ values (filed : FileEvent). SaysFiled values filed b) found f
-    × SayFiled more fs bs
 
 -- The parts of a document say the events of an air, and what they are run by. How moves are read is
 -- said too, as it would be with the moves of a file.

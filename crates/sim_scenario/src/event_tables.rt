@@ -1,20 +1,20 @@
 //! Reading the events of a scenario.
 
 ghost use Rattle.std.specs.Prelude.{◌≡◌, All, IfOk, IfErr, length, vec_len};
-ghost use Rattle.sim_scenario.specs.Events.{FitsEvent, FitsFileEvent};
-ghost use Rattle.sim_scenario.specs.Saying.{SaysAddressed, SaysEvent, SaysFiled};
+ghost use Rattle.sim_scenario.specs.Events.{FitsAddressed, FitsEvent, FitsFileEvent, FitsStationEvent};
+ghost use Rattle.sim_scenario.specs.Saying.{SaysAddressed, SaysEvent, SaysFileEvent};
+ghost use Rattle.sim_scenario.specs.Saying.{SaysStationEvent};
 ghost use Rattle.sim_settings.specs.Tables.{table_values};
 ghost use Rattle.sim_scenario.specs.Documents.{IsPastToml};
-ghost use Rattle.sim_scenario.specs.Scenarios.{SayFiled, SaysFileEvent};
 ghost use Rattle.sim_settings.specs.Items.{SayItems};
 ghost use Rattle.toml.specs.View.{items_view, table_view};
 
-use crate::centre::centre_areas;
 use crate::events::{
-    AddressedEvent, FileEvent, Filed, read_addressed, read_event, read_file_event,
+    AddressedEvent, FileEvent, StationEvent, read_addressed, read_event, read_station_event,
 };
 use crate::fault::ScenarioFault;
 use crate::part::Part;
+use crate::places::Places;
 use its_world::{Config, Event};
 use sim_settings::keys::Key;
 use std::alloc::Global;
@@ -50,60 +50,57 @@ fn read_numbered_event(alloc: Global, table: &Table, number: usize) -> Result<Ev
     })
 }
 
-/// Reads what waits in an air of these stations. An area whose centre is left out lies round where
-/// its station stands then.
+/// Reads what waits in a radio model of these stations. An area whose centre is left out is around
+/// the position where its station is then.
 pub(crate) fn read_file(
     alloc: Global,
     items: &[Value],
     stations: &[Config],
 ) -> Result<Vec<FileEvent>, ScenarioFault>
-    ensures all { IfOk result (λ file. vec_len file ≡ length items.now) }
     ensures says { IfOk result (λ file.
         SayItems SaysFileEvent (items_view items.now) file.items) }
     ensures ranges { IfOk result (λ file. All FitsFileEvent file.items) }
     ensures refused { IfErr result IsPastToml }
 {
-    let (mut file, round_station) = read_lines(alloc, items)?;
-    centre_areas(
-        alloc,
-        stations,
-        file.as_mut_slice(),
-        round_station.as_slice(),
-    )?;
+    let events = read_station_events(alloc, items)?;
+    let places = Places::of(alloc, stations, events.as_slice())?;
+    let mut file = Vec::with_capacity(alloc, events.len())?;
+    for event in events {
+        let place = places.at(file.len());
+        file.push(event.action.done_at(event.station, event.moment, place))?;
+    }
     Ok(file)
 }
 
-/// Reads what waits in an air, and of each whether it is a geocast whose area lies round where its
-/// station stands then.
-fn read_lines(alloc: Global, items: &[Value]) -> Result<(Vec<FileEvent>, Vec<bool>), ScenarioFault>
-    ensures all { IfOk result (λ read. vec_len read.0 ≡ length items.now) }
-    ensures says { IfOk result (λ read.
-        SayFiled (items_view items.now) read.0.items read.1.items) }
-    ensures ranges { IfOk result (λ read. All FitsFileEvent read.0.items) }
+/// Reads the events and leaves of a scenario with a radio model.
+fn read_station_events(alloc: Global, items: &[Value]) -> Result<Vec<StationEvent>, ScenarioFault>
+    ensures says { IfOk result (λ events.
+        SayItems SaysStationEvent (items_view items.now) events.items) }
+    ensures ranges { IfOk result (λ events. All FitsStationEvent events.items) }
     ensures refused { IfErr result IsPastToml }
 {
-    let mut file = Vec::with_capacity(alloc, items.len())?;
-    let mut round_station = Vec::with_capacity(alloc, items.len())?;
+    let mut events = Vec::with_capacity(alloc, items.len())?;
     for (number, item) in items.iter().enumerate() {
         // `array_of_tables` has seen that each item is one.
         let Some(table) = item.as_table() else {
             return Err(ScenarioFault::Kind(Key::Event, None));
         };
-        let event = read_filed(alloc, table, number)?;
-        round_station.push(event.round_station)?;
-        file.push(event.filed)?;
+        events.push(read_numbered_station_event(alloc, table, number)?)?;
     }
-    Ok((file, round_station))
+    Ok(events)
 }
 
 /// Reads the event or leave of this number.
-fn read_filed(alloc: Global, table: &Table, number: usize) -> Result<Filed, ScenarioFault>
-    ensures says { IfOk result (λ event.
-        SaysFiled (table_values (table_view table.now)) event.filed event.round_station) }
-    ensures ranges { IfOk result (λ event. FitsFileEvent event.filed) }
+fn read_numbered_station_event(
+    alloc: Global,
+    table: &Table,
+    number: usize,
+) -> Result<StationEvent, ScenarioFault>
+    ensures says { IfOk result (SaysStationEvent (table_values (table_view table.now))) }
+    ensures ranges { IfOk result FitsStationEvent }
     ensures refused { IfErr result IsPastToml }
 {
-    read_file_event(alloc, table).map_err(|fault| {
+    read_station_event(alloc, table).map_err(|fault| {
         ScenarioFault::of_key(alloc, fault, Part::Event(number), table)
     })
 }
@@ -117,7 +114,7 @@ pub(crate) fn read_all_addressed(
     ensures all { IfOk result (λ addressed. vec_len addressed ≡ length items.now) }
     ensures says { IfOk result (λ addressed.
         SayItems SaysAddressed (items_view items.now) addressed.items) }
-    ensures ranges { IfOk result (λ addressed. All (λ a. FitsFileEvent a.filed) addressed.items) }
+    ensures ranges { IfOk result (λ addressed. All FitsAddressed addressed.items) }
     ensures refused { IfErr result IsPastToml }
 {
     let mut addressed = Vec::with_capacity(alloc, items.len())?;
@@ -139,7 +136,7 @@ fn read_numbered_addressed(
     stations: usize,
 ) -> Result<AddressedEvent, ScenarioFault>
     ensures says { IfOk result (SaysAddressed (table_values (table_view table.now))) }
-    ensures ranges { IfOk result (λ addressed. FitsFileEvent addressed.filed) }
+    ensures ranges { IfOk result FitsAddressed }
     ensures refused { IfErr result IsPastToml }
 {
     read_addressed(alloc, table, number, stations).map_err(|fault| {

@@ -1,17 +1,20 @@
 //! The stations of a scenario and what happens at them, by their keys in a table of TOML or in
 //! fields of another notation. Each number is in the range of its key.
 
-mod centre;
+mod action;
+mod around;
 mod end;
 mod event;
 mod geocast;
-mod in_air;
 mod station;
 mod verb;
 mod what;
 
+pub use action::Action;
+pub use around::AroundRequest;
 pub use end::end_of;
-pub use event::{AddressedEvent, FileEvent, Filed, read_addressed, read_event, read_file_event};
+pub use event::{AddressedEvent, Addressee, FileEvent, read_addressed, read_event};
+pub(crate) use event::{StationEvent, read_station_event};
 pub use station::{read_present, read_station};
 pub use verb::{verb_of, verb_of_call};
 pub use what::read_what;

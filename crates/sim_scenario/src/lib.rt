@@ -2,13 +2,13 @@
 //! number is in its range, by the type of a scenario.
 #![tactic(auto)]
 
-mod centre;
 mod document;
 mod event_tables;
 pub mod events;
 mod fault;
 mod found;
 mod part;
+mod places;
 mod position;
 mod reading;
 mod reason;

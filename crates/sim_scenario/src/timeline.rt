@@ -1,7 +1,7 @@
 //! The events of a scenario, and what they are run by.
 
 ghost use Rattle.std.specs.Prelude.{All};
-ghost use Rattle.sim_scenario.specs.Events.{FitsEvent, FitsFileEvent};
+ghost use Rattle.sim_scenario.specs.Events.{FitsAddressed, FitsEvent, FitsFileEvent};
 
 use crate::events::{AddressedEvent, FileEvent};
 use its_world::Event;
@@ -51,7 +51,7 @@ pub struct MovesTimeline {
     pub moves: Moves,
     /// The events and leaves, each for a station of the scenario or for an id.
     pub events: Vec<AddressedEvent>,
-    ghost in_range: { All (λ a. FitsFileEvent a.filed) events.items },
+    ghost in_range: { All FitsAddressed events.items },
 }
 
 impl Timeline {

@@ -4,20 +4,26 @@ ghost use Rattle.std.specs.Prelude.{◌≡◌, ◌<◌, ◌^◌, IfOk, IfSome, M
 ghost use Rattle.sim_settings.specs.Fields.{IsMissing, IsNumber, IsText};
 ghost use Rattle.sim_settings.specs.Verbs.{verb_word};
 ghost use Rattle.sim_settings.specs.declared.keys.key.Key.TheVariants as keys;
+ghost use Rattle.its_gnvalue.specs.Values.{IsSpeed};
 ghost use Rattle.sim_moves.specs.Rows.{IsId};
+ghost use Rattle.sim_scenario.specs.Actions.{IsDoneAt};
 ghost use Rattle.sim_scenario.specs.Airs.{moment_of};
-ghost use Rattle.sim_scenario.specs.Events.{FitsEvent, FitsFileEvent, FitsWhat, station_in};
+ghost use Rattle.sim_scenario.specs.Events.{FitsAction, FitsAddressed, FitsEvent, HasId};
+ghost use Rattle.sim_scenario.specs.Events.{FitsStationEvent, FitsWhat, frame_at, frame_in};
+ghost use Rattle.sim_scenario.specs.Events.{number_of, speed_in, station_in};
 ghost use Rattle.sim_scenario.specs.Reading.{SaysWhat};
-ghost use Rattle.sim_scenario.specs.Saying.{IsAddressee, SaysAddressed, SaysDone, SaysEvent};
-ghost use Rattle.sim_scenario.specs.Saying.{SaysFiled};
+ghost use Rattle.sim_scenario.specs.Saying.{SaysAction, SaysAddressed, SaysAddressee, SaysEvent};
+ghost use Rattle.sim_scenario.specs.Saying.{SaysStationEvent};
 ghost use Rattle.its_world.specs.Events.{what_of};
 
-use crate::events::in_air::InAir;
+use crate::events::action::Action;
+use crate::events::geocast::{lacks_centre, read_around};
 use crate::events::what::read_what;
+use its_gnvalue::Place;
 use its_world::{Event, What};
 use sim_moves::is_id;
 use sim_settings::keys::{Fields, Key, KeyFault, Verb, Verbs, Wrong, number, text, whole};
-use std::alloc::Global;
+use std::alloc::{AllocError, Global};
 
 /// What waits in an air: a line of the scenario's file of events.
 #[derive(Debug, Drop, PartialEq, Eq)]
@@ -63,78 +69,89 @@ impl FileEvent {
     }
 }
 
-/// A line of the events of a scenario with an air. Its station is one of the scenario's own or, by
-/// its id, one that a row of a file of moves makes.
+/// For which station an event of a scenario with moves is.
+#[derive(Debug, Drop, PartialEq, Eq)]
+pub enum Addressee {
+    /// A station of the scenario, by its number.
+    Station(usize),
+    /// A station that a row of the file of moves makes, by its id: 1 to 64 octets of UTF-8, without
+    /// control characters. There may be no row with this id.
+    Vehicle(String),
+}
+
+/// An event or a leave of a scenario with moves.
 #[derive(Debug, Drop, PartialEq, Eq)]
 pub struct AddressedEvent {
     /// Its number among the events of the document, from 0.
     pub number: usize,
-    /// The id of its station: 1 to 64 octets of UTF-8, without control characters. There may be no
-    /// row of it. `None` for an event of a station of the scenario's own.
-    pub id: Option<String>,
-    /// What waits: an event, which delivers nothing, or a leave. Where there is an id its station
-    /// is 0, which stands for nothing.
-    pub filed: FileEvent,
-    /// Whether it is a geocast whose area lies round where its station stands then. The centre of
-    /// that area is 0, 0 here, which stands for nothing.
-    pub round_station: bool,
+    /// Its station.
+    pub addressee: Addressee,
+    /// The moment in milliseconds: 0 to 2^63 - 1.
+    pub moment: u64,
+    /// What it does. It delivers no frame.
+    pub action: Action,
 }
 
-/// What waits in an air.
+impl AddressedEvent {
+    /// Returns the event or leave, as it is done by the station of this number while that station is
+    /// at this position. Fails if an allocation failed.
+    pub fn at(&self, alloc: Global, station: usize, place: Place) -> Result<FileEvent, AllocError>
+        requires fits { FitsAddressed self.now }
+        ensures done { IfOk result (IsDoneAt self.now.action station self.now.moment place) }
+        ensures speed { IfOk result (λ filed. IsSpeed (speed_in filed)) }
+        ensures frame { IfOk result (λ filed. frame_in filed ≡ frame_at self.now.action) }
+    {
+        Ok(
+            self.action
+                .copy(alloc)?
+                .done_at(station, self.moment, place),
+        )
+    }
+}
+
+/// An event or a leave of a scenario with a radio model, as it is read.
 #[derive(Debug, Drop)]
-pub struct Filed {
-    /// The event or the leave.
-    pub filed: FileEvent,
-    /// Whether it is a geocast whose area lies round where its station stands then. The centre of
-    /// that area is 0, 0 here, which stands for nothing.
-    pub round_station: bool,
+pub(crate) struct StationEvent {
+    /// Its station, by its number: 0 to 65535. There may be no such station.
+    pub(crate) station: usize,
+    /// The moment in milliseconds: 0 to 2^63 - 1.
+    pub(crate) moment: u64,
+    /// What it does.
+    pub(crate) action: Action,
 }
 
-/// Reads what waits in an air: a leave, `do = "leave"`, which has no further keys, or an event.
-/// `station`, `at` and `do` are checked in this order.
-pub fn read_file_event<F: Fields>(alloc: Global, fields: &F) -> Result<Filed, KeyFault>
-    ensures says { IfOk result (λ read.
-        SaysFiled (F.values fields.now) read.filed read.round_station) }
-    ensures fits { IfOk result (λ read. FitsFileEvent read.filed) }
-{
-    let station = number(fields, Key::Station)? as usize;
-    let moment = read_moment(fields)?;
-    read_filed(alloc, fields, station, moment, Verbs::InAir)
-}
-
-/// Reads what waits in an air, of this station at this moment: a leave, or what is done, which is
-/// one of these. The centre of an area may be left out.
-fn read_filed<F: Fields>(
+/// Reads an event or a leave of a scenario with a radio model: `station`, `at` and what is done,
+/// checked in this order.
+pub(crate) fn read_station_event<F: Fields>(
     alloc: Global,
     fields: &F,
-    station: usize,
-    moment: u64,
-    verbs: Verbs,
-) -> Result<Filed, KeyFault>
-    requires station { station < 2 ^ 16 }
-    requires moment { moment < 2 ^ 63 }
-    ensures says { IfOk result (λ read.
-        SaysDone (F.values fields.now) read.filed read.round_station) }
-    ensures station { IfOk result (λ read. station_in read.filed ≡ station) }
-    ensures moment { IfOk result (λ read. moment_of read.filed ≡ moment) }
-    ensures fits { IfOk result (λ read. FitsFileEvent read.filed) }
+) -> Result<StationEvent, KeyFault>
+    ensures says { IfOk result (SaysStationEvent (F.values fields.now)) }
+    ensures fits { IfOk result FitsStationEvent }
 {
-    if matches!(verb_under(fields), Some(Verb::Leave)) {
-        return Ok(Filed {
-            filed: FileEvent::Leaves { station, moment },
-            round_station: false,
-        });
-    }
-    let in_air = InAir::of(fields);
-    let what = read_one_of(alloc, &in_air, verbs)?;
-    Ok(Filed {
-        round_station: in_air.is_round_station(&what),
-        filed: FileEvent::Happens(Event {
-            station,
-            moment,
-            what,
-        }),
+    Ok(StationEvent {
+        station: number(fields, Key::Station)? as usize,
+        moment: read_moment(fields)?,
+        action: read_action(alloc, fields, Verbs::InAir)?,
     })
+}
+
+/// Reads what is done, which is one of these words: a leave, `do = "leave"`, has no further keys.
+/// The centre of an area may be left out: then the area is around the station.
+fn read_action<F: Fields>(alloc: Global, fields: &F, verbs: Verbs) -> Result<Action, KeyFault>
+    ensures says { IfOk result (SaysAction (F.values fields.now)) }
+    ensures fits { IfOk result FitsAction }
+{
+    match verb_under(fields) {
+        Some(Verb::Leave) => Ok(Action::Leaves),
+        Some(Verb::Gbc) if lacks_centre(fields) => {
+            Ok(Action::GeobroadcastAround(read_around(alloc, fields)?))
+        }
+        Some(Verb::Gac) if lacks_centre(fields) => {
+            Ok(Action::GeoanycastAround(read_around(alloc, fields)?))
+        }
+        _ => Ok(Action::Happens(read_one_of(alloc, fields, verbs)?)),
+    }
 }
 
 /// Reads an event of a scenario without an air: `station`, `at`, in milliseconds below 2^63, and
@@ -162,38 +179,36 @@ pub fn read_addressed<F: Fields>(
     number: usize,
     stations: usize,
 ) -> Result<AddressedEvent, KeyFault>
-    ensures number { IfOk result (λ event. event.number ≡ number) }
     ensures says { IfOk result (SaysAddressed (F.values fields.now)) }
-    ensures range { IfOk result (λ event. FitsFileEvent event.filed) }
-    ensures id { IfOk result (λ event. IfSome event.id (λ id. IsId (string_bytes id))) }
+    ensures range { IfOk result FitsAddressed }
+    ensures id { IfOk result (λ event. HasId event.addressee) }
 {
-    let (id, station) = read_addressee(alloc, fields, stations)?;
+    let addressee = read_addressee(alloc, fields, stations)?;
     let moment = read_moment(fields)?;
     if matches!(verb_under(fields), Some(Verb::Deliver)) {
         return Err(KeyFault::Refused(Key::Do, Wrong::Unlisted(Verbs::WithMoves)));
     }
-    let read = read_filed(alloc, fields, station, moment, Verbs::WithMoves)?;
     Ok(AddressedEvent {
         number,
-        id,
-        filed: read.filed,
-        round_station: read.round_station,
+        addressee,
+        moment,
+        action: read_action(alloc, fields, Verbs::WithMoves)?,
     })
 }
 
-/// The id of a station, where it is there, and 0; else the number of one that is one of so many.
+/// Reads `id`, if it is there. Otherwise reads `station`, which has to be below this count.
 fn read_addressee<F: Fields>(
     alloc: Global,
     fields: &F,
     stations: usize,
-) -> Result<(Option<String>, usize), KeyFault>
-    ensures says { IfOk result (λ read. IsAddressee (F.values fields.now) read.0 read.1) }
-    ensures range { IfOk result (λ read. read.1 < 2 ^ 16) }
-    ensures id { IfOk result (λ read. IfSome read.0 (λ id. IsId (string_bytes id))) }
+) -> Result<Addressee, KeyFault>
+    ensures says { IfOk result (SaysAddressee (F.values fields.now)) }
+    ensures range { IfOk result (λ addressee. number_of addressee < 2 ^ 16) }
+    ensures id { IfOk result HasId }
 {
     match read_id(alloc, fields)? {
-        Some(id) => Ok((Some(id), 0)),
-        None => Ok((None, read_own_station(fields, stations)?)),
+        Some(id) => Ok(Addressee::Vehicle(id)),
+        None => Ok(Addressee::Station(read_own_station(fields, stations)?)),
     }
 }
 

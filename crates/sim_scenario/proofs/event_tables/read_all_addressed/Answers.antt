@@ -2,7 +2,7 @@ use Rattle.std.proofs.Common.{◌+◌, ◌<◌, ℕ, List, rules, arith, All, le
 use Rattle.std.proofs.lemmas.List.Elements.{All-push}
 use Rattle.sim_settings.specs.Tables.{table_values}
 use Rattle.sim_settings.proofs.Items.{say_more}
-use Rattle.sim_scenario.specs.Events.{FitsFileEvent}
+use Rattle.sim_scenario.specs.Events.{FitsAddressed}
 use Rattle.sim_scenario.specs.Saying.{SaysAddressed}
 use Rattle.sim_settings.specs.Items.{SayItems}
 use Rattle.sim_scenario.specs.declared.events.event.AddressedEvent.{AddressedEvent}
@@ -10,10 +10,6 @@ use Rattle.sim_scenario.proofs.event_tables.read_all_addressed.Goals as goal
 use Rattle.toml.specs.Data.{Members}
 use Rattle.toml.specs.View.{items_view, table_view}
 use Rattle.toml.specs.declared.value.Value.{Value}
-
--- the numbers of a line are in range
-abbrev Fits : AddressedEvent → Type 0
-Fits a = FitsFileEvent a.filed
 
 pub loop-number-preserved : goal.loop-number-preserved
 loop-number-preserved c =
@@ -24,7 +20,7 @@ loop-number-preserved c =
     let event : AddressedEvent = c.in_ok-read_numbered_addressed.field-0 in
     let says : SaysAddressed (table_values members) event =
     c.in_ok-read_numbered_addressed.ensures.says in
-    let fits : FitsFileEvent event.filed = c.in_ok-read_numbered_addressed.ensures.ranges in
+    let fits : FitsAddressed event = c.in_ok-read_numbered_addressed.ensures.ranges in
     record {
       count = search rules;
       says =
@@ -34,6 +30,6 @@ loop-number-preserved c =
           event lt c.index-items-number.is c.loop-number.invariant.says
           (members, sym c.in-Some.ensures, says));
       ranges =
-          subst (All Fits) (sym c.in_ok-push.ensures.items)
-          (All-push Fits c.loop-number.addressed.items event c.loop-number.invariant.ranges fits);
+          subst (All FitsAddressed) (sym c.in_ok-push.ensures.items)
+          (All-push FitsAddressed c.loop-number.addressed.items event c.loop-number.invariant.ranges fits);
     }

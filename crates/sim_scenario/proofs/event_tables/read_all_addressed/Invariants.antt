@@ -1,8 +1,7 @@
 use Rattle.std.proofs.Common.{◌≡◌, All, take, vec_len}
-use Rattle.sim_scenario.specs.Events.{FitsFileEvent}
+use Rattle.sim_scenario.specs.Events.{FitsAddressed}
 use Rattle.sim_scenario.specs.Saying.{SaysAddressed}
 use Rattle.sim_settings.specs.Items.{SayItems}
-use Rattle.sim_scenario.specs.declared.events.event.AddressedEvent.{AddressedEvent}
 use Rattle.sim_scenario.proofs.event_tables.read_all_addressed.Given as goal
 use Rattle.toml.specs.View.{items_view}
 
@@ -13,5 +12,5 @@ invariant-loop-number l =
       count : vec_len l.addressed ≡ l.number;
       says :
           SayItems SaysAddressed (items_view (take l.number l.items)) l.addressed.items;
-      ranges : All (λ (a : AddressedEvent). FitsFileEvent a.filed) l.addressed.items;
+      ranges : All FitsAddressed l.addressed.items;
     }
