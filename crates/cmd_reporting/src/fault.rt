@@ -164,12 +164,20 @@ impl<F: CommandFault + Display> CommandFault for WriterFault<'_, F> {
 }
 
 impl<'a, F: Display> From<OutputFault<'a>> for WriterFault<'a, F> {
+    ghost use Rattle.cmd_reporting.specs.declared.fault.WriterFault.TheVariants as writer_faults;
+
+    ghost from_gives = { λ fault e. e ≡ writer_faults.Output fault };
+
     fn from(fault: OutputFault<'a>) -> WriterFault<'a, F> {
         WriterFault::Output(fault)
     }
 }
 
 impl<'a, F: Display + From<Fault<'a>>> From<Fault<'a>> for WriterFault<'a, F> {
+    ghost use Rattle.cmd_reporting.specs.declared.fault.WriterFault.TheVariants as writer_faults;
+
+    ghost from_gives = { λ _ e. (fault : F) × (e ≡ writer_faults.Stopped fault) };
+
     fn from(fault: Fault<'a>) -> WriterFault<'a, F> {
         WriterFault::Stopped(F::from(fault))
     }

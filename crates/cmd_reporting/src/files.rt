@@ -1,4 +1,7 @@
-//! The files that commands read and write. One that is read is standard input where its name is `-`.
+//! The files that commands read and write. The name `-` is that of standard input or output.
+
+ghost use Rattle.std.specs.Prelude.{◌≡◌, IsOk, true};
+ghost use Rattle.cmd_reporting.specs.FileNames.{is_standard as names_standard};
 
 use crate::fault::{Fault, WriterFault};
 use crate::named_file::{NamedFile, refuse_same};
@@ -32,12 +35,42 @@ impl<F: Read, I: Read> Read for Opened<F, I> {
     }
 }
 
-/// Refuses the file to be written if it is the one that is read.
+/// What a command writes to.
+#[derive(Drop)]
+pub enum Destination<F, W> {
+    /// The file that was named.
+    File(F),
+    /// Standard output.
+    Standard(W),
+}
+
+impl<F: Write, W: Write> Write for Destination<F, W> {
+    fn write(&mut self, octets: &[u8]) -> io::Result<usize> {
+        match self {
+            Destination::File(file) => file.write(octets),
+            Destination::Standard(out) => out.write(octets),
+        }
+    }
+
+    fn flush(&mut self) -> io::Result<()> {
+        match self {
+            Destination::File(file) => file.flush(),
+            Destination::Standard(out) => out.flush(),
+        }
+    }
+}
+
+/// Refuses the file to be written if it is the one that is read. Standard output never is.
 pub fn keep_apart<'a, R: Files>(
     rt: &R,
     written: &'a str,
     read: &'a str,
-) -> Result<(), OutputFault<'a>> {
+) -> Result<(), OutputFault<'a>>
+    ensures { names_standard written.entry.now ≡ true → IsOk result }
+{
+    if is_standard(written) {
+        return Ok(());
+    }
     refuse_same(&[NamedFile::of(rt, written)], &[NamedFile::of(rt, read)])
 }
 
@@ -107,4 +140,20 @@ where
         }
         Err(error) => Err(Fault::of_write(&error, file)),
     }
+}
+
+/// Creates the file of this name, with a buffer, or returns standard output, `out`, if the name is
+/// `-`. The errors are those of `create`.
+pub fn create_output<'a, R: Files + AllocGlobal, W: Write + Drop>(
+    rt: &R,
+    file: &'a str,
+    out: W,
+) -> Result<Destination<BufWriter<R::File>, W>, Fault<'a>>
+where
+    R::File: Write + Drop,
+{
+    if is_standard(file) {
+        return Ok(Destination::Standard(out));
+    }
+    Ok(Destination::File(create(rt, file)?))
 }

@@ -16,7 +16,7 @@ mod status;
 pub use cause::Cause;
 pub use command_io::Io;
 pub use fault::{CommandFault, Fault, WriterFault};
-pub use files::{Opened, create, create_apart, keep_apart, open};
+pub use files::{Destination, Opened, create, create_apart, create_output, keep_apart, open};
 pub use frame_file::FrameFile;
 pub use left_out::LeftOut;
 pub use named_file::{NamedFile, refuse_same};
