@@ -1,6 +1,6 @@
 -- What a line asks for.
 use Rattle.std.specs.Prelude.{◌≡◌, ◌≢◌, ◌<◌, ◌≤◌, ◌^◌, ℕ, ℤ, pos, List, codes, length, unsigned_abs}
-use Rattle.std.specs.Prelude.{Bool, IsTrue, IsFalse, ◌⊎◌, IsUtf8, Option, Some, None, IsSome, Ok}
+use Rattle.std.specs.Prelude.{Bool, IsTrue, IsFalse, ◌⊎◌, IsUtf8, Option, Some, None, IfNone, IfSome, IsSome, Ok}
 use Rattle.std.specs.Prelude.{is_some}
 use Rattle.std.specs.Option.{option_and_then}
 use Rattle.std.specs.String.{string_bytes}
@@ -30,7 +30,8 @@ use Rattle.cmd_pipe.specs.declared.request.Id.TheVariants as ids
 use Rattle.cmd_pipe.specs.declared.request.LineFault.TheVariants as faults
 use Rattle.cmd_pipe.specs.declared.request.Query.{Query}
 use Rattle.cmd_pipe.specs.declared.request.Query.TheVariants as queries
-use Rattle.cmd_pipe.specs.Words.{query_key}
+use Rattle.cmd_pipe.specs.Words.{line_word, query_key}
+use Rattle.cmd_pipe.specs.declared.word.LineWord.{LineWord}
 use Rattle.cmd_pipe.specs.declared.request.VerifiedOctets.{VerifiedOctets}
 use Rattle.cmd_pipe.specs.declared.reading.OctetsFault.{OctetsFault}
 use Rattle.cmd_pipe.specs.declared.reading.OctetsFault.TheVariants as octets_faults
@@ -82,6 +83,11 @@ IsAskedAt None members None = get (codes "at") members ≡ None
 -- the word under `do`
 abbrev pub IsWord : Data → List ℕ → Type 0
 IsWord members word = text_at (codes "do") members ≡ Some word
+
+-- What was found under `do`: the word of one of those that a line takes, or of none of them.
+pub record IsWordUnder (members : Data) (found : Option LineWord) : Type 0 where
+  pub word : IfSome found (λ word. IsWord members (line_word word))
+  pub none : IfNone found ((word : LineWord) → ¬ IsWord members (line_word word))
 
 -- the octets of the hexadecimal digits under a word
 abbrev pub IsOctetsText : List ℕ → Data → List ℕ → Type 0

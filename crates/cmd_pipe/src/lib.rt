@@ -12,10 +12,10 @@ mod members;
 mod printing;
 mod reading;
 mod reason;
+mod receiving;
 mod request;
 mod response;
 mod serving;
-mod verifying;
 mod word;
 
 pub use command::run_station;

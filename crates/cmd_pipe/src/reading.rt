@@ -11,11 +11,12 @@ ghost use Rattle.its_world.specs.Events.{IsOwn};
 ghost use Rattle.cmd_pipe.specs.Requests.{Asks, AsksCall, AsksIn, AsksOf, AsksQuery, IsAskedIn};
 ghost use Rattle.cmd_pipe.specs.Requests.{IsAskedAt, IsBadOf, IsBadCallKeyOf, IsFrameKey, IsFrameText, IsId};
 ghost use Rattle.cmd_pipe.specs.Requests.{IsIdFault, IsJitter, IsJsonObject, IsMomentFault, IsMomentOf, IsObject};
-ghost use Rattle.cmd_pipe.specs.Requests.{IsOfQuery, IsQueryFault, IsQueryWord, IsToldAs, IsWord, SaysCall, line_of};
+ghost use Rattle.cmd_pipe.specs.Requests.{IsOfQuery, IsQueryFault, IsQueryWord, IsToldAs, IsWord, IsWordUnder};
+ghost use Rattle.cmd_pipe.specs.Requests.{SaysCall, line_of};
 ghost use Rattle.cmd_pipe.specs.Requests.{AsksSeal, AsksSecured, AsksSecuredIn, AsksVerified};
 ghost use Rattle.cmd_pipe.specs.Requests.{ComesVerified, IsNoOctets, IsOctetsText, IsOfKey};
 ghost use Rattle.cmd_pipe.specs.Requests.{IsVerifiedBad, values_in};
-ghost use Rattle.cmd_pipe.specs.Words.{line_word, query_key};
+ghost use Rattle.cmd_pipe.specs.Words.{query_key};
 
 use crate::lines::is_blank;
 use crate::members::Members;
@@ -127,9 +128,10 @@ fn read_members(
     ensures secured { IfOk result (λ r.
         IsTrue r.secured ↔ AsksSecuredIn (view members.now.0.now)) }
 {
-    let secured = asks_secured(members);
+    let word = word_under(members);
+    let secured = asks_secured(members, word);
     match read_id(alloc, members) {
-        Ok(id) => match read_call_or_query(alloc, members, now) {
+        Ok(id) => match read_call_or_query(alloc, members, word, now) {
             Ok(request) => Ok(LineRequest {
                 id,
                 request,
@@ -151,11 +153,12 @@ fn read_members(
     }
 }
 
-/// Whether the answer may have a secured frame.
-fn asks_secured(members: &Members<'_>) -> bool
+/// Whether the answer to a line of this word may have a secured frame.
+fn asks_secured(members: &Members<'_>, word: Option<LineWord>) -> bool
+    requires { IsWordUnder (view members.now.0.now) word }
     ensures { IsTrue result ↔ AsksSecuredIn (view members.now.0.now) }
 {
-    match word_under(members) {
+    match word {
         Some(LineWord::Seal) => true,
         Some(LineWord::Receive) => members.has("plain"),
         _ => false,
@@ -163,10 +166,11 @@ fn asks_secured(members: &Members<'_>) -> bool
 }
 
 /// Whether a frame came with the plain part that a security entity verified.
-fn comes_verified(members: &Members<'_>) -> bool
+fn comes_verified(members: &Members<'_>, word: Option<LineWord>) -> bool
+    requires { IsWordUnder (view members.now.0.now) word }
     ensures { IsTrue result ↔ ComesVerified (view members.now.0.now) }
 {
-    match word_under(members) {
+    match word {
         Some(LineWord::Receive) => members.has("plain"),
         _ => false,
     }
@@ -194,27 +198,29 @@ fn read_id(alloc: Global, members: &Members<'_>) -> Result<Option<Id>, ReadFault
     }
 }
 
-/// Reads the moment, `do` and the keys of the word. What is asked of what the station knows needs
-/// no moment.
+/// Reads the moment and the keys of the word under `do`. What is asked of what the station knows
+/// needs no moment.
 #[tactic(auto, using(crate::proofs::Read::bad_told, crate::proofs::Secured::bad_verified))]
 fn read_call_or_query(
     alloc: Global,
     members: &Members<'_>,
+    word: Option<LineWord>,
     now: Option<u64>,
 ) -> Result<Request, ReadFault>
+    requires { IsWordUnder (view members.now.0.now) word }
     ensures asks { IfOk result (AsksIn now (view members.now.0.now)) }
     ensures range { IfOk result (IsAskedIn IsInRange) }
     ensures fault { IfErr result (IsBadOf now (view members.now.0.now)) }
 {
     let at = read_moment(members, now)?;
-    if let Some(query) = read_query(alloc, members)? {
+    if let Some(query) = read_query(alloc, members, word)? {
         return Ok(Request::Query(at, query));
     }
     match at {
-        Some(moment) if comes_verified(members) => {
+        Some(moment) if comes_verified(members, word) => {
             Ok(Request::Verified(moment, read_verified(alloc, members)?))
         }
-        Some(moment) => match read_call(alloc, members) {
+        Some(moment) => match read_call(alloc, members, word) {
             Ok(call) => Ok(Request::Call(moment, call)),
             Err(fault) => Err(with_word_meant(alloc, members, fault)),
         },
@@ -271,13 +277,18 @@ fn read_moment(members: &Members<'_>, now: Option<u64>) -> Result<Option<u64>, K
 }
 
 /// Reads what is asked of what the station knows. `None` where the word is none of these.
-fn read_query(alloc: Global, members: &Members<'_>) -> Result<Option<Query>, ReadFault>
+fn read_query(
+    alloc: Global,
+    members: &Members<'_>,
+    word: Option<LineWord>,
+) -> Result<Option<Query>, ReadFault>
+    requires { IsWordUnder (view members.now.0.now) word }
     ensures query { IfOk result (λ query. IfSome query (AsksQuery (view members.now.0.now))) }
     ensures none { IfOk result (λ query. IfNone query
         (¬ IsQueryWord (view members.now.0.now))) }
     ensures fault { IfErr result (IsQueryFault (view members.now.0.now)) }
 {
-    match word_under(members) {
+    match word {
         Some(LineWord::NextBeacon) => Ok(Some(Query::NextBeacon(read_jitter(members)?))),
         Some(LineWord::Neighbours) => Ok(Some(Query::Neighbours(read_after(members)?))),
         Some(LineWord::LookUp) => {
@@ -305,9 +316,7 @@ fn read_seal(alloc: Global, members: &Members<'_>) -> Result<Query, ReadFault>
 
 /// The word under `do`, where it is one of a line's.
 fn word_under(members: &Members<'_>) -> Option<LineWord>
-    ensures word { IfSome result (λ word. IsWord (view members.now.0.now) (line_word word)) }
-    ensures none { IfNone result ((word : LineWord)
-        → ¬ IsWord (view members.now.0.now) (line_word word)) }
+    ensures { IsWordUnder (view members.now.0.now) result }
 {
     LineWord::named(members.text("do")?)
 }
@@ -384,13 +393,14 @@ fn unlike(members: &Members<'_>, word: &str) -> Wrong {
 /// Reads the call of a line. It has the keys of a scenario's event but for `deliver`, and beside
 /// these a frame that came without a plain part.
 #[tactic(auto, using(crate::proofs::Own::asks_own, crate::proofs::Own::bad_own_of))]
-fn read_call(alloc: Global, members: &Members<'_>) -> Result<Call, KeyFault>
-    requires { ¬ ComesVerified (view members.now.0.now) }
+fn read_call(alloc: Global, members: &Members<'_>, word: Option<LineWord>) -> Result<Call, KeyFault>
+    requires word { IsWordUnder (view members.now.0.now) word }
+    requires plain { ¬ ComesVerified (view members.now.0.now) }
     ensures call { IfOk result (AsksCall (view members.now.0.now)) }
     ensures range { IfOk result IsInRange }
     ensures fault { IfErr result (IsBadCallKeyOf (view members.now.0.now)) }
 {
-    match word_under(members) {
+    match word {
         Some(LineWord::Receive) => Ok(Call::Receive(read_frame(alloc, members)?)),
         Some(LineWord::Own(Verb::Deliver)) => Err(KeyFault::Refused(Key::Do, Wrong::Value)),
         _ => read_own(alloc, members),

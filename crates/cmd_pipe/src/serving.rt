@@ -20,14 +20,14 @@ use crate::fault::PipeFault;
 use crate::knowing::answer_query;
 use crate::lines::LONGEST_LINE;
 use crate::reading::read_request;
+use crate::receiving::{receive, receive_verified};
 use crate::request::{Id, LineRequest, Request};
 use crate::response::{Done, Response, ResponseSink};
-use crate::verifying::receive_verified;
 use cmd_text::lines::Line;
-use its_gnvalue::{GnAddress, NoMemory};
-use its_linkframe::{LONGEST_SECURED_FRAME, read_frame};
+use its_gnvalue::NoMemory;
+use its_linkframe::LONGEST_SECURED_FRAME;
 use its_loctable::SortedTable;
-use its_station::{Call, Counts, Reply, Station};
+use its_station::{Call, Counts, Station};
 use std::alloc::{AllocError, Global};
 use std::io::BufRead;
 
@@ -123,7 +123,7 @@ fn respond(
     let id = line.id;
     match line.request {
         Request::Nothing => Ok(None),
-        Request::Call(at, call) => Ok(Some(make_call(station, counts, id, at, &call)?)),
+        Request::Call(at, call) => Ok(Some(make_call(alloc, station, counts, id, at, &call)?)),
         Request::Verified(at, octets) => {
             let response = receive_verified(alloc, station, counts, id, at, &octets)?;
             Ok(Some(response))
@@ -204,6 +204,7 @@ impl From<NoMemory> for Unanswered {
 /// Makes a call of the station at a moment, counts it, and gives what came of it. `NoMemory` where
 /// an allocation failed: the station stands as before.
 fn make_call(
+    alloc: Global,
     station: &mut Station<SortedTable>,
     counts: &mut Counts,
     id: Option<Id>,
@@ -217,31 +218,18 @@ fn make_call(
         × RepresentsCounted station.new counts.new next) }
     ensures unchanged { OnErr result (station.new ≡ station.old) }
 {
+    if let Call::Receive(frame) = call {
+        return receive(alloc, station, counts, id, at, frame);
+    }
     let answer = station.answer(at, call);
     counts.note_reply(call, &answer);
-    let reply = answer?;
-    let source = match &reply {
-        Reply::Accepted { .. } => source_of(call),
-        _ => None,
-    };
     Ok(Response::Reply {
         id,
         at,
         done: Done::of(call),
-        source,
-        reply,
+        source: None,
+        reply: answer?,
     })
-}
-
-/// The source of the packet in a frame that came.
-fn source_of(call: &Call) -> Option<GnAddress> {
-    let Call::Receive(frame) = call else {
-        return None;
-    };
-    match read_frame(frame.as_slice()) {
-        Ok(frame) => Some(frame.packet.vector().address()),
-        Err(_) => None,
-    }
 }
 
 /// How a station ends after what is answered to one more line.

@@ -852,7 +852,7 @@ struct GivenFrame {
 }
 
 /// Puts a delivery of a frame to each of these stations that doesn't lose it, and hands a sink a
-/// note of what each draw did, in order.
+/// note of each loss, in order. A sink that uses them has a note of each delivery too.
 fn schedule_deliveries<S: EventSink>(
     queue: &mut Queue<'_>,
     draws: &mut Draws,
@@ -867,9 +867,12 @@ fn schedule_deliveries<S: EventSink>(
     ensures sent { (t : Timetable) → Keeps queue.old draws.old t → OnOk result
         (Keeps queue.new draws.new (send_all loss given.frame given.heard_at hearers.now t)) }
 {
+    let wants_heard = sink.wants_heard_notes();
     for station in hearers {
         let note = schedule_delivery(queue, draws, loss, given, *station)?;
-        sink.note(world, given.moment, &note)?;
+        if wants_heard || matches!(note, Note::Lost { .. }) {
+            sink.note(world, given.moment, &note)?;
+        }
     }
     Ok(())
 }

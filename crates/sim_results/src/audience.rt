@@ -151,6 +151,14 @@ impl Audiences {
         })
     }
 
+    /// Whether audiences are wanted.
+    #[inline(always)]
+    pub fn are_wanted(&self) -> bool
+        ensures { result ≡ self.now.are_wanted }
+    {
+        self.are_wanted
+    }
+
     /// The audience of a packet, by its place among those for an area that were sent, from 0.
     /// `None` where so many weren't sent, or audiences aren't wanted.
     pub fn get(&self, send: usize) -> Option<&Audience>
@@ -190,9 +198,13 @@ impl Audiences {
     /// Takes a note of the run, of this moment in milliseconds: who comes and leaves, and whether a
     /// frame is heard by a station or lost on the way to it. `NoMemory` where an allocation failed.
     pub fn take_note(&mut self, moment: u64, note: &Note<'_>) -> Result<(), NoMemory>
+        ensures unwanted { self.old.are_wanted ≡ false → self.new ≡ self.old }
         ensures wanted { self.new.are_wanted ≡ self.old.are_wanted }
         ensures sends { vec_len self.new.sends ≡ vec_len self.old.sends }
     {
+        if !self.are_wanted {
+            return Ok(());
+        }
         match *note {
             Note::Heard { frame, .. } => self.frames.wait(frame),
             Note::Lost { station, frame } => self.note_lost(station, moment, frame),

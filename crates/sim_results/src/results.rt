@@ -243,6 +243,15 @@ impl<'a, W: Write + Drop> Results<'a, W> {
         }
     }
 
+    /// Whether no file is written.
+    #[inline(always)]
+    pub fn is_none(&self) -> bool
+        ensures { IsTrue result ↔ ((self.now.sends ≡ None) × (self.now.stations ≡ None)
+            × (self.now.load ≡ None)) }
+    {
+        self.sends.is_none() && self.stations.is_none() && self.load.is_none()
+    }
+
     /// Begins the files of these names, of a run of the scenario that has not begun, each with the
     /// names of its columns. `CannotWrite`, with its name, where one could not be written;
     /// `OutOfMemory` where an allocation failed.

@@ -9,7 +9,7 @@ use sim_scenario::{Scenario, Timeline};
 use sim_settings::Moves;
 use std::alloc::Global;
 use std::io::BufRead;
-use std::str;
+use std::{io, str};
 
 /// A file of moves whose first line was read.
 #[derive(Drop)]

@@ -1,5 +1,7 @@
 //! What keeps a scenario from being run, or ends its run.
 
+ghost use Rattle.std.specs.Prelude.{◌≡◌};
+
 use crate::bad_row::BadRow;
 use crate::in_file::InFile;
 use cmd_reporting::{CommandFault, Fault, OutputFormat, Status, WriterFault};
@@ -75,6 +77,10 @@ impl<'a> From<Fault<'a>> for RunFault<'a> {
 }
 
 impl<'a> From<RunFault<'a>> for WriterFault<'a, RunFault<'a>> {
+    ghost use Rattle.cmd_reporting.specs.declared.fault.WriterFault.TheVariants as writer_faults;
+
+    ghost from_gives = { λ fault e. e ≡ writer_faults.Stopped fault };
+
     fn from(fault: RunFault<'a>) -> WriterFault<'a, RunFault<'a>> {
         WriterFault::Stopped(fault)
     }

@@ -1,10 +1,12 @@
 //! The command `sim` over named files. A file that is read is standard input where its name is `-`.
 
-ghost use Rattle.std.specs.Prelude.{◌≡◌, ◌≤◌, ◌++◌, IfOk, OnOk, IfSome, None, vec_len, option_to_list};
+ghost use Rattle.std.specs.Prelude.{◌≡◌, ◌≤◌, ◌++◌, IfErr, IfOk, IsErrAnd, OnOk};
+ghost use Rattle.std.specs.Prelude.{IfSome, None, vec_len, option_to_list};
 ghost use Rattle.cmd_reporting.specs.FileNames.{format_of_file};
 ghost use Rattle.cmd_reporting.specs.Statuses.{IsCommandStatus};
 ghost use Rattle.sim_results.specs.Results.{IsNoFile};
-ghost use Rattle.sim_runs.specs.Files.{AreAllApart, names_of, names_read, names_written};
+ghost use Rattle.sim_runs.specs.Files.{AreAllApart, IsOutputFault, IsStopped};
+ghost use Rattle.sim_runs.specs.Files.{names_of, names_read, names_written};
 
 use crate::course::{Course, MovesFile};
 use crate::fault::RunFault;
@@ -12,7 +14,7 @@ use crate::input::Input;
 use crate::options::RunOptions;
 use crate::outputs::{Outputs, create_outputs};
 use crate::simulating::{MOST_STATIONS, read_scenario, run_into};
-use crate::target::{FrameTarget, frame_target};
+use crate::target::frame_target;
 use cmd_reporting::{Fault, Io, NamedFile, Opened, Status, Target, WriterFault, open, refuse_same};
 use sim_results::ResultFiles;
 use sim_scenario::{Reading, Scenario, Timeline};
@@ -66,52 +68,37 @@ where
     ensures format { IfSome files.now.frames (λ target.
         format_of_file target.to target.name.now ≡ None → result ≡ Status.BadArguments) }
 {
-    match frame_target(files.frames) {
-        Ok(None) if files.results.is_empty() => {
-            let ended = simulate_alone(rt, files, input, options, io);
-            io.status_of(ended)
-        }
-        Ok(target) => {
-            let ended = simulate_to(rt, files, target, input, options, io);
-            io.status_of(ended)
-        }
-        Err(fault) => io.status_of(Err(fault)),
-    }
+    let ended = simulate_named(rt, files, input, options, io);
+    io.status_of(ended)
 }
 
-/// Runs the scenario in the file, and writes no file.
-fn simulate_alone<'a, R: Files + AllocGlobal, I: Read + Drop, W: Write, E: Write>(
+/// Runs the scenario in the file. The files to be written are created after the scenario and the
+/// first line of the moves are read.
+fn simulate_named<'a, R: Files + AllocGlobal, I: Read + Drop, W: Write, E: Write>(
     rt: &R,
     files: &RunFiles<'a>,
-    input: I,
-    options: &RunOptions,
-    io: &mut Io<W, E>,
-) -> Result<Status, RunFault<'a>>
-where
-    R::File: Read + Write + Drop,
-    ensures { IfOk result IsCommandStatus }
-{
-    let inputs = read_inputs(rt, files, input, options)?;
-    Ok(inputs.run(rt.alloc(), options, io)?)
-}
-
-/// Reads the scenario and the first line of the moves, and only then creates the files.
-fn simulate_to<'a, R: Files + AllocGlobal, I: Read + Drop, W: Write, E: Write>(
-    rt: &R,
-    files: &RunFiles<'a>,
-    target: Option<FrameTarget<'a>>,
     input: I,
     options: &RunOptions,
     io: &mut Io<W, E>,
 ) -> Result<Status, WriterFault<'a, RunFault<'a>>>
 where
     R::File: Read + Write + Drop,
-    ensures { IfOk result IsCommandStatus }
+    ensures status { IfOk result IsCommandStatus }
+    ensures alone { files.now.frames ≡ None → IsNoFile files.now.results →
+        IfErr result IsStopped }
+    ensures format { IfSome files.now.frames (λ target.
+        format_of_file target.to target.name.now ≡ None → IsErrAnd result IsOutputFault) }
 {
-    let inputs = read_inputs(rt, files, input, options)?;
+    let target = frame_target(files.frames)?;
+    let RunInputs { scenario, moves } = read_inputs(rt, files, input, options)?;
     keep_all_apart(rt, files)?;
-    let outputs = create_outputs(rt, &inputs.scenario, target, files.results)?;
-    Ok(run_inputs(rt.alloc(), inputs, options, outputs, io)?)
+    let outputs = create_outputs(rt, &scenario, target, files.results)?;
+    let mut course = Course {
+        scenario: &scenario,
+        options,
+        moves,
+    };
+    Ok(run_into(rt.alloc(), &mut course, outputs, io)?)
 }
 
 /// What is read before a run: a scenario, and the first line of its moves.
@@ -137,28 +124,14 @@ impl<'a, M: BufRead + Drop> RunInputs<'a, M> {
     ) -> Result<Status, Fault<'a>>
         ensures { IfOk result IsCommandStatus }
     {
-        let outputs: Outputs<'_, Vec<u8>> = Outputs::none();
-        run_inputs(alloc, self, options, outputs, io)
+        let RunInputs { scenario, moves } = self;
+        let mut course = Course {
+            scenario: &scenario,
+            options,
+            moves,
+        };
+        run_into(alloc, &mut course, Outputs::none(), io)
     }
-}
-
-/// Runs the scenario that was read, with its moves, and writes these files.
-fn run_inputs<'a, M: BufRead + Drop, F: Write + Drop, W: Write, E: Write>(
-    alloc: Global,
-    inputs: RunInputs<'a, M>,
-    options: &RunOptions,
-    outputs: Outputs<'a, F>,
-    io: &mut Io<W, E>,
-) -> Result<Status, Fault<'a>>
-    ensures { IfOk result IsCommandStatus }
-{
-    let RunInputs { scenario, moves } = inputs;
-    let mut course = Course {
-        scenario: &scenario,
-        options,
-        moves,
-    };
-    run_into(alloc, &mut course, outputs, io)
 }
 
 /// The reader of a file of a run.
@@ -207,7 +180,9 @@ fn keep_all_apart<'a, R: Files + AllocGlobal>(
     rt: &R,
     files: &RunFiles<'a>,
 ) -> Result<(), WriterFault<'a, RunFault<'a>>>
-    ensures { OnOk result (AreAllApart files.now) }
+    ensures apart { OnOk result (AreAllApart files.now) }
+    ensures alone { files.now.frames ≡ None → IsNoFile files.now.results →
+        IfErr result IsStopped }
 {
     let written = written_files(rt, files)?;
     let read = read_files(rt, files)?;

@@ -3,29 +3,29 @@
 
 mod asked;
 mod bad_row;
-mod both;
 mod course;
 mod fault;
 mod files;
-mod findings;
-mod frames;
 mod in_file;
 mod input;
+mod lines;
 mod options;
 mod outputs;
 mod progress;
+mod report;
 mod simulating;
+mod sinks;
 mod summary;
 mod target;
-mod watched;
 
 pub use bad_row::BadRow;
 pub use fault::RunFault;
 pub use files::{RunFiles, RunInputs, RunReader, read_inputs, simulate_file};
 pub use input::Input;
 pub use options::RunOptions;
+pub use outputs::{create_frames, end_frames};
 pub use sim_results::ResultFiles;
 pub use sim_simulation::VERSION;
 pub use simulating::{read_scenario, report_unknown, simulate, simulate_scenario};
+pub use sinks::is_refused;
 pub use target::{FrameTarget, frame_target};
-pub use watched::is_refused;

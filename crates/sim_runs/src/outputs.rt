@@ -1,9 +1,13 @@
 //! The files that are written of a run.
 
+ghost use Rattle.std.specs.Prelude.{◌≡◌, IfOk, None, Ok};
+ghost use Rattle.cmd_reporting.specs.Statuses.{IsCommandStatus};
+
 use crate::target::FrameTarget;
-use cmd_reporting::{Fault, FrameFile, create};
+use cmd_reporting::{Fault, FrameFile, Status, create};
 use sim_results::{ResultFiles, ResultWriters, Results};
 use sim_scenario::Scenario;
+use std::io;
 use std::io::{BufWriter, Write};
 use std::rt::Files;
 
@@ -16,9 +20,9 @@ pub(crate) struct Outputs<'a, W: Write + Drop> {
     pub(crate) results: Results<'a, W>,
 }
 
-impl<'a, W: Write + Drop> Outputs<'a, W> {
+impl<'a> Outputs<'a, io::Sink> {
     /// No file is written.
-    pub(crate) fn none() -> Outputs<'a, W> {
+    pub(crate) fn none() -> Outputs<'a, io::Sink> {
         Outputs {
             frames: None,
             results: Results::none(),
@@ -37,16 +41,45 @@ pub(crate) fn create_outputs<'a, R: Files + AllocGlobal>(
 where
     R::File: Write + Drop,
 {
-    let created = create_named(rt, target.map(|target| target.name))?;
-    let results = create_results(rt, scenario, names)?;
-    let stations = scenario.stations.len();
-    let frames = match (target, created) {
-        (Some(FrameTarget { name, format }), Some(writer)) => {
-            Some(FrameFile::start(rt.alloc(), writer, name, format, stations)?)
-        }
-        _ => None,
+    Ok(Outputs {
+        frames: create_frames(rt, target, scenario.stations.len())?,
+        results: create_results(rt, scenario, names)?,
+    })
+}
+
+/// Creates the file of frames of so many stations, and begins it, if one is asked for. The fault is
+/// that it could not be created or written, or that memory ran out.
+pub fn create_frames<'a, R: Files + AllocGlobal>(
+    rt: &R,
+    target: Option<FrameTarget<'a>>,
+    stations: usize,
+) -> Result<Option<FrameFile<'a, BufWriter<R::File>>>, Fault<'a>>
+where
+    R::File: Write + Drop,
+    ensures { target.entry ≡ None → IfOk result (λ frames. frames ≡ None) }
+{
+    let Some(FrameTarget { name, format }) = target else {
+        return Ok(None);
     };
-    Ok(Outputs { frames, results })
+    let created = create(rt, name)?;
+    Ok(Some(FrameFile::start(rt.alloc(), created, name, format, stations)?))
+}
+
+/// Ends the file of frames of a run that ended so, if there is one. Returns how the run ends then:
+/// `Refused` if a frame was left out of a run that is done, `CannotWrite` if the file failed.
+pub fn end_frames<'a, F: Write + Drop>(
+    frames: Option<FrameFile<'a, F>>,
+    ended: Result<Status, Fault<'a>>,
+) -> Result<Status, Fault<'a>>
+    requires { IfOk ended IsCommandStatus }
+    ensures status { IfOk result IsCommandStatus }
+    ensures none { frames.entry ≡ None → result ≡ ended.entry }
+    ensures done { result ≡ Ok Status.Done → ended.entry ≡ Ok Status.Done }
+{
+    match frames {
+        Some(file) => file.end(ended),
+        None => ended,
+    }
 }
 
 /// Creates the file of this name, where there is one.

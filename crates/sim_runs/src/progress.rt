@@ -32,6 +32,7 @@ impl Progress {
 
     /// Notes an event that was done, and writes the line after the first one and after each 65536.
     /// A line that can't be written is no fault of the run.
+    #[inline]
     pub(crate) fn note<E: Write>(&mut self, done: &EventRecord<'_>, err: &mut E) {
         if !self.is_shown {
             return;

@@ -1,32 +1,28 @@
 //! The command `sim`.
 
-ghost use Rattle.std.specs.Prelude.{◌≡◌, ◌≤◌, IfOk, Ok, true, vec_len};
+ghost use Rattle.std.specs.Prelude.{◌≡◌, ◌≤◌, [], IfOk, Ok, vec_len};
 ghost use Rattle.cmd_reporting.specs.Statuses.{IsCommandStatus};
-ghost use Rattle.sim_runs.specs.Runs.{EndsRun, IsDoneRun, IsRunStatus};
+ghost use Rattle.sim_air.specs.Scenarios.{IsRunOf};
+ghost use Rattle.sim_runs.specs.Runs.{IsDoneRun};
 ghost use Rattle.sim_scenario.specs.Scenarios.{IsPlain};
 ghost use Rattle.sim_scenario.specs.declared.reading.AirTable.TheVariants as air_tables;
-ghost use Rattle.sim_scenario.specs.declared.timeline.Timeline.TheVariants as timelines;
 
-use crate::both::Both;
 use crate::course::Course;
-use crate::fault::{RunFault, fault_of_scenario, is_cut_short};
-use crate::findings::{Finding, Findings, SummaryDetails};
-use crate::frames::Frames;
+use crate::fault::{RunFault, fault_of_scenario};
+use crate::lines::{RunLines, Summary};
 use crate::options::RunOptions;
 use crate::outputs::Outputs;
-use crate::progress::Progress;
-use crate::summary::print_summary;
-use crate::watched::Watched;
-use cmd_reporting::{Fault, FrameFile, Io, OutputFormat, Status};
+use crate::sinks::RunSinks;
+use cmd_reporting::{Fault, Io, OutputFormat, Status};
 use cmd_text::frames::Explanation;
+use its_world::World;
 use sim_air::{AirFault, run_moves, run_scenario};
-use sim_moves::Rows;
-use sim_scenario::{MovesTimeline, Reading, Scenario, Timeline};
+use sim_scenario::{Reading, Scenario, Timeline};
 use sim_simulation::tally::Tally;
-use sim_simulation::{EventSink, JsonLines, SimulationFault, TextLines};
+use sim_simulation::{EventSink, JsonLines, TextLines};
 use std::alloc::Global;
 use std::io;
-use std::io::{BufRead, BufReader, Read, Write};
+use std::io::{BufRead, Read, Write};
 
 /// The most stations of a scenario.
 pub(crate) const MOST_STATIONS: usize = 65535;
@@ -82,14 +78,13 @@ pub fn simulate_scenario<'f, W: Write, E: Write>(
     ensures done { result ≡ Ok Status.Done →
         IsDoneRun options.now.strict scenario.now }
 {
-    let outputs: Outputs<'_, Vec<u8>> = Outputs::none();
     let options = *options;
-    let mut course: Course<'_, '_, BufReader<io::Empty>> = Course {
+    let mut course: Course<'_, '_, io::Empty> = Course {
         scenario,
         options: &options,
         moves: None,
     };
-    run_into(alloc, &mut course, outputs, io)
+    run_into(alloc, &mut course, Outputs::none(), io)
 }
 
 /// Runs a scenario, and writes these files. Returns `Refused` if a frame was left out of its file.
@@ -105,208 +100,69 @@ pub(crate) fn run_into<'a, M: BufRead + Drop, F: Write + Drop, W: Write, E: Writ
     ensures done { result ≡ Ok Status.Done →
         IsDoneRun course.old.options.now.strict course.old.scenario.now }
 {
-    let Outputs {
-        mut frames,
-        results,
-    } = outputs;
     report_unknown(course.scenario, &mut io.err);
-    let mut progress = Progress::of(course);
-    let mut findings = Findings::new(alloc, course, io.format.explain, results)?;
-    let finding = Finding {
-        findings: &mut findings,
-        next: Frames {
-            file: &mut frames,
-            format: io.format,
-            progress: &mut progress,
-            err: &mut io.err,
-        },
-    };
-    let ran = run(alloc, course, finding, io.format, &mut io.out);
-    progress.end(&mut io.err);
-    let ended = findings.end(ran, course.moves.as_ref(), io);
-    end_frames(frames, ended)
-}
-
-/// Ends the file of frames of a run that ended so, if there is one: how the run ends then.
-fn end_frames<'a, F: Write + Drop>(
-    frames: Option<FrameFile<'a, F>>,
-    ended: Result<Status, Fault<'a>>,
-) -> Result<Status, Fault<'a>>
-    requires { IfOk ended IsCommandStatus }
-    ensures status { IfOk result IsCommandStatus }
-    ensures done { result ≡ Ok Status.Done → ended.entry ≡ Ok Status.Done }
-{
-    match frames {
-        Some(file) => file.end(ended),
-        None => ended,
+    let (options, format) = (course.options, io.format);
+    if options.summary {
+        let tally = Tally::new(alloc, course.scenario.present.as_slice())?;
+        let out = &mut io.out;
+        return run_printed(
+            alloc,
+            course,
+            Summary { tally, out },
+            outputs,
+            format,
+            &mut io.err,
+        );
     }
-}
-
-/// Runs a scenario and prints its lines, or its summary. Each event goes to the other sink too.
-/// Returns the status of `sim` before its findings are reported.
-fn run<M: BufRead + Drop, F: EventSink + SummaryDetails + Drop, W: Write>(
-    alloc: Global,
-    course: &mut Course<'_, '_, M>,
-    other: F,
-    format: OutputFormat,
-    out: &mut W,
-) -> Result<Status, AirFault>
-    requires { vec_len course.old.scenario.now.stations ≤ 65535 }
-    ensures ends { EndsRun course.old.options.now.strict course.old.scenario.now result }
-{
-    if course.options.summary {
-        run_summed_up(alloc, course, other, format, out)
-    } else if format.json {
-        run_in_objects(alloc, course, other, out)
-    } else {
-        run_in_words(alloc, course, other, format.explain, out)
-    }
-}
-
-/// Runs a scenario and prints the lines of its events, as objects in JSON: how `sim` ends then.
-fn run_in_objects<M: BufRead + Drop, F: EventSink + Drop, W: Write>(
-    alloc: Global,
-    course: &mut Course<'_, '_, M>,
-    other: F,
-    out: &mut W,
-) -> Result<Status, AirFault>
-    requires { vec_len course.old.scenario.now.stations ≤ 65535 }
-    ensures ends { EndsRun course.old.options.now.strict course.old.scenario.now result }
-{
-    let (notes, strict) = (course.options.notes, course.options.strict);
-    let mut lines = JsonLines::new(alloc, out)?.noting(notes);
-    print_beginning(&mut lines, course)?;
-    let mut watched = Watched::new(Both { lines, other });
-    run_watched(alloc, course, &mut watched, strict)
-}
-
-/// The same in words. `explain` says whether codes are explained.
-fn run_in_words<M: BufRead + Drop, F: EventSink + Drop, W: Write>(
-    alloc: Global,
-    course: &mut Course<'_, '_, M>,
-    other: F,
-    explain: bool,
-    out: &mut W,
-) -> Result<Status, AirFault>
-    requires { vec_len course.old.scenario.now.stations ≤ 65535 }
-    ensures ends { EndsRun course.old.options.now.strict course.old.scenario.now result }
-{
-    let (notes, strict) = (course.options.notes, course.options.strict);
-    if course.options.heads {
-        print_heads(course.scenario, out)?;
+    if format.json {
+        let lines = JsonLines::new(alloc, &mut io.out)?.noting(options.notes);
+        return run_printed(alloc, course, lines, outputs, format, &mut io.err);
     }
     let words = match course.scenario.timeline.air() {
-        Some(_) => TextLines::with_actions(out, explain),
-        None => TextLines::new(out, explain),
+        Some(_) => TextLines::with_actions(&mut io.out, format.explain),
+        None => TextLines::new(&mut io.out, format.explain),
     };
-    let lines = words.noting(notes);
-    let mut watched = Watched::new(Both { lines, other });
-    run_watched(alloc, course, &mut watched, strict)
+    let lines = words.noting(options.notes);
+    run_printed(alloc, course, lines, outputs, format, &mut io.err)
 }
 
-/// Prints the heads of the columns of the lines in words.
-fn print_heads<W: Write>(scenario: &Scenario, out: &mut W) -> Result<(), SimulationFault> {
-    match scenario.timeline.air() {
-        Some(_) => writeln!(out, "event time station action result")?,
-        None => writeln!(out, "event time station result")?,
-    }
-    Ok(())
-}
-
-/// Prints the object of the stations, and of the air where there is one.
-fn print_beginning<M: BufRead + Drop, W: Write>(
-    objects: &mut JsonLines<'_, W>,
-    course: &Course<'_, '_, M>,
-) -> Result<(), SimulationFault> {
-    let stations = course.scenario.stations.as_slice();
-    match course.scenario.timeline.air() {
-        Some(air) => objects.stations_in_air(stations, air, course.end()),
-        None => objects.stations(stations),
-    }
-}
-
-/// Runs a scenario and prints its summary. Returns the status of `sim`. If the file of moves cut
-/// the run short, the summary is that of the part before, without the totals.
-fn run_summed_up<M: BufRead + Drop, F: EventSink + SummaryDetails + Drop, W: Write>(
+/// Runs a scenario, prints these lines and writes these files, as `run_into` does.
+fn run_printed<'a, L: EventSink + RunLines + Drop, M: BufRead + Drop, F: Write + Drop, E: Write>(
     alloc: Global,
-    course: &mut Course<'_, '_, M>,
-    other: F,
+    course: &mut Course<'_, 'a, M>,
+    lines: L,
+    outputs: Outputs<'a, F>,
     format: OutputFormat,
-    out: &mut W,
-) -> Result<Status, AirFault>
+    err: &mut E,
+) -> Result<Status, Fault<'a>>
     requires { vec_len course.old.scenario.now.stations ≤ 65535 }
-    ensures ends { EndsRun course.old.options.now.strict course.old.scenario.now result }
+    ensures status { IfOk result IsCommandStatus }
+    ensures done { result ≡ Ok Status.Done →
+        IsDoneRun course.old.options.now.strict course.old.scenario.now }
 {
-    let strict = course.options.strict;
-    let mut watched = Watched::new(Both {
-        lines: Tally::new(alloc, course.scenario.present.as_slice())?,
-        other,
-    });
-    let ran = run_watched(alloc, course, &mut watched, strict);
-    let is_whole = match &ran {
-        Ok(_) => true,
-        Err(fault) if is_cut_short(fault) => false,
-        Err(_) => return ran,
-    };
-    let Both { lines, other } = &watched.sink;
-    print_summary(alloc, lines, other, format, is_whole, out)?;
-    ran
+    let mut sinks = RunSinks::new(alloc, course, lines, outputs, format, err)?;
+    let ran = sinks.run(alloc, course);
+    sinks.end(ran, course.moves.as_ref())
 }
 
-/// Runs a scenario into a sink in which nothing was refused yet. Returns the status of `sim`.
-fn run_watched<M: BufRead + Drop, S: EventSink>(
+/// Runs a scenario by its timeline, with its file of moves if it has one, and passes each event to
+/// a sink as it is done. Returns the world that the last one left.
+pub(crate) fn run_timeline<M: BufRead + Drop, S: EventSink>(
     alloc: Global,
     course: &mut Course<'_, '_, M>,
-    watched: &mut Watched<S>,
-    strict: bool,
-) -> Result<Status, AirFault>
-    requires stations { vec_len course.old.scenario.now.stations ≤ 65535 }
-    requires fresh { watched.old.all_done ≡ true }
-    ensures ends { EndsRun strict course.old.scenario.now result }
+    sink: &mut S,
+) -> Result<World, AirFault>
+    requires { vec_len course.old.scenario.now.stations ≤ 65535 }
+    ensures { S.Took sink.old [] [] → IfOk result (λ world.
+        IsRunOf course.old.scenario.now world (S.Took sink.new)) }
 {
     let scenario = course.scenario;
     match (&scenario.timeline, &mut course.moves) {
         (Timeline::Moves(timeline), Some(moves)) => {
-            run_moved(alloc, scenario, timeline, &mut moves.rows, watched, strict)
+            run_moves(alloc, scenario, timeline, &mut moves.rows, sink)
         }
-        _ => run_alone(alloc, scenario, watched, strict),
+        _ => run_scenario(alloc, scenario, sink),
     }
-}
-
-/// Runs a scenario without a file of moves, and returns the status of `sim`.
-fn run_alone<S: EventSink>(
-    alloc: Global,
-    scenario: &Scenario,
-    watched: &mut Watched<S>,
-    strict: bool,
-) -> Result<Status, AirFault>
-    requires stations { vec_len scenario.now.stations ≤ 65535 }
-    requires fresh { watched.old.all_done ≡ true }
-    ensures command { IfOk result IsCommandStatus }
-    ensures run { IfOk result (IsRunStatus strict scenario.now) }
-{
-    run_scenario(alloc, scenario, watched)?;
-    Ok(watched.status(strict))
-}
-
-/// Runs a scenario of this timeline with the rows of a file of moves, and returns the status of
-/// `sim`.
-fn run_moved<M: BufRead + Drop, S: EventSink>(
-    alloc: Global,
-    scenario: &Scenario,
-    timeline: &MovesTimeline,
-    rows: &mut Rows<M>,
-    watched: &mut Watched<S>,
-    strict: bool,
-) -> Result<Status, AirFault>
-    requires stations { vec_len scenario.now.stations ≤ 65535 }
-    requires timeline { scenario.now.timeline ≡ timelines.Moves timeline.now }
-    requires fresh { watched.old.all_done ≡ true }
-    ensures command { IfOk result IsCommandStatus }
-    ensures run { IfOk result (IsRunStatus strict scenario.now) }
-{
-    run_moves(alloc, scenario, timeline, rows, watched)?;
-    Ok(watched.status(strict))
 }
 
 /// Reports on standard error each unknown key of a scenario's document: a table of that name is

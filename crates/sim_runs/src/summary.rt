@@ -1,6 +1,6 @@
 //! The lines of a run that is summed up.
 
-use crate::findings::SummaryDetails;
+use crate::report::Report;
 use cmd_reporting::OutputFormat;
 use cmd_text::json_lines::JsonLine;
 use its_gnvalue::NoMemory;
@@ -15,59 +15,59 @@ use std::io::Write;
 /// Prints a line for each packet for an area that was sent, in order, and one of the counts of all
 /// events, unless the run was cut short. With `explain` each of the first goes on with the stations
 /// that it didn't reach.
-pub(crate) fn print_summary<D: SummaryDetails, W: Write>(
+pub(crate) fn print_summary<W: Write>(
     alloc: Global,
     tally: &Tally,
-    details: &D,
+    report: &Report<'_>,
     lines: OutputFormat,
     is_whole: bool,
     out: &mut W,
 ) -> Result<(), SimulationFault> {
     if lines.json {
-        print_objects(alloc, tally, details, lines.explain, out)?;
+        print_objects(alloc, tally, report, lines.explain, out)?;
         return if is_whole {
-            print_total_object(alloc, tally, details, out)
+            print_total_object(alloc, tally, report, out)
         } else {
             Ok(())
         };
     }
     for (place, send) in tally.sends().iter().enumerate() {
-        let missed = missed_of(alloc, details, place, lines.explain)?;
+        let missed = missed_of(alloc, report, place, lines.explain)?;
         writeln!(out, "{send}{}", MissedText(&missed))?;
     }
     if is_whole {
-        writeln!(out, "{}{}", tally.totals(), FullText(details.table_full()))?;
+        writeln!(out, "{}{}", tally.totals(), FullText(report.table_full()))?;
     }
     Ok(())
 }
 
 /// The same of the packets, as objects.
-fn print_objects<D: SummaryDetails, W: Write>(
+fn print_objects<W: Write>(
     alloc: Global,
     tally: &Tally,
-    details: &D,
+    report: &Report<'_>,
     explain: bool,
     out: &mut W,
 ) -> Result<(), SimulationFault> {
     let mut line = JsonLine::new(alloc)?;
     for (place, send) in tally.sends().iter().enumerate() {
-        let missed = missed_of(alloc, details, place, explain)?;
+        let missed = missed_of(alloc, report, place, explain)?;
         out.write_all(line.of(&SendLine { send, missed })?)?;
     }
     Ok(())
 }
 
 /// The same of the counts.
-fn print_total_object<D: SummaryDetails, W: Write>(
+fn print_total_object<W: Write>(
     alloc: Global,
     tally: &Tally,
-    details: &D,
+    report: &Report<'_>,
     out: &mut W,
 ) -> Result<(), SimulationFault> {
     let mut line = JsonLine::new(alloc)?;
     let total = CountsLine {
         counts: tally.totals(),
-        table_full: details.table_full(),
+        table_full: report.table_full(),
     };
     out.write_all(line.of(&TotalLine { total })?)?;
     Ok(())
@@ -77,13 +77,13 @@ fn print_total_object<D: SummaryDetails, W: Write>(
 type Miss = (usize, Reach);
 
 /// The stations that a packet didn't reach, where they are told.
-fn missed_of<D: SummaryDetails>(
+fn missed_of(
     alloc: Global,
-    details: &D,
+    report: &Report<'_>,
     send: usize,
     are_told: bool,
 ) -> Result<Option<Vec<Miss>>, NoMemory> {
-    match details.audience(send) {
+    match report.audience(send) {
         Some(audience) if are_told => Ok(Some(audience.missed(alloc)?)),
         _ => Ok(None),
     }

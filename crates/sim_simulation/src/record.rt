@@ -29,6 +29,7 @@ pub struct EventRecord<'a> {
 
 impl<'a> EventRecord<'a> {
     /// The record of an event of this number that was done in a world, and of what came of it.
+    #[inline]
     pub fn of(
         world: &'a World,
         number: usize,

@@ -26,6 +26,14 @@ pub trait EventSink {
         ensures { (events : List Happening) (log : List Entry) → Took self.old events log
             → OnOk result (Took self.new (events ++ happening_in done.now ∷ [])
             (log ++ done.now.entry.now ∷ [])) };
+
+    /// Whether it uses `Note::Heard`, of which there is one for each station that will receive a
+    /// frame. A run makes none for a sink that doesn't. The default is `false`.
+    #[inline(always)]
+    fn wants_heard_notes(&self) -> bool {
+        false
+    }
+
     /// Takes a note of this moment, in milliseconds, with the world as it stands then. Of the events
     /// and entries it says what it said before.
     ///

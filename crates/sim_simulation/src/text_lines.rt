@@ -58,6 +58,20 @@ impl<'a, W: Write> TextLines<'a, W> {
     {
         TextLines { notes, ..self }
     }
+
+    /// Writes a line with the heads of the columns. `Output` if the write fails.
+    pub fn heads(&mut self) -> Result<(), SimulationFault>
+        ensures explain { self.new.explain ≡ self.old.explain }
+        ensures actions { self.new.actions ≡ self.old.actions }
+        ensures notes { self.new.notes ≡ self.old.notes }
+    {
+        if self.actions {
+            writeln!(self.out, "event time station action result")?;
+        } else {
+            writeln!(self.out, "event time station result")?;
+        }
+        Ok(())
+    }
 }
 
 impl<W: Write> EventSink for TextLines<'_, W> {

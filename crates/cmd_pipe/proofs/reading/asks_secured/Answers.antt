@@ -9,9 +9,9 @@ use Rattle.cmd_pipe.proofs.reading.asks_secured.Goals as goal
 pub returns-in_default-2 : goal.returns-in_default-2
 returns-in_default-2 c =
     let seal : ¬ IsWord (view c.args.members.now.0.now) (codes "seal") =
-    not_word (view c.args.members.now.0.now) c.word_under.result line_words.Seal
-    c.word_under.ensures.none (λ some. search rules) in
+    not_word (view c.args.members.now.0.now) c.args.word line_words.Seal
+    c.requires.none (λ some. search rules) in
     let receive : ¬ IsWord (view c.args.members.now.0.now) (codes "receive") =
-    not_word (view c.args.members.now.0.now) c.word_under.result line_words.Receive
-    c.word_under.ensures.none (λ some. search rules) in
+    not_word (view c.args.members.now.0.now) c.args.word line_words.Receive
+    c.requires.none (λ some. search rules) in
     not_secured (view c.args.members.now.0.now) seal receive

@@ -4,6 +4,8 @@ use Rattle.sim_queue.specs.Keeps.{Keeps}
 use Rattle.sim_air_model.specs.Timetable.{Timetable, send, send_all}
 use Rattle.sim_queue.proofs.Keeping.{send_all_more}
 use Rattle.sim_air.proofs.run.schedule_deliveries.Goals as goal
+use Rattle.sim_air.proofs.run.schedule_deliveries.Goals.{then-wants_heard+in_ok-note-2}
+use Rattle.sim_air.proofs.run.schedule_deliveries.Goals.{else-wants_heard+else-matches}
 
 pub loop-station-preserved : goal.loop-station-preserved
 loop-station-preserved g c =
@@ -16,7 +18,13 @@ loop-station-preserved g c =
     record {
       file = search rules;
       told = λ events log took.
-          c.in_ok-note-2.ensures events log (c.loop-station.invariant.told events log took);
+          let before = c.loop-station.invariant.told events log took in
+          elim c.if-wants_heard.branch [
+            | then-wants_heard+in_ok-note-2 w ↦
+                rw w.sink-is (w.in_ok-note-2.ensures events log before)
+            | else-wants_heard+else-matches w ↦
+                rw w.sink-is before
+          ];
       sent = λ t h.
           let before = c.loop-station.invariant.sent t h in
           let u = send_all loss k m (take i js) t in

@@ -3,7 +3,7 @@ use Rattle.std.specs.Prelude.{◌&&◌}
 use Rattle.std.specs.List.{list_all}
 use Rattle.std.proofs.lemmas.List.Folds.{list_all-append}
 use Rattle.its_world.specs.Entries.{was_done}
-use Rattle.sim_runs.proofs.watched.WatchedEventSink.put.Goals as goal
+use Rattle.sim_runs.proofs.sinks.RunSinksEventSink.put.Goals as goal
 
 -- the entries so far, and this one
 pub returns : goal.returns

@@ -1,0 +1,17 @@
+use Rattle.its_model.specs.Calls.{Receive}
+use Rattle.its_linkframe.specs.Frames.{transmission_of}
+use Rattle.its_station.proofs.Deliveries.{delivered_end}
+use Rattle.cmd_pipe.proofs.receiving.receive_plain.Goals as goal
+
+pub returns-in-Ok-clause-step : goal.returns-in-Ok-clause-step
+returns-in-Ok-clause-step c = (
+  Receive (transmission_of c.in-Ok.view),
+  c.in-Ok.ensures.found,
+  c.receive_frame.ensures.step,
+)
+
+pub returns-in-Ok-clause-payload : goal.returns-in-Ok-clause-payload
+returns-in-Ok-clause-payload c =
+    delivered_end
+    (transmission_of c.in-Ok.view) c.args.frame.now c.in-Ok.ensures.found c.receive_frame.result
+    c.receive_frame.ensures.payload

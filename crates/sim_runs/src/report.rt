@@ -1,0 +1,206 @@
+//! What is reported on standard error about a run.
+
+ghost use Rattle.std.specs.Prelude.{◌≡◌, ◌≢◌, IfOk, Ok};
+ghost use Rattle.cmd_reporting.specs.Statuses.{IsCommandStatus};
+
+use crate::asked::Asked;
+use crate::bad_row::BadRow;
+use crate::course::{Course, MovesFile};
+use crate::fault::{RunFault, fault_of_air, is_cut_short};
+use cmd_reporting::{CommandFault, Fault, OutputFormat, Status};
+use cmd_text::frames::Explanation;
+use its_gnvalue::NoMemory;
+use its_world::World;
+use sim_air::AirFault;
+use sim_results::{Audience, Audiences, FailedEvents, FullTables};
+use sim_scenario::Scenario;
+use sim_settings::{Expectation, Reached};
+use sim_simulation::{EventRecord, Note, SimulationFault};
+use std::alloc::Global;
+use std::io::{BufRead, Write};
+
+/// What is found out about a run and reported at its end: full location tables, events that were
+/// not run, and expectations that are not met. A summary has a part of it too.
+#[derive(Drop)]
+pub(crate) struct Report<'s> {
+    scenario: &'s Scenario,
+    full: FullTables,
+    failed: FailedEvents,
+    audiences: Audiences,
+    /// Whether an event that wasn't run makes the status `Refused`.
+    strict: bool,
+}
+
+impl<'s> Report<'s> {
+    /// That of a run that has not begun. `explain` says whether codes are explained. `NoMemory` if
+    /// an allocation failed.
+    pub(crate) fn new<M: BufRead + Drop>(
+        alloc: Global,
+        course: &Course<'s, '_, M>,
+        explain: bool,
+    ) -> Result<Report<'s>, NoMemory> {
+        let (scenario, options) = (course.scenario, course.options);
+        let are_wanted = options.tells_missed(explain) || !scenario.expectations.is_empty();
+        Ok(Report {
+            scenario,
+            full: FullTables::new(),
+            failed: FailedEvents::new(alloc, scenario)?,
+            audiences: Audiences::new(alloc, scenario, are_wanted)?,
+            strict: options.strict,
+        })
+    }
+
+    /// Whether it uses `Note::Heard`.
+    #[inline(always)]
+    pub(crate) fn wants_heard_notes(&self) -> bool {
+        self.audiences.are_wanted()
+    }
+
+    /// Returns the audience of a packet, by its place among those that were sent, if it is known.
+    pub(crate) fn audience(&self, send: usize) -> Option<&Audience> {
+        self.audiences.get(send)
+    }
+
+    /// Returns how many receptions of a radio model met a full location table, if any did.
+    pub(crate) fn table_full(&self) -> Option<usize> {
+        match self.scenario.timeline.air() {
+            Some(_) => self.full.receptions(),
+            None => None,
+        }
+    }
+
+    /// Takes an event that was done. `NoMemory` if an allocation failed.
+    #[inline(always)]
+    pub(crate) fn take(&mut self, world: &World, done: &EventRecord<'_>) -> Result<(), NoMemory> {
+        self.full.take(self.scenario, done);
+        self.failed.take(done)?;
+        if self.audiences.are_wanted() {
+            self.audiences.take(world, done)?;
+        }
+        Ok(())
+    }
+
+    /// Takes a note of the run. `NoMemory` if an allocation failed.
+    pub(crate) fn take_note(&mut self, moment: u64, note: &Note<'_>) -> Result<(), NoMemory> {
+        self.failed.take_note(moment, note)?;
+        self.audiences.take_note(moment, note)
+    }
+
+    /// Reports on a run that ended so. `moves` is its file of moves, if there is one. Returns
+    /// `Refused` if a line of moves ended the run, and of a run that is done if something that is
+    /// expected isn't met or, with `strict`, if an event wasn't run.
+    pub(crate) fn end<'a, E: Write, M: BufRead + Drop>(
+        &mut self,
+        ran: Result<Status, AirFault>,
+        moves: Option<&MovesFile<'a, M>>,
+        format: OutputFormat,
+        err: &mut E,
+    ) -> Result<Status, Fault<'a>>
+        requires { IfOk ran IsCommandStatus }
+        ensures status { IfOk result IsCommandStatus }
+        ensures done { result ≡ Ok Status.Done → ran ≡ Ok Status.Done }
+    {
+        match ran {
+            Ok(status) => Ok(self.conclude(status, format.explain, err)?),
+            Err(fault) => self.report_fault(fault, moves, format, err),
+        }
+    }
+
+    /// Reports on a run with this status: full location tables, events that weren't run, and each
+    /// expectation that isn't met. `NoMemory` if an allocation failed.
+    fn conclude<E: Write>(
+        &mut self,
+        status: Status,
+        explain: bool,
+        err: &mut E,
+    ) -> Result<Status, NoMemory>
+        requires { IsCommandStatus status }
+        ensures status { IfOk result IsCommandStatus }
+        ensures done { result ≡ Ok Status.Done → status ≡ Status.Done }
+    {
+        self.failed.end(self.scenario)?;
+        self.report_full(err);
+        self.failed.report(explain, err);
+        let are_met = self.report_unmet(explain, err);
+        let are_run = !self.strict || self.failed.count() == 0;
+        if are_met && are_run || status != Status::Done {
+            Ok(status)
+        } else {
+            Ok(Status::Refused)
+        }
+    }
+
+    /// Reports on a run that this fault ended: if its file of moves did, full location tables,
+    /// events that weren't run, and which line is bad. This comes before the files are ended, which
+    /// may fail as well.
+    fn report_fault<'a, E: Write, M: BufRead + Drop>(
+        &self,
+        fault: AirFault,
+        moves: Option<&MovesFile<'a, M>>,
+        format: OutputFormat,
+        err: &mut E,
+    ) -> Result<Status, Fault<'a>>
+        ensures status { IfOk result IsCommandStatus }
+        ensures done { result ≢ Ok Status.Done }
+    {
+        if is_cut_short(&fault) {
+            self.report_full(err);
+            self.failed.report(format.explain, err);
+        }
+        let fault = match fault_of_air(fault, moves.map(|moves| moves.name)) {
+            RunFault::Stopped(fault) => return Err(fault),
+            RunFault::Row(row) => {
+                let value = moves.and_then(|moves| moves.refused(row.word));
+                RunFault::Row(BadRow { value, ..row })
+            }
+            fault => fault,
+        };
+        fault.report(format, err);
+        Ok(fault.status())
+    }
+
+    /// Reports that location tables were full, in an air: the numbers of the run are wrong then.
+    fn report_full<E: Write>(&self, err: &mut E) {
+        if self.scenario.timeline.air().is_some() {
+            self.full.report(err);
+        }
+    }
+
+    /// Reports each expectation that isn't met, with `explain` what it asks for. Returns whether
+    /// each is met.
+    fn report_unmet<E: Write>(&self, explain: bool, err: &mut E) -> bool {
+        let mut are_met = true;
+        for (number, expectation) in self.scenario.expectations.iter().enumerate() {
+            let asked = Explanation(explain.then_some(Asked(*expectation)));
+            are_met &= self.report_one(number, expectation, asked, err);
+        }
+        are_met
+    }
+
+    /// Reports an expectation that isn't met, with what it asks for. Returns whether it is met.
+    fn report_one<E: Write>(
+        &self,
+        number: usize,
+        expectation: &Expectation,
+        asked: Explanation<Asked>,
+        err: &mut E,
+    ) -> bool {
+        let Some(audience) = self.audiences.get(expectation.send) else {
+            let _ = writeln!(err, "geostation: expect {number}: no such send{asked}");
+            return false;
+        };
+        let size = audience.size();
+        let reached = audience.reached(expectation.within);
+        let wanted = match expectation.reached {
+            Reached::AtLeast(stations) => stations as usize,
+            Reached::All => size,
+        };
+        if reached < wanted {
+            let _ = writeln!(
+                err,
+                "geostation: expect {number}: reached {reached} of {size}{asked}"
+            );
+        }
+        reached >= wanted
+    }
+}
