@@ -1,23 +1,24 @@
 //! The command `mesh`.
 
-ghost use Rattle.std.specs.Prelude.{◌≡◌, All, IfOk, IfSome, None, map};
+ghost use Rattle.std.specs.Prelude.{◌≡◌, All, IfErr, IfOk, IfSome, IsErrAnd, None, map};
 ghost use Rattle.cmd_reporting.specs.FileNames.{format_of_file};
 ghost use Rattle.cmd_reporting.specs.Statuses.{IsCommandStatus};
 ghost use Rattle.its_world.specs.Events.{config_of, event_of};
 ghost use Rattle.sim_scenario.specs.Events.{FitsEvent};
 ghost use Rattle.sim_scenario.specs.Scenarios.{IsPlain, plain_events};
 ghost use Rattle.cmd_mesh.specs.Calls.{IsMeshRun};
-ghost use Rattle.cmd_mesh.specs.Statuses.{IsMeshStatus};
+ghost use Rattle.cmd_mesh.specs.Statuses.{IsMeshStatus, IsOutputFault, IsStopped};
 
 use crate::fault::MeshFault;
 use crate::mesh::Mesh;
 use crate::sockets::Sockets;
 use crate::udp::UdpSockets;
-use cmd_reporting::{FrameFile, Io, Status, Target, WriterFault, create, keep_apart, open};
+use cmd_reporting::{FrameFile, Io, Status, Target, WriterFault, frame_target, keep_apart, open};
 use its_world::Event;
-use sim_runs::{FrameTarget, frame_target, read_scenario, report_unknown};
+use sim_runs::{create_frames, end_frames, read_scenario, report_unknown};
 use sim_scenario::{AirTable, PlainTimeline, Reading, Scenario, Timeline};
 use std::alloc::Global;
+use std::io;
 use std::io::{Read, Write};
 use std::net::Net;
 use std::rt::Files;
@@ -60,58 +61,37 @@ where
     ensures format { IfSome frames.entry (λ target.
         format_of_file target.to target.name.now ≡ None → result ≡ Status.BadArguments) }
 {
-    match frame_target(frames) {
-        Ok(Some(target)) => {
-            let ended = mesh_to(rt, file, input, target, options, io);
-            io.status_of(ended)
-        }
-        Ok(None) => {
-            let ended = mesh_alone(rt, file, input, options, io);
-            io.status_of(ended)
-        }
-        Err(fault) => io.status_of(Err(fault)),
-    }
+    let ended = mesh_named(rt, file, input, frames, options, io);
+    io.status_of(ended)
 }
 
-/// Runs the scenario in the file, and writes no file.
-fn mesh_alone<'a, R: Files + Net + AllocGlobal, I: Read + Drop, W: Write, E: Write>(
+/// Reads the scenario, and only then creates the file of frames, if there is one, before a socket
+/// is made.
+fn mesh_named<'a, R: Files + Net + AllocGlobal, I: Read + Drop, W: Write, E: Write>(
     rt: &R,
     file: &'a str,
     input: I,
-    options: MeshOptions,
-    io: &mut Io<W, E>,
-) -> Result<Status, MeshFault<'a>>
-where
-    R::File: Read + Write + Drop,
-    ensures { IfOk result IsCommandStatus }
-{
-    let reader = open(rt, file, input)?;
-    let mut sockets = UdpSockets::new(rt, rt.alloc());
-    mesh_read(rt.alloc(), file, reader, options, &mut sockets, io)
-}
-
-/// Reads the scenario, and only then creates the file of frames, before a socket is made.
-fn mesh_to<'a, R: Files + Net + AllocGlobal, I: Read + Drop, W: Write, E: Write>(
-    rt: &R,
-    file: &'a str,
-    input: I,
-    target: FrameTarget<'a>,
+    frames: Option<Target<'a>>,
     options: MeshOptions,
     io: &mut Io<W, E>,
 ) -> Result<Status, WriterFault<'a, MeshFault<'a>>>
 where
     R::File: Read + Write + Drop,
-    ensures { IfOk result IsCommandStatus }
+    ensures status { IfOk result IsCommandStatus }
+    ensures alone { frames.entry ≡ None → IfErr result IsStopped }
+    ensures format { IfSome frames.entry (λ target.
+        format_of_file target.to target.name.now ≡ None → IsErrAnd result IsOutputFault) }
 {
+    let target = frame_target(frames)?;
     let reader = open(rt, file, input)?;
     let scenario = read(rt.alloc(), file, reader, options)?;
     report_unknown(&scenario, &mut io.err);
-    keep_apart(rt, target.name, file)?;
-    let created = create(rt, target.name)?;
+    if let Some(target) = target {
+        keep_apart(rt, target.name, file)?;
+    }
+    let frames = create_frames(rt, target, scenario.stations.len())?;
     let mut sockets = UdpSockets::new(rt, rt.alloc());
-    let stations = scenario.stations.len();
-    let frames = FrameFile::start(rt.alloc(), created, target.name, target.format, stations)?;
-    Ok(mesh_with_frames(rt.alloc(), scenario, frames, options, &mut sockets, io)?)
+    Ok(run_mesh(rt.alloc(), scenario, frames, options, &mut sockets, io)?)
 }
 
 /// The command over a reader, and over the sockets of the stations, of which there is none yet.
@@ -143,7 +123,8 @@ fn mesh_read<'a, R: Read + Drop, S: Sockets, W: Write, E: Write>(
 {
     let scenario = read(alloc, file, reader, options)?;
     report_unknown(&scenario, &mut io.err);
-    run_mesh(alloc, scenario, options, sockets, io)
+    let frames: Option<FrameFile<'_, io::Sink>> = None;
+    run_mesh(alloc, scenario, frames, options, sockets, io)
 }
 
 /// Reads the scenario, whose name is `file`, without a radio model.
@@ -175,17 +156,21 @@ fn events_of(timeline: Timeline) -> Vec<Event>
     }
 }
 
-/// Runs a scenario, and writes the frames of its stations to the file.
-pub(crate) fn mesh_with_frames<'t, F: Write + Drop, S: Sockets, W: Write, E: Write>(
+/// Runs a scenario, and writes the frames of its stations to the file, if there is one.
+fn run_mesh<'f, F: Write + Drop, S: Sockets, W: Write, E: Write>(
     alloc: Global,
     scenario: Scenario,
-    file: FrameFile<'t, F>,
+    frames: Option<FrameFile<'f, F>>,
     options: MeshOptions,
     sockets: &mut S,
     io: &mut Io<W, E>,
-) -> Result<Status, MeshFault<'t>>
+) -> Result<Status, MeshFault<'f>>
     requires { IsPlain scenario.timeline }
-    ensures { IfOk result IsCommandStatus }
+    ensures command { IfOk result IsCommandStatus }
+    ensures status { frames.entry ≡ None → IfOk result (IsMeshStatus options.strict) }
+    ensures run { frames.entry ≡ None → IfOk result (
+        IsMeshRun (map config_of scenario.stations.items)
+        (map event_of (plain_events scenario.timeline)) options.strict) }
 {
     let Scenario {
         stations,
@@ -196,39 +181,15 @@ pub(crate) fn mesh_with_frames<'t, F: Write + Drop, S: Sockets, W: Write, E: Wri
     let mut mesh = match Mesh::new(alloc, stations.as_slice(), sockets, io) {
         Ok(mesh) => mesh,
         Err(fault) => {
-            // What the file begins with is written out, and the fault is told.
-            let _ = file.end(Ok(Status::Failed));
+            // What the file begins with is written out, and the fault is reported.
+            let _ = end_frames(frames, Ok(Status::Failed));
             return Err(fault);
         }
     };
-    mesh.file = Some(file);
+    if frames.is_none() {
+        return Ok(mesh.run(events, options.strict)?);
+    }
+    mesh.file = frames;
     let ran = mesh.run(events, options.strict);
-    let ended = match mesh.file.take() {
-        Some(file) => file.end(ran),
-        None => ran,
-    };
-    Ok(ended?)
-}
-
-fn run_mesh<'f, S: Sockets, W: Write, E: Write>(
-    alloc: Global,
-    scenario: Scenario,
-    options: MeshOptions,
-    sockets: &mut S,
-    io: &mut Io<W, E>,
-) -> Result<Status, MeshFault<'f>>
-    requires { IsPlain scenario.timeline }
-    ensures status { IfOk result (IsMeshStatus options.strict) }
-    ensures run { IfOk result (IsMeshRun (map config_of scenario.stations.items)
-        (map event_of (plain_events scenario.timeline)) options.strict) }
-{
-    let Scenario {
-        stations,
-        timeline,
-        ..
-    } = scenario;
-    let events = events_of(timeline);
-    let stations = stations.as_slice();
-    let mut mesh: Mesh<'_, '_, S, W, E, Vec<u8>> = Mesh::new(alloc, stations, sockets, io)?;
-    Ok(mesh.run(events, options.strict)?)
+    Ok(end_frames(mesh.file.take(), ran)?)
 }

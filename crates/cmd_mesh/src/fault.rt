@@ -1,5 +1,7 @@
 //! What fails in a mesh: sockets, and what ends any command.
 
+ghost use Rattle.std.specs.Prelude.{◌≡◌};
+
 use cmd_reporting::{CommandFault, Fault, OutputFormat, Status, WriterFault};
 use its_gnvalue::NoMemory;
 use sim_runs::RunFault;
@@ -84,6 +86,10 @@ impl From<NoMemory> for MeshFault<'_> {
 }
 
 impl<'a> From<MeshFault<'a>> for WriterFault<'a, MeshFault<'a>> {
+    ghost use Rattle.cmd_reporting.specs.declared.fault.WriterFault.TheVariants as writer_faults;
+
+    ghost from_gives = { λ fault e. e ≡ writer_faults.Stopped fault };
+
     fn from(fault: MeshFault<'a>) -> WriterFault<'a, MeshFault<'a>> {
         WriterFault::Stopped(fault)
     }

@@ -1,5 +1,7 @@
 //! Why the page is not written.
 
+ghost use Rattle.std.specs.Prelude.{◌≡◌};
+
 use crate::limit::TooLarge;
 use cmd_reporting::{Cause, CommandFault, Fault, OutputFormat, Status, WriterFault};
 use cmd_text::frames::Explanation;
@@ -87,6 +89,10 @@ impl<'a> From<RunFault<'a>> for PageFault<'a> {
 }
 
 impl<'a> From<PageFault<'a>> for WriterFault<'a, PageFault<'a>> {
+    ghost use Rattle.cmd_reporting.specs.declared.fault.WriterFault.TheVariants as writer_faults;
+
+    ghost from_gives = { λ fault e. e ≡ writer_faults.Stopped fault };
+
     fn from(fault: PageFault<'a>) -> WriterFault<'a, PageFault<'a>> {
         WriterFault::Stopped(fault)
     }

@@ -1,8 +1,9 @@
 //! The command `view`.
 
-ghost use Rattle.std.specs.Prelude.{◌≡◌, IfOk, true};
+ghost use Rattle.std.specs.Prelude.{◌≡◌, IfErr, IfOk, IsOk, true};
 ghost use Rattle.cmd_reporting.specs.FileNames.{is_standard as names_standard};
 ghost use Rattle.cmd_reporting.specs.Statuses.{IsCommandStatus};
+ghost use Rattle.cmd_page.specs.Faults.{IsStopped};
 
 use crate::fault::PageFault;
 use crate::folder::find_page;
@@ -12,7 +13,8 @@ use crate::page::{Page, open_page, write_up_to_run};
 use crate::run::{Shown, shown_of, write_run, write_too_large};
 use crate::way::Way;
 use cmd_reporting::{
-    Fault, Io, NamedFile, Opened, Status, WriterFault, create, is_standard, open, refuse_same,
+    Destination, Fault, Io, NamedFile, Opened, OutputFault, Status, WriterFault, create,
+    create_output, is_standard, open, refuse_same,
 };
 use sim_runs::{ResultFiles, RunFault, RunFiles, RunOptions, RunReader, read_inputs};
 use std::io::{BufRead, BufReader, Read, Write};
@@ -71,50 +73,58 @@ where
         target: viewing.target,
         format: io.format,
     };
-    let options = &viewing.options;
-    if is_standard(viewing.target) {
-        let ended = view_to_output(rt, way, options, input, &mut io.out, &mut io.err);
-        return io.status_of(ended);
-    }
-    let ended = view_to_file(rt, way, options, input, &mut io.err);
+    let ended = view_to(rt, way, &viewing.options, input, io);
     io.status_of(ended)
 }
 
-/// Writes the page to standard output.
-fn view_to_output<'a, R: Files + AllocGlobal, I: Read + Drop, W: Write, E: Write>(
+/// Opens what is read, and only then creates the file, if the page isn't written to standard output;
+/// says how that file is opened. If the run or the net is too large, the file is written once more
+/// without them.
+fn view_to<'a, R: Files + AllocGlobal, I: Read + Drop, W: Write, E: Write>(
     rt: &R,
     way: Way<'a>,
     options: &RunOptions,
     input: I,
-    out: &mut W,
-    err: &mut E,
-) -> Result<Status, PageFault<'a>>
-where
-    R::File: Read + Write + Drop,
-    ensures { IfOk result IsCommandStatus }
-{
-    let viewed = open_viewed(rt, way, options, input)?;
-    write_page(rt, way, viewed, options, out, err)
-}
-
-/// Opens what is read, and only then creates the file; tells how that is opened.
-fn view_to_file<'a, R: Files + AllocGlobal, I: Read + Drop, E: Write>(
-    rt: &R,
-    way: Way<'a>,
-    options: &RunOptions,
-    input: I,
-    err: &mut E,
+    io: &mut Io<W, E>,
 ) -> Result<Status, WriterFault<'a, PageFault<'a>>>
 where
     R::File: Read + Write + Drop,
-    ensures { IfOk result IsCommandStatus }
+    ensures status { IfOk result IsCommandStatus }
+    ensures alone { names_standard way.target.now ≡ true → IfErr result IsStopped }
 {
     let viewed = open_viewed(rt, way, options, input)?;
-    let status = write_file(rt, way, viewed, options, err)?;
-    if !options.quiet {
-        let _ = writeln!(err, "geostation: {}: open it in a browser", way.target);
+    keep_target_apart(rt, way)?;
+    let mut out = create_output(rt, way.target, &mut io.out)?;
+    let status = match write_page(rt, way, viewed, options, &mut out, &mut io.err) {
+        Err(PageFault::TooLarge(fault)) => {
+            if let Destination::File(created) = out {
+                drop(created);
+                write_without_run(rt, way, fault)?;
+            }
+            return Err(WriterFault::from(PageFault::TooLarge(fault)));
+        }
+        written => written?,
+    };
+    way.told(out.flush())?;
+    if matches!(out, Destination::File(_)) && !options.quiet {
+        let _ = writeln!(io.err, "geostation: {}: open it in a browser", way.target);
     }
     Ok(status)
+}
+
+/// Refuses the file to be written if it is one of those that are read. Standard output never is.
+fn keep_target_apart<'a, R: Files>(rt: &R, way: Way<'a>) -> Result<(), OutputFault<'a>>
+    ensures { names_standard way.target.now ≡ true → IsOk result }
+{
+    if is_standard(way.target) {
+        return Ok(());
+    }
+    let read = [
+        NamedFile::of(rt, way.file),
+        NamedFile::of(rt, way.moves.unwrap_or(way.file)),
+        NamedFile::of(rt, way.net.unwrap_or(way.file)),
+    ];
+    refuse_same(&[NamedFile::of(rt, way.target)], &read)
 }
 
 /// The page, the run and the street net, all open.
@@ -165,38 +175,6 @@ where
         results: ResultFiles::default(),
     };
     Ok(Shown::Moved(read_inputs(rt, &files, input, options)?))
-}
-
-/// Creates the file, and writes the page to it. If the run or the net is too large for it, the page
-/// is written once more without them.
-fn write_file<'a, R: Files + AllocGlobal, L: BufRead + Drop, M: BufRead + Drop, E: Write>(
-    rt: &R,
-    way: Way<'a>,
-    viewed: Viewed<'a, R::File, L, M>,
-    options: &RunOptions,
-    err: &mut E,
-) -> Result<Status, WriterFault<'a, PageFault<'a>>>
-where
-    R::File: Read + Write + Drop,
-    ensures { IfOk result IsCommandStatus }
-{
-    let read = [
-        NamedFile::of(rt, way.file),
-        NamedFile::of(rt, way.moves.unwrap_or(way.file)),
-        NamedFile::of(rt, way.net.unwrap_or(way.file)),
-    ];
-    refuse_same(&[NamedFile::of(rt, way.target)], &read)?;
-    let mut created = create(rt, way.target)?;
-    let status = match write_page(rt, way, viewed, options, &mut created, err) {
-        Err(PageFault::TooLarge(fault)) => {
-            drop(created);
-            write_without_run(rt, way, fault)?;
-            return Err(WriterFault::from(PageFault::TooLarge(fault)));
-        }
-        written => written?,
-    };
-    way.told(created.flush())?;
-    Ok(status)
 }
 
 /// Writes the page with the run and the net in it. `CannotRead` if it has no place for a run.

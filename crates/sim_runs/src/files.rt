@@ -14,8 +14,9 @@ use crate::input::Input;
 use crate::options::RunOptions;
 use crate::outputs::{Outputs, create_outputs};
 use crate::simulating::{MOST_STATIONS, read_scenario, run_into};
-use crate::target::frame_target;
-use cmd_reporting::{Fault, Io, NamedFile, Opened, Status, Target, WriterFault, open, refuse_same};
+use cmd_reporting::{
+    Fault, Io, NamedFile, Opened, Status, Target, WriterFault, frame_target, open, refuse_same,
+};
 use sim_results::ResultFiles;
 use sim_scenario::{Reading, Scenario, Timeline};
 use std::alloc::Global;

@@ -16,7 +16,6 @@ mod report;
 mod simulating;
 mod sinks;
 mod summary;
-mod target;
 
 pub use bad_row::BadRow;
 pub use fault::RunFault;
@@ -28,4 +27,3 @@ pub use sim_results::ResultFiles;
 pub use sim_simulation::VERSION;
 pub use simulating::{read_scenario, report_unknown, simulate, simulate_scenario};
 pub use sinks::is_refused;
-pub use target::{FrameTarget, frame_target};

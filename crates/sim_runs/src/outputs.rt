@@ -3,8 +3,7 @@
 ghost use Rattle.std.specs.Prelude.{◌≡◌, IfOk, None, Ok};
 ghost use Rattle.cmd_reporting.specs.Statuses.{IsCommandStatus};
 
-use crate::target::FrameTarget;
-use cmd_reporting::{Fault, FrameFile, Status, create};
+use cmd_reporting::{Fault, FrameFile, FrameTarget, Status, create};
 use sim_results::{ResultFiles, ResultWriters, Results};
 use sim_scenario::Scenario;
 use std::io;

@@ -9,15 +9,15 @@ use Rattle.cmd_mesh.specs.Calls.{HasRun}
 use Rattle.cmd_mesh.proofs.Runs.{run_ends}
 use Rattle.cmd_mesh.proofs.command.run_mesh.Goals as goal
 
-pub returns-clause-run : goal.returns-clause-run
-returns-clause-run g c =
+pub returns-then-is_none-clause-run : goal.returns-then-is_none-clause-run
+returns-then-is_none-clause-run g c = λ _.
     let configs = map config_of c.args.scenario.stations.items in
     let events = map event_of (plain_events c.args.scenario.timeline) in
-    let mesh = c.in_ok-mesh.mesh in
+    let mesh = c.in-Ok.mesh in
     let represent = subst (λ (l : List Config). RepresentStations mesh.stations.items
-    (opening (map config_of l)).stations) c.as_slice-stations.ensures.value
-    c.in_ok-mesh.ensures.stations in
-    let unused = c.in_ok-mesh.ensures.unused in
+    (opening (map config_of l)).stations) c.as_slice.ensures.value
+    c.in-Ok.ensures.stations in
+    let unused = c.in-Ok.ensures.unused in
     let after = c.run.new.self in
     let run = subst (λ (l : List Event). HasRun (map event_of l) (opening configs).stations
     mesh.moment mesh.refused after.stations.items after.refused) c.events_of-events.ensures.events
