@@ -25,8 +25,8 @@ use its_loctable::SortedTable;
 use its_station::{Call, Counts, Delivery, Handed, Outcome, Refused, Reply, Station};
 use std::alloc::Global;
 
-/// Takes a frame that came, at a moment, counts it, and gives what came of it. `NoMemory` where an
-/// allocation failed: the station stands as before.
+/// Receives a frame at a moment, counts it, and returns the result. `NoMemory` if an allocation
+/// failed: nothing changed then.
 pub(crate) fn receive(
     alloc: Global,
     station: &mut Station<SortedTable>,
