@@ -73,11 +73,7 @@ impl<S: LocationStore> Station<S> {
 
     /// Takes octets in which `read_frame` found no fault, as `receive` takes them, and without a second
     /// check: for a frame that many stations receive.
-    pub fn receive_checked<'a>(
-        &mut self,
-        now: u64,
-        frame: &'a [u8],
-    ) -> Result<Outcome<'a>, Refused>
+    pub fn receive_checked<'a>(&mut self, now: u64, frame: &'a [u8]) -> Result<Outcome<'a>, Refused>
         requires { IsFrame frame.now }
         ensures step { (call : Call) × IsFrameCall frame.now call
             × ((s : StationModel) → RepresentsStation self.old s →

@@ -13,7 +13,9 @@ returns-in-Some-clause-found c =
     let within = ltb-true i (length xs) (sym c.in-Some.ensures.lookup.0) in
     let same = eqb-true _ _ (sym c.eq.ensures ∙ c.if-eq.true) in
     column-found table.slots.items xs c.args.address _ (Ok i)
-    (c.deref.ensures.value ∙ table.column) table.slots.ok.0
-    (found_at xs c.args.address i within
-        (λ d. get_or_default xs i d c.in-Some.found.now within
-        ∙ sym c.in-Some.ensures.lookup.1 ∙ same), within)
+    (c.deref.ensures.value ∙ table.column) table.slots.ok.0 (
+      found_at xs c.args.address i within
+          (λ d. get_or_default xs i d c.in-Some.found.now within
+          ∙ sym c.in-Some.ensures.lookup.1 ∙ same),
+      within,
+    )
