@@ -476,6 +476,23 @@ impl<'a> Run<'a> {
         self.world.expect(delivery.moment, delivery.frame, stations);
     }
 
+    /// `announce` of one of the air's own, if it is a delivery.
+    pub(crate) fn announce_own(&mut self, waiting: &Scheduled)
+        ensures world { SameWorld self.old self.new }
+        ensures present { self.new.present ≡ self.old.present }
+        ensures queue { self.new.queue ≡ self.old.queue }
+        ensures draws { self.new.draws ≡ self.old.draws }
+    {
+        if let AirAction::Deliver(frame) = waiting.own {
+            self.announce(&Delivery {
+                moment: waiting.moment,
+                place: waiting.place,
+                station: waiting.station,
+                frame,
+            });
+        }
+    }
+
     /// Does one of the air's own, and puts what follows it. A tick or a send of an absent station
     /// is passed over.
     pub(crate) fn do_own<S: EventSink>(

@@ -94,6 +94,7 @@ pub(crate) fn do_own<S: EventSink>(
         (S.Took sink.new)) }
 {
     if can_do(run, waiting) {
+        run.announce_own(waiting);
         run.do_own(waiting, sink)
     } else {
         Ok(())

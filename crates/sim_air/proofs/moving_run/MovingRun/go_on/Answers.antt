@@ -34,6 +34,7 @@ returns-in-Some-clause-moving g c = λ is rules configs u.
       standings = old.run.standings;
       hearers = old.run.hearers;
       done = old.run.done;
+      announced = old.run.announced;
     } in
     let taken : IsTaken rules configs u.made u.past u.from (end_in old) old.frames_before
     old.delivered_by w one A =
@@ -89,6 +90,7 @@ returns-in_ok-take_in-in-Some-coming-clause-moving g c = λ is rules configs u.
       standings = old.run.standings;
       hearers = old.run.hearers;
       done = old.run.done;
+      announced = old.run.announced;
     } in
     let late : All (λ (w : Scheduled). m ≤ w.moment) old.run.queue.own =
     subst (λ (k : ℕ). All (λ (w : Scheduled). k ≤ w.moment) old.run.queue.own) n.1
