@@ -90,7 +90,7 @@ fn view_to<'a, R: Files + AllocGlobal, I: Read + Drop, W: Write, E: Write>(
 where
     R::File: Read + Write + Drop,
     ensures status { IfOk result IsCommandStatus }
-    ensures alone { names_standard way.target.now ≡ true → IfErr result IsStopped }
+    ensures alone { names_standard way.entry.target.now ≡ true → IfErr result IsStopped }
 {
     let viewed = open_viewed(rt, way, options, input)?;
     keep_target_apart(rt, way)?;
@@ -114,7 +114,7 @@ where
 
 /// Refuses the file to be written if it is one of those that are read. Standard output never is.
 fn keep_target_apart<'a, R: Files>(rt: &R, way: Way<'a>) -> Result<(), OutputFault<'a>>
-    ensures { names_standard way.target.now ≡ true → IsOk result }
+    ensures { names_standard way.entry.target.now ≡ true → IsOk result }
 {
     if is_standard(way.target) {
         return Ok(());
